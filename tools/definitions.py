@@ -8,7 +8,7 @@ definitions there are, in how many files, of how many lines without blanks, impo
 
 --write writes docs/TRUSTED.md, the list of the definitions behind `run`, and docs/HEADLINE.md, the text of those behind the
 headline in the order in which they can be read: SECTIONS names what each section is for, and a section has what that needs and
-no earlier one has. Both end with what is left out and why; KIT_WORDS says what each definition of the kit is. With --check
+no earlier one has. Both end with what is cited and not shown, and why; KIT_WORDS says what each definition of the kit is. With --check
 nothing is written, and the status is 1 where the pages are others, or a definition of the kit has no such line.
 """
 import argparse
@@ -23,9 +23,7 @@ import antt
 ROOT = pathlib.Path(__file__).resolve().parent.parent
 KIT_WORDS = "tools/kit_words.txt"
 RUN = "crates/py_run/src/engine.rt:run"
-# The function whose contract is the headline, and definitions that are shown beside those that it cites.
-HEADLINE = "crates/examples/src/compile.rt:code_of_file"
-BESIDE = ("py_rows/Rows:rows_tree", "py_listing/Listing:listing", "py_run/Statuses:rows_text", "py_run/Statuses:refusal_line")
+HEADLINE = "crates/headline/src/compiling.rt:compile_rows"
 TRUSTED_PAGE = "docs/TRUSTED.md"
 HEADLINE_PAGE = "docs/HEADLINE.md"
 
@@ -40,18 +38,18 @@ class Section(NamedTuple):
 
 SECTIONS = [
     Section("The tree", "What a program is: a syntax tree, as the definitions see it.", ("py_tree/Tree:Mod",)),
-    Section("Values", "Values, events, answers and how a run ends; code objects.", ("py_bytecode/Values:Ran", "py_bytecode/Objects:Object", "py_bytecode/Objects:head")),
+    Section("Values", "Values, events, answers and how a run ends; code objects. A run lists an event for each operation and takes an answer to it, and a list of answers is all that it gets. `World` holds the events so far in their order, the answers that are left, and how many were taken. A value is a constant, value k of answer n (`Given n k`), or a child code. An answer of another sort than is asked for ends the run (`Stops`), as does the end of the list.", ("py_bytecode/Values:Ran", "py_bytecode/Objects:Object", "py_bytecode/Objects:head")),
     Section("The machine", "What a code object does over a list of answers.", ("py_bytecode/Units:machine",)),
     Section("Forms", "The small language in which the meaning of a tree is written.", ("py_control/Form:Scope",)),
     Section("Meaning", "What a form does over a list of answers.", ("py_control/Form:run", "py_control/Agree:meaning_by")),
     Section("Texts of annotations", "The text that a postponed annotation is.", ("py_annotation_text/Annotation:annotation",)),
     Section("Numbers of scopes", "The number of each scope of a tree, in preorder.", ("py_meaning/StmtCounts:scopes_in_stmts",)),
     Section("The table", "Which form each node of a tree is.", ("py_meaning/Meaning:body",)),
-    Section("Agreement", "When a code object does what a form says.", ("py_control/Agreement:Agree",)),
-    Section("Rows", "The tree whose rows some bytes are, or what is wrong with them first.", ("py_rows/Rows:rows_tree", "py_run/Statuses:rows_text")),
+    Section("Agreement", "When a code object does what a form says. `plain` and `plainly` say what is compared here: each operation with its operands, names by their text, and how the run ends. By what access a name is reached, closures and cells are no part of it: the clauses of `run` and the laws of scopes say these (`GUARANTEES.md`).", ("py_control/Agreement:Agree",)),
+    Section("Rows", "The tree whose rows some bytes are, or what is wrong with them first.", ("py_rows_format/Rows:rows_tree", "headline/Headline:input_tree")),
     Section("The listing", "The text of a code object.", ("py_listing/Listing:listing",)),
     Section("Scopes", "The uses of names in a tree, in their order, and the scopes to which they resolve.", ("py_meaning/Scanned:scopes_of",)),
-    Section("Faults", "What is wrong with a tree, in order, and the line that says so.", ("py_meaning/Faults:faults", "py_run/Statuses:refusal_line")),
+    Section("Faults", "What is wrong with a tree, in order, and the line that says so.", ("py_meaning/Faults:faults", "py_lines/Lines:refusal_line")),
 ]
 
 Found = Tuple[str, str]
@@ -206,7 +204,7 @@ def told_module(name: antt.Name) -> str:
     return "/".join([name.place, *module[:1]]) + ("." + ".".join(module[1:]) if module[1:] else "")
 
 
-# ---- what is left out
+# ---- what is cited and not shown
 
 def declared(project: antt.Project, code: Iterable[antt.Name]) -> Dict[str, Dict[str, Tuple[int, int]]]:
     """The types of the code that are cited, by their files, with their lines."""
@@ -277,7 +275,7 @@ def counted(size: Size) -> str:
 
 def headline_closure(project: antt.Project) -> Closure:
     """The definitions of the headline."""
-    return Closure(project).add(name for what in (HEADLINE, *BESIDE) for name in roots_of(project, what))
+    return Closure(project).add(roots_of(project, HEADLINE))
 
 
 def headline_sections(closure: Closure) -> List[Tuple[Section, List[Found]]]:
@@ -291,7 +289,7 @@ def headline_sections(closure: Closure) -> List[Tuple[Section, List[Found]]]:
         seen |= set(part)
         parts.append((section, part))
     rest = [at for at in closure.found if at not in seen]
-    return [(Section("The contract", "What is promised, and the definitions that say it in short.", ()), rest)] + [part for part in parts if part[1]]
+    return [(Section("The contract", "What is owed for some bytes and three words: `Owed` says it for each answer, and `Compiles` for a listing.", ()), rest)] + [part for part in parts if part[1]]
 
 
 def section_lines(project: antt.Project, closure: Closure, found: Sequence[Found]) -> List[str]:
@@ -313,11 +311,14 @@ def section_lines(project: antt.Project, closure: Closure, found: Sequence[Found
 def contract_text(project: antt.Project, what: str) -> List[str]:
     """What a function says of itself, and its clauses."""
     place, _, name = what.rpartition(":")
-    if not place.endswith(".rt"):
-        return []
     source = project.source(place)
     first, end = source.head_of(source.function(name))
     return ["```rust", "\n".join(source.lines[first:end]), "```", ""]
+
+
+def aims(section: Section) -> str:
+    """The definitions that a section is for."""
+    return ", ".join("`%s`" % root.rpartition(":")[2] for root in section.roots) or "`Owed`"
 
 
 def headline_page(project: antt.Project, closure: Closure) -> str:
@@ -325,10 +326,11 @@ def headline_page(project: antt.Project, closure: Closure) -> str:
     parts = headline_sections(closure)
     place, _, name = HEADLINE.rpartition(":")
     lines = ["# What the compiler promises", ""]
-    lines += ["The headline of pyc is the contract of `%s` (`%s`). This page has the contract, and the text of every definition that it cites, near or far, in an order in which they can be read: %s. %sNo proof and no other code has to be believed. `python3 tools/definitions.py --write` writes the page; `DEFINITIONS.md` tells the same in plain words, with worked lines, and `TRUSTED.md` lists what all of `run` rests on." % (name, place, counted(closure.size()), beside()), ""]
-    lines += ["| Section | Definitions | Lines |", "|---|---|---|"]
-    lines += ["| [%d. %s](#%s) | %d | %s |" % (k, section.title, anchor(k, section.title), len(found), "{:,}".format(closure.size(found).lines)) for k, (section, found) in enumerate(parts)]
-    lines += ["| [What is left out](#what-is-left-out) | | |", ""]
+    lines += ["The headline of pyc is the contract of `%s` (`%s`). This page has the contract, and the text of every definition that it cites, near or far, in an order in which they can be read: %s. No proof and no other code has to be believed. `python3 tools/definitions.py --write` writes the page; `DEFINITIONS.md` tells the same in plain words, with worked lines, and `TRUSTED.md` lists what all of `run` rests on." % (name, place, counted(closure.size())), ""]
+    lines += ["Each section is for a few definitions, which stand at the end of their files; the others lead to them.", ""]
+    lines += ["| Section | It is for | Definitions | Lines |", "|---|---|---|---|"]
+    lines += ["| [%d. %s](#%s) | %s | %d | %s |" % (k, section.title, anchor(k, section.title), aims(section), len(found), "{:,}".format(closure.size(found).lines)) for k, (section, found) in enumerate(parts)]
+    lines += ["| [What is cited beside them](#what-is-cited-beside-them) | | | |", ""]
     for k, (section, found) in enumerate(parts):
         lines += ["## %d. %s" % (k, section.title), "", section.says, ""]
         lines += contract_text(project, HEADLINE) if k == 0 else []
@@ -337,22 +339,16 @@ def headline_page(project: antt.Project, closure: Closure) -> str:
     return "\n".join(lines).rstrip("\n") + "\n"
 
 
-def beside() -> str:
-    """What is said of the definitions that are shown beside those of the contract."""
-    names = ["`%s`" % what.rpartition(":")[2] for what in BESIDE]
-    return "Among them are those of %s and %s, which tie the tree and the code to what is read and written. " % (", ".join(names[:-1]), names[-1]) if names else ""
-
-
 def anchor(number: int, title: str) -> str:
     """The anchor of a heading on a page."""
     return "%d-%s" % (number, re.sub(r"[^a-z0-9 ]", "", title.lower()).replace(" ", "-"))
 
 
 def left_out(project: antt.Project, closure: Closure, types: List[str]) -> List[str]:
-    """What is left out of a page, and why."""
+    """What a page cites and does not show, and why."""
     others = undeclared(project, closure.code)
     but = ", but for %s, which a derive writes" % ", ".join(others) if others else ""
-    lines = ["## What is left out", ""]
+    lines = ["## What is cited beside them", ""]
     lines += ["### Types of the code", "", "The definitions read values of these types of the program's own code, by their fields and variants. No function of the code is cited%s." % but, "", *types, ""]
     lines += ["### The kit", "", "The kit has these definitions, and its own proofs stand on them: they are the language in which contracts are written (`std`), and what its crates say of JSON, of digits in base 16 and of maps. Their text is in the kit.", ""]
     return lines + kit_lines(project, closure)

@@ -906,7 +906,7 @@ def check_allocations(arguments):
 
 
 # The calls that are given the rows of a module.
-CALLS_OF_ROWS = ["read_rows", "scan_program", "compile_top", "listing", "verify", "write_code", "run_script", "report", "report_lines"]
+CALLS_OF_ROWS = ["read_rows", "scan_program", "compile_top", "listing", "verify", "write_code", "run_script", "report", "report_lines", "report_text"]
 
 
 def calls_to_refuse(program, source):

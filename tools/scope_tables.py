@@ -1,10 +1,9 @@
-"""Writes crates/scope_vectors/src/programs.rt: small programs, with the tables of their scopes.
+"""Writes crates/scope_vectors/stdin and stdout: small programs, with the tables of their scopes, and other calls.
 
 usage: scope_tables.py
 
-The text on standard output is the file, before `rt fmt`.
-What is wanted comes from tools/model, whose `scopes.py` scans trees.
-Each source below gives one entry: the calls of its scan, and the tables of the model, or its refusal.
+What is wanted of programs comes from tools/model, whose `scopes.py` scans trees; the answers to other calls stand below.
+Each source below gives one case: the calls of its scan, and the tables of the model, or its refusal.
 A call is `+` with a letter for the kind, and the name, of a scope that is entered, `-` for one that is left,
 or a letter for a role and the name that is used.
 """
@@ -16,6 +15,7 @@ sys.path.insert(0, str(pathlib.Path(__file__).resolve().parent / "model"))
 import scopes
 from py2rows import tree_of
 
+CRATE = pathlib.Path(__file__).resolve().parent.parent / "crates" / "scope_vectors"
 KINDS = {"Module": "M", "Class": "C", "Function": "F", "Comprehension": "G", "TypeParams": "T"}
 ROLES = {"Used": "u", "Assigned": "a", "Imported": "i", "Parameter": "p", "AnnotatedParameter": "n",
          "AnnotationAssigned": "t", "Walrus": "w", "Iter": "r", "Global": "g", "Nonlocal": "l"}
@@ -162,27 +162,42 @@ def replayed(calls):
     return answer(scanner, fault)
 
 
-def entry(source, calls, want):
-    print("\n" + source.replace("\n", "\\n"))
-    print(calls)
-    print(want)
+# Other calls, and their answers: names as a class writes them, what symbols are, the scopes of `def f(x): return lambda: x`,
+# and a stack that is lent.
+CLOSURE = "+F f|p x|+F lambda|u x|-|-|a f"
+OTHERS = [
+    ("mangle A __x", "_A__x"), ("mangle _A __x", "_A__x"), ("mangle __A __x", "__A__x"), ("mangle A __x__", "-"),
+    ("mangle A __a.b", "-"), ("mangle A x", "-"), ("mangle - __x", "-"),
+    ("symbol Unknown 1", "false false false"), ("symbol Local 1", "false true false"), ("symbol GlobalExplicit 1", "true false false"),
+    ("symbol GlobalImplicit 1", "true false false"), ("symbol Free 1", "false false false"), ("symbol Cell 1", "false true false"),
+    ("symbol Free 2", "false false true"), ("symbol Free 4", "false false true"), ("symbol Free 8", "false false false"),
+    ("symbol Free 16", "false false true"), ("symbol Free 32", "false false false"), ("symbol Free 64", "false false false"),
+    ("symbol Free 128", "false false true"), ("symbol Free 256", "false false false"),
+    ("names " + CLOSURE, "Some(Local) None Some(Cell) Some(Free) f Local 2"),
+    ("flat " + CLOSURE, "next 0: Some(3) 1: Some(3) 2: Some(3) 3: None"),
+    ("stack 7", "true Ok((1, 7)) Ok(((false, Some(7), Some(7)), 7)) Ok(((), 9)) Ok(((), 8)) 0 true"),
+]
 
 
-HEAD = """//! Small programs with the tables of their scopes. The file is made by tools/scope_tables.py.
-
-/// Of each program: a line with its source, one with the calls of the scan over it, and one with its tables or why it is
-/// refused.
-pub const PROGRAMS: &'static str = r\""""
+def cases():
+    """Lines of the input, and what is written in their places."""
+    for source in SOURCES + TYPED:
+        text, calls = source if isinstance(source, tuple) else (source, None)
+        calls, want = (calls, replayed(calls)) if calls else scanned(text)
+        note = "# " + text.replace("\n", "\\n")
+        yield note, note
+        yield "scan " + calls, want
+    yield "# other calls", "# other calls"
+    yield from OTHERS
 
 
 def main():
     argparse.ArgumentParser(prog="scope_tables.py", description=__doc__.split("\n")[0]).parse_args()
-    print(HEAD, end="")
-    for source in SOURCES:
-        entry(source, *scanned(source))
-    for source, calls in TYPED:
-        entry(source, calls, replayed(calls))
-    print('";')
+    made = list(cases())
+    for name, which in (("stdin", 0), ("stdout", 1)):
+        text = "".join(case[which] + "\n" for case in made)
+        (CRATE / name).write_text(text, encoding="utf-8")
+    print("scope_vectors: %d cases" % sum(not line.startswith("#") for line, _ in made))
 
 
 if __name__ == "__main__":

@@ -2770,6 +2770,19 @@ def call_cases(calls):
             yield name + head[len(mode) :], rows, answer
 
 
+# The rows of a file's own scope, and its names, or why it is refused.
+SCANS = [
+    ("x = 1", '[["Name",1,1,"x"],["int","1"],["Constant",1,5,1],["Assign",1,1,[0],2],["Module",[3]]]', "top: x Local Some(0) true"),
+    ("nonlocal x", '[["Nonlocal",1,1,["x"]],["Module",[0]]]', "1:1 cannot define nonlocal 'x' at top level."),
+]
+
+
+def scan_cases():
+    """The cases of the scan alone, with its name in the place of the mode."""
+    for source, rows, answer in SCANS:
+        yield f"scan_program 0 {source}", rows, answer
+
+
 def write(crate, answered):
     """Writes the input of a crate's program, and what it is to write."""
     answered = list(answered)
@@ -2788,4 +2801,4 @@ def arguments():
 
 if __name__ == "__main__":
     ARGUMENTS = arguments()
-    write("codegen_vectors", [*cases(GROUPS), *call_cases(CALLS)])
+    write("codegen_vectors", [*cases(GROUPS), *call_cases(CALLS), *scan_cases()])

@@ -4,9 +4,10 @@
 usage: static_library.py [--after-ci] [--to FOLDER] [--timeout SECONDS]
 
 libpyc_c.a is built from crates/pyc_c, once that and all below it is proved. With it and bindings/pyc.c the C compiler (`cc`)
-makes libpyc.so and the program `example`; --to puts these three into a folder. By both, the rows in examples/ have to give
-the listings that stand there, and files of code that `pyc.codefile` reads, and, where crates/pyc/out/pyc is built, those
-that it packs. What is refused is tried too, and arguments that the library refuses.
+makes libpyc.so and the program `example`; --to puts these into a folder, with pyc.h and pyc.pc for pkg-config. By both, the
+rows in examples/ have to give the listings that stand there, and files of code that `pyc.codefile` reads, and, where
+crates/pyc/out/pyc is built, those that it packs. What is refused is tried too, and arguments that the library refuses, by
+bindings/test_pyc.c also. tools/library_calls.py has what is wanted of files of code, of their runs and of reports on names.
 
 What is not proved yet is proved first, which may take an hour. With --after-ci nothing is but crates/pyc_c: it stands on what
 `rt ci`, called just before, has left in crates/*/out.
@@ -17,6 +18,7 @@ that `rt ci` left; one line says so, and nothing is built.
 import argparse
 import ast
 import ctypes
+import dataclasses
 import pathlib
 import shutil
 import subprocess
@@ -42,7 +44,12 @@ sys.dont_write_bytecode = True
 sys.path.insert(0, str(ROOT / "python"))
 import build
 import example
+import library_calls
 from pyc import codefile
+
+# The number of the shared library's interface: a program that was linked with another number does not start with it.
+INTERFACE = 0
+SONAME = "libpyc.so.%d" % INTERFACE
 
 
 class Failed(Exception):
@@ -100,13 +107,14 @@ def after_ci(kit, folder, seconds):
 
 
 def linked(archive, kit, folder):
-    """The shared library and the example, in a folder."""
+    """The shared library, the example and the tests in C, in a folder."""
     plain = ["cc", "-std=c99", "-O2", "-Wall", "-Wextra", "-I", BINDINGS, BINDINGS / "pyc.c"]
     ends = [archive, kit / "c" / "liblibc_c.a"]
-    shared, program = folder / "libpyc.so", folder / "example"
-    run([*plain, "-shared", "-fPIC", "-o", shared, *ends], folder)
-    run([*plain, BINDINGS / "example.c", "-o", program, *ends], folder)
-    return shared, program
+    shared, programs = folder / SONAME, [folder / "example", folder / "test_pyc"]
+    run([*plain, "-shared", "-fPIC", "-Wl,-soname," + SONAME, "-o", shared, *ends], folder)
+    for program in programs:
+        run([*plain, BINDINGS / (program.name + ".c"), "-o", program, *ends], folder)
+    return (shared, *programs)
 
 
 def is_file(data):
@@ -141,6 +149,7 @@ def by_library(shared):
             got = compiler.compile_rows(rows, output=output)
             if got != tuple(wanted):
                 yield "%r, by the library: %d %r" % (rows, *got)
+    yield from library_calls.wrong(shared, examples())
     yield from by_arguments(shared)
 
 
@@ -159,7 +168,7 @@ def by_arguments(shared):
     cases = [("a null count", ARGUMENT, {9: None}), ("null rows", ARGUMENT, {5: None}), ("a null path", ARGUMENT, {3: None})]
     cases += [("a null text", ARGUMENT, {7: None}), ("a length that is too large", ARGUMENT, {6: huge}), ("rows in the text", ARGUMENT, {5: at, 6: 100})]
     cases += [("a path in the text", ARGUMENT, {3: at + 1000}), ("a count in the text", ARGUMENT, {9: within}), ("a count askew", ARGUMENT, {7: None, 8: 0, 9: askew})]
-    cases += [("no such output", 2, {0: 2}), ("no such mode", 2, {1: 4}), ("no such level", 2, {2: 3}), ("a path that is not UTF-8", 2, {3: no_text, 4: 1})]
+    cases += [("no such output", 2, {0: 2}), ("names as an output", 2, {0: 3}), ("no such mode", 2, {1: 4}), ("no such level", 2, {2: 3}), ("a path that is not UTF-8", 2, {3: no_text, 4: 1})]
     cases += [("no room", 5, {8: needed - 1}), ("no room, at null", 5, {7: None, 8: 0}), ("no rows, at null", 3, {5: None, 6: 0}), ("room to the last byte", DONE, {8: needed})]
     for name, wanted, others in cases:
         ctypes.memset(at, ord("x"), 1024)
@@ -171,15 +180,63 @@ def by_arguments(shared):
             yield "%s: written behind the text" % name
 
 
+def ended(words, folder):
+    """How a command ended: its status, and what it wrote on each stream."""
+    it = subprocess.run(list(map(str, words)), cwd=folder, stdout=subprocess.PIPE, stderr=subprocess.PIPE)
+    return it.returncode, it.stdout, it.stderr
+
+
 def by_program(program, folder):
     """What the example in C gives otherwise than is wanted."""
     wanted = [(path, rows, DONE, listing) for path, rows, listing in examples()]
     for path, rows, status, text in [*wanted, *(("m.py", *case) for case in REFUSED)]:
         (folder / "rows").write_bytes(rows)
-        ended = subprocess.run([str(program), "rows", path], cwd=folder, stdout=subprocess.PIPE, stderr=subprocess.PIPE)
-        written = ended.stderr if status else ended.stdout
-        if (ended.returncode, written) != (status, text):
-            yield "%s, by the example in C: %d %r" % (path, ended.returncode, written)
+        got = ended([program, "rows", path], folder)
+        if got != ((status, b"", text) if status else (status, text, b"")):
+            yield "%s, by the example in C: %r" % (path, got)
+
+
+def code_cases(folder):
+    """Writes the file of an example, of a code with a flaw, and one that is cut short. Words of an example, and what is wanted."""
+    path, rows, listing = next(iter(examples()))
+    (folder / "rows").write_bytes(rows)
+    wrong = dataclasses.replace(library_calls.SOUND, instructions=(("ReturnConst", 1),))
+    flawed = library_calls.around(wrong, 2).to_bytes()
+    (folder / "flawed").write_bytes(flawed)
+    (folder / "cut").write_bytes(flawed[:-1])
+    at = len(flawed) - 1
+    flaw = b"code 2: unit 0: the operand is outside its range\n"
+    return [
+        ("u", "code", (DONE, listing, b"")), ("v", "code", (DONE, b"", b"")),
+        ("u", "flawed", (3, b"", b"input: code does not verify\n")), ("v", "flawed", (1, b"", flaw)),
+        ("v", "cut", (3, b"", b"no file of code: bad at byte %d\n" % at)),
+        ("n", "rows", (DONE, library_calls.report_on(rows), b"")), ("t", "flawed", (DONE, b"returned 1\n", b"")),
+        ("t", "cut", (3, b"", b"input: bad code file at %d\n" % at)),
+    ], path
+
+
+def by_codes(program, shared, folder):
+    """What both examples give otherwise over files of code and names, of which the one in C packs the first."""
+    cases, path = code_cases(folder)
+    (folder / "code").write_bytes(ended([program, "-c", "rows", path], folder)[1])
+    words = {"u": "--unpack", "v": "--verify", "t": "--trace"}
+    for choice, name, wanted in cases:
+        got = ended([program, "-" + choice, name], folder)
+        if got != wanted:
+            yield "example -%s %s: %r, and not %r" % (choice, name, got, wanted)
+        if choice not in words:
+            continue
+        got = ended([sys.executable, "-B", BINDINGS / "example.py", shared, words[choice], name], folder)
+        lines = wanted[2] and ("%s: " % name).encode() + wanted[2]
+        if got != (wanted[0], wanted[1], lines):
+            yield "example.py %s %s: %r" % (words[choice], name, got)
+
+
+def by_tests(tests, folder):
+    """What the tests in C find, over the files that by_codes left."""
+    status, _, lines = ended([tests, "code", "rows"], folder)
+    if status:
+        yield "test_pyc ended with %d\n%s" % (status, lines.decode("utf-8", "replace"))
 
 
 def is_read(path):
@@ -211,23 +268,37 @@ def missing(is_after_ci):
     return None
 
 
+def handed_over(folder, files):
+    """Puts what was built into a folder, with what a compiler wants of it."""
+    folder.mkdir(parents=True, exist_ok=True)
+    for file in files:
+        shutil.copy(file, folder)
+    link = folder / "libpyc.so"
+    if link.is_symlink() or link.exists():
+        link.unlink()
+    link.symlink_to(SONAME)
+    shutil.copy(BINDINGS / "pyc.h", folder)
+    text = (BINDINGS / "pyc.pc.in").read_text(encoding="utf-8")
+    text = text.replace("@PREFIX@", str(folder.resolve())).replace("@VERSION@", "%d" % INTERFACE)
+    (folder / "pyc.pc").write_text(text, encoding="utf-8")
+
+
 def tried(words, folder):
     """Builds all of it in a folder, and tries it. What differs."""
     kit = pathlib.Path(shutil.which("rt")).resolve().parent.parent
     archive = (after_ci if words.after_ci else proved_first)(kit, folder, words.timeout)
-    shared, program = linked(archive, kit, folder)
+    shared, program, tests = linked(archive, kit, folder)
     wrong = [*by_library(shared), *by_program(program, folder), *by_script(shared, folder)]
+    wrong += [*by_codes(program, shared, folder), *by_tests(tests, folder)]
     if words.to is not None:
-        words.to.mkdir(parents=True, exist_ok=True)
-        for file in (archive, shared, program):
-            shutil.copy(file, words.to)
+        handed_over(words.to, (archive, shared, program))
     return wrong
 
 
 def main():
     parser = argparse.ArgumentParser(prog="static_library.py", description=__doc__.split("\n")[0])
     parser.add_argument("--after-ci", action="store_true", help="build over what rt ci has just left, and prove nothing else")
-    parser.add_argument("--to", metavar="FOLDER", type=pathlib.Path, help="put libpyc.so, libpyc_c.a and the example in C into this folder")
+    parser.add_argument("--to", metavar="FOLDER", type=pathlib.Path, help="put libpyc.so, libpyc_c.a, pyc.h, pyc.pc and the example in C into this folder")
     parser.add_argument("--timeout", metavar="SECONDS", type=int, default=1800, help="how long the proof of crates/pyc_c may take (1800)")
     words = parser.parse_args()
     why = missing(words.after_ci)

@@ -8,7 +8,7 @@ use py_base::Text;
 use py_bytecode::CodeObject;
 use py_codefile::{read_code, write_code};
 use py_listing::listing;
-use py_names::{report, report_lines};
+use py_names::{report, report_lines, report_text};
 use py_rows::read_rows;
 use py_step::{Script, push_trace, run_script};
 use py_tree::{Mod, Mode};
@@ -22,7 +22,7 @@ const ANSWERS: &str = "g1,g1,g1,g1,g1,d,g1,g1,d,g1,g1,g1,d";
 /// What the call of this name answers, as text or as the bytes of a code file.
 ///
 /// # Errors
-/// The call's own refusal, a name that no call has, an input of 2^26 bytes or more, or want of memory.
+/// The call's own refusal, a name that no call has, an input of 2^26 bytes or more, or out of memory.
 pub fn answer(alloc: Global, call: &str, input: &[u8]) -> Result<Vec<u8>, Failure> {
     match call {
         "finalize_code" => {
@@ -45,6 +45,7 @@ fn answer_of_tree(alloc: Global, call: &str, input: &[u8]) -> Result<Vec<u8>, Fa
         "scan_program" => scanned(alloc, &tree),
         "report" => counted(alloc, &tree),
         "report_lines" => reported(alloc, &tree),
+        "report_text" => written(alloc, &tree),
         _ => answer_of_code(alloc, call, &tree),
     };
     tree.discard();
@@ -114,5 +115,10 @@ fn reported(alloc: Global, tree: &Mod) -> Result<Vec<u8>, Failure> {
         text.push_str(line.as_str())?;
         text.push_str("\n")?;
     }
+    told(alloc, text.as_str())
+}
+
+fn written(alloc: Global, tree: &Mod) -> Result<Vec<u8>, Failure> {
+    let text = report_text(alloc, tree)?;
     told(alloc, text.as_str())
 }

@@ -1,12 +1,12 @@
 //! The made program of any number of statements.
 
+use crate::failure::Failure;
 use py_base::NESTING_LIMIT;
 use py_calls::tree::{depth_of_tree, size_of_tree};
 use py_sample::sample;
 use py_tree::{Mod, Stmt};
 use std::alloc::{AllocError, Global};
 use std::fmt::Write;
-use std::test::Fail;
 
 fn kind_of(statement: &Stmt) -> &'static str {
     match statement {
@@ -37,28 +37,15 @@ fn measures_of(program: &Mod) -> Option<(u32, u32)> {
     Some((depth, size))
 }
 
-#[test]
-fn no_statements(rt: HostRuntime) -> Result<(), Fail> {
-    let program = sample(rt.alloc(), 0)?;
-    let words = statements_of(rt.alloc(), &program);
+/// The statements of the made program of so many, and how deep and how large it is.
+pub fn sampled(alloc: Global, count: &str) -> Result<String, Failure> {
+    let count = count.parse::<u32>().map_err(|_| Failure::Line)?;
+    if count >= 1 << 17 {
+        return Err(Failure::Line);
+    }
+    let program = sample(alloc, count)?;
+    let words = statements_of(alloc, &program);
     let measures = measures_of(&program);
     program.discard();
-    assert_eq!(rt; words?.as_str(), "");
-    assert_eq!(rt; measures, Some((1, 1)));
-    Ok(())
-}
-
-/// `v = 0`, `if v: f(v)`, `def g(a): return lambda: a + v`, `while v: break` and `v = 4`.
-#[test]
-fn five_statements(rt: HostRuntime) -> Result<(), Fail> {
-    let program = sample(rt.alloc(), 5)?;
-    let words = statements_of(rt.alloc(), &program);
-    let measures = measures_of(&program);
-    program.discard();
-    assert_eq!(rt;
-        words?.as_str(),
-        "assignment 1; choice 2; function 3; loop 4; assignment 5; "
-    );
-    assert_eq!(rt; measures, Some((6, 38)));
-    Ok(())
+    Ok(format!(in alloc; "{}{measures:?}", words?)?)
 }

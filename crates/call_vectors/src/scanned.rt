@@ -1,13 +1,12 @@
 //! Scans as calls of a symbol table, and their errors as those of the compile calls.
 
-use crate::fixtures::{text, tree};
-use py_base::CodegenErrorType;
+use crate::failure::Failure;
+use py_base::Text;
 use py_calls::{IntoCodegenError, Scan};
 use py_scope::{SymbolScope, SymbolTable, SymbolTableError};
-use py_tree::{Mod, OneIndexed};
+use py_tree::Mod;
 use std::alloc::{AllocError, Global};
 use std::mem;
-use std::test::Fail;
 
 /// The Debug text of the table, or the place and the text of the fault.
 fn shown(
@@ -17,7 +16,8 @@ fn shown(
     match table {
         Ok(table) => format!(in alloc; "{table:?}"),
         Err(error) => {
-            let error = error.into_codegen_error(text(alloc, "m.py")?);
+            let path = Text::from_string(String::from_str(alloc, "m.py")?);
+            let error = IntoCodegenError::into_codegen_error(error, path);
             let row = error.location.map_or(0, |at| at.row.get());
             format!(in alloc; "{row} {} {}", error.source_path.as_str(), error.error)
         }
@@ -25,56 +25,31 @@ fn shown(
 }
 
 /// What the scan of any tree answers.
-fn scanned(alloc: Global, program: &Mod) -> Result<String, Fail> {
+fn scanned(alloc: Global, program: &Mod) -> Result<String, Failure> {
     let table = match program {
-        Mod::Module(m) => SymbolTable::scan_program(alloc, &m.body),
-        Mod::Expression(m) => SymbolTable::scan_expr(alloc, &m.body),
-        _ => return Err(Fail::from("neither a file nor an expression")),
+        Mod::Module(m) => <SymbolTable as Scan>::scan_program(alloc, &m.body),
+        Mod::Expression(m) => <SymbolTable as Scan>::scan_expr(alloc, &m.body),
+        _ => return Err(Failure::Line),
     };
     Ok(shown(alloc, table)?)
 }
 
 /// What the scan of a tree answers whose nesting, size and shapes are right.
-fn scanned_alone(alloc: Global, program: &Mod) -> Result<String, Fail> {
+fn scanned_alone(alloc: Global, program: &Mod) -> Result<String, Failure> {
     let table = match program {
-        Mod::Module(m) => SymbolTable::scan_body(alloc, &m.body),
-        Mod::Expression(m) => SymbolTable::scan_value(alloc, &m.body),
-        _ => return Err(Fail::from("neither a file nor an expression")),
+        Mod::Module(m) => <SymbolTable as Scan>::scan_body(alloc, &m.body),
+        Mod::Expression(m) => <SymbolTable as Scan>::scan_value(alloc, &m.body),
+        _ => return Err(Failure::Line),
     };
     Ok(shown(alloc, table)?)
 }
 
-/// What both answer.
-fn scanned_twice(alloc: Global, program: &Mod) -> Result<[String; 2], Fail> {
-    let given = scanned(alloc, program)?;
-    Ok([given, scanned_alone(alloc, program)?])
+/// What both answer, the second of a tree whose nesting, size and shapes are right.
+pub fn scanned_twice(alloc: Global, program: &Mod) -> Result<String, Failure> {
+    let whole = scanned(alloc, program)?;
+    let alone = scanned_alone(alloc, program)?;
+    Ok(format!(in alloc; "{whole}; {alone}")?)
 }
-
-#[test]
-fn a_table_is_scanned(rt: HostRuntime) -> Result<(), Fail> {
-    for (rows, want) in [
-        (
-            r#"[["int","1"],["Constant",1,1,0],["Expression",1]]"#,
-            "SymbolTable(0 symbols, 0 sub scopes)",
-        ),
-        (
-            r#"[["Nonlocal",3,1,["x"]],["Module",[0]]]"#,
-            "3 m.py cannot define nonlocal 'x' at top level.",
-        ),
-    ] {
-        let program = tree(rt.alloc(), rows)?;
-        let given = scanned_twice(rt.alloc(), &program);
-        program.discard();
-        let given = given?;
-        assert_eq!(rt; given[0].as_str(), want);
-        assert_eq!(rt; given[1].as_str(), want);
-    }
-    Ok(())
-}
-
-/// `def f(x): return lambda: x`.
-const CLOSURE: &str =
-    r#"[["Arg",1,7,"x",null],["ArgWithDefault",0,null],["Arguments",[],[1],null,[],null],["Arguments",[],[],null,[],null],["Name",1,26,"x"],["Lambda",1,18,3,4],["Return",1,11,5],["FunctionDef",1,1,"f",2,[6],[],null,[]],["Module",[7]]]"#;
 
 /// What the name is in the scope.
 fn scope_of(table: Option<&SymbolTable>, name: &str) -> Option<SymbolScope> {
@@ -84,7 +59,7 @@ fn scope_of(table: Option<&SymbolTable>, name: &str) -> Option<SymbolScope> {
     }
 }
 
-/// What f is in the table, and x in the scope within and in the one within that.
+/// What f is in the table, and x in the nested scope and in the one within that.
 fn kinds(table: &SymbolTable) -> [Option<SymbolScope>; 3] {
     let function = table.sub_tables.get(0);
     let lambda = match function {
@@ -99,29 +74,19 @@ fn kinds(table: &SymbolTable) -> [Option<SymbolScope>; 3] {
 }
 
 /// The table of a file.
-fn table_of(alloc: Global, program: &Mod) -> Result<SymbolTable, Fail> {
+fn table_of(alloc: Global, program: &Mod) -> Result<SymbolTable, Failure> {
     match program {
-        Mod::Module(m) => Ok(SymbolTable::scan_program(alloc, &m.body)?),
-        _ => Err(Fail::from("no file")),
+        Mod::Module(m) => Ok(<SymbolTable as Scan>::scan_program(alloc, &m.body)?),
+        _ => Err(Failure::Line),
     }
 }
 
-#[test]
-fn a_closure_and_a_copy_of_its_table(rt: HostRuntime) -> Result<(), Fail> {
-    let program = tree(rt.alloc(), CLOSURE)?;
-    let table = table_of(rt.alloc(), &program);
-    program.discard();
-    let table = table?;
-    let copy = table.try_clone(rt.alloc());
+/// The same of a table and of a copy of it.
+pub fn kinds_of(alloc: Global, program: &Mod) -> Result<String, Failure> {
+    let table = table_of(alloc, program)?;
+    let copy = table.try_clone(alloc);
     let given = kinds(&table);
     mem::drop(table);
     let same = kinds(&copy?);
-    let want = [
-        Some(SymbolScope::Local),
-        Some(SymbolScope::Cell),
-        Some(SymbolScope::Free),
-    ];
-    assert_eq!(rt; given, want);
-    assert_eq!(rt; same, want);
-    Ok(())
+    Ok(format!(in alloc; "{given:?} {same:?}")?)
 }

@@ -64,7 +64,7 @@ fn written(alloc: Global, code: &CodeObject, file: &[u8]) -> Result<String, Allo
     }
 }
 
-/// Whether these flaws, as `PlaceOutside:3`, have the one that is found.
+/// Whether these verification errors, as `PlaceOutside:3`, have the one that is found.
 fn flaw_among(alloc: Global, code: &CodeObject, flaws: &str) -> Result<String, AllocError> {
     match verify(alloc, code)? {
         Verdict::Yes => String::from_str(alloc, "Yes"),

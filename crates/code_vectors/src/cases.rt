@@ -17,7 +17,7 @@ pub enum Question<'a> {
     Write,
     /// What `verify` says of the code.
     Verify,
-    /// Whether the flaw that `verify` finds is one of these.
+    /// Whether the verification error that `verify` finds is one of these.
     FlawAmong(&'a str),
     /// What `well_formed` says of the code.
     Form,
@@ -42,7 +42,7 @@ impl<'a> Question<'a> {
     }
 }
 
-/// The bytes that these words spell, one after the other: hexadecimal digits, and `*` and a number behind those that stand
+/// The bytes that these words spell, one after the other: hexadecimal digits, and `*` and a number after those that stand
 /// there so often. None where a word is spelled otherwise.
 pub fn bytes_of(alloc: Global, words: &str) -> Result<Option<Vec<u8>>, AllocError> {
     let mut bytes = Vec::new(alloc);
@@ -81,7 +81,7 @@ impl Place {
     /// The code that these bytes spell, in this place.
     ///
     /// # Errors
-    /// The bytes are no file of code, or want of memory.
+    /// The bytes are no file of code, or out of memory.
     pub fn code(self, alloc: Global, bytes: &[u8]) -> Result<CodeObject, ReadCodeError> {
         let mut code = read_code(alloc, bytes)?;
         match self {

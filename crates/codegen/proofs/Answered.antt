@@ -14,7 +14,7 @@ use Rattle.py_base.specs.declared.errors.CodegenErrorType.TheVariants as error
 use Rattle.py_control_proof.proofs.CodeObjects.{objects_agree}
 use Rattle.py_emission_parts.specs.Context.{Context}
 use Rattle.py_emission_parts.specs.Everywhere.{Everywhere}
-use Rattle.py_emission.specs.EmissionMods.{emitted}
+use Rattle.py_emission.specs.EmissionMods.{emission_outcome}
 use Rattle.py_meaning.specs.Faults.{faults}
 use Rattle.py_meaning.specs.Meaning.{body}
 use Rattle.py_meaning.specs.Scanned.{scan_faults, scopes_of}
@@ -24,9 +24,9 @@ use Rattle.py_emission_proof.proofs.Additions.Codes.{Ground, MadeFrom}
 use Rattle.py_emission_proof.proofs.Additions.CodeNameLemmas.{IsMadeSo, Named}
 use Rattle.py_emission_proof.proofs.Additions.WellMade.{WellMade, everywhere_so}
 use Rattle.py_emission_proof.specs.Distinct.{HasDistinctNames}
-use Rattle.py_cell_binding.specs.Captures.{CapturesCells}
-use Rattle.py_cell_binding.proofs.CaptureLemmas.{captures_cells}
-use Rattle.py_cell_loads.proofs.CellLoadLemmas.{tree_loads_few}
+use Rattle.py_scope_proof.specs.Captures.{CapturesCells}
+use Rattle.py_scope_proof.proofs.CellBinding.CaptureLemmas.{captures_cells}
+use Rattle.py_scope_proof.proofs.CellLoads.CellLoadLemmas.{tree_loads_few}
 use Rattle.codegen.specs.Calls.{IsChecked, IsCompiled, IsWhole}
 use Rattle.codegen.specs.Compiled.{IsFirst, IsScanned, ScopesFollow, around_tree}
 use Rattle.codegen.proofs.AssembledCodeLemmas.{made_from_scope}
@@ -34,10 +34,11 @@ use Rattle.codegen.proofs.DistinctTables.{distinct_names}
 use Rattle.codegen.proofs.Heights.{no_higher}
 use Rattle.codegen.proofs.Nested.{nested_below}
 use Rattle.codegen.proofs.Resolved.{scopes_follow}
-use Rattle.codegen.proofs.Firsts.{checked_first, refused_first, emitted_clean}
+use Rattle.codegen.proofs.Firsts.{checked_first, first_refused_first, emitted_clean}
 
 -- a tree is refused as a whole
-pub refused_whole : (e : LocatedError CodegenErrorType) (r : CodegenErrorType) (t : tree.Mod) (path : List ℕ) (m : Mode) (l : ℕ) → e.error ≡ r → e.location ≡ None → e.source_path ≡ path → IsChecked (Some r) t m → IsCompiled (Err e) t path m l
+pub refused_whole : (e : LocatedError CodegenErrorType) (r : CodegenErrorType) (t : tree.Mod) (path : List ℕ) (m : Mode) (l : ℕ) → e.error ≡ r
+    → e.location ≡ None → e.source_path ≡ path → IsChecked (Some r) t m → IsCompiled (Err e) t path m l
 refused_whole e r t path m l p q s h = record {
   agrees = tt;
   agrees_full = tt;
@@ -88,24 +89,26 @@ agree_full : (ground : Ground) (o : Object) (s : Scope) → MadeFrom ground (o, 
 agree_full ground o s h n = (objects_agree n o s (h.from n)).0
 
 -- a whole tree whose scopes were met, and which was emitted or refused
-module _ (r : Result CodeObject (LocatedError CodegenErrorType)) (t : tree.Mod) (path : List ℕ) (m : Mode) (l : ℕ) (w : IsWhole t m) (e : IfOk r (λ code. IsEmitted code (around_tree t path l) (emitted t m (around_tree t path l)))) (clean : OnOk r (scan_faults t ≡ [])) where
+module _ (r : Result CodeObject (LocatedError CodegenErrorType)) (t : tree.Mod) (path : List ℕ) (m : Mode) (l : ℕ) (w : IsWhole t m) (e : IfOk r (λ code. IsEmitted code (around_tree t path l) (emission_outcome t m (around_tree t path l)))) (clean : OnOk r (scan_faults t ≡ [])) where
   abbrev scope : Scope
   scope = body (scopes_of t) t m l
 
   abbrev ground : Ground
   ground = (path, scopes_of t)
 
-  abbrev around : Context
-  around = around_tree t path l
+  abbrev answered_around : Context
+  answered_around = around_tree t path l
 
-  faultless : OnOk r (faults t m l ≡ [])
-  faultless = ok_both r (λ code. IsEmitted code (around_tree t path l) (emitted t m (around_tree t path l))) (scan_faults t ≡ []) (faults t m l ≡ []) (λ code e z. emitted_clean code path t m l w z e) e clean
+  answered_faultless : OnOk r (faults t m l ≡ [])
+  answered_faultless = ok_both r (λ code. IsEmitted code (around_tree t path l) (emission_outcome t m (around_tree t path l))) (scan_faults t ≡ []) (faults t m l ≡ []) (λ code e z. emitted_clean code path t m l w z e) e clean
 
   -- what holds of a code object that is made from the scope of a tree
   made_so : (Q : Object → Type 0) → ((o : Object) → MadeFrom ground (o, scope) → Q o) → IfOk r (λ code. Q (object code))
-  made_so Q f = go r e faultless
+  made_so Q f = go r e answered_faultless
     where
-      go : (x : Result CodeObject (LocatedError CodegenErrorType)) → IfOk x (λ code. IsEmitted code (around_tree t path l) (emitted t m (around_tree t path l))) → OnOk x (faults t m l ≡ []) → IfOk x (λ code. Q (object code))
+      go : (x : Result CodeObject (LocatedError CodegenErrorType))
+          → IfOk x (λ code. IsEmitted code (around_tree t path l) (emission_outcome t m (around_tree t path l))) → OnOk x (faults t m l ≡ [])
+          → IfOk x (λ code. Q (object code))
       go (Ok code) p q = f (object code) (made_from_scope code path m l (scopes_of t) t w.1 (tree_loads_few t m l q w.1) p)
       go (Err e) p q = p
 
@@ -117,7 +120,7 @@ module _ (r : Result CodeObject (LocatedError CodegenErrorType)) (t : tree.Mod) 
   answered first told = record {
     agrees = made_so (λ o. Agree o scope) (λ o h. agree ground o scope h);
     agrees_full = made_so (λ o. AgreeFull o scope) (λ o h. agree_full ground o scope h);
-    resolved = ok_so r (faults t m l ≡ []) (ScopesFollow t) (scopes_follow t m l) faultless;
+    resolved = ok_so r (faults t m l ≡ []) (ScopesFollow t) (scopes_follow t m l) answered_faultless;
     captures = captured;
     emission = e;
     ends = well_so _ (λ o w. w.ends);
@@ -129,18 +132,18 @@ module _ (r : Result CodeObject (LocatedError CodegenErrorType)) (t : tree.Mod) 
     units = well_so _ (λ o w. w.few);
     widths = well_so _ (λ o w. w.written);
     tables = tabled;
-    nested = on_ok r (λ code. IsEmitted code (around_tree t path l) (emitted t m (around_tree t path l))) (λ code. nesting (object code) < 2 ^ 11) (λ code h. nested_below code t m (around_tree t path l) w.0 h) e;
-    clean = faultless;
-    first = on_err r (λ e. IsScanned e t m l) (λ e. IsFirst e (faults t m l)) (λ e h. refused_first e t m l w h) first;
+    nested = on_ok r (λ code. IsEmitted code (around_tree t path l) (emission_outcome t m (around_tree t path l))) (λ code. nesting (object code) < 2 ^ 11) (λ code h. nested_below code t m (around_tree t path l) w.0 h) e;
+    clean = answered_faultless;
+    first = on_err r (λ e. IsScanned e t m l) (λ e. IsFirst e (faults t m l)) (λ e h. first_refused_first e t m l w h) first;
     path = on_err r (λ e. IsTold e path) (λ e. e.source_path ≡ path) (λ e h. h.0) told;
     nowhere = on_err r (λ e. IsTold e path) (λ e. e.error ≡ error.OutOfMemory → e.location ≡ None) (λ e h. h.1) told;
   }
     where
       captured : IfOk r (λ code. CapturesCells t m l (object code))
-      captured = ok_with r (λ code. (n : ℕ) → IsMadeSo (Named (scopes_of t)) n (object code) scope) (faults t m l ≡ []) (λ code. CapturesCells t m l (object code)) (λ code h z. captures_cells t m l z (object code) h) (made_so (λ o. (n : ℕ) → IsMadeSo (Named (scopes_of t)) n o scope) (λ o h. h.named)) faultless
+      captured = ok_with r (λ code. (n : ℕ) → IsMadeSo (Named (scopes_of t)) n (object code) scope) (faults t m l ≡ []) (λ code. CapturesCells t m l (object code)) (λ code h z. captures_cells t m l z (object code) h) (made_so (λ o. (n : ℕ) → IsMadeSo (Named (scopes_of t)) n o scope) (λ o h. h.named)) answered_faultless
 
       tabled : IfOk r (λ code. Everywhere HasDistinctNames (object code))
       tabled =
           ok_with r (λ code. Everywhere (WellMade path (scopes_of t)) (object code)) (faults t m l ≡ []) (λ code. Everywhere HasDistinctNames (object code))
           (λ code h z. everywhere_so (WellMade path (scopes_of t)) HasDistinctNames (distinct_names t m l path z) (object code) h)
-          (made_so (Everywhere (WellMade path (scopes_of t))) (λ o h. h.well)) faultless
+          (made_so (Everywhere (WellMade path (scopes_of t))) (λ o h. h.well)) answered_faultless

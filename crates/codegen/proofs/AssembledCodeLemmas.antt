@@ -16,8 +16,8 @@ use Rattle.py_control.specs.Form.{Scope}
 use Rattle.py_meaning.specs.Meaning.{body}
 use Rattle.py_emission_parts.specs.Context.{Context, inside, outermost}
 use Rattle.py_emission_parts.specs.Emitting.{Around, State, Outcome, Done, TooWide, Refused}
-use Rattle.py_emission_parts.specs.Sealed.{sealed}
-use Rattle.py_emission.specs.EmissionMods.{emitted}
+use Rattle.py_emission_parts.specs.Sealed.{assembled_object}
+use Rattle.py_emission.specs.EmissionMods.{emission_outcome}
 use Rattle.py_emit.specs.Emitted.{IsMade, IsEmitted}
 use Rattle.py_emit.specs.States.{module_head}
 use Rattle.py_emit.proofs.Sealed.{AllAimed, sealed_is}
@@ -29,18 +29,18 @@ use Rattle.py_emission_proof.proofs.Trees.NeverRefused.{IsCelled, begins_all}
 use Rattle.py_emission_proof.proofs.Trees.Programs.{first_place, tree_adds}
 use Rattle.codegen.specs.Compiled.{IsSealed}
 
-module _ (code : CodeObject) (path : List ℕ) (m : Mode) (l : ℕ) (scopes : List ScopeEntry) (t : tree.Mod) (s : State) (small : size_of t < 2 ^ 22) (few : LoadsFew scopes (body scopes t m l)) (done : emitted t m (outermost l path scopes) ≡ Done s) (made : IsMade code (outermost l path scopes) s) where
-  abbrev around : Context
-  around = outermost l path scopes
+module _ (code : CodeObject) (path : List ℕ) (m : Mode) (l : ℕ) (scopes : List ScopeEntry) (t : tree.Mod) (s : State) (small : size_of t < 2 ^ 22) (few : LoadsFew scopes (body scopes t m l)) (done : emission_outcome t m (outermost l path scopes) ≡ Done s) (made : IsMade code (outermost l path scopes) s) where
+  abbrev assembled_code_around : Context
+  assembled_code_around = outermost l path scopes
 
   abbrev scope : Scope
   scope = body scopes t m l
 
-  whole : Emitted around first_place 1 scope s
-  whole = tree_adds t m l path scopes s small few done
+  assembled_code_whole : Emitted assembled_code_around first_place 1 scope s
+  assembled_code_whole = tree_adds t m l path scopes s small few done
 
-  abbrev child : Scope → Object
-  child = child_at around first_place 1 scope s whole
+  abbrev assembled_code_child : Scope → Object
+  assembled_code_child = child_at assembled_code_around first_place 1 scope s assembled_code_whole
 
   abbrev tabled : Tables
   tabled = tables_of made.info
@@ -48,44 +48,49 @@ module _ (code : CodeObject) (path : List ℕ) (m : Mode) (l : ℕ) (scopes : Li
   abbrev blocks : List Blk
   blocks = map plain made.info.blocks
 
-  celled : IsCelled (module_head around) s
-  celled = record { cellvars = ap (λ (x : Around). x.context.cells) (sym whole.adds.added.around_are); freevars = ap (λ (x : Around). x.context.frees) (sym whole.adds.added.around_are) }
+  celled : IsCelled (module_head assembled_code_around) s
+  celled = record { cellvars = ap (λ (x : Around). x.context.cells) (sym assembled_code_whole.adds.added.around_are); freevars = ap (λ (x : Around). x.context.frees) (sym assembled_code_whole.adds.added.around_are) }
 
-  begins : Begins s tabled
-  begins = begins_all made.info (module_head around) s celled made.holds
+  assembled_code_begins : Begins s tabled
+  assembled_code_begins = begins_all made.info (module_head assembled_code_around) s celled made.holds
 
-  read : Read child tabled blocks scope
-  read = reading around first_place 1 scope s whole tabled blocks begins made.holds.steps (length-map made.info.blocks plain ∙ made.holds.blocks)
+  assembled_code_read : Read assembled_code_child tabled blocks scope
+  assembled_code_read = reading assembled_code_around first_place 1 scope s assembled_code_whole tabled blocks assembled_code_begins made.holds.steps (length-map made.info.blocks plain ∙ made.holds.blocks)
 
-  aimed : AllAimed tabled around.level blocks
+  aimed : AllAimed tabled assembled_code_around.level blocks
   aimed b place =
-      let sizes = only_sizes child tabled around.level blocks scope read made.final.laid.chain made.final.laid.is_chain in
+      let sizes = only_sizes assembled_code_child tabled assembled_code_around.level blocks scope assembled_code_read made.final.laid.chain made.final.laid.is_chain in
       (sizes (FinalizeError.JumpWithoutTarget b place), sizes (FinalizeError.TargetOutside b place))
 
-  is_sealed : object code ≡ sealed around.level (module_head around) s
-  is_sealed = sealed_is around.level made.info (module_head around) s code made.holds aimed made.final
+  is_sealed : object code ≡ assembled_object assembled_code_around.level (module_head assembled_code_around) s
+  is_sealed = sealed_is assembled_code_around.level made.info (module_head assembled_code_around) s code made.holds aimed made.final
 
-  from_scope : MadeFrom (ground_of around) (object code, scope)
-  from_scope = subst (λ o. MadeFrom (ground_of around) (o, scope)) (sym is_sealed) (sealed_made around first_place 1 scope s whole around.level (module_head around) refl refl refl)
+  from_scope : MadeFrom (ground_of assembled_code_around) (object code, scope)
+  from_scope = subst (λ o. MadeFrom (ground_of assembled_code_around) (o, scope)) (sym is_sealed) (sealed_made assembled_code_around first_place 1 scope s assembled_code_whole assembled_code_around.level (module_head assembled_code_around) refl refl refl)
 
 same_ground : (l : ℕ) (path : List ℕ) (scopes : List ScopeEntry) → ground_of (outermost l path scopes) ≡ (path, scopes)
 unfolding inside
 same_ground l path scopes = refl
 
 -- a code object that is what is emitted for a tree is made from the scope of the tree
-pub made_from_scope : (code : CodeObject) (path : List ℕ) (m : Mode) (l : ℕ) (scopes : List ScopeEntry) (t : tree.Mod) → size_of t < 2 ^ 22 → LoadsFew scopes (body scopes t m l) → IsEmitted code (outermost l path scopes) (emitted t m (outermost l path scopes)) → MadeFrom (path, scopes) (object code, body scopes t m l)
-made_from_scope code path m l scopes t small few is = subst (λ ground. MadeFrom ground (object code, body scopes t m l)) (same_ground l path scopes) (go (emitted t m (outermost l path scopes)) refl is)
+pub made_from_scope : (code : CodeObject) (path : List ℕ) (m : Mode) (l : ℕ) (scopes : List ScopeEntry) (t : tree.Mod) → size_of t < 2 ^ 22
+    → LoadsFew scopes (body scopes t m l) → IsEmitted code (outermost l path scopes) (emission_outcome t m (outermost l path scopes))
+    → MadeFrom (path, scopes) (object code, body scopes t m l)
+made_from_scope code path m l scopes t small few is = subst (λ ground. MadeFrom ground (object code, body scopes t m l)) (same_ground l path scopes) (go (emission_outcome t m (outermost l path scopes)) refl is)
   where
-    go : (r : Outcome) → emitted t m (outermost l path scopes) ≡ r → IsEmitted code (outermost l path scopes) r → MadeFrom (ground_of (outermost l path scopes)) (object code, body scopes t m l)
+    go : (r : Outcome) → emission_outcome t m (outermost l path scopes) ≡ r → IsEmitted code (outermost l path scopes) r
+        → MadeFrom (ground_of (outermost l path scopes)) (object code, body scopes t m l)
     go (Done s) e h = from_scope code path m l scopes t s small few e h
     go TooWide e h = absurd h
     go (Refused r at) e h = absurd h
 
 -- and it is the one that what is emitted determines
-pub code_is_sealed : (code : CodeObject) (path : List ℕ) (m : Mode) (l : ℕ) (scopes : List ScopeEntry) (t : tree.Mod) → size_of t < 2 ^ 22 → LoadsFew scopes (body scopes t m l) → IsEmitted code (outermost l path scopes) (emitted t m (outermost l path scopes)) → IsSealed (object code) (outermost l path scopes) (emitted t m (outermost l path scopes))
-code_is_sealed code path m l scopes t small few is = go (emitted t m (outermost l path scopes)) refl is
+pub code_is_sealed : (code : CodeObject) (path : List ℕ) (m : Mode) (l : ℕ) (scopes : List ScopeEntry) (t : tree.Mod) → size_of t < 2 ^ 22
+    → LoadsFew scopes (body scopes t m l) → IsEmitted code (outermost l path scopes) (emission_outcome t m (outermost l path scopes))
+    → IsSealed (object code) (outermost l path scopes) (emission_outcome t m (outermost l path scopes))
+code_is_sealed code path m l scopes t small few is = go (emission_outcome t m (outermost l path scopes)) refl is
   where
-    go : (r : Outcome) → emitted t m (outermost l path scopes) ≡ r → IsEmitted code (outermost l path scopes) r → IsSealed (object code) (outermost l path scopes) r
+    go : (r : Outcome) → emission_outcome t m (outermost l path scopes) ≡ r → IsEmitted code (outermost l path scopes) r → IsSealed (object code) (outermost l path scopes) r
     go (Done s) e h = is_sealed code path m l scopes t s small few e h
     go TooWide e h = absurd h
     go (Refused r at) e h = absurd h

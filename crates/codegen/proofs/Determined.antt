@@ -4,9 +4,9 @@ use Rattle.py_tree.specs.Tree as tree
 use Rattle.py_bytecode.specs.Objects.{Object}
 use Rattle.py_emission_parts.specs.Context.{Context}
 use Rattle.py_emission_parts.specs.Emitting.{Outcome, Done, TooWide, Refused}
-use Rattle.py_emission.specs.EmissionMods.{emitted}
+use Rattle.py_emission.specs.EmissionMods.{emission_outcome}
 use Rattle.py_meaning.specs.Scanned.{scopes_of}
-use Rattle.py_cell_loads.proofs.CellLoadLemmas.{tree_loads_few}
+use Rattle.py_scope_proof.proofs.CellLoads.CellLoadLemmas.{tree_loads_few}
 use Rattle.py_emission_outcomes.proofs.Capacity.Premises.{small_tree}
 use Rattle.codegen.specs.Calls.{CompiledIsSealed, EqualTreesHaveEqualCode}
 use Rattle.codegen.specs.Compiled.{IsSealed, around_tree}
@@ -24,4 +24,4 @@ compiled_sealed t source m l a h =
     code_is_sealed a source m l (scopes_of t) t small (tree_loads_few t m l h.clean small) h.emission
 
 pub equal_trees : EqualTreesHaveEqualCode
-equal_trees t source m l a b h k = both_sealed (around_tree t source l) (emitted t m (around_tree t source l)) _ _ (compiled_sealed t source m l a h) (compiled_sealed t source m l b k)
+equal_trees t source m l a b h k = both_sealed (around_tree t source l) (emission_outcome t m (around_tree t source l)) _ _ (compiled_sealed t source m l a h) (compiled_sealed t source m l b k)

@@ -19,21 +19,21 @@ use Rattle.py_scope.specs.Symbols as symbols
 use Rattle.py_name_uses.specs.Steps.{State}
 use Rattle.py_emission_parts.specs.Context.{cells_among, cells_here, frees_among, frees_here, is_cell, symbols_in}
 use Rattle.py_emission_proof.specs.Distinct.{AreApart, AreDistinct, HasDistinctNames}
-use Rattle.py_emission_proof.proofs.Additions.DistinctNames.{either_false, first_false, rest_false, turned}
+use Rattle.py_emission_proof.proofs.Additions.DistinctNames.{either_false, first_false, rest_false, distinct_name_turned}
 use Rattle.py_emission_proof.proofs.Additions.WellMade.{IsCelled, WellMade}
 use Rattle.py_meaning.specs.Faults.{faults}
 use Rattle.py_meaning.specs.Scanned.{scopes_of}
-use Rattle.py_scope_tree.specs.Entered.{ScansTo, kind_in_table, kind_of_owner, told, told_row}
-use Rattle.py_scope_tree.specs.StmtOwners.{owners_of}
-use Rattle.py_cell_loads.proofs.Distinct.{any_of_those, those_distinct}
-use Rattle.py_scope_tree.proofs.Facts.{Facts, facts}
-use Rattle.py_scope_tree.proofs.EnteringPrograms.{scan_enters_owners}
-use Rattle.py_scope_tree.proofs.OwnerTables.{scan_done, table_has_owners}
+use Rattle.py_scope_proof.specs.Entered.{ScansTo, kind_in_table, kind_of_owner, told_node, told_row}
+use Rattle.py_scope_proof.specs.StmtOwners.{owners_of}
+use Rattle.py_scope_proof.proofs.CellLoads.Distinct.{any_of_those, those_distinct}
+use Rattle.py_scope_proof.proofs.NodeScopes.Facts.{Facts, facts}
+use Rattle.py_scope_proof.proofs.NodeScopes.EnteringPrograms.{scan_enters_owners}
+use Rattle.py_scope_proof.proofs.NodeScopes.OwnerTables.{scan_done, table_has_owners}
 
 -- a name that is not in the first may head the second
 with_head : (xs : List (List ℕ)) (y : List ℕ) (ys : List (List ℕ)) → list_any (text_eq y) xs ≡ false → AreApart xs ys → AreApart xs (y ∷ ys)
 with_head [] y ys h a = tt
-with_head (x ∷ xs) y ys h a = (either_false (text_eq x y) _ (turned y x (first_false (text_eq y x) _ h)) a.0, with_head xs y ys (rest_false (text_eq y x) _ h) a.1)
+with_head (x ∷ xs) y ys h a = (either_false (text_eq x y) _ (distinct_name_turned y x (first_false (text_eq y x) _ h)) a.0, with_head xs y ys (rest_false (text_eq y x) _ h) a.1)
 
 -- no symbol is both a cell and free
 abbrev OneOnly : List Symbol → Type 0
@@ -43,7 +43,8 @@ those_apart : (ts : List Symbol) → symbols.AreApart ts → OneOnly ts → AreA
 those_apart [] h one = tt
 those_apart (t ∷ ts) h one = by (cells_here t) (frees_here t) (one 0 t refl) (those_apart ts h.1 (λ i u. one (suc i) u))
   where
-    by : (c f : Bool) → (c ≡ true → f ≡ false) → AreApart (cells_among ts) (frees_among ts) → AreApart (if c then t.name ∷ cells_among ts else cells_among ts) (if f then t.name ∷ frees_among ts else frees_among ts)
+    by : (c f : Bool) → (c ≡ true → f ≡ false) → AreApart (cells_among ts) (frees_among ts)
+        → AreApart (if c then t.name ∷ cells_among ts else cells_among ts) (if f then t.name ∷ frees_among ts else frees_among ts)
     by true true k rest = absurd (let z : true ≡ false = k refl in cc)
     by true false k rest = (any_of_those frees_here t.name ts h.0, rest)
     by false true k rest = with_head (cells_among ts) t.name (frees_among ts) (any_of_those cells_here t.name ts h.0) rest
@@ -93,10 +94,10 @@ each_apart rows scopes same f k = by (slice_get scopes k) refl
         }
 
 -- a tree has as many scopes as its scan enters
-as_many : (t : tree.Mod) (m : Mode) (level : ℕ) (s : State) → faults t m level ≡ [] → ScansTo t s → length (scopes_of t) ≡ length s.scopes.rows
-as_many t m level s h e =
+distinct_table_as_many : (t : tree.Mod) (m : Mode) (level : ℕ) (s : State) → faults t m level ≡ [] → ScansTo t s → length (scopes_of t) ≡ length s.scopes.rows
+distinct_table_as_many t m level s h e =
     sym (length-map (scopes_of t) kind_in_table) ∙ ap length (table_has_owners t m level h) ∙ length-map (owners_of t m) kind_of_owner
-    ∙ sym (length-map (owners_of t m) told) ∙ sym (ap length (scan_enters_owners t m level s h e)) ∙ length-map s.scopes.rows told_row
+    ∙ sym (length-map (owners_of t m) told_node) ∙ sym (ap length (scan_enters_owners t m level s h e)) ∙ length-map s.scopes.rows told_row
 
 -- the tables of a code object that is made so hold no name twice
 named_once : (source : List ℕ) (scopes : List ScopeEntry) → ((k : ℕ) → Apart (symbols_in scopes k)) → (o : Object) → WellMade source scopes o → HasDistinctNames o
@@ -112,4 +113,4 @@ named_once source scopes apart o w =
 pub distinct_names : (t : tree.Mod) (m : Mode) (level : ℕ) (source : List ℕ) → faults t m level ≡ [] → (o : Object) → WellMade source (scopes_of t) o → HasDistinctNames o
 distinct_names t m level source h =
     let s = scan_done t m level h in
-    named_once source (scopes_of t) (each_apart s.0.scopes.rows (scopes_of t) (as_many t m level s.0 h s.1) (facts t m level s.0 h s.1))
+    named_once source (scopes_of t) (each_apart s.0.scopes.rows (scopes_of t) (distinct_table_as_many t m level s.0 h s.1) (facts t m level s.0 h s.1))

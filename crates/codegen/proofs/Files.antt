@@ -3,9 +3,10 @@ use Rattle.std.proofs.Common.{◌≡◌, Bool, sym, ap, ◌∙◌}
 use Rattle.py_bytecode.specs.Objects.{none}
 use Rattle.py_tree.specs.Tree as tree
 use Rattle.py_bytecode.specs.declared.instruction.Instruction.TheVariants as op
-use Rattle.py_emission.specs.Predicates.{annotated}
+use Rattle.py_emission.specs.Predicates.{any_annotates}
 use Rattle.py_emission.specs.Texts.{after_doc, doc_of}
 use Rattle.py_emission_parts.specs.Emitting.{Done, Emission, State, ◌▸◌, by_level, emit_constant}
+use Rattle.py_emission_parts.specs.Running.{run}
 use Rattle.py_emission.specs.EmissionStmts.{emission_of_stmts}
 use Rattle.py_emission.specs.EmissionDefs.{emission_of_setup}
 use Rattle.py_emission.specs.EmissionFutures.{emission_behind}
@@ -16,9 +17,10 @@ use Rattle.py_emit.proofs.Joined.{went}
 abbrev pub returning : tree.Stmts → Emission
 returning after = emission_behind emission_of_stmts after ▸ emit_constant op.ReturnConst none
 
--- what is left of a file behind its docstring
-pub behind_doc : (body after : tree.Stmts) (b : Bool) (s r : State) → by_level (λ l. emission_of_doc (doc_of l body)) s ≡ Done r → after ≡ after_doc body → b ≡ annotated after → emission_of_program body s ≡ (emission_of_setup b ▸ returning after) r
+-- what is left of a file after its docstring
+pub behind_doc : (body after : tree.Stmts) (b : Bool) (s r : State) → run (by_level (λ l. emission_of_doc (doc_of l body))) s ≡ Done r → after ≡ after_doc body
+    → b ≡ any_annotates after → run (emission_of_program body) s ≡ run (emission_of_setup b ▸ returning after) r
 behind_doc body after b s r doc is any =
-    went _ (emission_of_setup (annotated (after_doc body)) ▸ returning (after_doc body)) r doc
-    ∙ ap (λ a. (emission_of_setup (annotated a) ▸ returning a) r) (sym is)
-    ∙ ap (λ c. (emission_of_setup c ▸ returning after) r) (sym any)
+    went _ (run (emission_of_setup (any_annotates (after_doc body)) ▸ returning (after_doc body))) r doc
+    ∙ ap (λ a. run (emission_of_setup (any_annotates a) ▸ returning a) r) (sym is)
+    ∙ ap (λ c. run (emission_of_setup c ▸ returning after) r) (sym any)

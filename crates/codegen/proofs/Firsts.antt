@@ -6,7 +6,7 @@ use Rattle.py_base.specs.declared.location.LocatedError.{LocatedError}
 use Rattle.py_tree.specs.declared.modules.Mode.{Mode}
 use Rattle.py_bytecode.specs.declared.code.CodeObject.{CodeObject}
 use Rattle.py_emission_parts.specs.Emitting.{Outcome, State, Done, TooWide, Refused}
-use Rattle.py_emission.specs.EmissionMods.{emitted}
+use Rattle.py_emission.specs.EmissionMods.{emission_outcome}
 use Rattle.py_meaning.specs.ExprFaults.{Fault}
 use Rattle.py_meaning.specs.Faults.{faults, compile_faults}
 use Rattle.py_base.specs.declared.errors.CodegenErrorType.{CodegenErrorType}
@@ -25,7 +25,7 @@ use Rattle.symboltable.specs.Errors.{codegen_error}
 use Rattle.py_emit.specs.Emitted.{IsEmitted}
 use Rattle.py_emit.specs.States.{Goes, IsTold, Rest, Same}
 use Rattle.py_emission_outcomes.proofs.Faults.FaultOutcomeLemmas.{refusal_heads, done_faultless}
-use Rattle.py_cell_loads.proofs.Whole.{uses_are_few}
+use Rattle.py_scope_proof.proofs.CellLoads.Whole.{uses_are_few}
 use Rattle.py_emission_outcomes.proofs.Capacity.Whole.{trees_fit}
 use Rattle.py_emission_outcomes.proofs.Capacity.WithoutScopes.{refused_without_scopes}
 use Rattle.codegen.proofs.Wholes.{none_whole}
@@ -45,72 +45,80 @@ compiled : (t : tree.Mod) (m : Mode) (l : ℕ) → IsWhole t m → faults t m l 
 compiled t m l w = ap (λ fs. fs ++ scan_faults t ++ compile_faults m l t) (none_whole t m w)
 
 -- the first of what the scan refuses, or of the nodes that are compiled
-pub refused_first : (e : LocatedError CodegenErrorType) (t : tree.Mod) (m : Mode) (l : ℕ) → IsWhole t m → IsScanned e t m l → IsFirst e (faults t m l)
-refused_first e t m l w (inl h) known =
+pub first_refused_first : (e : LocatedError CodegenErrorType) (t : tree.Mod) (m : Mode) (l : ℕ) → IsWhole t m → IsScanned e t m l → IsFirst e (faults t m l)
+first_refused_first e t m l w (inl h) known =
     let f = h known in
     (f.0 ++ compile_faults m l t, compiled t m l w ∙ ap (λ fs. fs ++ compile_faults m l t) f.1)
-refused_first e t m l w (inr h) known =
+first_refused_first e t m l w (inr h) known =
     let f = h.1 known in
     (f.0, compiled t m l w ∙ ap (λ fs. fs ++ compile_faults m l t) h.0 ∙ f.1)
 
 -- what is emitted of a tree without faults misses no cell
-missing_faulty : (t : tree.Mod) (m : Mode) (l : ℕ) (path : List ℕ) (at : Option SourceLocation) → IsWhole t m → scan_faults t ≡ [] → emitted t m (around_tree t path l) ≡ Refused error.MissingCell at → compile_faults m l t ≢ []
+missing_faulty : (t : tree.Mod) (m : Mode) (l : ℕ) (path : List ℕ) (at : Option SourceLocation) → IsWhole t m → scan_faults t ≡ []
+    → emission_outcome t m (around_tree t path l) ≡ Refused error.MissingCell at → compile_faults m l t ≢ []
 missing_faulty t m l path at w clean r none =
     let f = trees_fit uses_are_few t m l path (compiled t m l w ∙ (λ i. clean i ++ none i)) in
     let same : ◌≡◌ {A = Outcome} (Refused error.MissingCell at) (Done f.0) = sym r ∙ f.1 in
     cc
 
 -- so where a call says that one is missing, there is a fault
-pub missing_is_faulty : (e : LocatedError CodegenErrorType) (t : tree.Mod) (m : Mode) (l : ℕ) (path : List ℕ) (scopes : List ScopeEntry) → IsWhole t m → scan_faults t ≡ [] → scopes ≡ scopes_of t → e.error ≡ error.MissingCell → IsRefused e (emitted t m (outermost l path scopes)) → compile_faults m l t ≢ []
+pub missing_is_faulty : (e : LocatedError CodegenErrorType) (t : tree.Mod) (m : Mode) (l : ℕ) (path : List ℕ) (scopes : List ScopeEntry) → IsWhole t m
+    → scan_faults t ≡ [] → scopes ≡ scopes_of t → e.error ≡ error.MissingCell → IsRefused e (emission_outcome t m (outermost l path scopes))
+    → compile_faults m l t ≢ []
 missing_is_faulty e t m l path scopes w clean s q refused =
     missing_faulty t m l path e.location w clean
-    (subst (λ x. emitted t m (outermost l path x) ≡ Refused error.MissingCell e.location) s
+    (subst (λ x. emission_outcome t m (outermost l path x) ≡ Refused error.MissingCell e.location) s
     (refused (λ o. let z : error.MissingCell ≡ error.OutOfMemory = sym q ∙ o in cc) ∙ ap (λ x. Refused x e.location) q))
 
 -- over any scopes where no cell is missing, a refusal is for the first fault of the nodes that are compiled
-pub refused_over : (e : LocatedError CodegenErrorType) (t : tree.Mod) (m : Mode) (l : ℕ) (path : List ℕ) (scopes : List ScopeEntry) → IsWhole t m → e.error ≢ error.MissingCell → IsRefused e (emitted t m (outermost l path scopes)) → IsFirst e (compile_faults m l t)
+pub refused_over : (e : LocatedError CodegenErrorType) (t : tree.Mod) (m : Mode) (l : ℕ) (path : List ℕ) (scopes : List ScopeEntry) → IsWhole t m
+    → e.error ≢ error.MissingCell → IsRefused e (emission_outcome t m (outermost l path scopes)) → IsFirst e (compile_faults m l t)
 refused_over e t m l path scopes w other refused known = refusal_heads t m l path scopes e.error e.location w.2 (refused known) other
 
 -- without scopes none is
-pub refused_without : (e : LocatedError CodegenErrorType) (t : tree.Mod) (m : Mode) (l : ℕ) (path : List ℕ) → IsWhole t m → IsRefused e (emitted t m (outermost l path [])) → IsFirst e (compile_faults m l t)
+pub refused_without : (e : LocatedError CodegenErrorType) (t : tree.Mod) (m : Mode) (l : ℕ) (path : List ℕ) → IsWhole t m
+    → IsRefused e (emission_outcome t m (outermost l path [])) → IsFirst e (compile_faults m l t)
 refused_without e t m l path w refused known = refusal_heads t m l path [] e.error e.location w.2 (refused known) (refused_without_scopes t m l path e.error e.location w.1 (refused known))
 
-emitted_faultless : (code : CodeObject) (path : List ℕ) (t : tree.Mod) (m : Mode) (l : ℕ) (o : Outcome) → emitted t m (around_tree t path l) ≡ o → shapes t m ≡ [] → IsEmitted code (around_tree t path l) o → compile_faults m l t ≡ []
+emitted_faultless : (code : CodeObject) (path : List ℕ) (t : tree.Mod) (m : Mode) (l : ℕ) (o : Outcome) → emission_outcome t m (around_tree t path l) ≡ o
+    → shapes t m ≡ [] → IsEmitted code (around_tree t path l) o → compile_faults m l t ≡ []
 emitted_faultless code path t m l (Done r) e h is = done_faultless t m l path (scopes_of t) r h e
 emitted_faultless code path t m l TooWide e h is = absurd is
 emitted_faultless code path t m l (Refused r at) e h is = absurd is
 
 -- where the scan refuses nothing and the emission is done, nothing is wrong with the tree
-pub done_clean : (path : List ℕ) (t : tree.Mod) (m : Mode) (l : ℕ) (s : State) → IsWhole t m → scan_faults t ≡ [] → emitted t m (around_tree t path l) ≡ Done s → faults t m l ≡ []
+pub done_clean : (path : List ℕ) (t : tree.Mod) (m : Mode) (l : ℕ) (s : State) → IsWhole t m → scan_faults t ≡ [] → emission_outcome t m (around_tree t path l) ≡ Done s → faults t m l ≡ []
 done_clean path t m l s w clean is = compiled t m l w ∙ (λ i. clean i ++ done_faultless t m l path (scopes_of t) s w.2 is i)
 
-pub emitted_clean : (code : CodeObject) (path : List ℕ) (t : tree.Mod) (m : Mode) (l : ℕ) → IsWhole t m → scan_faults t ≡ [] → IsEmitted code (around_tree t path l) (emitted t m (around_tree t path l)) → faults t m l ≡ []
+pub emitted_clean : (code : CodeObject) (path : List ℕ) (t : tree.Mod) (m : Mode) (l : ℕ) → IsWhole t m → scan_faults t ≡ []
+    → IsEmitted code (around_tree t path l) (emission_outcome t m (around_tree t path l)) → faults t m l ≡ []
 emitted_clean code path t m l w clean is =
-    compiled t m l w ∙ (λ i. clean i ++ emitted_faultless code path t m l (emitted t m (around_tree t path l)) refl w.2 is i)
+    compiled t m l w ∙ (λ i. clean i ++ emitted_faultless code path t m l (emission_outcome t m (around_tree t path l)) refl w.2 is i)
 
 -- what a call that emits a whole tree without scopes answers
 module _ {A : Type 0} (t : tree.Mod) (m : Mode) (l : ℕ) (path : List ℕ) (w : IsWhole t m) (after : State) where
-  pub ok_without : (x : Result A (LocatedError CodegenErrorType)) → Goes x after (emitted t m (outermost l path [])) → OnOk x (compile_faults m l t ≡ [])
+  pub ok_without : (x : Result A (LocatedError CodegenErrorType)) → Goes x after (emission_outcome t m (outermost l path [])) → OnOk x (compile_faults m l t ≡ [])
   ok_without (Ok a) g = done_faultless t m l path [] after w.2 g
   ok_without (Err e) g = tt
 
-  pub first_without : (x : Result A (LocatedError CodegenErrorType)) → Goes x after (emitted t m (outermost l path [])) → IfErr x (λ e. IsFirst e (compile_faults m l t))
+  pub first_without : (x : Result A (LocatedError CodegenErrorType)) → Goes x after (emission_outcome t m (outermost l path [])) → IfErr x (λ e. IsFirst e (compile_faults m l t))
   first_without (Ok a) g = tt
   first_without (Err e) g = refused_without e t m l path w g
 
--- an error names the path that the emitter had, and want of memory stands nowhere
+-- an error names the path that the emitter had, and out of memory stands nowhere
 pub told_same : {A : Type 0} (x : Result A (LocatedError CodegenErrorType)) (after before : Rest) (path : List ℕ) → before.path ≡ path → Same x after before → IfErr x (λ e. IsTold e path)
 told_same (Ok a) after before path p h = tt
 told_same (Err e) after before path p h = (h.0 ∙ p, h.1)
 
 -- an error of the scan, told as one of the compile calls, is the first of what the scan refuses
-pub told_first : (e : SymbolTableError) (told : LocatedError CodegenErrorType) (t : tree.Mod) (m : Mode) (l : ℕ) → IsScan t (Err e) → told.error ≡ codegen_error e.error → told.location ≡ e.location → IsScanned told t m l
+pub told_first : (e : SymbolTableError) (told : LocatedError CodegenErrorType) (t : tree.Mod) (m : Mode) (l : ℕ) → IsScan t (Err e)
+    → told.error ≡ codegen_error e.error → told.location ≡ e.location → IsScanned told t m l
 told_first e told t m l scanned p q = inl (λ known.
     let f = scanned (λ out. known (p ∙ ap codegen_error out)) in
     let at : (record { error = codegen_error e.error; location = e.location } ∷ f.0) ≡ fault_of told ∷ f.0 = λ i. record { error = sym p i; location = sym q i } ∷ f.0 in
     (f.0, f.1 ∙ at))
 
--- an error of the scan is a text, or want of memory, which stands nowhere
+-- an error of the scan is a text, or out of memory, which stands nowhere
 pub told_nowhere : (e : SymbolTableError) → IsTextOrMemory e → codegen_error e.error ≡ error.OutOfMemory → e.location ≡ None
 told_nowhere e told = go e.error e.location told
   where

@@ -24,9 +24,9 @@ module _ (o : Object) (ok : sound o) where
   in_step (suc n) c h = in_step n (step fetch c) (step_in fetch 0 (suc (head o).max_stackdepth) ok (unit_proper (tables o) (head o).instructions) c h)
 
   -- and no walk is higher
-  low : (c : Config Object ℕ) → In c → stack_height c ≤ (head o).max_stackdepth
-  low (At p s bs slot w) h = let l = low_by (code_look o) 0 (suc (head o).max_stackdepth) ok (omega arith) h.1.0 p h.0 h.1.1 in let e = h.2 in omega (arith, l, e)
-  low (Over events r) h = omega arith
+  height_low : (c : Config Object ℕ) → In c → stack_height c ≤ (head o).max_stackdepth
+  height_low (At p s bs slot w) h = let l = low_by (code_look o) 0 (suc (head o).max_stackdepth) ok (omega arith) h.1.0 p h.0 h.1.1 in let e = h.2 in omega (arith, l, e)
+  height_low (Over events r) h = omega arith
 
   pub no_higher : NoHigher o
-  no_higher answers n = let c : Config Object ℕ = At 0 [] [] None (start answers) in low (steps fetch n c) (in_step n c (state 0 [], (0, (refl, refl)), refl, tt))
+  no_higher answers n = let c : Config Object ℕ = At 0 [] [] None (start answers) in height_low (steps fetch n c) (in_step n c (state 0 [], (0, (refl, refl)), refl, tt))

@@ -10,7 +10,7 @@ use Rattle.py_bytecode.specs.View.{constant, object}
 use Rattle.py_bytecode.proofs.View.{object_is}
 use Rattle.py_emission_parts.specs.Context.{Context}
 use Rattle.py_emission_parts.specs.Emitting.{State, Outcome, Done, TooWide, Refused}
-use Rattle.py_emission.specs.EmissionMods.{emitted}
+use Rattle.py_emission.specs.EmissionMods.{emission_outcome}
 use Rattle.py_emit.specs.Emitted.{IsMade, IsEmitted}
 use Rattle.py_emission_outcomes.proofs.Nesting.NestingMods.{emitted_nests}
 
@@ -20,10 +20,10 @@ made_nests code c s made below =
     let same = ap (map constant) made.final.given.constants ∙ made.holds.constants in
     subst (λ o. nesting o < 2 ^ 11) (sym (object_is code)) (subst (λ cs. consts_nesting (consts_of cs) + 1 < 2 ^ 11) (sym same) below)
 
-pub nested_below : (code : CodeObject) (t : tree.Mod) (m : Mode) (c : Context) → depth.nesting t < 2 ^ 10 → IsEmitted code c (emitted t m c) → nesting (object code) < 2 ^ 11
-nested_below code t m c shallow is = go (emitted t m c) refl is
+pub nested_below : (code : CodeObject) (t : tree.Mod) (m : Mode) (c : Context) → depth.nesting t < 2 ^ 10 → IsEmitted code c (emission_outcome t m c) → nesting (object code) < 2 ^ 11
+nested_below code t m c shallow is = go (emission_outcome t m c) refl is
   where
-    go : (r : Outcome) → emitted t m c ≡ r → IsEmitted code c r → nesting (object code) < 2 ^ 11
+    go : (r : Outcome) → emission_outcome t m c ≡ r → IsEmitted code c r → nesting (object code) < 2 ^ 11
     go (Done s) e made = made_nests code c s made (emitted_nests t m c s shallow e)
     go TooWide e h = absurd h
     go (Refused r at) e h = absurd h

@@ -17,12 +17,12 @@ use Rattle.py_base.specs.declared.errors.CodegenErrorType.TheVariants as error
 use Rattle.py_emission_parts.specs.Everywhere.{Everywhere}
 use Rattle.py_emit.specs.Emitted.{IsEmitted}
 use Rattle.py_emission_proof.specs.Distinct.{HasDistinctNames}
-use Rattle.py_emission.specs.EmissionMods.{emitted}
+use Rattle.py_emission.specs.EmissionMods.{emission_outcome}
 use Rattle.py_meaning.specs.ExprFaults.{Fault}
-use Rattle.py_meaning.specs.Faults.{faults, malformed, too_deep, too_large, whole}
+use Rattle.py_meaning.specs.Faults.{faults, malformed_faults, too_deep, too_large, whole}
 use Rattle.py_meaning.specs.Meaning.{body}
 use Rattle.py_meaning.specs.Scanned.{scopes_of}
-use Rattle.py_cell_binding.specs.Captures.{CapturesCells}
+use Rattle.py_scope_proof.specs.Captures.{CapturesCells}
 use Rattle.codegen.specs.Compiled.{AlwaysEnds, HasExactDepth, HasFewUnits, InLeastWidths, IsFirst, IsLocated, IsSealed, NamesPath, NoHigher, ScopesFollow, around_tree}
 use Rattle.codegen.specs.declared.program.Program.{Program}
 use Rattle.codegen.specs.declared.program.Program.TheVariants as lent
@@ -37,7 +37,7 @@ pub record IsCompiled (answer : Result CodeObject (LocatedError CodegenErrorType
   -- each use of a cell, in chains of functions that are made one within another, comes to the scope that binds its name
   pub captures : IfOk answer (λ code. CapturesCells t m l (object code))
   -- it is made of what is emitted of the tree
-  pub emission : IfOk answer (λ code. IsEmitted code (around_tree t source l) (emitted t m (around_tree t source l)))
+  pub emission : IfOk answer (λ code. IsEmitted code (around_tree t source l) (emission_outcome t m (around_tree t source l)))
   -- and each code object within it, at every depth, is so too
   pub ends : IfOk answer (λ code. Everywhere AlwaysEnds (object code))
   pub sound : IfOk answer (λ code. Everywhere sound (object code))
@@ -55,13 +55,13 @@ pub record IsCompiled (answer : Result CodeObject (LocatedError CodegenErrorType
   pub clean : OnOk answer (faults t m l ≡ [])
   pub first : IfErr answer (λ e. IsFirst e (faults t m l))
   pub path : IfErr answer (λ e. e.source_path ≡ source)
-  -- want of memory stands nowhere in the source
+  -- out of memory stands nowhere in the source
   pub nowhere : IfErr answer (λ e. e.error ≡ error.OutOfMemory → e.location ≡ None)
 
 -- a code is the one that what is emitted of its tree determines: a tree, a path, a mode and a level have one code
 abbrev pub CompiledIsSealed : Type 0
 CompiledIsSealed =
-    (t : tree.Mod) (source : List ℕ) (m : Mode) (l : ℕ) (a : CodeObject) → IsCompiled (Ok a) t source m l → IsSealed (object a) (around_tree t source l) (emitted t m (around_tree t source l))
+    (t : tree.Mod) (source : List ℕ) (m : Mode) (l : ℕ) (a : CodeObject) → IsCompiled (Ok a) t source m l → IsSealed (object a) (around_tree t source l) (emission_outcome t m (around_tree t source l))
 
 -- two answers for equal trees, paths, modes and levels are equal codes, where both are codes
 abbrev pub EqualTreesHaveEqualCode : Type 0
@@ -74,7 +74,7 @@ IsWhole t m = (nesting t < 2 ^ 10) × (size_of t < 2 ^ 22) × (shapes t m ≡ []
 
 -- what is wrong with the tree as a whole
 abbrev pub whole_faults : tree.Mod → Mode → List Fault
-whole_faults t m = whole too_deep (2 ^ 10) (nesting t) ++ whole too_large (2 ^ 22) (size_of t) ++ malformed (shapes t m)
+whole_faults t m = whole too_deep (2 ^ 10) (nesting t) ++ whole too_large (2 ^ 22) (size_of t) ++ malformed_faults (shapes t m)
 
 -- none where it is whole, else the first of what is wrong with it as a whole
 abbrev pub IsChecked : Option CodegenErrorType → tree.Mod → Mode → Type 0

@@ -6,7 +6,7 @@ use Rattle.py_scope.specs.Flat.{flat_table}
 use Rattle.py_scope.specs.Laws.{TableFollows}
 use Rattle.py_symbol_tables.specs.Laws.{Stands}
 use Rattle.py_name_uses.specs.Steps.{State}
-use Rattle.py_scope_tree.specs.Entered.{ScansTo}
+use Rattle.py_scope_proof.specs.Entered.{ScansTo}
 use Rattle.py_scope.specs.declared.error.ScanFault.TheVariants as fault
 use Rattle.py_scope.specs.declared.error.SymbolTableError.{SymbolTableError}
 use Rattle.py_scope.specs.declared.table.SymbolTable.{SymbolTable}
@@ -26,7 +26,7 @@ use Rattle.py_layout.specs.Written.{IsAssembled}
 use Rattle.py_control_proof.specs.Laws.{IsEnd}
 use Rattle.py_meaning.specs.ExprFaults.{Fault}
 use Rattle.py_emission_parts.specs.Emitting.{Outcome, Done, TooWide, Refused}
-use Rattle.py_emission_parts.specs.Sealed.{sealed}
+use Rattle.py_emission_parts.specs.Sealed.{assembled_object}
 use Rattle.py_emit.specs.States.{module_head}
 use Rattle.py_base.specs.declared.errors.CodegenErrorType.{CodegenErrorType}
 use Rattle.py_base.specs.declared.errors.CodegenErrorType.TheVariants as error
@@ -71,7 +71,7 @@ InLeastWidths o = (starts : List ℕ) × (items : List InstructionInfo) × IsAss
 abbrev pub IsFirst : LocatedError CodegenErrorType → List Fault → Type 0
 IsFirst e fs = e.error ≢ error.OutOfMemory → (rest : List Fault) × (fs ≡ record { error = e.error; location = e.location } ∷ rest)
 
--- what stands around a tree: its scopes are those that its scan resolves
+-- the context of a tree: its scopes are those that its scan resolves
 abbrev pub around_tree : tree.Mod → (source : List ℕ) → (level : ℕ) → Context
 around_tree t source level = outermost level source (scopes_of t)
 
@@ -83,7 +83,7 @@ ScopesFollow t =
 
 -- the code object is the one that what is emitted determines: its blocks are laid out, and its tables are those of the emission
 abbrev pub IsSealed : Object → Context → Outcome → Type 0
-IsSealed o c (Done s) = o ≡ sealed c.level (module_head c) s
+IsSealed o c (Done s) = o ≡ assembled_object c.level (module_head c) s
 IsSealed o c TooWide = ⊥
 IsSealed o c (Refused e at) = ⊥
 

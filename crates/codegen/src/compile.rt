@@ -5,7 +5,7 @@ ghost use Rattle.py_tree.specs.Tree as tree;
 ghost use Rattle.py_tree.specs.View.{expr_tree, mod_tree, stmts, stmt_tree};
 ghost use Rattle.py_name_uses.specs.Goes.{IsTextOrMemory};
 ghost use Rattle.py_emission_parts.specs.Context.{outermost};
-ghost use Rattle.py_emission.specs.EmissionMods.{emission_of_mod, emitted};
+ghost use Rattle.py_emission.specs.EmissionMods.{emission_of_mod, emission_outcome};
 ghost use Rattle.py_meaning.specs.Faults.{compile_faults};
 ghost use Rattle.py_meaning.specs.Scanned.{scan_faults, scopes_of};
 ghost use Rattle.codegen.specs.Calls.{IsChecked, IsCompiled, IsWhole, tree_of};
@@ -198,7 +198,7 @@ fn compile_scanned(
     requires whole { IsWhole (tree_of program.now) mode }
     requires scanned { IsScan (tree_of program.now) table }
     requires told { IfErr table IsTextOrMemory }
-    ensures emission { IfOk result (λ code. IsEmitted code (around_tree (tree_of program.now) source_path opts.optimize) (emitted (tree_of program.now) mode (around_tree (tree_of program.now) source_path opts.optimize))) }
+    ensures emission { IfOk result (λ code. IsEmitted code (around_tree (tree_of program.now) source_path opts.optimize) (emission_outcome (tree_of program.now) mode (around_tree (tree_of program.now) source_path opts.optimize))) }
     ensures clean { OnOk result (scan_faults (tree_of program.now) ≡ []) }
     ensures first { IfErr result (λ e. IsScanned e (tree_of program.now) mode opts.optimize) }
     ensures told { IfErr result (λ e. IsTold e source_path) }
@@ -226,7 +226,7 @@ fn compile_mod(
     requires whole { IsWhole (tree_of program.now) mode }
     requires clean { scan_faults (tree_of program.now) ≡ [] }
     requires scanned { scopes ≡ scopes_of (tree_of program.now) }
-    ensures emission { IfOk result (λ code. IsEmitted code (outermost opts.optimize source_path scopes) (emitted (tree_of program.now) mode (outermost opts.optimize source_path scopes))) }
+    ensures emission { IfOk result (λ code. IsEmitted code (outermost opts.optimize source_path scopes) (emission_outcome (tree_of program.now) mode (outermost opts.optimize source_path scopes))) }
     ensures first { IfErr result (λ e. IsFirst e (compile_faults mode opts.optimize (tree_of program.now))) }
     ensures told { IfErr result (λ e. IsTold e source_path) }
 {
@@ -260,8 +260,8 @@ fn compile_over(
     requires whole { IsWhole (tree_of program.now) mode }
     requires clean { scan_faults (tree_of program.now) ≡ [] }
     requires scanned { scopes ≡ scopes_of (tree_of program.now) }
-    ensures emission { IfOk result (λ code. IsEmitted code (outermost opts.optimize source_path scopes) (emitted (tree_of program.now) mode (outermost opts.optimize source_path scopes))) }
-    ensures refused { IfErr result (λ e. IsRefused e (emitted (tree_of program.now) mode (outermost opts.optimize source_path scopes))) }
+    ensures emission { IfOk result (λ code. IsEmitted code (outermost opts.optimize source_path scopes) (emission_outcome (tree_of program.now) mode (outermost opts.optimize source_path scopes))) }
+    ensures refused { IfErr result (λ e. IsRefused e (emission_outcome (tree_of program.now) mode (outermost opts.optimize source_path scopes))) }
     ensures told { IfErr result (λ e. IsTold e source_path) }
 {
     let mut em = Emitter::over(alloc, opts, source_path, scopes)?;

@@ -1,5 +1,6 @@
 //! What is written of a case.
 
+use crate::scanned::scanned;
 use codegen::CompileOpts;
 use codegen::compile::{
     compile_block_expression, compile_expression, compile_program, compile_program_single,
@@ -10,6 +11,7 @@ use py_bytecode::CodeObject;
 use py_listing::listing;
 use py_rows::read_rows;
 use py_tree::{Mod, Mode, Text};
+use py_verify::{Verdict, verify};
 use std::alloc::{AllocError, Global};
 
 /// The path of each program.
@@ -33,6 +35,8 @@ enum Call {
     ProgramSingle,
     BlockExpression,
     Expression,
+    /// The names of the file's own scope, and no code.
+    Scan,
 }
 
 /// The call that is the first word, or its mode, and the level that is the second.
@@ -46,6 +50,7 @@ fn ways_of(head: &str) -> (Call, CompileOpts) {
         Some("compile_program_single") => Call::ProgramSingle,
         Some("compile_block_expression") => Call::BlockExpression,
         Some("compile_expression") => Call::Expression,
+        Some("scan_program") => Call::Scan,
         _ => Call::Top(Mode::Exec),
     };
     let optimize = match words.next() {
@@ -80,10 +85,22 @@ fn called(
     }
 }
 
+/// The listing of a code, and the verification error of one that does not verify.
+fn judged(alloc: Global, code: &CodeObject) -> Result<String, AllocError> {
+    let text = listing(alloc, code)?;
+    match verify(alloc, code)? {
+        Verdict::Yes => Ok(text),
+        flawed => format!(in alloc; "{text}{flawed:?}\n"),
+    }
+}
+
 /// The listing of the code of the tree, or the line that says why there is none.
 fn told(alloc: Global, call: Call, tree: &Mod, opts: CompileOpts) -> Result<String, AllocError> {
+    if let Call::Scan = call {
+        return scanned(alloc, tree);
+    }
     match called(alloc, call, tree, path(alloc)?, opts) {
-        Ok(code) => listing(alloc, &code),
+        Ok(code) => judged(alloc, &code),
         Err(error) => refusal_line(alloc, &error),
     }
 }

@@ -1,14 +1,10 @@
 //! Codes of cases. Standard input holds the cases, each a line with a mode or a call, a level and the source, and a line with the rows
-//! of its tree; on standard output the listing of its code, or why it is refused, stands in the place of its rows.
+//! of its tree; on standard output the listing of its code, or why it is refused, stands in the place of its rows. Behind the
+//! listing of a code that does not verify stands its verification error.
 #![tactic(auto)]
 
 mod answers;
-#[cfg(test)]
-mod deep;
-#[cfg(test)]
-mod shown;
-#[cfg(test)]
-mod verified;
+mod scanned;
 
 use answers::answer;
 use std::io::{self, BufRead, BufReader, BufWriter, Write};

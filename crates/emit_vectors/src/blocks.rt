@@ -1,47 +1,15 @@
 //! Blocks, and the code or the refusal that is made of them.
 
-use crate::fixtures::text;
+use crate::calls::number;
+use crate::emitters::text;
+use crate::failure::Failure;
+use crate::instructions::instruction;
+use crate::values::enter;
 use bitflags::Flags;
 use py_base::{List, OneIndexed, SourceLocation};
 use py_bytecode::{CodeFlags, CodeObject, ConstantData, Instruction, OpArg};
 use py_ir::{Block, BlockIdx, Blocks, CodeInfo, ConstantSet, InstructionInfo, NameSet};
-use std::alloc::Global;
-use std::process::Abort;
-use std::test::Fail;
-
-fn instruction(name: &str) -> Instruction {
-    match name {
-        "SetupLoop" => Instruction::SetupLoop,
-        "LoadConst" => Instruction::LoadConst,
-        "ReturnConst" => Instruction::ReturnConst,
-        "ReturnValue" => Instruction::ReturnValue,
-        "JumpIfFalse" => Instruction::JumpIfFalse,
-        "Jump" => Instruction::Jump,
-        "Break" => Instruction::Break,
-        "PopBlock" => Instruction::PopBlock,
-        "Pop" => Instruction::Pop,
-        "BuildTuple" => Instruction::BuildTuple,
-        "ExtendedArg" => Instruction::ExtendedArg,
-        _ => leaving_instruction(name),
-    }
-}
-
-/// An instruction that leaves something, or that begins or ends a block of handlers, a last part or a `with`.
-fn leaving_instruction(name: &str) -> Instruction {
-    match name {
-        "Continue" => Instruction::Continue,
-        "Raise" => Instruction::Raise,
-        "SetupExcept" => Instruction::SetupExcept,
-        "SetupFinally" => Instruction::SetupFinally,
-        "SetupWith" => Instruction::SetupWith,
-        "PopException" => Instruction::PopException,
-        "EnterFinally" => Instruction::EnterFinally,
-        "EndFinally" => Instruction::EndFinally,
-        "WithCleanupStart" => Instruction::WithCleanupStart,
-        "WithCleanupFinish" => Instruction::WithCleanupFinish,
-        _ => Instruction::Nop,
-    }
-}
+use std::alloc::{AllocError, Global};
 
 fn plain(instr: Instruction, arg: u32) -> InstructionInfo {
     InstructionInfo {
@@ -61,7 +29,7 @@ struct Item {
     next: Option<u32>,
 }
 
-fn parse_item(text: &str) -> Result<Item, Fail> {
+fn parse_item(text: &str) -> Result<Item, Failure> {
     let mut item = Item {
         info: plain(Instruction::Nop, 0),
         times: 1,
@@ -69,24 +37,24 @@ fn parse_item(text: &str) -> Result<Item, Fail> {
     };
     for word in text.split(" ") {
         if let Some(target) = word.strip_prefix(">") {
-            item.info.target = BlockIdx(target.parse::<u32>()?);
+            item.info.target = BlockIdx(number(target)?);
         } else if let Some(times) = word.strip_prefix("*") {
-            item.times = times.parse::<u32>()?;
+            item.times = number(times)?;
         } else if let Some(next) = word.strip_prefix("=") {
-            item.next = Some(next.parse::<u32>()?);
+            item.next = Some(number(next)?);
             item.times = 0;
         } else if word == "-" {
             item.times = 0;
         } else if let Ok(arg) = word.parse::<u32>() {
             item.info.arg = OpArg(arg);
         } else {
-            item.info.instr = instruction(word);
+            item.info.instr = instruction(word)?;
         }
     }
     Ok(item)
 }
 
-fn parse_block(alloc: Global, text: &str, next: BlockIdx) -> Result<Block, Fail> {
+fn parse_block(alloc: Global, text: &str, next: BlockIdx) -> Result<Block, Failure> {
     let mut items: Vec<InstructionInfo> = Vec::new(alloc);
     let mut next = next;
     for part in text.split("; ") {
@@ -104,35 +72,37 @@ fn parse_block(alloc: Global, text: &str, next: BlockIdx) -> Result<Block, Fail>
 }
 
 /// Each block leads to the one after it where nothing else is said.
-fn parse_blocks(alloc: Global, text: &str) -> Result<Blocks, Fail> {
+fn parse_blocks(alloc: Global, text: &str) -> Result<Blocks, Failure> {
     let mut blocks = Blocks::new(alloc);
     if text.is_empty() {
         return Ok(blocks);
     }
     let count = text.split("|").count();
+    let mut after: u32 = 0;
     for part in text.split("|") {
-        let after = u32::try_from(blocks.len())?.saturating_add(1);
+        after = after.saturating_add(1);
         let next = if (after as usize) < count {
             BlockIdx(after)
         } else {
             BlockIdx::NULL
         };
-        blocks.push(parse_block(alloc, part, next)?)?;
+        if blocks.push(parse_block(alloc, part, next)?).is_err() {
+            return Err(Failure::OutOfMemory);
+        }
     }
     Ok(blocks)
 }
 
-fn only_none(alloc: Global) -> Result<ConstantSet, Fail> {
+fn only_none(alloc: Global) -> Result<ConstantSet, Failure> {
     let mut constants = ConstantSet::new(alloc);
-    constants
-        .insert_full(ConstantData::None)
-        .ok()
-        .ok_or("no memory")?;
-    Ok(constants)
+    match constants.insert_full(ConstantData::None) {
+        Ok(_) => Ok(constants),
+        Err(_) => Err(Failure::OutOfMemory),
+    }
 }
 
 /// The code of these blocks, with the constant None and no names.
-pub fn code_info(alloc: Global, given: &str) -> Result<CodeInfo, Fail> {
+fn code_info(alloc: Global, given: &str) -> Result<CodeInfo, Failure> {
     Ok(CodeInfo {
         flags: CodeFlags::from_bits_retain(0),
         posonlyarg_count: 0,
@@ -152,113 +122,76 @@ pub fn code_info(alloc: Global, given: &str) -> Result<CodeInfo, Fail> {
 }
 
 /// How many units, the depth, and the first ten units.
-fn shown(alloc: Global, code: &CodeObject) -> Result<String, Fail> {
+fn shown(alloc: Global, code: &CodeObject) -> Result<String, AllocError> {
     let count = code.instructions.len();
     let depth = code.max_stackdepth;
     let mut out = format!(in alloc; "{count} units, depth {depth}:")?;
     for unit in code.instructions.as_slice().iter().take(10) {
         let name = unit.op.name();
         let arg = unit.arg;
-        let text = format!(in alloc; " {name} {arg};")?;
-        out.push_str(text.as_str())?;
+        out.push_str(format!(in alloc; " {name} {arg};")?.as_str())?;
     }
     Ok(out)
 }
 
-/// What `finalize_code` answers.
-fn answer(alloc: Global, given: &str, level: u8) -> Result<String, Fail> {
-    match code_info(alloc, given)?.finalize_code(alloc, level) {
-        Ok(code) => shown(alloc, &code),
+/// The code of blocks at a level, or why they have none.
+pub fn finalized(alloc: Global, rest: &str) -> Result<String, Failure> {
+    let (level, blocks) = rest.split_once(' ').ok_or(Failure::Line)?;
+    let level = level.parse::<u8>().map_err(|_| Failure::Line)?;
+    match code_info(alloc, blocks)?.finalize_code(alloc, level) {
+        Ok(code) => Ok(shown(alloc, &code)?),
         Err(error) => Ok(format!(in alloc; "{error:?}")?),
     }
 }
 
-/// In each line a level, blocks, and how the answer begins.
-const CODES: &'static str = "
-0 SetupLoop; LoadConst 0; JumpIfFalse >1; Break >2|PopBlock; ReturnConst 0|LoadConst 0; LoadConst 0; BuildTuple 2; ReturnValue => 10 units, depth 2: SetupLoop 0; LoadConst 0; JumpIfFalse 4; Break 6; PopBlock 0; ReturnConst 0; LoadConst 0; LoadConst 0; BuildTuple 2; ReturnValue 0;
-0 Jump >5 => TargetOutside { block: 0, place: 0 }
-0 - => NoEnd { block: 0 }
-0 Jump >2|Nop *254|ReturnConst 0 => 256 units, depth 0: Jump 255; Nop 0;
-0 Jump >2|Nop *255|ReturnConst 0 => 258 units, depth 0: ExtendedArg 1; Jump 1; Nop 0;
-0 Jump >2|Nop *65533|ReturnConst 0 => 65536 units, depth 0: ExtendedArg 255; Jump 255; Nop 0;
-0 Jump >2|Nop *65534|ReturnConst 0 => 65538 units, depth 0: ExtendedArg 1; ExtendedArg 0; Jump 1; Nop 0;
-0  => NoBlocks
-0 Nop|Nop; =7 => BrokenChain { block: 1 }
-0 Nop|Nop; =0 => BrokenChain { block: 1 }
-0 Nop|Jump => JumpWithoutTarget { block: 1, place: 0 }
-0 Nop >0; ReturnConst 0 => TargetOnOther { block: 0, place: 0 }
-0 ExtendedArg 1; ReturnConst 0 => PrefixGiven { block: 0, place: 0 }
-0 Nop; LoadConst 1; ReturnValue => OperandOutside { block: 0, place: 1 }
-0 LoadConst 0; JumpIfFalse >2|LoadConst 0|ReturnConst 0 => UnevenHeights { block: 2, place: 0 }
-0 Nop|Pop; ReturnConst 0 => HeightOutOfRange { block: 1, place: 0 }
-0 PopBlock; ReturnConst 0 => BlockMismatch { block: 0, place: 0 }
-0 Pop; Jump >5 => TargetOutside { block: 0, place: 1 }
-0 Nop|ReturnConst 0; Jump => JumpWithoutTarget { block: 1, place: 1 }
-1 Nop|ReturnConst 0; Jump => 2 units, depth 0: Nop 0; ReturnConst 0;
-";
-
-/// The same, with blocks of handlers, of last parts and of `with`. Of those that are refused one refusal alone holds.
-const HANDLERS: &'static str = "
-0 SetupExcept >1; LoadConst 0; Pop; PopBlock; Jump >2|Pop; PopException|ReturnConst 0 => 8 units, depth 1: SetupExcept 5; LoadConst 0; Pop 0; PopBlock 0; Jump 7; Pop 0; PopException 0; ReturnConst 0;
-0 SetupExcept >1; LoadConst 0; Pop; PopBlock; Jump >2|Raise 2|ReturnConst 0 => 7 units, depth 1: SetupExcept 5; LoadConst 0; Pop 0; PopBlock 0; Jump 6; Raise 2; ReturnConst 0;
-0 SetupExcept >1; PopBlock; Jump >2|Pop; ReturnConst 0|ReturnConst 0 => 6 units, depth 1: SetupExcept 3; PopBlock 0; Jump 5; Pop 0; ReturnConst 0; ReturnConst 0;
-0 SetupFinally >1; LoadConst 0; Pop; PopBlock; EnterFinally|LoadConst 0; Pop; EndFinally|ReturnConst 0 => 9 units, depth 1: SetupFinally 5; LoadConst 0; Pop 0; PopBlock 0; EnterFinally 0; LoadConst 0; Pop 0; EndFinally 0; ReturnConst 0;
-0 SetupFinally >1; LoadConst 0; ReturnValue|EndFinally; ReturnConst 0 => 5 units, depth 1: SetupFinally 3; LoadConst 0; ReturnValue 0; EndFinally 0; ReturnConst 0;
-0 SetupFinally >2; PopBlock|EnterFinally|EndFinally; ReturnConst 0 => 5 units, depth 0: SetupFinally 3; PopBlock 0; EnterFinally 0; EndFinally 0; ReturnConst 0;
-0 LoadConst 0; SetupWith >1; Pop; PopBlock; EnterFinally|WithCleanupStart; WithCleanupFinish; ReturnConst 0 => 8 units, depth 2: LoadConst 0; SetupWith 5; Pop 0; PopBlock 0; EnterFinally 0; WithCleanupStart 0; WithCleanupFinish 0; ReturnConst 0;
-0 SetupWith >1; Pop; PopBlock; EnterFinally|WithCleanupStart; WithCleanupFinish; ReturnConst 0 => HeightOutOfRange { block: 0, place: 0 }
-0 SetupLoop; SetupFinally >1; Break >2; PopBlock; EnterFinally|EndFinally; PopBlock; Jump >3|Nop|ReturnConst 0 => 10 units, depth 0: SetupLoop 0; SetupFinally 5; Break 8; PopBlock 0; EnterFinally 0; EndFinally 0; PopBlock 0; Jump 9; Nop 0; ReturnConst 0;
-0 SetupLoop|LoadConst 0; JumpIfFalse >3; SetupExcept >2; Continue >1|Pop; PopException; Jump >1|PopBlock; ReturnConst 0 => 10 units, depth 1: SetupLoop 0; LoadConst 0; JumpIfFalse 8; SetupExcept 5; Continue 1; Pop 0; PopException 0; Jump 1; PopBlock 0; ReturnConst 0;
-0 SetupLoop|SetupExcept >2; Continue >1|Pop; Continue >1 => 5 units, depth 1: SetupLoop 0; SetupExcept 3; Continue 1; Pop 0; Continue 1;
-0 SetupLoop; SetupExcept >1; Break >2|Pop; Break >2|ReturnConst 0 => 6 units, depth 1: SetupLoop 0; SetupExcept 3; Break 5; Pop 0; Break 5; ReturnConst 0;
-0 EndFinally; ReturnConst 0 => BlockMismatch { block: 0, place: 0 }
-0 SetupExcept >1; PopException; ReturnConst 0|ReturnConst 0 => BlockMismatch { block: 0, place: 1 }
-0 PopException; ReturnConst 0 => BlockMismatch { block: 0, place: 0 }
-0 SetupFinally >1; PopBlock; ReturnConst 0|WithCleanupStart; WithCleanupFinish; ReturnConst 0 => HeightOutOfRange { block: 1, place: 0 }
-0 EnterFinally; ReturnConst 0 => 2 units, depth 0: EnterFinally 0; ReturnConst 0;
-0 SetupExcept; ReturnConst 0 => JumpWithoutTarget { block: 0, place: 0 }
-0 SetupExcept >7; ReturnConst 0 => TargetOutside { block: 0, place: 0 }
-0 LoadConst 0; JumpIfFalse >1; SetupFinally >1; PopBlock; Jump >1|ReturnConst 0 => BlockMismatch { block: 1, place: 0 }
-0 Raise 0 => HeightOutOfRange { block: 0, place: 0 }
-0 Raise 3 => OperandOutside { block: 0, place: 0 }
-0 LoadConst 0; Raise 0 => 2 units, depth 1: LoadConst 0; Raise 0;
-0 LoadConst 0; LoadConst 0; Raise 1 => 3 units, depth 2: LoadConst 0; LoadConst 0; Raise 1;
-0 Break >0 => BlockMismatch { block: 0, place: 0 }
-0 Continue >0 => BlockMismatch { block: 0, place: 0 }
-0 SetupLoop|Continue >1 => 2 units, depth 0: SetupLoop 0; Continue 1;
-0 SetupExcept >1; PopBlock; Jump >2|Pop; PopException; Jump >2|Nop => NoEnd { block: 2 }
-1 SetupFinally >1; PopBlock; EnterFinally; Jump|EndFinally; ReturnConst 0; Pop => JumpWithoutTarget { block: 0, place: 3 }
-0 SetupLoop; SetupLoop; PopBlock; Break >1|PopBlock; ReturnConst 0 => BlockMismatch { block: 1, place: 0 }
-";
-
-/// Each line's blocks give the answer that it names.
-fn finalizes(rt: &(impl Abort + AllocGlobal), table: &str) -> Result<(), Fail> {
-    for line in table.trim().lines() {
-        let (given, want) = line.split_once(" => ").ok_or("no answer")?;
-        let (level, blocks) = given.split_once(" ").ok_or("no blocks")?;
-        let answer = answer(rt.alloc(), blocks, level.parse::<u8>()?)?;
-        assert!(rt; answer.as_str().starts_with(want), "{line}");
+/// The next of the first block of two, and of the second once it is written to lead to this block.
+pub fn lent_block(alloc: Global, rest: &str) -> Result<String, Failure> {
+    let next = BlockIdx(number(rest)?);
+    let mut blocks = parse_blocks(alloc, "Nop|Nop")?;
+    if blocks.len() != 2 {
+        return Err(Failure::Line);
     }
-    Ok(())
+    blocks.block_mut(BlockIdx(1)).next = next;
+    let first = blocks.block(BlockIdx(0)).next;
+    let second = blocks.block(BlockIdx(1)).next;
+    let alone = Block::new(alloc);
+    Ok(format!(in alloc;
+        "{} {}, {} of a new block {}",
+        first.0,
+        second.0,
+        alone.next.0,
+        alone.instructions.len()
+    )?)
 }
 
-#[test]
-fn finalized_blocks(rt: HostRuntime) -> Result<(), Fail> {
-    finalizes(&rt, CODES)
+/// The entries of a code by their numbers: its constant, and the name, the local variable, the cell and the free variable
+/// that the words are.
+pub fn entries(alloc: Global, rest: &str) -> Result<String, Failure> {
+    let mut info = code_info(alloc, "ReturnConst 0")?;
+    let (name, rest) = rest.split_once(' ').ok_or(Failure::Line)?;
+    let (varname, rest) = rest.split_once(' ').ok_or(Failure::Line)?;
+    let (cell, free) = rest.split_once(' ').ok_or(Failure::Line)?;
+    enter(alloc, &mut info.name_cache, name)?;
+    enter(alloc, &mut info.varname_cache, varname)?;
+    enter(alloc, &mut info.cellvar_cache, cell)?;
+    enter(alloc, &mut info.freevar_cache, free)?;
+    Ok(entries_text(alloc, &info)?)
 }
 
-#[test]
-fn finalized_handlers(rt: HostRuntime) -> Result<(), Fail> {
-    finalizes(&rt, HANDLERS)
-}
-
-/// A block that is written through a borrow; the other stays.
-#[test]
-fn lent_block(rt: HostRuntime) -> Result<(), Fail> {
-    let mut blocks = parse_blocks(rt.alloc(), "Nop|Nop")?;
-    assert_eq!(rt; blocks.len(), 2);
-    blocks.block_mut(BlockIdx(1)).next = BlockIdx(0);
-    assert_eq!(rt; blocks.block(BlockIdx(0)).next, BlockIdx(1));
-    assert_eq!(rt; blocks.block(BlockIdx(1)).next, BlockIdx(0));
-    Ok(())
+/// The first entries, where each table has one.
+fn entries_text(alloc: Global, info: &CodeInfo) -> Result<String, AllocError> {
+    if info.constants.len() != 1 || info.name_cache.len() != 1 || info.varname_cache.len() != 1 {
+        return String::from_str(alloc, "not one each");
+    }
+    if info.cellvar_cache.len() != 1 || info.freevar_cache.len() != 1 {
+        return String::from_str(alloc, "not one each");
+    }
+    let is_none = matches!(info.get_constant(0), ConstantData::None);
+    format!(in alloc;
+        "{is_none} {} {} {} {}",
+        info.get_name(0),
+        info.get_varname(0),
+        info.get_cell_name(0),
+        info.get_cell_name(1)
+    )
 }

@@ -4,15 +4,14 @@ ghost use Rattle.py_scope.specs.declared.table.SymbolTable.{out-SymbolTable};
 ghost use Rattle.py_emit.specs.States.{state};
 ghost use Rattle.py_emit.specs.Tables.{AreLeft};
 
-use crate::fixtures::{head_of_function, text};
+use crate::emitters::{head_of_function, text};
+use crate::failure::Failure;
 use py_base::{CodegenError, List};
 use py_emit::{CompileOpts, Emitter, ScopeHead};
 use py_scope::{Steps, SymbolTable, SymbolTableType, Symbols};
 use std::alloc::{AllocError, Global};
 use std::marker::Brand;
-use std::mem;
 use std::sync::ledger::{Blank, Ledger};
-use std::test::Fail;
 
 /// A table without names, with these within.
 fn table(
@@ -33,7 +32,7 @@ fn table(
 }
 
 /// An emitter of a file with one function.
-fn emitter(alloc: Global) -> Result<Emitter, Fail>
+fn emitter(alloc: Global) -> Result<Emitter, Failure>
     ensures { IfOk result (λ em. AreLeft 1 (state em)) }
 {
     let function = table(alloc, SymbolTableType::Function, List::new(alloc))?;
@@ -44,7 +43,7 @@ fn emitter(alloc: Global) -> Result<Emitter, Fail>
     Ok(em)
 }
 
-/// Enters the scope within.
+/// Enters the nested scope.
 fn enter<L: Ledger>(em: &mut Emitter, head: ScopeHead, blank: Blank) -> Result<(), CodegenError>
     requires name { blank.name ≡ L.name }
     requires parts { blank.parts ≡ L.parts }
@@ -56,7 +55,7 @@ fn enter<L: Ledger>(em: &mut Emitter, head: ScopeHead, blank: Blank) -> Result<(
     em.enter_scope(head, &mut steps)
 }
 
-/// Drops the table of the scope within.
+/// Drops the table of the nested scope.
 fn drop_one<L: Ledger>(em: &mut Emitter, blank: Blank)
     requires name { blank.name ≡ L.name }
     requires parts { blank.parts ≡ L.parts }
@@ -68,28 +67,22 @@ fn drop_one<L: Ledger>(em: &mut Emitter, blank: Blank)
     em.drop_tables(1, &mut steps);
 }
 
-#[test]
-fn the_next_table_is_entered(rt: HostRuntime) -> Result<(), Fail> {
-    let head = head_of_function(rt.alloc())?;
-    let mut em = emitter(rt.alloc())?;
-    let done = enter::<Brand>(&mut em, head, Blank::new(1));
-    let typ = em.scope_type();
-    let next = em.next_scope();
-    mem::drop(em);
-    done?;
-    assert!(rt; typ == SymbolTableType::Function);
-    assert_eq!(rt; next, 2);
-    Ok(())
+/// What the present scope is, and the number of the next one.
+fn place_text(alloc: Global, em: &Emitter) -> Result<String, AllocError> {
+    format!(in alloc; "{:?}, next {}", em.scope_type(), em.next_scope())
 }
 
-#[test]
-fn the_next_table_is_dropped(rt: HostRuntime) -> Result<(), Fail> {
-    let mut em = emitter(rt.alloc())?;
+/// Where an emitter is once the nested scope is entered.
+pub fn entered(alloc: Global) -> Result<String, Failure> {
+    let head = head_of_function(alloc)?;
+    let mut em = emitter(alloc)?;
+    enter::<Brand>(&mut em, head, Blank::new(1))?;
+    Ok(place_text(alloc, &em)?)
+}
+
+/// Where an emitter is once the nested scope is dropped.
+pub fn dropped(alloc: Global) -> Result<String, Failure> {
+    let mut em = emitter(alloc)?;
     drop_one::<Brand>(&mut em, Blank::new(1));
-    let typ = em.scope_type();
-    let next = em.next_scope();
-    mem::drop(em);
-    assert!(rt; typ == SymbolTableType::Module);
-    assert_eq!(rt; next, 2);
-    Ok(())
+    Ok(place_text(alloc, &em)?)
 }

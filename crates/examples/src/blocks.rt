@@ -13,7 +13,7 @@ use std::alloc::Global;
 /// The code of blocks, with nothing cut.
 ///
 /// # Errors
-/// As `finalize_code`: what no walk over the blocks allows, tables and blocks that are too long, or want of memory.
+/// As `finalize_code`: what no walk over the blocks allows, tables and blocks that are too long, or out of memory.
 pub fn laid_out(alloc: Global, blocks: CodeInfo) -> Result<CodeObject, FinalizeError>
     // No walk over the units is refused, so no run of the code is wrong.
     ensures safe { IfOk result (λ code. sound (object code)) }

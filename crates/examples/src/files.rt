@@ -9,7 +9,7 @@ use py_codefile::{ReadCodeError, read_code};
 use py_verify::{Verdict, verify};
 use std::alloc::{AllocError, Global};
 
-/// Whether a code object and those within it have no flaw.
+/// Whether a code object and those within it have no verification error.
 ///
 /// # Errors
 /// There is no memory for what is known of the units.
@@ -31,10 +31,10 @@ fn is_yes(verdict: &Verdict) -> bool
     }
 }
 
-/// The code that the bytes of a file spell, where it may be run. None where it has a flaw.
+/// The code that the bytes of a file spell, where it may be run. None where it has a verification error.
 ///
 /// # Errors
-/// As `read_code`: the first bad field, or want of memory.
+/// As `read_code`: the first bad field, or out of memory.
 pub fn safe_code(alloc: Global, bytes: &[u8]) -> Result<Option<CodeObject>, ReadCodeError>
     ensures spelled { IfOk result (λ found. IfSome found (λ code. Spells bytes.now (object code))) }
     ensures safe { IfOk result (λ found. IfSome found (λ code. NeverWrong (object code))) }

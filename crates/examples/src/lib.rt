@@ -7,8 +7,6 @@ mod files;
 mod runs;
 mod scopes;
 mod scripts;
-#[cfg(test)]
-mod tests;
 
 pub use blocks::laid_out;
 pub use compile::code_of_file;

@@ -1,6 +1,6 @@
 //! Words and an input become a text, as the program makes it, over bytes in memory.
 ghost use Rattle.std.specs.Prelude.{◌≡◌, [], IfSome, Some};
-ghost use Rattle.py_run.specs.Runs.{ErrGets, IsDue, OutGets, line_of, text_of, written};
+ghost use Rattle.py_run.specs.Runs.{ErrGets, IsDue, OutGets, line_of, text_of, written_sides};
 ghost use Rattle.py_run.specs.Statuses.{IsCodeOf, due_of};
 
 use py_base::List;
@@ -31,8 +31,8 @@ pub fn run_in_memory(
     ensures due { IfSome (due_of words.now (Some rows)) (IsDue result.report.status) }
     // The code that is reported is the one that is due, and what is held is the text of it, or the line.
     ensures code { IfSome result.report.code (λ code. IfSome (due_of words.now (Some rows)) (λ d. IsCodeOf d code)) }
-    ensures text { OutGets (written words.now (Some rows) result.report) result.report.status (text_of words.now (Some rows) result.report.code) (Some []) (Some result.out.held) }
-    ensures line { ErrGets (written words.now (Some rows) result.report) result.report.status (line_of words.now (Some rows)) (Some []) (Some result.err.held) }
+    ensures text { OutGets (written_sides words.now (Some rows) result.report) result.report.status (text_of words.now (Some rows) result.report.code) (Some []) (Some result.out.held) }
+    ensures line { ErrGets (written_sides words.now (Some rows) result.report) result.report.status (line_of words.now (Some rows)) (Some []) (Some result.err.held) }
 {
     let mut source = CleanSource::new(rows);
     let mut out = CleanSink::new(out);

@@ -5,9 +5,9 @@ use Rattle.py_tree.specs.View.{args, expr_tree, exprs, literal_list, literal_of}
 use Rattle.py_tree.specs.declared.expressions.ArgWithDefaultOf.{ArgWithDefaultOf}
 use Rattle.py_tree.specs.declared.expressions.Constant.{Constant}
 use Rattle.py_tree.specs.declared.expressions.Expr.{Expr}
-use Rattle.py_annotation_text.specs.Annotation.{parameter_texts, shown, slash, star, tuple_display}
+use Rattle.py_annotation_text.specs.Annotation.{parameter_texts, expr_texts, slash, star, tuple_display}
 use Rattle.py_annotation_text.specs.Constants.{tuple_end}
-use Rattle.py_annotation_text.specs.Lists.{before_next, bracketed, comma, separated}
+use Rattle.py_annotation_text.specs.Lists.{before_next, in_brackets, comma, separated_text}
 
 pub end_of_one : (xs : List Constant) → length xs ≡ 1 → tuple_end (literal_list literal_of xs) ≡ codes ",)"
 end_of_one [] e = absurd (omega arith)
@@ -19,7 +19,7 @@ end_of_others [] e = refl
 end_of_others (x ∷ []) e = absurd (e refl)
 end_of_others (x ∷ y ∷ xs) e = refl
 
-pub before_some : (xs : List Expr) (low : ℕ) → nat_eq (length xs) 0 ≡ false → before_next [] (shown (exprs expr_tree xs) low) ≡ comma
+pub before_some : (xs : List Expr) (low : ℕ) → nat_eq (length xs) 0 ≡ false → before_next [] (expr_texts (exprs expr_tree xs) low) ≡ comma
 before_some [] low p = absurd cc
 before_some (x ∷ xs) low p = refl
 
@@ -31,7 +31,7 @@ pub one_star : (xs : List (ArgWithDefaultOf Expr)) → nat_eq (length xs) 0 ≡ 
 one_star [] p = absurd cc
 one_star (x ∷ xs) p = refl
 
-pub several : (low : ℕ) (xs : List Expr) → 2 ≤ length xs → tuple_display low (shown (exprs expr_tree xs) 2) ≡ bracketed 1 low (separated [] comma (shown (exprs expr_tree xs) 2))
+pub several : (low : ℕ) (xs : List Expr) → 2 ≤ length xs → tuple_display low (expr_texts (exprs expr_tree xs) 2) ≡ in_brackets 1 low (separated_text [] comma (expr_texts (exprs expr_tree xs) 2))
 several low [] p = absurd (omega arith)
 several low (x ∷ []) p = absurd (omega arith)
 several low (x ∷ y ∷ xs) p = refl

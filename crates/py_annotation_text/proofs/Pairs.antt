@@ -5,17 +5,17 @@ use Rattle.std.proofs.lemmas.List.{length-drop}
 use Rattle.py_base.specs.declared.operators.CmpOp.{CmpOp}
 use Rattle.py_tree.specs.declared.expressions.Expr.{Expr}
 use Rattle.py_tree.specs.View.{expr_tree, exprs, opt_exprs}
-use Rattle.py_annotation_text.specs.Annotation.{key_texts, links, pairs, shown, value_texts}
+use Rattle.py_annotation_text.specs.Annotation.{key_texts, links, pairs, expr_texts, value_texts}
 
 abbrev pub pairs_of : List (Option Expr) → List Expr → List (List ℕ)
 pairs_of ks vs = pairs (key_texts (opt_exprs expr_tree ks)) (value_texts (exprs expr_tree vs))
 
 abbrev pub links_of : List CmpOp → List Expr → List ℕ
-links_of ops vs = links ops (shown (exprs expr_tree vs) 7)
+links_of ops vs = links ops (expr_texts (exprs expr_tree vs) 7)
 
 -- one of two lists has ended where as many as the shorter has were gone over
-pub ended : {A B : Type 0} (xs : List A) (ys : List B) (i n : ℕ) → n ≡ min (length xs) (length ys) → i ≤ n → n ≤ i → (length (drop i xs) ≡ 0) ⊎ (length (drop i ys) ≡ 0)
-ended xs ys i n e p q = by (either (length xs) (length ys))
+pub pair_ended : {A B : Type 0} (xs : List A) (ys : List B) (i n : ℕ) → n ≡ min (length xs) (length ys) → i ≤ n → n ≤ i → (length (drop i xs) ≡ 0) ⊎ (length (drop i ys) ≡ 0)
+pair_ended xs ys i n e p q = by (either (length xs) (length ys))
   where
     either : (a b : ℕ) → (a ≤ b) ⊎ (b ≤ a)
     either zero b = inl (omega arith)

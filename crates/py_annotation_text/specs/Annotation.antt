@@ -7,10 +7,10 @@ use Rattle.py_base.specs.declared.operators.CmpOp.{CmpOp}
 use Rattle.py_tree.specs.Tree as tree
 use Rattle.py_annotation_text.specs.Constants.{constant_text}
 use Rattle.py_annotation_text.specs.FStrings.{has_f_string}
-use Rattle.py_annotation_text.specs.Lists.{bracketed, comma, separated}
+use Rattle.py_annotation_text.specs.Lists.{in_brackets, comma, separated_text}
 use Rattle.py_annotation_text.specs.Signs.{binary_level, binary_sign, bool_level, bool_word, comparison_sign, left_level, right_level, unary_level, unary_sign}
 
--- comparisons behind the first value: each operator, and what it compares with
+-- comparisons after the first value: each operator, and what it compares with
 abbrev pub links : List CmpOp → List (List ℕ) → List ℕ
 links (op ∷ ops) (t ∷ ts) = comparison_sign op ++ t ++ links ops ts
 links ops ts = []
@@ -24,33 +24,33 @@ abbrev pub value_level : Option (List ℕ) → ℕ
 value_level (Some key) = 2
 value_level None = 7
 
-abbrev pub paired : Option (List ℕ) → (value : ℕ → List ℕ) → List ℕ
-paired key value = key_part key ++ value (value_level key)
+abbrev pub pair_text : Option (List ℕ) → (value : ℕ → List ℕ) → List ℕ
+pair_text key value = key_part key ++ value (value_level key)
 
 abbrev pub pairs : List (Option (List ℕ)) → List (ℕ → List ℕ) → List (List ℕ)
-pairs (key ∷ keys) (value ∷ values) = paired key value ∷ pairs keys values
+pairs (key ∷ keys) (value ∷ values) = pair_text key value ∷ pairs keys values
 pairs keys values = []
 
 -- an argument with its name; one without a name is unpacked
-abbrev pub named : Option (List ℕ) → (value : ℕ → List ℕ) → List ℕ
-named (Some name) value = name ++ codes "=" ++ value 2
-named None value = codes "**" ++ value 7
+abbrev pub argument_text : Option (List ℕ) → (value : ℕ → List ℕ) → List ℕ
+argument_text (Some name) value = name ++ codes "=" ++ value 2
+argument_text None value = codes "**" ++ value 7
 
 -- braces without elements are a dict, so the empty set is written otherwise
 abbrev pub set_display : List (List ℕ) → List ℕ
 set_display [] = codes "{*()}"
-set_display (t ∷ ts) = codes "{" ++ separated [] comma (t ∷ ts) ++ codes "}"
+set_display (t ∷ ts) = codes "{" ++ separated_text [] comma (t ∷ ts) ++ codes "}"
 
 -- a tuple of one element has a comma after it
 abbrev pub tuple_display : (low : ℕ) → List (List ℕ) → List ℕ
 tuple_display low [] = codes "()"
-tuple_display low (t ∷ []) = bracketed 1 low (t ++ codes ",")
-tuple_display low (t ∷ u ∷ ts) = bracketed 1 low (separated [] comma (t ∷ u ∷ ts))
+tuple_display low (t ∷ []) = in_brackets 1 low (t ++ codes ",")
+tuple_display low (t ∷ u ∷ ts) = in_brackets 1 low (separated_text [] comma (t ∷ u ∷ ts))
 
 abbrev pub arg_name : tree.Arg → List ℕ
 arg_name (tree.arg at name annotation) = name
 
--- the mark behind positional-only parameters
+-- the mark after positional-only parameters
 abbrev pub slash : List (List ℕ) → List (List ℕ)
 slash [] = []
 slash (t ∷ ts) = codes "/" ∷ []
@@ -76,28 +76,28 @@ clause_word true = codes " async for "
 clause_word false = codes " for "
 
 abbrev pub clause_text : (is_async : Bool) → (target iter : List ℕ) → (ifs : List (List ℕ)) → List ℕ
-clause_text is_async target iter ifs = clause_word is_async ++ target ++ codes " in " ++ iter ++ separated (codes " if ") (codes " if ") ifs
+clause_text is_async target iter ifs = clause_word is_async ++ target ++ codes " in " ++ iter ++ separated_text (codes " if ") (codes " if ") ifs
 
 abbrev mutual
   -- the text of an expression, at a place that asks for a level
   pub show : tree.Expr → (low : ℕ) → List ℕ
-  show (tree.BoolOp at op values) low = bracketed (bool_level op) low (separated [] (bool_word op) (shown values (bool_level op + 1)))
+  show (tree.BoolOp at op values) low = in_brackets (bool_level op) low (separated_text [] (bool_word op) (expr_texts values (bool_level op + 1)))
   show (tree.NamedExpr at target value) low = codes "(" ++ show target 16 ++ codes " := " ++ show value 2 ++ codes ")"
-  show (tree.BinOp at left op right) low = bracketed (binary_level op) low (show left (left_level op) ++ binary_sign op ++ show right (right_level op))
-  show (tree.UnaryOp at op operand) low = bracketed (unary_level op) low (unary_sign op ++ show operand (unary_level op))
-  show (tree.Lambda at params body) low = bracketed 2 low (codes "lambda" ++ separated (codes " ") comma (parameters params) ++ codes ": " ++ show body 2)
-  show (tree.IfExp at test body orelse) low = bracketed 2 low (show body 3 ++ codes " if " ++ show test 3 ++ codes " else " ++ show orelse 2)
-  show (tree.Dict at keys values) low = codes "{" ++ separated [] comma (pairs (key_texts keys) (value_texts values)) ++ codes "}"
-  show (tree.Set at elts) low = set_display (shown elts 2)
+  show (tree.BinOp at left op right) low = in_brackets (binary_level op) low (show left (left_level op) ++ binary_sign op ++ show right (right_level op))
+  show (tree.UnaryOp at op operand) low = in_brackets (unary_level op) low (unary_sign op ++ show operand (unary_level op))
+  show (tree.Lambda at params body) low = in_brackets 2 low (codes "lambda" ++ separated_text (codes " ") comma (parameters params) ++ codes ": " ++ show body 2)
+  show (tree.IfExp at test body orelse) low = in_brackets 2 low (show body 3 ++ codes " if " ++ show test 3 ++ codes " else " ++ show orelse 2)
+  show (tree.Dict at keys values) low = codes "{" ++ separated_text [] comma (pairs (key_texts keys) (value_texts values)) ++ codes "}"
+  show (tree.Set at elts) low = set_display (expr_texts elts 2)
   show (tree.ListComp at elt clauses) low = codes "[" ++ show elt 2 ++ clause_texts clauses ++ codes "]"
   show (tree.SetComp at elt clauses) low = codes "{" ++ show elt 2 ++ clause_texts clauses ++ codes "}"
   show (tree.DictComp at key value clauses) low = codes "{" ++ show key 2 ++ codes ": " ++ show value 2 ++ clause_texts clauses ++ codes "}"
   show (tree.GeneratorExp at elt clauses) low = codes "(" ++ show elt 2 ++ clause_texts clauses ++ codes ")"
-  show (tree.Await at value) low = bracketed 15 low (codes "await " ++ show value 16)
+  show (tree.Await at value) low = in_brackets 15 low (codes "await " ++ show value 16)
   show (tree.Yield at value) low = codes "(yield" ++ behind (codes " ") value 1 ++ codes ")"
   show (tree.YieldFrom at value) low = codes "(yield from " ++ show value 2 ++ codes ")"
-  show (tree.Compare at left ops comparators) low = bracketed 6 low (show left 7 ++ links ops (shown comparators 7))
-  show (tree.Call at func args named) low = show func 16 ++ codes "(" ++ separated [] comma (shown args 2 ++ keyword_texts named) ++ codes ")"
+  show (tree.Compare at left ops comparators) low = in_brackets 6 low (show left 7 ++ links ops (expr_texts comparators 7))
+  show (tree.Call at func args named) low = show func 16 ++ codes "(" ++ separated_text [] comma (expr_texts args 2 ++ keyword_texts named) ++ codes ")"
   show (tree.FormattedValue at value conversion format_spec) low = []
   show (tree.JoinedStr at values) low = []
   show (tree.Constant at value) low = constant_text value low
@@ -105,15 +105,15 @@ abbrev mutual
   show (tree.Subscript at value slice) low = show value 16 ++ codes "[" ++ show slice 1 ++ codes "]"
   show (tree.Starred at value) low = codes "*" ++ show value 7
   show (tree.Name at id) low = id
-  show (tree.List at elts) low = codes "[" ++ separated [] comma (shown elts 2) ++ codes "]"
-  show (tree.Tuple at elts) low = tuple_display low (shown elts 2)
-  show (tree.Slice at lower upper step) low = bracketed 1 low (behind [] lower 2 ++ codes ":" ++ behind [] upper 2 ++ behind (codes ":") step 2)
+  show (tree.List at elts) low = codes "[" ++ separated_text [] comma (expr_texts elts 2) ++ codes "]"
+  show (tree.Tuple at elts) low = tuple_display low (expr_texts elts 2)
+  show (tree.Slice at lower upper step) low = in_brackets 1 low (behind [] lower 2 ++ codes ":" ++ behind [] upper 2 ++ behind (codes ":") step 2)
 
-  pub shown : tree.Exprs → (low : ℕ) → List (List ℕ)
-  shown tree.no_exprs low = []
-  shown (tree.more_exprs e es) low = show e low ∷ shown es low
+  pub expr_texts : tree.Exprs → (low : ℕ) → List (List ℕ)
+  expr_texts tree.no_exprs low = []
+  expr_texts (tree.more_exprs e es) low = show e low ∷ expr_texts es low
 
-  -- behind a mark, and nothing where it is missing
+  -- after a mark, and nothing where it is missing
   pub behind : (mark : List ℕ) → tree.OptExpr → (low : ℕ) → List ℕ
   behind mark tree.no_expr low = []
   behind mark (tree.some_expr e) low = mark ++ show e low
@@ -132,11 +132,11 @@ abbrev mutual
 
   pub keyword_texts : tree.Keywords → List (List ℕ)
   keyword_texts tree.no_keywords = []
-  keyword_texts (tree.more_keywords name value ks) = named name (λ low. show value low) ∷ keyword_texts ks
+  keyword_texts (tree.more_keywords name value ks) = argument_text name (λ low. show value low) ∷ keyword_texts ks
 
   pub clause_texts : tree.Generators → List ℕ
   clause_texts tree.no_generators = []
-  clause_texts (tree.more_generators target iter ifs is_async gs) = clause_text is_async (show target 1) (show iter 3) (shown ifs 3) ++ clause_texts gs
+  clause_texts (tree.more_generators target iter ifs is_async gs) = clause_text is_async (show target 1) (show iter 3) (expr_texts ifs 3) ++ clause_texts gs
 
   -- parameters with their defaults, without their annotations
   pub parameter_texts : tree.Args → List (List ℕ)

@@ -3,7 +3,7 @@ ghost use Rattle.std.specs.Prelude.{◌≡◌, ◌++◌, [], string_bytes, OnOk}
 ghost use Rattle.std.specs.Fmt.{signed_decimal};
 ghost use Rattle.py_tree.specs.View.{literal_list, literal_of};
 ghost use Rattle.py_annotation_text.specs.Constants.{constant_text, integer_level, literal_text, literal_texts, tuple_end};
-ghost use Rattle.py_annotation_text.specs.Lists.{bracketed, comma, separated};
+ghost use Rattle.py_annotation_text.specs.Lists.{in_brackets, comma, separated_text};
 ghost use Rattle.py_base.specs.Literal as literal;
 
 use crate::lists::{push_closing, push_opening};
@@ -30,7 +30,7 @@ pub(crate) fn push_constant(out: &mut String, value: &Constant, low: u8) -> Resu
 
 /// Appends an integer, in parentheses where it is below the level.
 fn push_integer(out: &mut String, value: i128, low: u8) -> Result<(), AllocError>
-    ensures { OnOk result (string_bytes out.new ≡ string_bytes out.old ++ bracketed (integer_level value) low (signed_decimal value)) }
+    ensures { OnOk result (string_bytes out.new ≡ string_bytes out.old ++ in_brackets (integer_level value) low (signed_decimal value)) }
 {
     let level = integer_level(value);
     push_opening(out, level, low)?;
@@ -73,7 +73,7 @@ fn push_tuple(out: &mut String, items: &[Constant]) -> Result<(), AllocError>
 /// Appends constants with commas between them.
 #[cycle(literal)]
 fn push_literals(out: &mut String, items: &[Constant]) -> Result<(), AllocError>
-    ensures { OnOk result (string_bytes out.new ≡ string_bytes out.old ++ separated [] comma (literal_texts (literal_list literal_of items.now))) }
+    ensures { OnOk result (string_bytes out.new ≡ string_bytes out.old ++ separated_text [] comma (literal_texts (literal_list literal_of items.now))) }
 {
     let mut before = "";
     for item in items {

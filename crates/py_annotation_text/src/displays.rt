@@ -1,8 +1,8 @@
 //! Displays and comprehensions.
 ghost use Rattle.std.specs.Prelude.{◌≡◌, ◌++◌, ◌∷◌, [], codes, string_bytes, OnOk};
 ghost use Rattle.py_tree.specs.View.{dict_comp_tree, dict_tree, expr_tree, exprs, generator_exp_tree, generators, list_comp_tree, opt_expr, opt_exprs, set_comp_tree};
-ghost use Rattle.py_annotation_text.specs.Annotation.{clause_text, clause_texts, clause_word, key_part, key_text, key_texts, pairs, set_display, show, shown, tuple_display, value_level, value_texts};
-ghost use Rattle.py_annotation_text.specs.Lists.{bracketed, comma, separated};
+ghost use Rattle.py_annotation_text.specs.Annotation.{clause_text, clause_texts, clause_word, key_part, key_text, key_texts, pairs, set_display, show, expr_texts, tuple_display, value_level, value_texts};
+ghost use Rattle.py_annotation_text.specs.Lists.{in_brackets, comma, separated_text};
 
 use crate::expressions::{push_expr, push_exprs};
 use crate::lists::{push_closing, push_opening};
@@ -13,7 +13,7 @@ use std::alloc::AllocError;
 
 #[cycle(text)]
 pub(crate) fn push_list(out: &mut String, items: &[Expr]) -> Result<(), AllocError>
-    ensures { OnOk result (string_bytes out.new ≡ string_bytes out.old ++ (codes "[" ++ separated [] comma (shown (exprs expr_tree items.now) 2) ++ codes "]")) }
+    ensures { OnOk result (string_bytes out.new ≡ string_bytes out.old ++ (codes "[" ++ separated_text [] comma (expr_texts (exprs expr_tree items.now) 2) ++ codes "]")) }
 {
     out.push_str("[")?;
     push_exprs(out, "", ", ", items, 2)?;
@@ -23,7 +23,7 @@ pub(crate) fn push_list(out: &mut String, items: &[Expr]) -> Result<(), AllocErr
 /// Appends a set. Braces without elements are a dict, so the empty set is written otherwise.
 #[cycle(text)]
 pub(crate) fn push_set(out: &mut String, items: &[Expr]) -> Result<(), AllocError>
-    ensures { OnOk result (string_bytes out.new ≡ string_bytes out.old ++ set_display (shown (exprs expr_tree items.now) 2)) }
+    ensures { OnOk result (string_bytes out.new ≡ string_bytes out.old ++ set_display (expr_texts (exprs expr_tree items.now) 2)) }
 {
     match items {
         [] => out.push_str("{*()}"),
@@ -40,7 +40,7 @@ pub(crate) fn push_set(out: &mut String, items: &[Expr]) -> Result<(), AllocErro
 #[cycle(text)]
 #[tactic(auto, using(crate::proofs::Lengths::several))]
 pub(crate) fn push_tuple(out: &mut String, items: &[Expr], low: u8) -> Result<(), AllocError>
-    ensures { OnOk result (string_bytes out.new ≡ string_bytes out.old ++ tuple_display low (shown (exprs expr_tree items.now) 2)) }
+    ensures { OnOk result (string_bytes out.new ≡ string_bytes out.old ++ tuple_display low (expr_texts (exprs expr_tree items.now) 2)) }
 {
     match items {
         [] => out.push_str("()"),
@@ -63,7 +63,7 @@ fn push_single(out: &mut String, only: &Expr, low: u8) -> Result<(), AllocError>
 /// Appends a tuple of several elements.
 #[cycle(text)]
 fn push_several(out: &mut String, items: &[Expr], low: u8) -> Result<(), AllocError>
-    ensures { OnOk result (string_bytes out.new ≡ string_bytes out.old ++ bracketed 1 low (separated [] comma (shown (exprs expr_tree items.now) 2))) }
+    ensures { OnOk result (string_bytes out.new ≡ string_bytes out.old ++ in_brackets 1 low (separated_text [] comma (expr_texts (exprs expr_tree items.now) 2))) }
 {
     push_opening(out, 1, low)?;
     push_exprs(out, "", ", ", items, 2)?;
@@ -82,7 +82,7 @@ pub(crate) fn push_dict(out: &mut String, e: &ExprDict) -> Result<(), AllocError
 /// Appends keys with their values.
 #[cycle(text)]
 fn push_pairs(out: &mut String, e: &ExprDict) -> Result<(), AllocError>
-    ensures { OnOk result (string_bytes out.new ≡ string_bytes out.old ++ separated [] comma (pairs (key_texts (opt_exprs expr_tree e.now.keys)) (value_texts (exprs expr_tree e.now.values)))) }
+    ensures { OnOk result (string_bytes out.new ≡ string_bytes out.old ++ separated_text [] comma (pairs (key_texts (opt_exprs expr_tree e.now.keys)) (value_texts (exprs expr_tree e.now.values)))) }
 {
     let keys = e.keys.as_slice();
     let values = e.values.as_slice();
@@ -112,7 +112,7 @@ fn push_key(out: &mut String, key: &Option<Expr>) -> Result<(), AllocError>
     }
 }
 
-/// The level that a value is to have behind its key.
+/// The level that a value is to have after its key.
 fn value_level(key: &Option<Expr>) -> u8
     ensures { result ≡ value_level (key_text (opt_expr expr_tree key.now)) }
 {
@@ -177,7 +177,7 @@ fn push_clauses(out: &mut String, clauses: &[Comprehension]) -> Result<(), Alloc
 
 #[cycle(text)]
 fn push_clause(out: &mut String, clause: &Comprehension) -> Result<(), AllocError>
-    ensures { OnOk result (string_bytes out.new ≡ string_bytes out.old ++ clause_text clause.now.is_async (show (expr_tree clause.now.target.value) 1) (show (expr_tree clause.now.iter.value) 3) (shown (exprs expr_tree clause.now.ifs) 3)) }
+    ensures { OnOk result (string_bytes out.new ≡ string_bytes out.old ++ clause_text clause.now.is_async (show (expr_tree clause.now.target.value) 1) (show (expr_tree clause.now.iter.value) 3) (expr_texts (exprs expr_tree clause.now.ifs) 3)) }
 {
     out.push_str(clause_word(clause.is_async))?;
     push_expr(out, &clause.target, 1)?;

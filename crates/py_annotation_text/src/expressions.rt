@@ -1,8 +1,8 @@
 //! Expressions as Python writes them.
 ghost use Rattle.std.specs.Prelude.{◌≡◌, ◌++◌, string_bytes, OnOk};
 ghost use Rattle.py_tree.specs.View.{attribute_tree, await_tree, expr_tree, exprs, if_exp_tree, named_expr_tree, opt_box, slice_tree, starred_tree, subscript_tree, yield_tree, yield_from_tree};
-ghost use Rattle.py_annotation_text.specs.Annotation.{behind, show, shown};
-ghost use Rattle.py_annotation_text.specs.Lists.{separated};
+ghost use Rattle.py_annotation_text.specs.Annotation.{behind, show, expr_texts};
+ghost use Rattle.py_annotation_text.specs.Lists.{separated_text};
 
 use crate::constants::push_constant;
 use crate::displays::{
@@ -63,7 +63,7 @@ pub(crate) fn push_exprs(
     items: &[Expr],
     low: u8,
 ) -> Result<(), AllocError>
-    ensures { OnOk result (string_bytes out.new ≡ string_bytes out.old ++ separated before.now between.now (shown (exprs expr_tree items.now) low)) }
+    ensures { OnOk result (string_bytes out.new ≡ string_bytes out.old ++ separated_text before.now between.now (expr_texts (exprs expr_tree items.now) low)) }
 {
     let mut before = before;
     for item in items {
@@ -74,7 +74,7 @@ pub(crate) fn push_exprs(
     Ok(())
 }
 
-/// Appends an expression behind a mark, or nothing where it is missing.
+/// Appends an expression after a mark, or nothing where it is missing.
 #[cycle(text)]
 pub(crate) fn push_behind(
     out: &mut String,

@@ -3,7 +3,7 @@ ghost use Rattle.std.specs.Prelude.{◌≡◌, ◌++◌, ◌∷◌, [], codes, s
 ghost use Rattle.py_tree.specs.Tree as tree;
 ghost use Rattle.py_tree.specs.View.{arg, args, arguments, expr_tree, lambda_tree, opt_arg, opt_box};
 ghost use Rattle.py_annotation_text.specs.Annotation.{arg_name, behind, double_star, keyword_only, parameter_texts, parameters, positional, show, slash, star};
-ghost use Rattle.py_annotation_text.specs.Lists.{IsAppended, before_next, comma, separated};
+ghost use Rattle.py_annotation_text.specs.Lists.{IsAppended, before_next, comma, separated_text};
 
 use crate::expressions::{push_behind, push_expr};
 use crate::lists::{push_closing, push_opening};
@@ -25,7 +25,7 @@ pub(crate) fn push_lambda(out: &mut String, e: &ExprLambda, low: u8) -> Result<(
 /// Appends parameters, with a space before the first.
 #[cycle(text)]
 fn push_parameters(out: &mut String, params: &Arguments) -> Result<(), AllocError>
-    ensures { OnOk result (string_bytes out.new ≡ string_bytes out.old ++ separated (codes " ") comma (parameters (arguments expr_tree params.now))) }
+    ensures { OnOk result (string_bytes out.new ≡ string_bytes out.old ++ separated_text (codes " ") comma (parameters (arguments expr_tree params.now))) }
 {
     let before = push_positional(out, params)?;
     push_keyword_only(out, before, params)?;
@@ -79,7 +79,7 @@ fn push_defaults(
     Ok(before_more(before, items))
 }
 
-/// What stands before the next parameter behind these.
+/// What stands before the next parameter after these.
 fn before_more(before: &'static str, items: &[ArgWithDefault]) -> &'static str
     ensures { result.now ≡ before_next before.now (parameter_texts (args expr_tree items.now)) }
 {
@@ -97,7 +97,7 @@ fn push_default(out: &mut String, item: &ArgWithDefault) -> Result<(), AllocErro
     push_behind(out, "=", &item.default, 2)
 }
 
-/// Appends the mark behind positional-only parameters.
+/// Appends the mark after positional-only parameters.
 fn push_slash(
     out: &mut String,
     before: &'static str,
@@ -156,7 +156,7 @@ fn push_double_star(
     }
 }
 
-/// Appends a parameter behind a mark.
+/// Appends a parameter after a mark.
 fn push_marked(
     out: &mut String,
     before: &'static str,

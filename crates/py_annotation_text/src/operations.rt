@@ -1,8 +1,8 @@
 //! Operations, comparisons and calls.
 ghost use Rattle.std.specs.Prelude.{◌≡◌, ◌++◌, [], string_bytes, OnOk};
 ghost use Rattle.py_tree.specs.View.{bin_op_tree, bool_op_tree, call_tree, compare_tree, expr_tree, exprs, keywords, unary_op_tree};
-ghost use Rattle.py_annotation_text.specs.Annotation.{keyword_texts, links, named, show, shown};
-ghost use Rattle.py_annotation_text.specs.Lists.{before_next, comma, separated};
+ghost use Rattle.py_annotation_text.specs.Annotation.{keyword_texts, links, argument_text, show, expr_texts};
+ghost use Rattle.py_annotation_text.specs.Lists.{before_next, comma, separated_text};
 
 use crate::expressions::{push_expr, push_exprs};
 use crate::lists::{push_closing, push_opening};
@@ -61,7 +61,7 @@ pub(crate) fn push_compare(out: &mut String, e: &ExprCompare, low: u8) -> Result
 /// Appends operators, each with what it compares with.
 #[cycle(text)]
 fn push_links(out: &mut String, ops: &[CmpOp], values: &[Expr]) -> Result<(), AllocError>
-    ensures { OnOk result (string_bytes out.new ≡ string_bytes out.old ++ links ops.now (shown (exprs expr_tree values.now) 7)) }
+    ensures { OnOk result (string_bytes out.new ≡ string_bytes out.old ++ links ops.now (expr_texts (exprs expr_tree values.now) 7)) }
 {
     for i in 0..ops.len().min(values.len()) {
         let value = &values[i];
@@ -84,7 +84,7 @@ pub(crate) fn push_call(out: &mut String, e: &ExprCall) -> Result<(), AllocError
 /// Appends the arguments of a call.
 #[cycle(text)]
 fn push_arguments(out: &mut String, e: &ExprCall) -> Result<(), AllocError>
-    ensures { OnOk result (string_bytes out.new ≡ string_bytes out.old ++ separated [] comma (shown (exprs expr_tree e.now.args) 2 ++ keyword_texts (keywords expr_tree e.now.keywords))) }
+    ensures { OnOk result (string_bytes out.new ≡ string_bytes out.old ++ separated_text [] comma (expr_texts (exprs expr_tree e.now.args) 2 ++ keyword_texts (keywords expr_tree e.now.keywords))) }
 {
     let args = e.args.as_slice();
     let named = e.keywords.as_slice();
@@ -95,7 +95,7 @@ fn push_arguments(out: &mut String, e: &ExprCall) -> Result<(), AllocError>
 
 /// What stands before the first argument with a name.
 fn before_keywords(args: &[Expr]) -> &'static str
-    ensures { result.now ≡ before_next [] (shown (exprs expr_tree args.now) 2) }
+    ensures { result.now ≡ before_next [] (expr_texts (exprs expr_tree args.now) 2) }
 {
     if args.is_empty() { "" } else { ", " }
 }
@@ -107,7 +107,7 @@ fn push_keywords(
     before: &'static str,
     items: &[Keyword],
 ) -> Result<(), AllocError>
-    ensures { OnOk result (string_bytes out.new ≡ string_bytes out.old ++ separated before.now comma (keyword_texts (keywords expr_tree items.now))) }
+    ensures { OnOk result (string_bytes out.new ≡ string_bytes out.old ++ separated_text before.now comma (keyword_texts (keywords expr_tree items.now))) }
 {
     let mut before = before;
     for keyword in items {
@@ -121,7 +121,7 @@ fn push_keywords(
 /// Appends an argument with its name, or one that is unpacked.
 #[cycle(text)]
 fn push_keyword(out: &mut String, keyword: &Keyword) -> Result<(), AllocError>
-    ensures { OnOk result (string_bytes out.new ≡ string_bytes out.old ++ named keyword.now.arg (λ low. show (expr_tree keyword.now.value) low)) }
+    ensures { OnOk result (string_bytes out.new ≡ string_bytes out.old ++ argument_text keyword.now.arg (λ low. show (expr_tree keyword.now.value) low)) }
 {
     match &keyword.arg {
         Some(name) => {

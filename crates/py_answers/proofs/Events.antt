@@ -14,10 +14,10 @@ pub events_more : (es : List Event1) (e : Event1) → events_of (es ++ e ∷ [])
 events_more [] e = refl
 events_more (x ∷ es) e = ap (λ l. event_of x ∷ l) (events_more es e)
 
-pub told_at : (es : List Event1) (k : ℕ) (d : Event1) → k < length es → all_told es ≡ true → is_told (get_or es k d) ≡ true
-told_at [] k d l h = absurd (omega (arith, l))
-told_at (x ∷ es) zero d l h = and_first (is_told x) (all_told es) h
-told_at (x ∷ es) (suc k) d l h = told_at es k d (omega (arith, l)) (and_second (is_told x) (all_told es) h)
+pub event_told_at : (es : List Event1) (k : ℕ) (d : Event1) → k < length es → all_told es ≡ true → is_told (get_or es k d) ≡ true
+event_told_at [] k d l h = absurd (omega (arith, l))
+event_told_at (x ∷ es) zero d l h = and_first (is_told x) (all_told es) h
+event_told_at (x ∷ es) (suc k) d l h = event_told_at es k d (omega (arith, l)) (and_second (is_told x) (all_told es) h)
 
 pub told_pushed : (b : Bool) (old new : List Event1) (e : Event1) → new ≡ (if b then old ++ e ∷ [] else old) → all_told old ≡ true → is_told e ≡ true → all_told new ≡ true
 told_pushed true old new e is h k = ap all_told is ∙ told_more old e h k

@@ -12,11 +12,11 @@ use Rattle.std.proofs.lemmas.Str.Pattern.{IsSplitOnceResult, split_once_first}
 use Rattle.std.proofs.lemmas.Slice.Eq.{bytes_eq-Decides}
 use Rattle.py_answers.specs.declared.answers.Answer.{Answer}
 use Rattle.py_answers.specs.declared.answers.Answer.TheVariants.{Gives, Done, Truth, End, Raised}
-use Rattle.py_answers.specs.Scripts.{IsScript, all_counted, answer_in, answers_in, counted, few_answers, likely, script_in, spelled, spelling}
+use Rattle.py_answers.specs.Scripts.{IsScript, all_counted, answer_in, answers_in, is_counted, few_answers, likely, script_in, answer_text, script_text}
 use Rattle.py_answers.proofs.ScriptTextLemmas.{and_first, and_second, pieces_of, small_count}
 
 -- an answer is the one that its text can spell
-likely_is : (a : Answer) → counted a ≡ true → likely (spelled a) ≡ a
+likely_is : (a : Answer) → is_counted a ≡ true → likely (answer_text a) ≡ a
 likely_is (Gives k) h = ap Gives (decimal_is_IsNumeral k (small_count k h)).1
 likely_is Done h = refl
 likely_is (Truth true) h = refl
@@ -24,30 +24,32 @@ likely_is (Truth false) h = refl
 likely_is End h = refl
 likely_is Raised h = refl
 
-same : (xs : List ℕ) → bytes_eq xs xs ≡ true
-same xs = (bytes_eq-Decides xs xs).1 refl
+found_same : (xs : List ℕ) → bytes_eq xs xs ≡ true
+found_same xs = (bytes_eq-Decides xs xs).1 refl
 
-chosen : (b c : Bool) (a : Answer) → b ≡ true → c ≡ true → (if b && c then Some a else None) ≡ Some a
-chosen true true a h k = refl
-chosen true false a h k = cc
-chosen false c a h k = cc
+found_chosen : (b c : Bool) (a : Answer) → b ≡ true → c ≡ true → (if b && c then Some a else None) ≡ Some a
+found_chosen true true a h k = refl
+found_chosen true false a h k = cc
+found_chosen false c a h k = cc
 
-spelled_in : (a : Answer) → counted a ≡ true → answer_in (spelled a) ≡ Some a
+spelled_in : (a : Answer) → is_counted a ≡ true → answer_in (answer_text a) ≡ Some a
 spelled_in a h =
-    ap (λ x. if counted x && bytes_eq (spelled a) (spelled x) then Some x else None) (likely_is a h)
-    ∙ chosen (counted a) (bytes_eq (spelled a) (spelled a)) a h (same (spelled a))
+    ap (λ x. if is_counted x && bytes_eq (answer_text a) (answer_text x) then Some x else None) (likely_is a h)
+    ∙ found_chosen (is_counted a) (bytes_eq (answer_text a) (answer_text a)) a h (found_same (answer_text a))
 
 -- a piece spells the answer in it
-pub in_spelled : (piece : List ℕ) (a : Answer) → answer_in piece ≡ Some a → (piece ≡ spelled a) × (counted a ≡ true)
-in_spelled piece a = by (likely piece) (counted (likely piece)) (bytes_eq piece (spelled (likely piece))) refl refl
+pub in_spelled : (piece : List ℕ) (a : Answer) → answer_in piece ≡ Some a → (piece ≡ answer_text a) × (is_counted a ≡ true)
+in_spelled piece a = by (likely piece) (is_counted (likely piece)) (bytes_eq piece (answer_text (likely piece))) refl refl
   where
-    by : (x : Answer) (b c : Bool) → counted x ≡ b → bytes_eq piece (spelled x) ≡ c → (if b && c then Some x else None) ≡ Some a → (piece ≡ spelled a) × (counted a ≡ true)
-    by x true true h k e = let is : x ≡ a = cc in ((bytes_eq-Decides piece (spelled x)).0 k ∙ ap spelled is, sym (ap counted is) ∙ h)
+    by : (x : Answer) (b c : Bool) → is_counted x ≡ b → bytes_eq piece (answer_text x) ≡ c → (if b && c then Some x else None) ≡ Some a → (piece ≡ answer_text a) × (is_counted a ≡ true)
+    by x true true h k e = let is : x ≡ a = cc in ((bytes_eq-Decides piece (answer_text x)).0 k ∙ ap answer_text is, sym (ap is_counted is) ∙ h)
     by x true false h k e = cc
     by x false c h k e = cc
 
 -- the answer that is read of a piece is the one in it
-pub answered : (piece : List ℕ) (r : Option Answer) → MatchOption r ((a : Answer) → counted a ≡ true → piece ≢ spelled a) (λ a. (piece ≡ spelled a) × (counted a ≡ true)) → is_some r ≡ is_some (answer_in piece)
+pub answered : (piece : List ℕ) (r : Option Answer)
+    → MatchOption r ((a : Answer) → is_counted a ≡ true → piece ≢ answer_text a) (λ a. (piece ≡ answer_text a) × (is_counted a ≡ true))
+    → is_some r ≡ is_some (answer_in piece)
 answered piece None h = by (answer_in piece) refl
   where
     by : (o : Option Answer) → answer_in piece ≡ o → false ≡ is_some o
@@ -57,24 +59,24 @@ answered piece (Some a) h = sym (ap is_some (ap answer_in h.0 ∙ spelled_in a h
 
 -- ---- answers between commas
 
-all_in : (answers : List Answer) → all_counted answers ≡ true → answers_in (map spelled answers) ≡ Some answers
+all_in : (answers : List Answer) → all_counted answers ≡ true → answers_in (map answer_text answers) ≡ Some answers
 all_in [] h = refl
 all_in (a ∷ rest) h =
-    ap (λ o. option_and_then (λ x. option_map (λ r. x ∷ r) (answers_in (map spelled rest))) o) (spelled_in a (and_first (counted a) (all_counted rest) h))
-    ∙ ap (option_map (λ r. a ∷ r)) (all_in rest (and_second (counted a) (all_counted rest) h))
+    ap (λ o. option_and_then (λ x. option_map (λ r. x ∷ r) (answers_in (map answer_text rest))) o) (spelled_in a (and_first (is_counted a) (all_counted rest) h))
+    ∙ ap (option_map (λ r. a ∷ r)) (all_in rest (and_second (is_counted a) (all_counted rest) h))
 
-length_spelled : (answers : List Answer) → length (map spelled answers) ≡ length answers
+length_spelled : (answers : List Answer) → length (map answer_text answers) ≡ length answers
 length_spelled [] = refl
 length_spelled (a ∷ rest) = ap suc (length_spelled rest)
 
-few_in : (answers : List Answer) → IsScript answers → few_answers (map spelled answers) ≡ Some answers
+few_in : (answers : List Answer) → IsScript answers → few_answers (map answer_text answers) ≡ Some answers
 few_in answers h =
-    ap (λ b. if b then answers_in (map spelled answers) else None) (lt-ltb (length (map spelled answers)) (2 ^ 16) (let few = h.few in let n = length_spelled answers in omega (arith, few, n)))
+    ap (λ b. if b then answers_in (map answer_text answers) else None) (lt-ltb (length (map answer_text answers)) (2 ^ 16) (let few = h.few in let n = length_spelled answers in omega (arith, few, n)))
     ∙ all_in answers h.counts
 
 -- the answers of pieces are written as the pieces
 pub record Spells (ps : List (List ℕ)) (answers : List Answer) : Type 0 where
-  pub written : map spelled answers ≡ ps
+  pub written : map answer_text answers ≡ ps
   pub counts : all_counted answers ≡ true
 
 both_true : (x y : Bool) → x ≡ true → y ≡ true → x && y ≡ true
@@ -82,30 +84,31 @@ both_true true true h k = refl
 both_true true false h k = cc
 both_true false y h k = cc
 
-one_more : (p : List ℕ) (a : Answer) (ps : List (List ℕ)) (rest : List Answer) → (p ≡ spelled a) × (counted a ≡ true) → Spells ps rest → Spells (p ∷ ps) (a ∷ rest)
-one_more p a ps rest h k = record {
-  written = ap (λ x. x ∷ map spelled rest) (sym h.0) ∙ ap (λ xs. p ∷ xs) k.written;
-  counts = both_true (counted a) (all_counted rest) h.1 k.counts;
+found_one_more : (p : List ℕ) (a : Answer) (ps : List (List ℕ)) (rest : List Answer) → (p ≡ answer_text a) × (is_counted a ≡ true) → Spells ps rest → Spells (p ∷ ps) (a ∷ rest)
+found_one_more p a ps rest h k = record {
+  written = ap (λ x. x ∷ map answer_text rest) (sym h.0) ∙ ap (λ xs. p ∷ xs) k.written;
+  counts = both_true (is_counted a) (all_counted rest) h.1 k.counts;
 }
 
 all_spelled : (ps : List (List ℕ)) (answers : List Answer) → answers_in ps ≡ Some answers → Spells ps answers
-all_spelled [] answers e = let is : [] ≡ answers = cc in record { written = sym (ap (map spelled) is); counts = sym (ap all_counted is) }
+all_spelled [] answers e = let is : [] ≡ answers = cc in record { written = sym (ap (map answer_text) is); counts = sym (ap all_counted is) }
 all_spelled (p ∷ ps) answers e = by (answer_in p) (answers_in ps) refl (λ rest. all_spelled ps rest) e
   where
-    by : (o : Option Answer) (os : Option (List Answer)) → answer_in p ≡ o → ((rest : List Answer) → os ≡ Some rest → Spells ps rest) → option_and_then (λ x. option_map (λ r. x ∷ r) os) o ≡ Some answers → Spells (p ∷ ps) answers
+    by : (o : Option Answer) (os : Option (List Answer)) → answer_in p ≡ o → ((rest : List Answer) → os ≡ Some rest → Spells ps rest)
+        → option_and_then (λ x. option_map (λ r. x ∷ r) os) o ≡ Some answers → Spells (p ∷ ps) answers
     by None os h k e = cc
     by (Some a) None h k e = cc
     by (Some a) (Some rest) h k e =
         let is : a ∷ rest ≡ answers = cc in
-        let s = one_more p a ps rest (in_spelled p a h) (k rest refl) in
-        record { written = sym (ap (map spelled) is) ∙ s.written; counts = sym (ap all_counted is) ∙ s.counts }
+        let s = found_one_more p a ps rest (in_spelled p a h) (k rest refl) in
+        record { written = sym (ap (map answer_text) is) ∙ s.written; counts = sym (ap all_counted is) ∙ s.counts }
 
 -- ---- texts
 
 abbrev pub pieces : (text : List ℕ) → List (List ℕ)
 pieces text = slice_split (λ b. b == 44) text
 
-no_piece : (a : Answer) → [] ≢ spelled a
+no_piece : (a : Answer) → [] ≢ answer_text a
 no_piece (Gives k) e = cc
 no_piece Done e = let n = ap length e in cc
 no_piece (Truth true) e = let n = ap length e in cc
@@ -118,28 +121,29 @@ empty [] h = refl
 empty (x ∷ xs) h = let n = eqb-true (length (x ∷ xs)) 0 h in absurd (omega (arith, n))
 
 -- a text that is written of answers spells them
-pub spells_them : (text : List ℕ) (answers : List Answer) → IsScript answers → text ≡ spelling answers → script_in text ≡ Some answers
+pub spells_them : (text : List ℕ) (answers : List Answer) → IsScript answers → text ≡ script_text answers → script_in text ≡ Some answers
 spells_them text [] h e = ap script_in e
 spells_them text (a ∷ rest) h e = by (length text == 0) refl
   where
-    split : slice_split (λ b. b == 44) text ≡ map spelled (a ∷ rest)
+    split : slice_split (λ b. b == 44) text ≡ map answer_text (a ∷ rest)
     split = ap (slice_split (λ b. b == 44)) e ∙ pieces_of a rest h.counts
 
     by : (b : Bool) → (length text == 0) ≡ b → (if b then Some [] else few_answers (slice_split (λ b. b == 44) text)) ≡ Some (a ∷ rest)
-    by true k = let none : [] ∷ [] ≡ map spelled (a ∷ rest) = ap (slice_split (λ b. b == 44)) (sym (empty text k)) ∙ split in let n : [] ≡ spelled a = cc in absurd (no_piece a n)
+    by true k = let none : [] ∷ [] ≡ map answer_text (a ∷ rest) = ap (slice_split (λ b. b == 44)) (sym (empty text k)) ∙ split in let n : [] ≡ answer_text a = cc in absurd (no_piece a n)
     by false k = ap few_answers split ∙ few_in (a ∷ rest) h
 
 -- and a text spells the answers that it is written of
-pub written_of_them : (text : List ℕ) (answers : List Answer) → script_in text ≡ Some answers → (text ≡ spelling answers) × IsScript answers
+pub written_of_them : (text : List ℕ) (answers : List Answer) → script_in text ≡ Some answers → (text ≡ script_text answers) × IsScript answers
 written_of_them text answers = by (length text == 0) (nat_lt (length ps) (2 ^ 16)) refl refl
   where
     ps : List (List ℕ)
     ps = slice_split (λ b. b == 44) text
 
-    by : (b few : Bool) → (length text == 0) ≡ b → nat_lt (length ps) (2 ^ 16) ≡ few → (if b then Some [] else (if few then answers_in ps else None)) ≡ Some answers → (text ≡ spelling answers) × IsScript answers
+    by : (b few : Bool) → (length text == 0) ≡ b → nat_lt (length ps) (2 ^ 16) ≡ few
+        → (if b then Some [] else (if few then answers_in ps else None)) ≡ Some answers → (text ≡ script_text answers) × IsScript answers
     by true few h k e =
         let is : [] ≡ answers = cc in
-        (empty text h ∙ ap spelling is, record { few = let n = ap length is in omega (arith, n); counts = sym (ap all_counted is) })
+        (empty text h ∙ ap script_text is, record { few = let n = ap length is in omega (arith, n); counts = sym (ap all_counted is) })
     by false false h k e = cc
     by false true h k e =
         let s = all_spelled ps answers e in
@@ -149,7 +153,7 @@ written_of_them text answers = by (length text == 0) (nat_lt (length ps) (2 ^ 16
         (sym (join_with_byte-slice_split 44 text) ∙ ap (join_with_byte 44) (sym s.written), record { few = omega (arith, n, m, l); counts = s.counts })
 
 -- a text that no script is written as spells none
-pub spells_none : (text : List ℕ) → ((answers : List Answer) → IsScript answers → text ≢ spelling answers) → None ≡ script_in text
+pub spells_none : (text : List ℕ) → ((answers : List Answer) → IsScript answers → text ≢ script_text answers) → None ≡ script_in text
 spells_none text h = by (script_in text) refl
   where
     by : (o : Option (List Answer)) → script_in text ≡ o → None ≡ o
@@ -159,7 +163,7 @@ spells_none text h = by (script_in text) refl
 -- ---- piece by piece
 
 -- so many pieces may still come, and all were answers so far
-pub record Reads (text rest : List ℕ) (room : ℕ) : Type 0 where
+pub record FoundReads (text rest : List ℕ) (room : ℕ) : Type 0 where
   pub some : 0 < room
   pub count : length (pieces text) + room ≡ 65536 + length (pieces rest)
   pub found : is_some (answers_in (pieces text)) ≡ is_some (answers_in (pieces rest))
@@ -178,9 +182,9 @@ some_more None os h = cc
 some_more (Some a) None h = refl
 some_more (Some a) (Some r) h = refl
 
-none_more : (o : Option Answer) (os : Option (List Answer)) → is_some o ≡ false → is_some (option_and_then (λ a. option_map (λ r. a ∷ r) os) o) ≡ false
-none_more None os h = refl
-none_more (Some a) os h = cc
+found_none_more : (o : Option Answer) (os : Option (List Answer)) → is_some o ≡ false → is_some (option_and_then (λ a. option_map (λ r. a ∷ r) os) o) ≡ false
+found_none_more None os h = refl
+found_none_more (Some a) os h = cc
 
 none_found : (ps : List (List ℕ)) → is_some (answers_in ps) ≡ false → false ≡ is_some (few_answers ps)
 none_found ps h = by (nat_lt (length ps) (2 ^ 16))
@@ -190,7 +194,7 @@ none_found ps h = by (nat_lt (length ps) (2 ^ 16))
     by false = refl
 
 -- the next piece is an answer
-pub go_on : (text rest piece behind : List ℕ) (room : ℕ) → Reads text rest room → Splits rest piece behind → 1 < room → is_some (answer_in piece) ≡ true → Reads text behind (room - 1)
+pub go_on : (text rest piece behind : List ℕ) (room : ℕ) → FoundReads text rest room → Splits rest piece behind → 1 < room → is_some (answer_in piece) ≡ true → FoundReads text behind (room - 1)
 go_on text rest piece behind room h s few is = record {
   some = omega (arith, few);
   count = let n = h.count in let m = ap length s in omega (arith, n, m, few);
@@ -198,12 +202,13 @@ go_on text rest piece behind room h s few is = record {
 }
 
 -- it is none
-pub no_answer : (text rest piece behind : List ℕ) (room : ℕ) → Reads text rest room → Splits rest piece behind → is_some (answer_in piece) ≡ false → false ≡ is_some (few_answers (pieces text))
-no_answer text rest piece behind room h s is =
-    none_found (pieces text) (h.found ∙ ap (λ ps. is_some (answers_in ps)) s ∙ none_more (answer_in piece) (answers_in (pieces behind)) is)
+pub found_no_answer : (text rest piece behind : List ℕ) (room : ℕ) → FoundReads text rest room → Splits rest piece behind → is_some (answer_in piece) ≡ false
+    → false ≡ is_some (few_answers (pieces text))
+found_no_answer text rest piece behind room h s is =
+    none_found (pieces text) (h.found ∙ ap (λ ps. is_some (answers_in ps)) s ∙ found_none_more (answer_in piece) (answers_in (pieces behind)) is)
 
 -- too many pieces
-pub full : (text rest piece behind : List ℕ) (room : ℕ) → Reads text rest room → Splits rest piece behind → room ≤ 1 → false ≡ is_some (few_answers (pieces text))
+pub full : (text rest piece behind : List ℕ) (room : ℕ) → FoundReads text rest room → Splits rest piece behind → room ≤ 1 → false ≡ is_some (few_answers (pieces text))
 full text rest piece behind room h s few =
     let n = h.count in
     let m = ap length s in
@@ -218,14 +223,14 @@ single piece = by (answer_in piece)
     by None = refl
     by (Some a) = refl
 
-pub ends : (text rest : List ℕ) (room : ℕ) → Reads text rest room → pieces rest ≡ rest ∷ [] → 1 < room → is_some (answer_in rest) ≡ is_some (few_answers (pieces text))
-ends text rest room h s few =
+pub found_ends : (text rest : List ℕ) (room : ℕ) → FoundReads text rest room → pieces rest ≡ rest ∷ [] → 1 < room → is_some (answer_in rest) ≡ is_some (few_answers (pieces text))
+found_ends text rest room h s few =
     let n = h.count in
     let m = ap length s in
     sym (single rest) ∙ ap (λ ps. is_some (answers_in ps)) (sym s) ∙ sym h.found
     ∙ ap (λ b. is_some (if b then answers_in (pieces text) else None)) (sym (lt-ltb (length (pieces text)) (2 ^ 16) (omega (arith, n, m, few))))
 
-pub ends_full : (text rest : List ℕ) (room : ℕ) → Reads text rest room → pieces rest ≡ rest ∷ [] → room ≤ 1 → false ≡ is_some (few_answers (pieces text))
+pub ends_full : (text rest : List ℕ) (room : ℕ) → FoundReads text rest room → pieces rest ≡ rest ∷ [] → room ≤ 1 → false ≡ is_some (few_answers (pieces text))
 ends_full text rest room h s few =
     let n = h.count in
     let m = ap length s in

@@ -1,7 +1,7 @@
 -- What a run has listed and has left, and what a part of it gets.
 use Rattle.std.specs.Prelude.{◌≡◌, ℕ, suc, List, [], ◌∷◌, ◌++◌, Bool, true, false, Option, Some, None, Result, Ok, Err}
 use Rattle.py_bytecode.specs.Values as values
-use Rattle.py_bytecode.specs.Values.{Bare, Number, Named, Value, Given, Event, World, Got, Fine, Raises, Stops, given, listed}
+use Rattle.py_bytecode.specs.Values.{Bare, Number, Named, Value, Given, Event, World, Got, Fine, Raises, Stops, given_values, with_event}
 use Rattle.py_answers.specs.declared.answers.Answer.{Answer}
 use Rattle.py_answers.specs.declared.log.Halt.{Halt}
 use Rattle.py_answers.specs.declared.log.Log.{Log}
@@ -22,7 +22,7 @@ operation_of o = record { instruction = o.op; detail = operand_of o.operand }
 abbrev pub world_of : Log → World Known
 world_of l = record { events = events_of l.events.items; answers = answers_of l.answers.now; taken = l.taken }
 
--- a part of a run answers what it gets, seen by view, in this world; want of memory is free
+-- a part of a run answers what it gets, seen by view, in this world; out of memory is free
 abbrev pub Gets : {X A : Type 0} → (X → A) → Result X Halt → World Known → Got Known A → Type 0
 Gets view (Ok x) w got = got ≡ Fine (view x) w
 Gets view (Err (Halt.Raised n)) w got = got ≡ Raises (Given n 0) w
@@ -39,14 +39,14 @@ IsTaken None new old = (old.answers ≡ []) × (new ≡ old)
 abbrev pub GetsAnswer : Result (Answer × ℕ) Halt → (new : World Known) → Event Known → (old : World Known) → Type 0
 GetsAnswer (Ok x) new e old =
     (rest : List values.Answer) × (old.answers ≡ answer_of x.0 ∷ rest) × (x.1 ≡ old.taken) × (new ≡ record { events = old.events ++ e ∷ []; answers = rest; taken = suc old.taken })
-GetsAnswer (Err Halt.Stopped) new e old = (old.answers ≡ []) × (new ≡ listed e old)
+GetsAnswer (Err Halt.Stopped) new e old = (old.answers ≡ []) × (new ≡ with_event e old)
 GetsAnswer (Err (Halt.Raised n)) new e old = ⊥
 GetsAnswer (Err Halt.OutOfMemory) new e old = Unit {0}
 
 -- the values of an answer that gives so many
 abbrev pub counted_by : Option ℕ → ℕ → List (Value Known)
 counted_by None n = []
-counted_by (Some count) n = given count n 0
+counted_by (Some count) n = given_values count n 0
 
 abbrev pub next_given : Option ℕ → Option (Value Known)
 next_given None = None

@@ -11,16 +11,16 @@ use Rattle.py_answers.specs.declared.answers.Answer.TheVariants.{Gives, Done, Tr
 abbrev pub IsCount : ℕ → Type 0
 IsCount k = (0 < k) × (k < 2 ^ 22)
 
-abbrev pub counted : Answer → Bool
-counted (Gives k) = nat_lt 0 k && nat_lt k (2 ^ 22)
-counted Done = true
-counted (Truth b) = true
-counted End = true
-counted Raised = true
+abbrev pub is_counted : Answer → Bool
+is_counted (Gives k) = nat_lt 0 k && nat_lt k (2 ^ 22)
+is_counted Done = true
+is_counted (Truth b) = true
+is_counted End = true
+is_counted Raised = true
 
 abbrev pub all_counted : List Answer → Bool
 all_counted [] = true
-all_counted (a ∷ rest) = counted a && all_counted rest
+all_counted (a ∷ rest) = is_counted a && all_counted rest
 
 -- fewer than 2^16 answers, each of which gives a number of values that it may give
 pub record IsScript (answers : List Answer) : Type 0 where
@@ -28,20 +28,20 @@ pub record IsScript (answers : List Answer) : Type 0 where
   pub counts : all_counted answers ≡ true
 
 -- how an answer is written
-abbrev pub spelled : Answer → List ℕ
-spelled (Gives k) = 103 ∷ decimal k
-spelled Done = codes "d"
-spelled (Truth b) = if b then codes "t" else codes "f"
-spelled End = codes "e"
-spelled Raised = codes "r"
+abbrev pub answer_text : Answer → List ℕ
+answer_text (Gives k) = 103 ∷ decimal k
+answer_text Done = codes "d"
+answer_text (Truth b) = if b then codes "t" else codes "f"
+answer_text End = codes "e"
+answer_text Raised = codes "r"
 
 -- a script is written as its answers joined by commas
-abbrev pub spelling : List Answer → List ℕ
-spelling answers = join_with_byte 44 (map spelled answers)
+abbrev pub script_text : List Answer → List ℕ
+script_text answers = join_with_byte 44 (map answer_text answers)
 
 -- ---- the answers that a text spells, where it spells a script
 
--- the one answer that a piece can spell: by its letter, and for `g` by the digits behind it
+-- the one answer that a piece can spell: by its letter, and for `g` by the digits after it
 abbrev pub likely : (piece : List ℕ) → Answer
 likely [] = Done
 likely (c ∷ digits) =
@@ -52,7 +52,7 @@ likely (c ∷ digits) =
     (if c == 114 then Raised else Gives (digits_value 10 digits)))))
 
 abbrev pub answer_in : (piece : List ℕ) → Option Answer
-answer_in piece = if counted (likely piece) && bytes_eq piece (spelled (likely piece)) then Some (likely piece) else None
+answer_in piece = if is_counted (likely piece) && bytes_eq piece (answer_text (likely piece)) then Some (likely piece) else None
 
 abbrev pub answers_in : (pieces : List (List ℕ)) → Option (List Answer)
 answers_in [] = Some []

@@ -2,7 +2,7 @@
 ghost use Rattle.std.specs.Prelude.{◌≡◌, ◌≢◌, ◌==◌, ◌<◌, ◌^◌, ◌∷◌, ℕ, List as Items, true, decimal, length, map, option_map, ◌↔◌, IfOk, IsTrue};
 ghost use Rattle.std.specs.List.{slice_split};
 ghost use Rattle.std.specs.Option.{IfNone, IfSome, is_some};
-ghost use Rattle.py_answers.specs.Scripts.{IsCount, IsScript, all_counted, answer_in, counted, few_answers, script_in, spelled, spelling};
+ghost use Rattle.py_answers.specs.Scripts.{IsCount, IsScript, all_counted, answer_in, is_counted, few_answers, script_in, answer_text, script_text};
 
 use itoa::Buffer;
 use py_base::List;
@@ -42,8 +42,8 @@ impl Script {
     /// There is no memory for the answers.
     pub fn parse(alloc: Global, text: &str) -> Result<Option<Script>, AllocError>
         ensures found { IfOk result (λ r. option_map (λ s. s.answers) r ≡ script_in text.now) }
-        ensures some { IfOk result (λ r. IfSome r (λ s. text.now ≡ spelling s.answers)) }
-        ensures none { IfOk result (λ r. IfNone r ((answers : Items Answer) → IsScript answers → text.now ≢ spelling answers)) }
+        ensures some { IfOk result (λ r. IfSome r (λ s. text.now ≡ script_text s.answers)) }
+        ensures none { IfOk result (λ r. IfNone r ((answers : Items Answer) → IsScript answers → text.now ≢ script_text answers)) }
     {
         if text.is_empty() {
             return Ok(Some(Script {
@@ -106,8 +106,8 @@ fn pieces(alloc: Global, text: &str) -> Result<Vec<&str>, AllocError>
 
 // The answer that is written so.
 fn answer_of(piece: &str) -> Option<Answer>
-    ensures some { IfSome result (λ a. (piece.now ≡ spelled a) × (counted a ≡ true)) }
-    ensures none { IfNone result ((a : Answer) → counted a ≡ true → piece.now ≢ spelled a) }
+    ensures some { IfSome result (λ a. (piece.now ≡ answer_text a) × (is_counted a ≡ true)) }
+    ensures none { IfNone result ((a : Answer) → is_counted a ≡ true → piece.now ≢ answer_text a) }
 {
     match piece {
         "d" => Some(Answer::Done),
@@ -121,7 +121,7 @@ fn answer_of(piece: &str) -> Option<Answer>
 
 // The answer that gives a number of values.
 fn gives(piece: &str) -> Option<Answer>
-    ensures some { IfSome result (λ a. (piece.now ≡ spelled a) × (counted a ≡ true)) }
+    ensures some { IfSome result (λ a. (piece.now ≡ answer_text a) × (is_counted a ≡ true)) }
     ensures none { IfNone result ((k : ℕ) → IsCount k → piece.now ≢ 103 ∷ decimal k) }
 {
     let Some(digits) = piece.strip_prefix('g') else {

@@ -69,7 +69,7 @@ impl<'a> Log<'a> {
     // Lists an event.
     fn list(&mut self, event: Event) -> Result<(), Halt>
         requires { is_told event ≡ true }
-        ensures ok { OnOk result (world_of self.new ≡ values.listed (event_of event) (world_of self.old)) }
+        ensures ok { OnOk result (world_of self.new ≡ values.with_event (event_of event) (world_of self.old)) }
         ensures err { IfErr result (λ h. h ≡ Halt.OutOfMemory) }
     {
         match self.events.push(event) {

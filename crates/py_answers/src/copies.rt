@@ -1,4 +1,4 @@
-//! Copies of constants and of the codes within them.
+//! Copies of constants and of the codes nested in them.
 ghost use Rattle.std.specs.Prelude.{◌≡◌, IfOk};
 ghost use Rattle.std.specs.Option.{option_copied};
 ghost use Rattle.py_bytecode.specs.Objects as constants;

@@ -28,7 +28,7 @@ pub fn push_trace(out: &mut String, trace: &Trace) -> Result<(), AllocError>
     out.push_str("\n")
 }
 
-#[tactic(auto, using(crate::proofs::Events::told_at))]
+#[tactic(auto, using(crate::proofs::Events::event_told_at))]
 fn push_events(out: &mut String, events: &[Event]) -> Result<(), AllocError>
     requires { all_told events.now ≡ true }
     ensures { OnOk result (string_bytes out.new ≡ string_bytes out.old ++ event_lines (events_of events.now)) }

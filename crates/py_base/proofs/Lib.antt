@@ -1,1 +1,3 @@
 pub mod Mangled
+pub mod Numbers
+pub mod Booleans

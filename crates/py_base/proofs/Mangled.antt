@@ -16,10 +16,10 @@ same_front [] xs ys = refl
 same_front (x ∷ front) xs ys = simp (eq_self x) (same_front front xs ys)
 
 -- a text is equal to two parts where its front is the first, and what follows is the second
-pub two_parts : (t p n : List ℕ) → pointwise nat_eq t (p ++ n) ≡ (pointwise nat_eq (take (length p) t) p && pointwise nat_eq (drop (length p) t) n)
-two_parts t [] n = grind (arith, common_steps)
-two_parts [] (x ∷ p) n = grind (arith, common_steps)
-two_parts (y ∷ t) (x ∷ p) n = grind (arith, common_steps, two_parts t p n)
+pub mangled_two_parts : (t p n : List ℕ) → pointwise nat_eq t (p ++ n) ≡ (pointwise nat_eq (take (length p) t) p && pointwise nat_eq (drop (length p) t) n)
+mangled_two_parts t [] n = grind (arith, common_steps)
+mangled_two_parts [] (x ∷ p) n = grind (arith, common_steps)
+mangled_two_parts (y ∷ t) (x ∷ p) n = grind (arith, common_steps, mangled_two_parts t p n)
 
 pub same_turned : (xs ys : List ℕ) → pointwise nat_eq xs ys ≡ pointwise nat_eq ys xs
 same_turned [] [] = refl
@@ -27,6 +27,6 @@ same_turned [] (y ∷ ys) = refl
 same_turned (x ∷ xs) [] = refl
 same_turned (x ∷ xs) (y ∷ ys) = cc (eq_turned x y, same_turned xs ys)
 
-pub ruleset written = (two_parts)
+pub ruleset written = (mangled_two_parts)
 
-pub ruleset same = (same_front, same_turned)
+pub ruleset mangled_same = (same_front, same_turned)

@@ -52,7 +52,7 @@ pub enum CodegenErrorType {
     MalformedTree(Malformed),
     /// The tree reaches a limit.
     TooLarge(TreeLimit),
-    /// A function that is made has a name from outside which is no cell of the scope around, and does not come to that
+    /// A function that is made has a free variable which is no cell of the enclosing scope, and does not come to that
     /// from outside either. So it may be where an emitter is over a table that is not the tree's, or where the next
     /// scope is not the node's. Never given by the compile calls.
     MissingCell,
@@ -61,7 +61,7 @@ pub enum CodegenErrorType {
 }
 
 /// A refusal, with the location of the statement or expression at fault and the path of the source. Refusals of the
-/// whole tree, and want of memory, have no location.
+/// whole tree, and out of memory, have no location.
 pub type CodegenError = LocatedError<CodegenErrorType>;
 
 impl fmt::Display for CodegenErrorType {

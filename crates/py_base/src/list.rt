@@ -85,7 +85,7 @@ impl<T> List<T> {
         self.items.pop()
     }
 
-    /// Puts `x` last. For want of memory alone the value comes back, and nothing has changed.
+    /// Puts `x` last. For out of memory alone the value comes back, and nothing has changed.
     ///
     /// # Errors
     /// There is no memory for it: the value comes back, and nothing has changed.

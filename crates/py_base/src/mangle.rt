@@ -2,7 +2,7 @@
 ghost use Rattle.std.specs.Prelude.{◌≡◌, ◌++◌, ◌∷◌, [], IfOk, OnOk, nat_eq, string_bytes};
 ghost use Rattle.std.specs.Cmp.Lexicographic.{pointwise};
 ghost use Rattle.std.specs.Option.{option_copied};
-ghost use Rattle.py_base.specs.Mangle.{stays, less_underscore, mangled, mangled_in};
+ghost use Rattle.py_base.specs.Mangle.{stays, less_underscore, mangling, mangled_in};
 
 use crate::Text;
 use std::alloc::{AllocError, Global};
@@ -38,7 +38,7 @@ pub fn mangle_name(
     class_name: Option<&str>,
     name: &str,
 ) -> Result<Option<Text>, AllocError>
-    ensures { IfOk result (λ answer. answer ≡ mangled (option_copied class_name.entry) name.now) }
+    ensures { IfOk result (λ answer. answer ≡ mangling (option_copied class_name.entry) name.now) }
 {
     let Some(class_name) = class_name else {
         return Ok(None);
@@ -77,7 +77,7 @@ fn is_written(text: &str, class_name: &str, name: &str) -> bool
 }
 
 /// Whether two names are one as they are written in the class, or as they are without a class. No text is made.
-#[tactic(auto, using(crate::proofs::Mangled::same))]
+#[tactic(auto, using(crate::proofs::Mangled::mangled_same))]
 pub fn same_mangled(class_name: Option<&str>, left: &str, right: &str) -> bool
     ensures { result ≡ pointwise nat_eq (mangled_in (option_copied class_name.entry) left.now) (mangled_in (option_copied class_name.entry) right.now) }
 {

@@ -153,7 +153,8 @@ head_of f po a ko sp ln on d us ls ns vs cs fs ps = record {
   cell2arg = ps;
 }
 
-head_is : (h : Head) → head_of h.flags h.posonlyarg_count h.arg_count h.kwonlyarg_count h.source_path h.first_line_number h.obj_name h.max_stackdepth h.instructions h.locations h.names h.varnames h.cellvars h.freevars h.cell2arg ≡ h
+head_is : (h : Head)
+    → head_of h.flags h.posonlyarg_count h.arg_count h.kwonlyarg_count h.source_path h.first_line_number h.obj_name h.max_stackdepth h.instructions h.locations h.names h.varnames h.cellvars h.freevars h.cell2arg ≡ h
 unfolding head_of
 head_is h = refl
 

@@ -6,8 +6,8 @@ use Rattle.py_bytecode.specs.Objects.{Object, Head, Const}
 use Rattle.py_bytecode.specs.Values.{Constant, Given, Gives, Raised, Event, Operates, Accesses, ByName, Load, Number, operation, ran, It, Returned, RaisedOut, Stopped}
 use Rattle.py_bytecode.specs.Units.{machine}
 
-abbrev sum_called : Object
-sum_called = obj.object_of (record {
+abbrev sample_sum_called : Object
+sample_sum_called = obj.object_of (record {
   flags = 1;
   posonlyarg_count = 0;
   arg_count = 0;
@@ -25,23 +25,23 @@ sum_called = obj.object_of (record {
   cell2arg = None;
 }) (obj.consts_of (obj.integer (pos 1) ∷ obj.none ∷ []))
 
-abbrev loads : List ℕ → Event Object
-loads n = Accesses ByName Load n 0 []
+abbrev sample_loads : List ℕ → Event Object
+sample_loads n = Accesses ByName Load n 0 []
 
-abbrev adds : Event Object
-adds = Operates (operation op.BinaryOperation (Number 0)) (Given 1 0 ∷ Constant (obj.integer (pos 1)) ∷ [])
+abbrev sample_adds : Event Object
+sample_adds = Operates (operation op.BinaryOperation (Number 0)) (Given 1 0 ∷ Constant (obj.integer (pos 1)) ∷ [])
 
-abbrev calls : Event Object
-calls = Operates (operation op.CallFunctionPositional (Number 1)) (Given 0 0 ∷ Given 2 0 ∷ [])
+abbrev sample_calls : Event Object
+sample_calls = Operates (operation op.CallFunctionPositional (Number 1)) (Given 0 0 ∷ Given 2 0 ∷ [])
 
 -- each operation gives a value
-given_all : machine sum_called (Gives 1 ∷ Gives 1 ∷ Gives 1 ∷ Gives 1 ∷ []) ≡ ran (loads (codes "f") ∷ loads (codes "a") ∷ adds ∷ calls ∷ []) (Returned (It (Constant obj.none)))
-given_all = refl
+sample_given_all : machine sample_sum_called (Gives 1 ∷ Gives 1 ∷ Gives 1 ∷ Gives 1 ∷ []) ≡ ran (sample_loads (codes "f") ∷ sample_loads (codes "a") ∷ sample_adds ∷ sample_calls ∷ []) (Returned (It (Constant obj.none)))
+sample_given_all = refl
 
 -- the second load raises
-load_raises : machine sum_called (Gives 1 ∷ Raised ∷ []) ≡ ran (loads (codes "f") ∷ loads (codes "a") ∷ []) (RaisedOut (Given 1 0))
-load_raises = refl
+sample_load_raises : machine sample_sum_called (Gives 1 ∷ Raised ∷ []) ≡ ran (sample_loads (codes "f") ∷ sample_loads (codes "a") ∷ []) (RaisedOut (Given 1 0))
+sample_load_raises = refl
 
 -- no answer
-no_answer : machine sum_called [] ≡ ran (loads (codes "f") ∷ []) Stopped
-no_answer = refl
+sample_no_answer : machine sample_sum_called [] ≡ ran (sample_loads (codes "f") ∷ []) Stopped
+sample_no_answer = refl

@@ -1,4 +1,4 @@
--- An entry of two tables, one after the other: the cells of a code object, and the free names behind them.
+-- An entry of two tables, one after the other: the cells of a code object, and the free names after them.
 use Rattle.std.proofs.Common.{◌≡◌, ℕ, zero, suc, ◌<◌, List, [], ◌∷◌, ◌++◌, length, refl, ap, ◌∙◌, arith}
 use Rattle.std.specs.Prelude.{slice_get, ◌-◌, ◌≤◌}
 

@@ -5,7 +5,7 @@ use Rattle.py_bytecode.specs.Objects.{Object}
 use Rattle.py_bytecode.specs.Values.{Answer, Ran}
 use Rattle.py_bytecode.specs.Machine.{Fetched, Nothing, machine, start}
 use Rattle.py_bytecode.specs.Decode.{Tables, instr_of}
-use Rattle.py_bytecode.specs.Units.{found}
+use Rattle.py_bytecode.specs.Units.{fetch_of_instr}
 
 -- an instruction with its operand, and the number of the block that it names where it jumps
 pub record Item : Type 0 where
@@ -38,21 +38,21 @@ abbrev pub settle : List Block → ℕ → Place → Place
 settle bs zero p = p
 settle bs (suc n) (Of b i) = if nat_lt i (length (block_at bs b).items) then Of b i else hop (block_at bs b).next (Of b i) (λ c. settle bs n (Of c 0))
 
-abbrev pub settled : List Block → Place → Place
-settled bs p = settle bs (length bs) p
+abbrev pub settled_place : List Block → Place → Place
+settled_place bs p = settle bs (length bs) p
 
 -- where a jump to a block arrives
 abbrev pub arrives : List Block → Option ℕ → Option Place
 arrives bs None = None
-arrives bs (Some b) = if nat_lt b (length bs) then Some (settled bs (Of b 0)) else None
+arrives bs (Some b) = if nat_lt b (length bs) then Some (settled_place bs (Of b 0)) else None
 
 abbrev pub at_index : Tables → List Block → (block index : ℕ) → Option Item → Fetched Object Place
 at_index t bs b i None = Nothing
-at_index t bs b i (Some x) = found (instr_of t (arrives bs x.target) x.op x.arg) (settled bs (Of b (suc i)))
+at_index t bs b i (Some x) = fetch_of_instr (instr_of t (arrives bs x.target) x.op x.arg) (settled_place bs (Of b (suc i)))
 
 abbrev pub fetch_block : Tables → List Block → Place → Fetched Object Place
 fetch_block t bs (Of b i) = at_index t bs b i (slice_get (block_at bs b).items i)
 
 -- the run of blocks, from block 0, of at most so many steps
 abbrev pub block_machine : Tables → List Block → (fuel : ℕ) → List Answer → Ran Object
-block_machine t bs fuel answers = machine (fetch_block t bs) fuel (settled bs (Of 0 0)) (start answers)
+block_machine t bs fuel answers = machine (fetch_block t bs) fuel (settled_place bs (Of 0 0)) (start answers)

@@ -33,18 +33,18 @@ module _ {P : Type 0} where
   abbrev pub constant : Tables → ℕ → (Value Object → Instr Object P) → Option (Instr Object P)
   constant t n k = for_some (slice_get t.constants n) (λ c. k (value_of c))
 
-  abbrev pub named : Tables → ℕ → (List ℕ → Instr Object P) → Option (Instr Object P)
-  named t n k = for_some (slice_get t.names n) k
+  abbrev pub name_instr : Tables → ℕ → (List ℕ → Instr Object P) → Option (Instr Object P)
+  name_instr t n k = for_some (slice_get t.names n) k
 
   abbrev pub variable : Tables → ℕ → (List ℕ → Instr Object P) → Option (Instr Object P)
   variable t n k = for_some (slice_get t.varnames n) k
 
-  abbrev pub celled : Tables → ℕ → (List ℕ → Instr Object P) → Option (Instr Object P)
-  celled t n k = for_some (slice_get t.cells n) k
+  abbrev pub cell_instr : Tables → ℕ → (List ℕ → Instr Object P) → Option (Instr Object P)
+  cell_instr t n k = for_some (slice_get t.cells n) k
 
   -- a jump, where its target is a place
-  abbrev pub jumping : Option P → (P → Instr Object P) → Option (Instr Object P)
-  jumping to k = for_some to k
+  abbrev pub jump_instr : Option P → (P → Instr Object P) → Option (Instr Object P)
+  jump_instr to k = for_some to k
 
   abbrev pub below : Option ℕ → ℕ → Instr Object P → Option (Instr Object P)
   below None n i = Some i
@@ -59,36 +59,36 @@ module _ {P : Type 0} where
   bare n i = within kind.None n i
 
   -- a raise of a value, of a value with its cause, or of the exception in the slot
-  abbrev pub raising : ℕ → Instr Object P
-  raising n = if nat_eq n 0 then Operate (operation op.Raise (Number 0)) 1 None else (if nat_eq n 1 then Operate (operation op.Raise (Number 1)) 2 None else Reraise)
+  abbrev pub raise_instr : ℕ → Instr Object P
+  raise_instr n = if nat_eq n 0 then Operate (operation op.Raise (Number 0)) 1 None else (if nat_eq n 1 then Operate (operation op.Raise (Number 1)) 2 None else Reraise)
 
   -- `to` is the place that the operand of a jump names, where there is one
   abbrev pub instr_of : Tables → (to : Option P) → Instruction → ℕ → Option (Instr Object P)
-  instr_of t to op.ImportName n = named t n (λ x. Operate (operation op.ImportName (Named x)) 2 (Some 1))
+  instr_of t to op.ImportName n = name_instr t n (λ x. Operate (operation op.ImportName (Named x)) 2 (Some 1))
   instr_of t to op.ImportNameless n = bare n (Operate (operation op.ImportNameless Bare) 2 (Some 1))
   instr_of t to op.ImportStar n = bare n (Operate (operation op.ImportStar Bare) 1 (Some 0))
-  instr_of t to op.ImportFrom n = named t n (λ x. Import (operation op.ImportFrom (Named x)))
+  instr_of t to op.ImportFrom n = name_instr t n (λ x. Import (operation op.ImportFrom (Named x)))
   instr_of t to op.LoadFast n = variable t n (λ x. Access Fast Load x 0)
-  instr_of t to op.LoadNameAny n = named t n (λ x. Access ByName Load x 0)
-  instr_of t to op.LoadGlobal n = named t n (λ x. Access Global Load x 0)
-  instr_of t to op.LoadDeref n = celled t n (λ x. Access Deref Load x n)
-  instr_of t to op.LoadClassDeref n = celled t n (λ x. Access ClassDeref Load x n)
-  instr_of t to op.LoadClosure n = celled t n (λ x. Push (Cells (record { name = x; place = n } ∷ [])))
+  instr_of t to op.LoadNameAny n = name_instr t n (λ x. Access ByName Load x 0)
+  instr_of t to op.LoadGlobal n = name_instr t n (λ x. Access Global Load x 0)
+  instr_of t to op.LoadDeref n = cell_instr t n (λ x. Access Deref Load x n)
+  instr_of t to op.LoadClassDeref n = cell_instr t n (λ x. Access ClassDeref Load x n)
+  instr_of t to op.LoadClosure n = cell_instr t n (λ x. Push (Cells (record { name = x; place = n } ∷ [])))
   instr_of t to op.StoreFast n = variable t n (λ x. Access Fast Store x 0)
-  instr_of t to op.StoreLocal n = named t n (λ x. Access ByName Store x 0)
-  instr_of t to op.StoreGlobal n = named t n (λ x. Access Global Store x 0)
-  instr_of t to op.StoreDeref n = celled t n (λ x. Access Deref Store x n)
+  instr_of t to op.StoreLocal n = name_instr t n (λ x. Access ByName Store x 0)
+  instr_of t to op.StoreGlobal n = name_instr t n (λ x. Access Global Store x 0)
+  instr_of t to op.StoreDeref n = cell_instr t n (λ x. Access Deref Store x n)
   instr_of t to op.DeleteFast n = variable t n (λ x. Access Fast Delete x 0)
-  instr_of t to op.DeleteLocal n = named t n (λ x. Access ByName Delete x 0)
-  instr_of t to op.DeleteGlobal n = named t n (λ x. Access Global Delete x 0)
-  instr_of t to op.DeleteDeref n = celled t n (λ x. Access Deref Delete x n)
+  instr_of t to op.DeleteLocal n = name_instr t n (λ x. Access ByName Delete x 0)
+  instr_of t to op.DeleteGlobal n = name_instr t n (λ x. Access Global Delete x 0)
+  instr_of t to op.DeleteDeref n = cell_instr t n (λ x. Access Deref Delete x n)
   instr_of t to op.Subscript n = bare n (Operate (operation op.Subscript Bare) 2 (Some 1))
   instr_of t to op.StoreSubscript n = bare n (Operate (operation op.StoreSubscript Bare) 3 (Some 0))
   instr_of t to op.DeleteSubscript n = bare n (Operate (operation op.DeleteSubscript Bare) 2 (Some 0))
-  instr_of t to op.LoadAttr n = named t n (λ x. Operate (operation op.LoadAttr (Named x)) 1 (Some 1))
-  instr_of t to op.StoreAttr n = named t n (λ x. Operate (operation op.StoreAttr (Named x)) 2 (Some 0))
-  instr_of t to op.DeleteAttr n = named t n (λ x. Operate (operation op.DeleteAttr (Named x)) 1 (Some 0))
-  instr_of t to op.LoadMethod n = named t n (λ x. Operate (operation op.LoadMethod (Named x)) 1 (Some 3))
+  instr_of t to op.LoadAttr n = name_instr t n (λ x. Operate (operation op.LoadAttr (Named x)) 1 (Some 1))
+  instr_of t to op.StoreAttr n = name_instr t n (λ x. Operate (operation op.StoreAttr (Named x)) 2 (Some 0))
+  instr_of t to op.DeleteAttr n = name_instr t n (λ x. Operate (operation op.DeleteAttr (Named x)) 1 (Some 0))
+  instr_of t to op.LoadMethod n = name_instr t n (λ x. Operate (operation op.LoadMethod (Named x)) 1 (Some 3))
   instr_of t to op.LoadConst n = constant t n (λ v. Push (It v))
   instr_of t to op.ReturnConst n = constant t n ReturnConst
   instr_of t to op.UnaryOperation n = within kind.Unary n (Operate (operation op.UnaryOperation (Number n)) 1 (Some 1))
@@ -140,19 +140,19 @@ module _ {P : Type 0} where
   instr_of t to op.EndFinally n = bare n EndFinally
   instr_of t to op.WithCleanupStart n = bare n WithCleanupStart
   instr_of t to op.WithCleanupFinish n = bare n WithCleanupFinish
-  instr_of t to op.Raise n = within kind.RaiseKind n (raising n)
+  instr_of t to op.Raise n = within kind.RaiseKind n (raise_instr n)
   instr_of t to op.ReturnValue n = bare n ReturnValue
   instr_of t to op.ExtendedArg n = None
-  instr_of t to op.JumpIfTrue n = jumping to (λ p. JumpIf true p)
-  instr_of t to op.JumpIfFalse n = jumping to (λ p. JumpIf false p)
-  instr_of t to op.JumpIfTrueOrPop n = jumping to (λ p. JumpIfOrPop true p)
-  instr_of t to op.JumpIfFalseOrPop n = jumping to (λ p. JumpIfOrPop false p)
-  instr_of t to op.ForIter n = jumping to (λ p. ForIter p)
-  instr_of t to op.Jump n = jumping to (λ p. Jump p)
-  instr_of t to op.Break n = jumping to (λ p. Break p)
-  instr_of t to op.Continue n = jumping to (λ p. Continue p)
-  instr_of t to op.SetupExcept n = jumping to (λ p. SetupExcept p)
-  instr_of t to op.SetupFinally n = jumping to (λ p. SetupFinally p)
-  instr_of t to op.SetupWith n = jumping to (λ p. SetupWith p)
+  instr_of t to op.JumpIfTrue n = jump_instr to (λ p. JumpIf true p)
+  instr_of t to op.JumpIfFalse n = jump_instr to (λ p. JumpIf false p)
+  instr_of t to op.JumpIfTrueOrPop n = jump_instr to (λ p. JumpIfOrPop true p)
+  instr_of t to op.JumpIfFalseOrPop n = jump_instr to (λ p. JumpIfOrPop false p)
+  instr_of t to op.ForIter n = jump_instr to (λ p. ForIter p)
+  instr_of t to op.Jump n = jump_instr to (λ p. Jump p)
+  instr_of t to op.Break n = jump_instr to (λ p. Break p)
+  instr_of t to op.Continue n = jump_instr to (λ p. Continue p)
+  instr_of t to op.SetupExcept n = jump_instr to (λ p. SetupExcept p)
+  instr_of t to op.SetupFinally n = jump_instr to (λ p. SetupFinally p)
+  instr_of t to op.SetupWith n = jump_instr to (λ p. SetupWith p)
   instr_of t to op.TypeVar n = bare n (Operate (operation op.TypeVar Bare) 1 (Some 1))
   instr_of t to op.TypeVarWithBound n = bare n (Operate (operation op.TypeVarWithBound Bare) 2 (Some 1))

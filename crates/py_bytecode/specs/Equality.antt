@@ -65,5 +65,5 @@ abbrev mutual
   object_eq (object_of h cs) (object_of k ds) = head_eq h k && consts_eq cs ds
 
 -- the values after one more is entered: an equal one keeps its place, and else it goes last
-abbrev pub entered : {A : Type 0} → (A → A → Bool) → List A → A → List A
-entered equal xs x = if list_any (equal x) xs then xs else xs ++ x ∷ []
+abbrev pub insert_if_new : {A : Type 0} → (A → A → Bool) → List A → A → List A
+insert_if_new equal xs x = if list_any (equal x) xs then xs else xs ++ x ∷ []

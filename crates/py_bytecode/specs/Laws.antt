@@ -5,7 +5,7 @@ use Rattle.py_bytecode.specs.declared.code.ConstantData.{ConstantData}
 use Rattle.py_bytecode.specs.declared.code.CodeObject.{CodeObject}
 use Rattle.py_bytecode.specs.contracts.code.ConstantDataPartialEq.TheImpl as constants
 use Rattle.py_bytecode.specs.contracts.code.CodeObjectPartialEq.TheImpl as objects
-use Rattle.py_bytecode.specs.Equality.{const_eq, entered}
+use Rattle.py_bytecode.specs.Equality.{const_eq, insert_if_new}
 use Rattle.py_bytecode.specs.View.{constant, object}
 
 -- what `==` answers
@@ -25,7 +25,7 @@ EqualIsSame =
 abbrev pub ConstantsKeepPlaces : Type 0
 ConstantsKeepPlaces =
     (xs : List ConstantData) (x : ConstantData) →
-    (map constant (entered equal xs x) ≡ entered const_eq (map constant xs) (constant x))
+    (map constant (insert_if_new equal xs x) ≡ insert_if_new const_eq (map constant xs) (constant x))
     × (position_or_len (equal x) xs ≡ position_or_len (const_eq (constant x)) (map constant xs))
-    × (slice_get (map constant (entered equal xs x)) (position_or_len (equal x) xs) ≡ Some (constant x))
-    × ((i : ℕ) (y : ConstantData) → slice_get xs i ≡ Some y → slice_get (entered equal xs x) i ≡ Some y)
+    × (slice_get (map constant (insert_if_new equal xs x)) (position_or_len (equal x) xs) ≡ Some (constant x))
+    × ((i : ℕ) (y : ConstantData) → slice_get xs i ≡ Some y → slice_get (insert_if_new equal xs x) i ≡ Some y)

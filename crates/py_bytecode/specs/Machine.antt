@@ -4,7 +4,7 @@ use Rattle.std.specs.Cmp.Lexicographic.{pointwise}
 use Rattle.py_bytecode.specs.declared.instruction.Instruction.{Instruction}
 use Rattle.py_bytecode.specs.declared.instruction.Instruction.TheVariants as op
 use Rattle.py_bytecode.specs.Objects as const
-use Rattle.py_bytecode.specs.Values.{Operation, raise_again, enter_with, exit_with, Value, Constant, Cell, Entry, It, Cells, Usage, Load, Store, Delete, Kind, Unsaid, Fast, ByName, Global, Deref, ClassDeref, Answer, Event, Operates, Makes, Accesses, StoresCells, World, listed, on_got, ask_for, for_one, for_none, truth_of, next_of, on_some, choose, meets, Outcome, Returned, RaisedOut, Stopped, Wrong, Leaked, Going, Ran, ran}
+use Rattle.py_bytecode.specs.Values.{Operation, raise_again, enter_with, exit_with, Value, Constant, Cell, Entry, It, Cells, Usage, Load, Store, Delete, Kind, Unsaid, Fast, ByName, Global, Deref, ClassDeref, Answer, Event, Operates, Makes, Accesses, StoresCells, World, with_event, on_got, ask_for, for_one, for_none, truth_of, next_of, on_some, choose, meets, Outcome, Returned, RaisedOut, Stopped, Wrong, Leaked, Going, Ran, ran}
 
 pub data Instr (K P : Type 0) : Type 0 where
   Push : Entry K → Instr K P
@@ -115,8 +115,8 @@ pub data Config (K P : Type 0) : Type 0 where
 abbrev pub wrong : {K P : Type 0} → World K → Config K P
 wrong w = Over w.events Wrong
 
-abbrev pub leaked : {K P : Type 0} → World K → Config K P
-leaked w = Over w.events Leaked
+abbrev pub leaked_config : {K P : Type 0} → World K → Config K P
+leaked_config w = Over w.events Leaked
 
 -- the stack cut to a height
 abbrev pub cut : {K P : Type 0} → ℕ → List (Entry K) → World K → (List (Entry K) → Config K P) → Config K P
@@ -179,8 +179,8 @@ abbrev pub stack_of : {K : Type 0} → List (Value K) → List (Entry K) → Lis
 stack_of [] s = s
 stack_of (v ∷ vs) s = It v ∷ stack_of vs s
 
-abbrev pub stopped : {K P : Type 0} → List (Event K) → Config K P
-stopped events = Over events Stopped
+abbrev pub stopped_config : {K P : Type 0} → List (Event K) → Config K P
+stopped_config events = Over events Stopped
 
 abbrev pub raise : {K P : Type 0} → List (Entry K) → List (Block K P) → Option (Value K) → Value K → World K → Config K P
 raise s bs slot e w = unwind (RaiseOf e) s bs slot w
@@ -193,7 +193,7 @@ on_entry (e ∷ s) w k = k e s
 abbrev pub on_top : {K P : Type 0} → List (Entry K) → World K → (Value K → List (Entry K) → Config K P) → Config K P
 on_top [] w k = wrong w
 on_top (It v ∷ s) w k = k v s
-on_top (Cells cs ∷ s) w k = leaked w
+on_top (Cells cs ∷ s) w k = leaked_config w
 
 -- the value that lies so many below the top
 abbrev pub below : {K P : Type 0} → ℕ → List (Entry K) → World K → (Value K → Config K P) → Config K P
@@ -231,7 +231,7 @@ on_last (ExceptHandler h old ∷ bs) w k = wrong w
 on_last (FinallyHandler h r old ∷ bs) w k = k h r old bs
 
 abbrev pub reraise : {K P : Type 0} → Option (Value K) → P → List (Entry K) → List (Block K P) → World K → Config K P
-reraise None next s bs w = on_got (for_none (Operates raise_again []) true w) (λ d w1. At next s bs None w1) (raise s bs None) stopped
+reraise None next s bs w = on_got (for_none (Operates raise_again []) true w) (λ d w1. At next s bs None w1) (raise s bs None) stopped_config
 reraise (Some e) next s bs w = unwind (RaiseOf e) s bs (Some e) w
 
 -- the exception in hand, or None
@@ -264,8 +264,8 @@ classcell = codes "__classcell__"
 
 -- a tuple of cells alone is silent; any other use of cells leaks
 abbrev pub joins : {K P : Type 0} → Bool → ℕ → P → List (Entry K) → List (Block K P) → Option (Value K) → World K → Config K P
-joins true n next s bs slot w = pop_cells n s [] (wrong w) (leaked w) (λ cs rest. At next (Cells cs ∷ rest) bs slot w)
-joins false n next s bs slot w = leaked w
+joins true n next s bs slot w = pop_cells n s [] (wrong w) (leaked_config w) (λ cs rest. At next (Cells cs ∷ rest) bs slot w)
+joins false n next s bs slot w = leaked_config w
 
 abbrev pub is_silent : Kind → List ℕ → Bool
 is_silent Unsaid n = false
@@ -276,11 +276,11 @@ is_silent Deref n = false
 is_silent ClassDeref n = false
 
 abbrev pub access : {K P : Type 0} → Usage → Kind → List ℕ → ℕ → P → List (Entry K) → List (Block K P) → Option (Value K) → World K → Config K P
-access Load k n p next s bs slot w = on_got (for_one (Accesses k Load n p []) w) (λ v w1. At next (It v ∷ s) bs slot w1) (raise s bs slot) stopped
-access Delete k n p next s bs slot w = on_got (for_none (Accesses k Delete n p []) false w) (λ d w1. At next s bs slot w1) (raise s bs slot) stopped
+access Load k n p next s bs slot w = on_got (for_one (Accesses k Load n p []) w) (λ v w1. At next (It v ∷ s) bs slot w1) (raise s bs slot) stopped_config
+access Delete k n p next s bs slot w = on_got (for_none (Accesses k Delete n p []) false w) (λ d w1. At next s bs slot w1) (raise s bs slot) stopped_config
 access Store k n p next [] bs slot w = wrong w
-access Store k n p next (It v ∷ s) bs slot w = on_got (for_none (Accesses k Store n p (v ∷ [])) false w) (λ d w1. At next s bs slot w1) (raise s bs slot) stopped
-access Store k n p next (Cells cs ∷ s) bs slot w = choose (is_silent k n) (At next s bs slot (listed (StoresCells cs) w)) (leaked w)
+access Store k n p next (It v ∷ s) bs slot w = on_got (for_none (Accesses k Store n p (v ∷ [])) false w) (λ d w1. At next s bs slot w1) (raise s bs slot) stopped_config
+access Store k n p next (Cells cs ∷ s) bs slot w = choose (is_silent k n) (At next s bs slot (with_event (StoresCells cs) w)) (leaked_config w)
 
 abbrev pub rotate2 : {K P : Type 0} → List (Entry K) → World K → (List (Entry K) → Config K P) → Config K P
 rotate2 [] w k = wrong w
@@ -302,7 +302,7 @@ duplicate2 (a ∷ b ∷ s) w k = k (a ∷ b ∷ a ∷ b ∷ s)
 abbrev pub pop_closure : {K P : Type 0} → Bool → List (Entry K) → World K → (List Cell → List (Entry K) → Config K P) → Config K P
 pop_closure false s w k = k [] s
 pop_closure true [] w k = wrong w
-pop_closure true (It v ∷ s) w k = leaked w
+pop_closure true (It v ∷ s) w k = leaked_config w
 pop_closure true (Cells cs ∷ s) w k = k cs s
 
 -- one instruction
@@ -310,21 +310,21 @@ abbrev pub act : {K P : Type 0} → Instr K P → P → List (Entry K) → List 
 act (Push e) next s bs slot w = At next (e ∷ s) bs slot w
 act (Access k u n p) next s bs slot w = access u k n p next s bs slot w
 act (Operate o n k) next s bs slot w =
-    pop n s [] (wrong w) (joins (is_tuple o) n next s bs slot w) (λ vs rest. on_got (ask_for (Operates o vs) k w) (λ gs w1. At next (push gs rest) bs slot w1) (raise rest bs slot) stopped)
+    pop n s [] (wrong w) (joins (is_tuple o) n next s bs slot w) (λ vs rest. on_got (ask_for (Operates o vs) k w) (λ gs w1. At next (push gs rest) bs slot w1) (raise rest bs slot) stopped_config)
 act (MakeFunction fl c n) next s bs slot w =
-    pop 2 s [] (wrong w) (leaked w) (λ kn rest. pop_closure c rest w (λ cs rest1. pop n rest1 [] (wrong w) (leaked w) (λ vs rest2. on_got (for_one (Makes fl (vs ++ kn) cs) w) (λ v w1. At next (It v ∷ rest2) bs slot w1) (raise rest2 bs slot) stopped)))
-act (Import o) next s bs slot w = on_top s w (λ v rest. on_got (for_one (Operates o (v ∷ [])) w) (λ x w1. At next (It x ∷ It v ∷ rest) bs slot w1) (raise (It v ∷ rest) bs slot) stopped)
+    pop 2 s [] (wrong w) (leaked_config w) (λ kn rest. pop_closure c rest w (λ cs rest1. pop n rest1 [] (wrong w) (leaked_config w) (λ vs rest2. on_got (for_one (Makes fl (vs ++ kn) cs) w) (λ v w1. At next (It v ∷ rest2) bs slot w1) (raise rest2 bs slot) stopped_config)))
+act (Import o) next s bs slot w = on_top s w (λ v rest. on_got (for_one (Operates o (v ∷ [])) w) (λ x w1. At next (It x ∷ It v ∷ rest) bs slot w1) (raise (It v ∷ rest) bs slot) stopped_config)
 act (Append o n d) next s bs slot w =
-    pop n s [] (wrong w) (leaked w) (λ vs rest. below d rest w (λ c. on_got (for_none (Operates o (c ∷ vs)) false w) (λ u w1. At next rest bs slot w1) (raise rest bs slot) stopped))
-act (Unpack o n) next s bs slot w = on_top s w (λ v rest. on_got (ask_for (Operates o (v ∷ [])) (Some n) w) (λ gs w1. At next (stack_of gs rest) bs slot w1) (raise rest bs slot) stopped)
+    pop n s [] (wrong w) (leaked_config w) (λ vs rest. below d rest w (λ c. on_got (for_none (Operates o (c ∷ vs)) false w) (λ u w1. At next rest bs slot w1) (raise rest bs slot) stopped_config))
+act (Unpack o n) next s bs slot w = on_top s w (λ v rest. on_got (ask_for (Operates o (v ∷ [])) (Some n) w) (λ gs w1. At next (stack_of gs rest) bs slot w1) (raise rest bs slot) stopped_config)
 act Nop next s bs slot w = At next s bs slot w
 act Pop next s bs slot w = on_entry s w (λ v rest. At next rest bs slot w)
 act Rotate2 next s bs slot w = rotate2 s w (λ s1. At next s1 bs slot w)
 act Rotate3 next s bs slot w = rotate3 s w (λ s1. At next s1 bs slot w)
 act Duplicate next s bs slot w = on_entry s w (λ v rest. At next (v ∷ v ∷ rest) bs slot w)
 act Duplicate2 next s bs slot w = duplicate2 s w (λ s1. At next s1 bs slot w)
-act (JumpIf c p) next s bs slot w = on_top s w (λ v rest. on_got (truth_of v w) (λ t w1. At (meets c t p next) rest bs slot w1) (raise rest bs slot) stopped)
-act (JumpIfOrPop c p) next s bs slot w = on_top s w (λ v rest. on_got (truth_of v w) (λ t w1. meets c t (At p (It v ∷ rest) bs slot w1) (At next rest bs slot w1)) (raise rest bs slot) stopped)
+act (JumpIf c p) next s bs slot w = on_top s w (λ v rest. on_got (truth_of v w) (λ t w1. At (meets c t p next) rest bs slot w1) (raise rest bs slot) stopped_config)
+act (JumpIfOrPop c p) next s bs slot w = on_top s w (λ v rest. on_got (truth_of v w) (λ t w1. meets c t (At p (It v ∷ rest) bs slot w1) (At next rest bs slot w1)) (raise rest bs slot) stopped_config)
 act (Jump p) next s bs slot w = At p s bs slot w
 act SetupLoop next s bs slot w = At next s (Loop (length s) ∷ bs) slot w
 act PopBlock next s bs slot w = pop_block next s bs slot w
@@ -338,13 +338,13 @@ act PopException next s bs slot w = pop_exception next s bs w
 act EnterFinally next s bs slot w = At next s (FinallyHandler (length s) None slot ∷ bs) slot w
 act EndFinally next s bs slot w = on_last bs w (λ h r old bs1. go_on r next s bs1 old w)
 act Reraise next s bs slot w = reraise slot next s bs w
-act (ForIter p) next s bs slot w = on_top s w (λ v rest. on_got (next_of v w) (λ x w1. on_some x (λ u. At next (It u ∷ It v ∷ rest) bs slot w1) (At p rest bs slot w1)) (raise (It v ∷ rest) bs slot) stopped)
+act (ForIter p) next s bs slot w = on_top s w (λ v rest. on_got (next_of v w) (λ x w1. on_some x (λ u. At next (It u ∷ It v ∷ rest) bs slot w1) (At p rest bs slot w1)) (raise (It v ∷ rest) bs slot) stopped_config)
 act (SetupWith p) next s bs slot w =
-    on_top s w (λ v rest. on_got (ask_for (Operates enter_with (v ∷ [])) (Some 2) w) (λ gs w1. At next (push gs rest) (Finally (length (It v ∷ rest)) p ∷ bs) slot w1) (raise rest bs slot) stopped)
+    on_top s w (λ v rest. on_got (ask_for (Operates enter_with (v ∷ [])) (Some 2) w) (λ gs w1. At next (push gs rest) (Finally (length (It v ∷ rest)) p ∷ bs) slot w1) (raise rest bs slot) stopped_config)
 act WithCleanupStart next s bs slot w =
-    on_last bs w (λ h r old bs1. on_top s w (λ x rest. on_got (for_one (Operates exit_with (x ∷ exception r ∷ [])) w) (λ a w1. At next (It a ∷ rest) bs slot w1) (raise (It x ∷ rest) bs slot) stopped))
+    on_last bs w (λ h r old bs1. on_top s w (λ x rest. on_got (for_one (Operates exit_with (x ∷ exception r ∷ [])) w) (λ a w1. At next (It a ∷ rest) bs slot w1) (raise (It x ∷ rest) bs slot) stopped_config))
 act WithCleanupFinish next s bs slot w =
-    on_last bs w (λ h r old bs1. on_top s w (λ a rest. on_got (truth_of a w) (λ t w1. after_exit t r next rest bs1 old w1) (raise rest bs1 old) stopped))
+    on_last bs w (λ h r old bs1. on_top s w (λ a rest. on_got (truth_of a w) (λ t w1. after_exit t r next rest bs1 old w1) (raise rest bs1 old) stopped_config))
 
 abbrev pub act_at : {K P : Type 0} → Fetched K P → List (Entry K) → List (Block K P) → Option (Value K) → World K → Config K P
 act_at Nothing s bs slot w = wrong w
@@ -366,13 +366,13 @@ abbrev pub machine : {K P : Type 0} → (P → Fetched K P) → ℕ → P → Wo
 machine fetch fuel start w = result (steps fetch fuel (At start [] [] None w))
 
 -- the machine with a limit of height: a state above it is wrong
-abbrev pub limited : {K P : Type 0} → ℕ → Config K P → Config K P
-limited h (At p s bs slot w) = choose (nat_le (length s) h) (At p s bs slot w) (wrong w)
-limited h (Over events o) = Over events o
+abbrev pub limited_config : {K P : Type 0} → ℕ → Config K P → Config K P
+limited_config h (At p s bs slot w) = choose (nat_le (length s) h) (At p s bs slot w) (wrong w)
+limited_config h (Over events o) = Over events o
 
 abbrev pub limited_steps : {K P : Type 0} → (P → Fetched K P) → (height n : ℕ) → Config K P → Config K P
 limited_steps fetch h zero c = c
-limited_steps fetch h (suc n) c = limited_steps fetch h n (limited h (step fetch c))
+limited_steps fetch h (suc n) c = limited_steps fetch h n (limited_config h (step fetch c))
 
 abbrev pub limited_machine : {K P : Type 0} → (P → Fetched K P) → (height fuel : ℕ) → P → World K → Ran K
 limited_machine fetch h fuel begin w = result (limited_steps fetch h fuel (At begin [] [] None w))

@@ -42,16 +42,16 @@ mutual
 abbrev pub head : Object → Head
 head (object_of h cs) = h
 
-abbrev pub listed : Consts → List Const
-listed no_consts = []
-listed (more_consts c cs) = c ∷ listed cs
+abbrev pub const_list : Consts → List Const
+const_list no_consts = []
+const_list (more_consts c cs) = c ∷ const_list cs
 
 abbrev pub consts_of : List Const → Consts
 consts_of [] = no_consts
 consts_of (c ∷ cs) = more_consts c (consts_of cs)
 
 abbrev pub constants : Object → List Const
-constants (object_of h cs) = listed cs
+constants (object_of h cs) = const_list cs
 
 -- the code objects that stand directly among constants
 abbrev pub codes_in : List Const → List Object

@@ -30,17 +30,17 @@ read_from high at (u ∷ us) =
 abbrev pub place_in : ℕ → ℕ → Option ℕ
 place_in count n = if nat_lt n count then Some n else None
 
-abbrev pub found : {P : Type 0} → Option (Instr Object P) → P → Fetched Object P
-found None next = Nothing
-found (Some i) next = Found i next
+abbrev pub fetch_of_instr : {P : Type 0} → Option (Instr Object P) → P → Fetched Object P
+fetch_of_instr None next = Nothing
+fetch_of_instr (Some i) next = Found i next
 
-abbrev pub fetched : Tables → (count : ℕ) → Option Read → Fetched Object ℕ
-fetched t count None = Nothing
-fetched t count (Some r) = found (instr_of t (place_in count r.operand) r.op r.operand) r.next
+abbrev pub fetch_of_read : Tables → (count : ℕ) → Option Read → Fetched Object ℕ
+fetch_of_read t count None = Nothing
+fetch_of_read t count (Some r) = fetch_of_instr (instr_of t (place_in count r.operand) r.op r.operand) r.next
 
 -- what stands at a unit
 abbrev pub fetch_unit : Tables → List CodeUnit → ℕ → Fetched Object ℕ
-fetch_unit t units place = fetched t (length units) (read_from 0 place (drop place units))
+fetch_unit t units place = fetch_of_read t (length units) (read_from 0 place (drop place units))
 
 -- the run of a code object that a finite list of answers gives
 abbrev pub machine : Object → List Answer → Ran Object

@@ -95,9 +95,9 @@ abbrev pub then_get : {K A B : Type 0} → Got K A → (A → World K → Got K 
 then_get g k = on_got g k Raises Stops
 
 -- the values of answer number n
-abbrev pub given : {K : Type 0} → (count n k : ℕ) → List (Value K)
-given zero n k = []
-given (suc count) n k = Given n k ∷ given count n (suc k)
+abbrev pub given_values : {K : Type 0} → (count n k : ℕ) → List (Value K)
+given_values zero n k = []
+given_values (suc count) n k = Given n k ∷ given_values count n (suc k)
 
 -- an event is listed, and the next answer is taken
 abbrev pub ask_of : {K A : Type 0} → List (Event K) → List Answer → (taken : ℕ) → (Answer → ℕ → World K → Got K A) → Got K A
@@ -108,12 +108,12 @@ abbrev pub ask : {K A : Type 0} → Event K → World K → (Answer → ℕ → 
 ask e w k = ask_of (w.events ++ e ∷ []) w.answers w.taken k
 
 -- an event that takes no answer
-abbrev pub listed : {K : Type 0} → Event K → World K → World K
-listed e w = record { events = w.events ++ e ∷ []; answers = w.answers; taken = w.taken }
+abbrev pub with_event : {K : Type 0} → Event K → World K → World K
+with_event e w = record { events = w.events ++ e ∷ []; answers = w.answers; taken = w.taken }
 
 -- an answer to what gives so many values, or (None) only raises
 abbrev pub fits : {K : Type 0} → Option ℕ → Answer → ℕ → World K → Got K (List (Value K))
-fits (Some n) (Gives k) i w = if nat_eq n k then Fine (given n i 0) w else Stops w.events
+fits (Some n) (Gives k) i w = if nat_eq n k then Fine (given_values n i 0) w else Stops w.events
 fits (Some n) (Truth b) i w = Stops w.events
 fits (Some n) End i w = Stops w.events
 fits (Some n) Raised i w = Raises (Given i 0) w

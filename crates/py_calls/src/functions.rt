@@ -1,4 +1,4 @@
-//! The scope of a function, behind its defaults.
+//! The scope of a function, after its defaults.
 ghost use Rattle.std.specs.Prelude.{◌≡◌, ◌≢◌, IfErr, IfOk, OnOk};
 ghost use Rattle.py_tree.specs.View.{arguments, expr_tree};
 ghost use Rattle.py_emission_parts.specs.Children.{flags_of_defaults};
@@ -16,7 +16,7 @@ use py_expr_scopes::functions::{begin_function, function_flags};
 use py_tree::Arguments;
 
 /// Emits the defaults of a function's parameters, and goes into its scope, under this name: the parameters are the first
-/// names of the code object's own, and None is its first constant. The scope around waits. Answers what `MakeFunction`
+/// names of the code object's own, and None is its first constant. The enclosing scope waits. Answers what `MakeFunction`
 /// takes for the defaults.
 ///
 /// # Errors

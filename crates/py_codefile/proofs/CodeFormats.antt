@@ -4,7 +4,7 @@ use Rattle.std.specs.Int.{w16, w32, to_be_bytes}
 use Rattle.std.specs.List.{flat_map, AllByRecursion}
 use Rattle.std.proofs.lemmas.List.Concat.{flat_map-cons}
 use Rattle.py_bytecode.specs.Objects as obj
-use Rattle.py_bytecode.specs.Objects.{Head, Const, Consts, Object, consts_of, listed}
+use Rattle.py_bytecode.specs.Objects.{Head, Const, Consts, Object, consts_of, const_list}
 use Rattle.py_bytecode.specs.Nesting.{const_nesting, consts_nesting, nesting}
 use Rattle.py_codefile.specs.Fits.{AreConsts, AreNames, AreCells, IsConst, IsFlags, IsLine, IsList, IsLocation, IsNumber, IsObject, IsText, IsUnit}
 use Rattle.py_codefile.specs.Spelling.{cells_spelling, const_spelling, consts_spelling, heading_spelling, line_spelling, list_spelling, location_spelling, names_spelling, object_spelling, tables_spelling, text_spelling, unit_spelling}
@@ -42,17 +42,17 @@ tables_format = both_format names_format (both_format names_format (both_format 
 
 -- ---- lists of constants
 
-pub listed_of : (cs : List Const) → listed (consts_of cs) ≡ cs
-listed_of [] = refl
-listed_of (c ∷ cs) = ap (λ (ds : List Const). c ∷ ds) (listed_of cs)
+pub code_format_listed_of : (cs : List Const) → const_list (consts_of cs) ≡ cs
+code_format_listed_of [] = refl
+code_format_listed_of (c ∷ cs) = ap (λ (ds : List Const). c ∷ ds) (code_format_listed_of cs)
 
-pub of_listed : (cs : Consts) → consts_of (listed cs) ≡ cs
+pub of_listed : (cs : Consts) → consts_of (const_list cs) ≡ cs
 of_listed obj.no_consts = refl
 of_listed (obj.more_consts c cs) = ap (obj.more_consts c) (of_listed cs)
 
-pub spelled_one_by_one : (cs : Consts) → consts_spelling cs ≡ flat_map const_spelling (listed cs)
+pub spelled_one_by_one : (cs : Consts) → consts_spelling cs ≡ flat_map const_spelling (const_list cs)
 spelled_one_by_one obj.no_consts = refl
-spelled_one_by_one (obj.more_consts c cs) = ap (λ (x : List ℕ). const_spelling c ++ x) (spelled_one_by_one cs) ∙ sym (flat_map-cons const_spelling c (listed cs))
+spelled_one_by_one (obj.more_consts c cs) = ap (λ (x : List ℕ). const_spelling c ++ x) (spelled_one_by_one cs) ∙ sym (flat_map-cons const_spelling c (const_list cs))
 
 -- a constant in which codes and tuples nest so deep at most
 abbrev pub IsWithin : ℕ → Const → Type 0
@@ -61,14 +61,14 @@ IsWithin room c = IsConst c × (const_nesting c ≤ room)
 abbrev pub AreWithin : ℕ → Consts → Type 0
 AreWithin room cs = AreConsts cs × (consts_nesting cs ≤ room)
 
-each_within : (room : ℕ) (cs : Consts) → AreWithin room cs → AllByRecursion (IsWithin room) (listed cs)
+each_within : (room : ℕ) (cs : Consts) → AreWithin room cs → AllByRecursion (IsWithin room) (const_list cs)
 each_within room obj.no_consts h = tt
 each_within room (obj.more_consts c cs) h =
     let here : const_nesting c ≤ room = omega (arith, h.1) in
     let more : consts_nesting cs ≤ room = omega (arith, h.1) in
     ((h.0.0, here), each_within room cs (h.0.1, more))
 
-all_within : (room : ℕ) (cs : Consts) → AllByRecursion (IsWithin room) (listed cs) → AreWithin room cs
+all_within : (room : ℕ) (cs : Consts) → AllByRecursion (IsWithin room) (const_list cs) → AreWithin room cs
 all_within room obj.no_consts h = (tt, omega arith)
 all_within room (obj.more_consts c cs) h =
     let more = all_within room cs h.1 in
@@ -76,23 +76,23 @@ all_within room (obj.more_consts c cs) h =
     ((one.0, more.0), omega (arith, one.1, more.1))
 
 abbrev pub IsConsts : ℕ → Consts → Type 0
-IsConsts room cs = (length (listed cs) < 2 ^ 32) × AreWithin room cs
+IsConsts room cs = (length (const_list cs) < 2 ^ 32) × AreWithin room cs
 
 abbrev pub spelled_consts : Consts → List ℕ
-spelled_consts cs = to_be_bytes w32 (length (listed cs)) ++ consts_spelling cs
+spelled_consts cs = to_be_bytes w32 (length (const_list cs)) ++ consts_spelling cs
 
 module _ (room : ℕ) (constant : IsFormat (IsWithin room) const_spelling (constant_at room)) where
   pub consts_there : (cs : List Const) → IsList (IsWithin room) cs → IsConsts room (consts_of cs) × (spelled_consts (consts_of cs) ≡ list_spelling const_spelling cs)
   consts_there cs fits =
-      let e = sym (listed_of cs) in
-      let all : AllByRecursion (IsWithin room) (listed (consts_of cs)) = subst (λ (ds : List Const). AllByRecursion (IsWithin room) ds) e fits.1 in (
+      let e = sym (code_format_listed_of cs) in
+      let all : AllByRecursion (IsWithin room) (const_list (consts_of cs)) = subst (λ (ds : List Const). AllByRecursion (IsWithin room) ds) e fits.1 in (
         (subst (λ (ds : List Const). length ds < 2 ^ 32) e fits.0, all_within room (consts_of cs) all),
-        ap (λ (x : List ℕ). to_be_bytes w32 (length (listed (consts_of cs))) ++ x) (spelled_one_by_one (consts_of cs)) ∙ ap (list_spelling const_spelling) (listed_of cs),
+        ap (λ (x : List ℕ). to_be_bytes w32 (length (const_list (consts_of cs))) ++ x) (spelled_one_by_one (consts_of cs)) ∙ ap (list_spelling const_spelling) (code_format_listed_of cs),
       )
 
-  pub consts_back : (cs : Consts) → IsConsts room cs → IsList (IsWithin room) (listed cs) × (consts_of (listed cs) ≡ cs) × (spelled_consts cs ≡ list_spelling const_spelling (listed cs))
+  pub consts_back : (cs : Consts) → IsConsts room cs → IsList (IsWithin room) (const_list cs) × (consts_of (const_list cs) ≡ cs) × (spelled_consts cs ≡ list_spelling const_spelling (const_list cs))
   consts_back cs fits =
-      ((fits.0, each_within room cs fits.1), of_listed cs, ap (λ (x : List ℕ). to_be_bytes w32 (length (listed cs)) ++ x) (spelled_one_by_one cs))
+      ((fits.0, each_within room cs fits.1), of_listed cs, ap (λ (x : List ℕ). to_be_bytes w32 (length (const_list cs)) ++ x) (spelled_one_by_one cs))
 
   abbrev constants_format : IsFormat (IsList (IsWithin room)) (list_spelling const_spelling) (list_at (constant_at room))
   constants_format = list_format constant
@@ -115,7 +115,7 @@ module _ (room : ℕ) (constant : IsFormat (IsWithin room) const_spelling (const
   abbrev parts_of : Object → Parts
   parts_of (obj.object_of h cs) = (
     (h.flags, (h.posonlyarg_count, (h.arg_count, (h.kwonlyarg_count, (h.source_path, (h.first_line_number, (h.obj_name, h.max_stackdepth))))))),
-    (h.instructions, (h.locations, (listed cs, (h.names, (h.varnames, (h.cellvars, (h.freevars, h.cell2arg))))))),
+    (h.instructions, (h.locations, (const_list cs, (h.names, (h.varnames, (h.cellvars, (h.freevars, h.cell2arg))))))),
   )
 
   code_there : (x : Parts) → PartsFit x → IsCode (object_of x) × (object_spelling (object_of x) ≡ spelled_parts x)

@@ -2,13 +2,13 @@
 use Rattle.std.proofs.Common.{◌≡◌, ℕ, zero, suc, ◌+◌, ◌≤◌, true, false, List, ◌∷◌, ◌++◌, length, Ok, refl, sym, ap, subst, ◌∙◌, arith}
 use Rattle.std.specs.Int.{w128}
 use Rattle.py_bytecode.specs.Objects as obj
-use Rattle.py_bytecode.specs.Objects.{Const, Consts, Object, consts_of, listed}
+use Rattle.py_bytecode.specs.Objects.{Const, Consts, Object, consts_of, const_list}
 use Rattle.py_codefile.specs.declared.tags.Tag.{Tag}
 use Rattle.py_codefile.specs.declared.tags.Tag.TheVariants as tag
 use Rattle.py_codefile.specs.Tags.{tag_number}
 use Rattle.py_bytecode.specs.Nesting.{consts_nesting}
 use Rattle.py_codefile.specs.Spelling.{byte_spelling, const_spelling, list_spelling, object_spelling, signed_spelling, text_spelling}
-use Rattle.py_codefile.specs.Places.{Place, Read, Reading, seen}
+use Rattle.py_codefile.specs.Places.{Place, Read, Reading, map_reading}
 use Rattle.py_codefile.specs.Reading.{after_tag, constant_at, constant_with, inner_code_at, tag_at, tuple_at, within}
 use Rattle.py_codefile.proofs.Formats.{IsBytes, IsFormat, Took, bind_ok, ok_is, place}
 use Rattle.py_codefile.proofs.FieldFormats.{byte_format, list_format, signed128, text_format}
@@ -35,7 +35,7 @@ taken_as room n p made next c q all e = subst (λ (y : Const × Place). TookCons
 
 -- a constant that is one field
 field_takes : {A : Type 0} (room n : ℕ) {F : A → Type 0} {s : A → List ℕ} {field : Reading A} (format : IsFormat F s field) (f : A → Const) (p : Place) (c : Const) (q : Place) → IsBytes p.bytes
-    → ((a : A) → F a → IsWithin room (f a) × (n ∷ s a ≡ const_spelling (f a))) → seen f field p ≡ Ok (c, q) → TookConst room n p c q
+    → ((a : A) → F a → IsWithin room (f a) × (n ∷ s a ≡ const_spelling (f a))) → map_reading f field p ≡ Ok (c, q) → TookConst room n p c q
 field_takes {A} room n {F} {s} {field} format f p c q bytes good e =
     let a = bind_ok (field p) (λ (x : A × Place). Ok (f x.0, x.1)) (c, q) e in
     let one = format.takes p a.0.0 a.0.1 bytes a.1 in
@@ -85,20 +85,21 @@ constant_takes room inner p c q bytes e =
 tagged : (room at : ℕ) (t : Tag) (rest : List ℕ) → constant_at room (place at (tag_number t ∷ rest)) ≡ after_tag at (within room) t (place (at + 1) rest)
 tagged room at t rest = after_its_tag room (place at (tag_number t ∷ rest)) t (place (at + 1) rest) (tag_format.again t at rest tt)
 
-moved : (c : Const) (at n : ℕ) (text rest : List ℕ) → read_as c (place (at + 1 + length text) rest) ≡ read_as c (place (at + length (n ∷ text)) rest)
-moved c at n text rest = ap (λ (k : ℕ). read_as c (place k rest)) (omega arith)
+constant_format_moved : (c : Const) (at n : ℕ) (text rest : List ℕ) → read_as c (place (at + 1 + length text) rest) ≡ read_as c (place (at + length (n ∷ text)) rest)
+constant_format_moved c at n text rest = ap (λ (k : ℕ). read_as c (place k rest)) (omega arith)
 
-constant_again : (room : ℕ) (inner : Inner room) (c : Const) (at : ℕ) (rest : List ℕ) → IsWithin room c → constant_at room (place at (const_spelling c ++ rest)) ≡ Ok (c, place (at + length (const_spelling c)) rest)
+constant_again : (room : ℕ) (inner : Inner room) (c : Const) (at : ℕ) (rest : List ℕ) → IsWithin room c
+    → constant_at room (place at (const_spelling c ++ rest)) ≡ Ok (c, place (at + length (const_spelling c)) rest)
 unfolding after_tag tuple_at inner_code_at Inner
 constant_again room inner obj.none at rest fits = tagged room at tag.None rest
 constant_again room inner (obj.boolean false) at rest fits = tagged room at tag.False rest
 constant_again room inner (obj.boolean true) at rest fits = tagged room at tag.True rest
 constant_again room inner (obj.str t) at rest fits =
-    tagged room at tag.Str (text_spelling t ++ rest) ∙ rw (text_format.again t (at + 1) rest fits.0) (moved (obj.str t) at 3 (text_spelling t) rest)
+    tagged room at tag.Str (text_spelling t ++ rest) ∙ rw (text_format.again t (at + 1) rest fits.0) (constant_format_moved (obj.str t) at 3 (text_spelling t) rest)
 constant_again room inner (obj.bytes bs) at rest fits =
-    tagged room at tag.Bytes (list_spelling byte_spelling bs ++ rest) ∙ rw ((list_format byte_format).again bs (at + 1) rest fits.0) (moved (obj.bytes bs) at 4 (list_spelling byte_spelling bs) rest)
+    tagged room at tag.Bytes (list_spelling byte_spelling bs ++ rest) ∙ rw ((list_format byte_format).again bs (at + 1) rest fits.0) (constant_format_moved (obj.bytes bs) at 4 (list_spelling byte_spelling bs) rest)
 constant_again room inner (obj.integer z) at rest fits =
-    tagged room at tag.Integer (signed_spelling w128 z ++ rest) ∙ rw (signed128.again z (at + 1) rest fits.0) (moved (obj.integer z) at 5 (signed_spelling w128 z) rest)
+    tagged room at tag.Integer (signed_spelling w128 z ++ rest) ∙ rw (signed128.again z (at + 1) rest fits.0) (constant_format_moved (obj.integer z) at 5 (signed_spelling w128 z) rest)
 constant_again room inner obj.ellipsis at rest fits = tagged room at tag.Ellipsis rest
 constant_again zero inner (obj.tuple cs) at rest fits = absurd (omega (arith, fits.1))
 constant_again (suc room) inner (obj.tuple cs) at rest fits =
@@ -106,12 +107,12 @@ constant_again (suc room) inner (obj.tuple cs) at rest fits =
     let k = consts_back room inner cs (fits.0.0, (fits.0.1, deep)) in
     tagged (suc room) at tag.Tuple (spelled_consts cs ++ rest)
     ∙ ap (λ (x : List ℕ). after_tag at (within (suc room)) tag.Tuple (place (at + 1) (x ++ rest))) k.2
-    ∙ rw ((list_format inner).again (listed cs) (at + 1) rest k.0) (ap (λ (ds : Consts). read_as (obj.tuple ds) (place (at + 1 + length (list_spelling const_spelling (listed cs))) rest)) k.1)
+    ∙ rw ((list_format inner).again (const_list cs) (at + 1) rest k.0) (ap (λ (ds : Consts). read_as (obj.tuple ds) (place (at + 1 + length (list_spelling const_spelling (const_list cs))) rest)) k.1)
     ∙ ap (λ (x : List ℕ). read_as (obj.tuple cs) (place (at + 1 + length x) rest)) (sym k.2)
-    ∙ moved (obj.tuple cs) at 6 (spelled_consts cs) rest
+    ∙ constant_format_moved (obj.tuple cs) at 6 (spelled_consts cs) rest
 constant_again zero inner (obj.code (obj.object_of h cs)) at rest fits = absurd (omega (arith, fits.1))
 constant_again (suc room) inner (obj.code o) at rest fits =
-    tagged (suc room) at tag.Code (object_spelling o ++ rest) ∙ rw ((code_format room inner).again o (at + 1) rest fits) (moved (obj.code o) at 8 (object_spelling o) rest)
+    tagged (suc room) at tag.Code (object_spelling o ++ rest) ∙ rw ((code_format room inner).again o (at + 1) rest fits) (constant_format_moved (obj.code o) at 8 (object_spelling o) rest)
 
 step : (room : ℕ) (inner : Inner room) → IsFormat (IsWithin room) const_spelling (constant_at room)
 step room inner = record { takes = constant_takes room inner; again = constant_again room inner }

@@ -11,7 +11,7 @@ use Rattle.py_codefile.specs.declared.error.ReadCodeError.{ReadCodeError}
 use Rattle.py_codefile.specs.declared.error.ReadCodeError.TheVariants.{Magic, Trailing}
 use Rattle.py_bytecode.specs.Nesting.{nesting}
 use Rattle.py_codefile.specs.Grammar.{Spells}
-use Rattle.py_codefile.specs.Spelling.{magic, object_spelling, spelling}
+use Rattle.py_codefile.specs.Spelling.{magic, object_spelling, file_spelling}
 use Rattle.py_codefile.specs.Places.{Place, ◌>>=◌, Gives}
 use Rattle.py_codefile.specs.Reading.{block_at, code_at, constant_at, file_at, magic_at}
 use Rattle.py_codefile.proofs.Formats.{IsBytes, IsFormat, bind_ok, place}
@@ -21,8 +21,8 @@ use Rattle.py_codefile.proofs.ConstantFormats.{constant_format}
 
 -- the format of a code in which constants nest so deep
 module _ (room : ℕ) where
-  abbrev outer : IsFormat (IsCode room (constant_format room)) object_spelling (code_at (constant_at room))
-  outer = code_format room (constant_format room)
+  abbrev file_format_outer : IsFormat (IsCode room (constant_format room)) object_spelling (code_at (constant_at room))
+  file_format_outer = code_format room (constant_format room)
 
 both_hold : (a b : Bool) → (a && b) ≡ true → (a ≡ true) × (b ≡ true)
 both_hold true b e = (refl, e)
@@ -62,9 +62,9 @@ file_takes bytes o fits e =
     let c = bind_ok (code_at (constant_at 2046) m.0) (λ (x : Object × Place). cond (eqb (length x.1.bytes) 0) (Ok x.0) (Err (Trailing x.1.at))) o m.2 in
     let g = held_ok (eqb (length c.0.1.bytes) 0) (Trailing c.0.1.at) c.0.0 o c.2 in
     let one = magic_takes (place 0 bytes) m.0 fits m.1 in
-    let two = (outer 2046).takes m.0 c.0.0 c.0.1 one.rest c.1 in
+    let two = (file_format_outer 2046).takes m.0 c.0.0 c.0.1 one.rest c.1 in
     let nothing : c.0.1.bytes ≡ [] = nil_from_length c.0.1.bytes (eqb-true _ _ g.0) in
-    let whole : bytes ≡ spelling c.0.0 =
+    let whole : bytes ≡ file_spelling c.0.0 =
     one.parts ∙ ap (λ (x : List ℕ). magic ++ x) two.parts ∙ ap (λ (x : List ℕ). magic ++ (object_spelling c.0.0 ++ x)) nothing
     ∙ ap (λ (x : List ℕ). magic ++ x) (append-nil (object_spelling c.0.0)) in
     let all : Spells bytes c.0.0 = record { fits = two.fits.0; nests = omega (arith, two.fits.1); spelled = whole } in
@@ -75,7 +75,7 @@ unfolding file_at
 file_again bytes o h =
     let deep : nesting o ≤ 2047 = omega (arith, h.nests) in
     let code : code_at (constant_at 2046) (place 8 (object_spelling o)) ≡ Ok (o, place (8 + length (object_spelling o)) []) =
-    ap (λ (x : List ℕ). code_at (constant_at 2046) (place 8 x)) (sym (append-nil (object_spelling o))) ∙ (outer 2046).again o 8 [] (h.fits, deep) in
+    ap (λ (x : List ℕ). code_at (constant_at 2046) (place 8 x)) (sym (append-nil (object_spelling o))) ∙ (file_format_outer 2046).again o 8 [] (h.fits, deep) in
     ap file_at h.spelled ∙ rw (magic_again 0 (object_spelling o), code) refl
 
 -- ---- the clauses of `read_code`

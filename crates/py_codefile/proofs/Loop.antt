@@ -15,10 +15,10 @@ module _ {A : Type 0} (item : Reading A) where
   regroup front x (Ok xs) = ap (λ (ys : List A). Ok (ys, xs.1)) (simp append_assoc)
   regroup front x (Err e) = refl
 
-  pub goes_on : (front : List A) (count i : ℕ) (p : Place) (x : A) (after : Place) (total : Read (List A)) → i < count → item p ≡ Ok (x, after)
+  pub loop_goes_on : (front : List A) (count i : ℕ) (p : Place) (x : A) (after : Place) (total : Read (List A)) → i < count → item p ≡ Ok (x, after)
       → with_front front (many item (count - i) p) ≡ total → with_front (front ++ x ∷ []) (many item (count - (i + 1)) after) ≡ total
   unfolding many
-  goes_on front count i p x after total lt h so_far =
+  loop_goes_on front count i p x after total lt h so_far =
       let k : count - i ≡ suc (count - (i + 1)) = omega arith in
       let one : with_front front (many item (count - i) p) ≡ with_front (front ++ x ∷ []) (many item (count - (i + 1)) after) = rw (k, h) (regroup front x (many item (count - (i + 1)) after)) in
       sym one ∙ so_far
@@ -31,17 +31,17 @@ module _ {A : Type 0} (item : Reading A) where
       let one : with_front front (many item (count - i) p) ≡ Err e = rw (k, h) refl in
       sym so_far ∙ one
 
-  pub ends : (e : ReadCodeError) (front : List A) (count i : ℕ) (p : Place) (total : Read (List A)) → i < count → Fails e (item p)
+  pub loop_ends : (e : ReadCodeError) (front : List A) (count i : ℕ) (p : Place) (total : Read (List A)) → i < count → Fails e (item p)
       → with_front front (many item (count - i) p) ≡ total → Fails e total
-  ends (Magic at) front count i p total lt h so_far = stops (Magic at) front count i p total lt h so_far
-  ends (Truncated at) front count i p total lt h so_far = stops (Truncated at) front count i p total lt h so_far
-  ends (BadOpcode at) front count i p total lt h so_far = stops (BadOpcode at) front count i p total lt h so_far
-  ends (BadTag at) front count i p total lt h so_far = stops (BadTag at) front count i p total lt h so_far
-  ends (BadText at) front count i p total lt h so_far = stops (BadText at) front count i p total lt h so_far
-  ends (ZeroLocation at) front count i p total lt h so_far = stops (ZeroLocation at) front count i p total lt h so_far
-  ends (TooDeep at) front count i p total lt h so_far = stops (TooDeep at) front count i p total lt h so_far
-  ends (Trailing at) front count i p total lt h so_far = stops (Trailing at) front count i p total lt h so_far
-  ends OutOfMemory front count i p total lt h so_far = tt
+  loop_ends (Magic at) front count i p total lt h so_far = stops (Magic at) front count i p total lt h so_far
+  loop_ends (Truncated at) front count i p total lt h so_far = stops (Truncated at) front count i p total lt h so_far
+  loop_ends (BadOpcode at) front count i p total lt h so_far = stops (BadOpcode at) front count i p total lt h so_far
+  loop_ends (BadTag at) front count i p total lt h so_far = stops (BadTag at) front count i p total lt h so_far
+  loop_ends (BadText at) front count i p total lt h so_far = stops (BadText at) front count i p total lt h so_far
+  loop_ends (ZeroLocation at) front count i p total lt h so_far = stops (ZeroLocation at) front count i p total lt h so_far
+  loop_ends (TooDeep at) front count i p total lt h so_far = stops (TooDeep at) front count i p total lt h so_far
+  loop_ends (Trailing at) front count i p total lt h so_far = stops (Trailing at) front count i p total lt h so_far
+  loop_ends OutOfMemory front count i p total lt h so_far = tt
 
   pub is_done : (front : List A) (count i : ℕ) (p : Place) (total : Read (List A)) → count ≤ i → with_front front (many item (count - i) p) ≡ total → total ≡ Ok (front, p)
   unfolding many

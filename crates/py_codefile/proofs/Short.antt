@@ -2,7 +2,7 @@
 use Rattle.std.proofs.Common.{ℕ, ◌^◌, ◌<◌, List, [], ◌∷◌, Option, Some, None, ℤ, arith}
 use Rattle.std.specs.List.{AllByRecursion}
 use Rattle.py_bytecode.specs.Objects as obj
-use Rattle.py_bytecode.specs.Objects.{Head, Const, Consts, Object, listed}
+use Rattle.py_bytecode.specs.Objects.{Head, Const, Consts, Object, const_list}
 use Rattle.py_codefile.specs.Fits.{AreCells, AreConsts, AreNames, AreTables, IsConst, IsHeading, IsObject, IsText}
 use Rattle.py_codefile.specs.Limits.{const_longest, consts_longest, longest, longest_in_heading, longest_in_tables, longest_of_cells, longest_of_names, longest_text}
 
@@ -34,7 +34,7 @@ mutual
   const_short (obj.str t) h = h.0
   const_short (obj.bytes bs) h = h.0
   const_short (obj.tuple cs) h = let one = h.0 in let more = consts_short cs h.1 in omega (arith, one, more)
-  const_short (obj.code o) h = short o h
+  const_short (obj.code o) h = short_read o h
   const_short obj.none h = omega arith
   const_short (obj.boolean b) h = omega arith
   const_short (obj.integer z) h = omega arith
@@ -44,8 +44,8 @@ mutual
   consts_short obj.no_consts h = omega arith
   consts_short (obj.more_consts c cs) h = let one = const_short c h.0 in let more = consts_short cs h.1 in omega (arith, one, more)
 
-  pub short : (o : Object) → IsObject o → longest o < 2 ^ 32
-  short (obj.object_of h cs) f =
+  pub short_read : (o : Object) → IsObject o → longest o < 2 ^ 32
+  short_read (obj.object_of h cs) f =
       let a = heading_short h f.0 in
       let b = f.1.0.0 in
       let c = f.1.1.0.0 in

@@ -8,32 +8,32 @@ use Rattle.py_base.specs.declared.location.SourceLocation.{SourceLocation}
 use Rattle.py_bytecode.specs.declared.code.ConstantData.{ConstantData}
 use Rattle.py_bytecode.specs.declared.operand.CodeUnit.{CodeUnit}
 use Rattle.py_bytecode.specs.Objects as obj
-use Rattle.py_bytecode.specs.Objects.{Head, Consts, listed}
+use Rattle.py_bytecode.specs.Objects.{Head, Consts, const_list}
 use Rattle.py_bytecode.specs.View.{constant, constants_of}
 use Rattle.py_codefile.specs.Fits.{AreConsts, AreTables, IsConst, IsHeading, IsList, IsLocation, IsObject, IsUnit}
 use Rattle.py_codefile.specs.Limits.{consts_longest}
 use Rattle.py_codefile.specs.Spelling.{const_spelling, consts_spelling, heading_spelling, list_spelling, location_spelling, object_spelling, tables_spelling, unit_spelling}
-use Rattle.py_codefile.proofs.CodeFormats.{listed_of}
+use Rattle.py_codefile.proofs.CodeFormats.{code_format_listed_of}
 use Rattle.py_codefile.proofs.WritingLoop.{appends}
 
 -- ---- constants
 
-abbrev pub Fits : ConstantData → Type 0
-Fits c = IsConst (constant c)
+abbrev pub WritingCodeFits : ConstantData → Type 0
+WritingCodeFits c = IsConst (constant c)
 
 abbrev pub spelled : ConstantData → List ℕ
 spelled c = const_spelling (constant c)
 
-abbrev pub long : List ConstantData → ℕ
-long cs = consts_longest (constants_of cs)
+abbrev pub writing_code_long : List ConstantData → ℕ
+writing_code_long cs = consts_longest (constants_of cs)
 
-pub more_long : (c : ConstantData) (cs : List ConstantData) → long cs ≤ long (c ∷ cs)
+pub more_long : (c : ConstantData) (cs : List ConstantData) → writing_code_long cs ≤ writing_code_long (c ∷ cs)
 more_long c cs = omega arith
 
-pub counted : (cs : List ConstantData) → length (listed (constants_of cs)) ≡ length cs
-counted cs = ap length (listed_of (map constant cs)) ∙ length-map cs constant
+pub writing_code_counted : (cs : List ConstantData) → length (const_list (constants_of cs)) ≡ length cs
+writing_code_counted cs = ap length (code_format_listed_of (map constant cs)) ∙ length-map cs constant
 
-pub all_fit : (cs : List ConstantData) → AllByRecursion Fits cs → AreConsts (constants_of cs)
+pub all_fit : (cs : List ConstantData) → AllByRecursion WritingCodeFits cs → AreConsts (constants_of cs)
 all_fit [] h = tt
 all_fit (c ∷ cs) h = (h.0, all_fit cs h.1)
 
@@ -50,20 +50,20 @@ list_written k n cs old mid new e count rest =
 -- ---- codes
 
 abbrev ConstsText : Consts → List ℕ
-ConstsText cs = to_be_bytes w32 (length (listed cs)) ++ consts_spelling cs
+ConstsText cs = to_be_bytes w32 (length (const_list cs)) ++ consts_spelling cs
 
 pub code_written : (h : Head) (cs ds : Consts) (us : List CodeUnit) (ls : List SourceLocation) (old m1 m2 m3 m4 new : List ℕ)
     → us ≡ h.instructions → ls ≡ h.locations → ds ≡ cs
     → IsHeading h × (m1 ≡ old ++ heading_spelling h)
     → IsList IsUnit us × (m2 ≡ m1 ++ list_spelling unit_spelling us)
     → IsList IsLocation ls × (m3 ≡ m2 ++ list_spelling location_spelling ls)
-    → ((length (listed ds) < 2 ^ 32) × AreConsts ds) × (m4 ≡ m3 ++ ConstsText ds)
+    → ((length (const_list ds) < 2 ^ 32) × AreConsts ds) × (m4 ≡ m3 ++ ConstsText ds)
     → AreTables h × (new ≡ m4 ++ tables_spelling h)
     → IsObject (obj.object_of h cs) × (new ≡ old ++ object_spelling (obj.object_of h cs))
 code_written h cs ds us ls old m1 m2 m3 m4 new us-is ls-is ds-is a b c d t =
     let b2 = subst (λ (v : List CodeUnit). IsList IsUnit v × (m2 ≡ m1 ++ list_spelling unit_spelling v)) us-is b in
     let c2 = subst (λ (v : List SourceLocation). IsList IsLocation v × (m3 ≡ m2 ++ list_spelling location_spelling v)) ls-is c in
-    let d2 = subst (λ (v : Consts). ((length (listed v) < 2 ^ 32) × AreConsts v) × (m4 ≡ m3 ++ ConstsText v)) ds-is d in
+    let d2 = subst (λ (v : Consts). ((length (const_list v) < 2 ^ 32) × AreConsts v) × (m4 ≡ m3 ++ ConstsText v)) ds-is d in
     let e3 = appends m3 m4 new (ConstsText cs) (tables_spelling h) d2.1 t.1 in
     let e2 = appends m2 m3 new (list_spelling location_spelling h.locations) (ConstsText cs ++ tables_spelling h) c2.1 e3 in
     let e1 = appends m1 m2 new (list_spelling unit_spelling h.instructions) (list_spelling location_spelling h.locations ++ (ConstsText cs ++ tables_spelling h)) b2.1 e2 in

@@ -17,11 +17,11 @@ pub record Left {A : Type 0} (Fits : A → Type 0) (spelled : A → List ℕ) (l
   pub long : longest (drop i xs) ≤ longest xs
 
 module _ {A : Type 0} (F : A → Type 0) (s : A → List ℕ) (longest : List A → ℕ) (more : (x : A) (xs : List A) → longest xs ≤ longest (x ∷ xs)) (xs : List A) (start : List ℕ) where
-  pub begins : Left F s longest xs 0 start start
-  begins = record { fits = λ h. h; text = refl; long = omega arith }
+  pub writing_loop_begins : Left F s longest xs 0 start start
+  writing_loop_begins = record { fits = λ h. h; text = refl; long = omega arith }
 
-  pub goes_on : (i : ℕ) (x : A) (now new : List ℕ) → drop i xs ≡ x ∷ drop (i + 1) xs → F x → new ≡ now ++ s x → Left F s longest xs i start now → Left F s longest xs (i + 1) start new
-  goes_on i x now new front fits e left = record {
+  pub writing_loop_goes_on : (i : ℕ) (x : A) (now new : List ℕ) → drop i xs ≡ x ∷ drop (i + 1) xs → F x → new ≡ now ++ s x → Left F s longest xs i start now → Left F s longest xs (i + 1) start new
+  writing_loop_goes_on i x now new front fits e left = record {
     fits = λ h. left.fits (subst (AllByRecursion F) (sym front) (fits, h));
     text = ap (λ (t : List ℕ). t ++ flat_map s (drop (i + 1) xs)) e ∙ append_assoc now (s x) (flat_map s (drop (i + 1) xs))
         ∙ ap (λ (t : List ℕ). now ++ t) (sym (flat_map-cons s x (drop (i + 1) xs)) ∙ ap (flat_map s) (sym front)) ∙ left.text;
@@ -35,11 +35,11 @@ module _ {A : Type 0} (F : A → Type 0) (s : A → List ℕ) (longest : List A 
   )
 
 -- what is left where the loop goes on, and where it ends
-pub next : {A : Type 0} (xs : List A) (i : ℕ) (x y : A) → i < length xs → get_or xs i y ≡ x → drop i xs ≡ x ∷ drop (i + 1) xs
-next xs i x y lt is = let e : suc i ≡ i + 1 = omega arith in drop-cons xs i y lt ∙ ap (λ z. z ∷ drop (suc i) xs) is ∙ ap (λ (k : ℕ). x ∷ drop k xs) e
+pub writing_loop_next : {A : Type 0} (xs : List A) (i : ℕ) (x y : A) → i < length xs → get_or xs i y ≡ x → drop i xs ≡ x ∷ drop (i + 1) xs
+writing_loop_next xs i x y lt is = let e : suc i ≡ i + 1 = omega arith in drop-cons xs i y lt ∙ ap (λ z. z ∷ drop (suc i) xs) is ∙ ap (λ (k : ℕ). x ∷ drop k xs) e
 
-pub nothing : {A : Type 0} (xs : List A) (i : ℕ) → length xs ≤ i → drop i xs ≡ []
-nothing xs i le = drop_all i xs le
+pub writing_loop_nothing : {A : Type 0} (xs : List A) (i : ℕ) → length xs ≤ i → drop i xs ≡ []
+writing_loop_nothing xs i le = drop_all i xs le
 
 abbrev pub no_length : {A : Type 0} → List A → ℕ
 no_length xs = 0

@@ -1,7 +1,7 @@
 -- How long lists and texts are.
 use Rattle.std.specs.Prelude.{ℕ, List, [], ◌∷◌, length, max, Option, Some, None}
 use Rattle.py_bytecode.specs.Objects as obj
-use Rattle.py_bytecode.specs.Objects.{Head, Const, Consts, Object, listed}
+use Rattle.py_bytecode.specs.Objects.{Head, Const, Consts, Object, const_list}
 
 -- the length of the longest, 0 where there is none
 abbrev pub longest_text : List (List ℕ) → ℕ
@@ -28,7 +28,7 @@ abbrev mutual
   pub const_longest : Const → ℕ
   const_longest (obj.str t) = length t
   const_longest (obj.bytes bs) = length bs
-  const_longest (obj.tuple cs) = max (length (listed cs)) (consts_longest cs)
+  const_longest (obj.tuple cs) = max (length (const_list cs)) (consts_longest cs)
   const_longest (obj.code o) = longest o
   const_longest obj.none = 0
   const_longest (obj.boolean b) = 0
@@ -41,4 +41,4 @@ abbrev mutual
 
   pub longest : Object → ℕ
   longest (obj.object_of h cs) =
-      max (longest_in_heading h) (max (length h.instructions) (max (length h.locations) (max (max (length (listed cs)) (consts_longest cs)) (longest_in_tables h))))
+      max (longest_in_heading h) (max (length h.instructions) (max (length h.locations) (max (max (length (const_list cs)) (consts_longest cs)) (longest_in_tables h))))

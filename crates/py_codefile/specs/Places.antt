@@ -1,4 +1,4 @@
--- Reading from left to right: a step reads a value at a place and gives the place behind it, or the first bad field.
+-- Reading from left to right: a step reads a value at a place and gives the place after it, or the first bad field.
 use Rattle.std.specs.Prelude.{◌≡◌, ℕ, List, Option, Some, None, Result, Ok, Err, refl}
 use Rattle.std.specs.Coded.{Coded, code_by, coded×, coded_ℕ, coded_list}
 use Rattle.py_codefile.specs.declared.error.ReadCodeError.{ReadCodeError}
@@ -31,8 +31,8 @@ both first second p = do
   Ok ((x.0, y.0), y.1)
 
 -- a value, seen by f
-abbrev pub seen : {A B : Type 0} → (A → B) → Reading A → Reading B
-seen f reading p = do
+abbrev pub map_reading : {A B : Type 0} → (A → B) → Reading A → Reading B
+map_reading f reading p = do
   x ← reading p
   Ok (f x.0, x.1)
 
@@ -41,7 +41,7 @@ abbrev pub or_fault : {A : Type 0} → ReadCodeError → Option A → Result A R
 or_fault e None = Err e
 or_fault e (Some x) = Ok x
 
--- this error is what reading gives, but for want of memory, which is free
+-- this error is what reading gives, but as memory runs out, which is free
 abbrev pub Fails : {Y : Type 0} → ReadCodeError → Result Y ReadCodeError → Type 0
 Fails (Magic at) reading = reading ≡ Err (Magic at)
 Fails (Truncated at) reading = reading ≡ Err (Truncated at)

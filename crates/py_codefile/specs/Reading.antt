@@ -16,7 +16,7 @@ use Rattle.py_codefile.specs.declared.tags.Tag.TheVariants as tag
 use Rattle.py_codefile.specs.Opcodes.{instructions}
 use Rattle.py_codefile.specs.Tags.{tags}
 use Rattle.py_codefile.specs.Spelling.{magic}
-use Rattle.py_codefile.specs.Places.{Place, Read, Reading, ◌>>=◌, both, seen, or_fault}
+use Rattle.py_codefile.specs.Places.{Place, Read, Reading, ◌>>=◌, both, map_reading, or_fault}
 
 -- ---- numbers and texts
 
@@ -34,10 +34,10 @@ byte_at p = first p.at p.bytes
     first at (b ∷ bytes) = Ok (b, record { at = at + 1; bytes = bytes })
 
 unfoldable pub number_at : Width → Reading ℕ
-number_at w = seen (from_be_bytes w) (block_at (byte_len w))
+number_at w = map_reading (from_be_bytes w) (block_at (byte_len w))
 
 unfoldable pub signed_at : Width → Reading ℤ
-signed_at w = seen (cast_signed w) (number_at w)
+signed_at w = map_reading (cast_signed w) (number_at w)
 
 unfoldable pub text_at : Reading (List ℕ)
 text_at p = do
@@ -72,7 +72,7 @@ opcode_at p = do
   Ok (op, n.1)
 
 unfoldable pub unit_at : Reading CodeUnit
-unit_at = seen (λ u. record { op = u.0; arg = u.1 }) (both opcode_at byte_at)
+unit_at = map_reading (λ u. record { op = u.0; arg = u.1 }) (both opcode_at byte_at)
 
 -- a row or a column
 unfoldable pub positive_at : Reading ℕ
@@ -81,19 +81,19 @@ positive_at p = do
   if n.0 == 0 then Err (ZeroLocation p.at) else Ok n
 
 unfoldable pub location_at : Reading SourceLocation
-location_at = seen (λ l. record { row = l.0; column = l.1 }) (both positive_at positive_at)
+location_at = map_reading (λ l. record { row = l.0; column = l.1 }) (both positive_at positive_at)
 
 -- the row in which a scope begins; 0 is none
 abbrev pub line_of : ℕ → Option ℕ
 line_of n = if n == 0 then None else Some n
 
 unfoldable pub line_at : Reading (Option ℕ)
-line_at = seen line_of (number_at w32)
+line_at = map_reading line_of (number_at w32)
 
 -- what follows the byte that stands at an offset and says whether there is a list
 unfoldable pub after_cells_byte : ℕ → ℕ → Reading (Option (List ℤ))
 after_cells_byte at zero p = Ok (None, p)
-after_cells_byte at (suc zero) p = seen Some (list_at (signed_at w32)) p
+after_cells_byte at (suc zero) p = map_reading Some (list_at (signed_at w32)) p
 after_cells_byte at (suc (suc b)) p = Err (BadTag at)
 
 unfoldable pub cells_at : Reading (Option (List ℤ))
@@ -115,7 +115,7 @@ heading_at =
 abbrev pub TablesParts : Type 0
 TablesParts = List (List ℕ) × (List (List ℕ) × (List (List ℕ) × (List (List ℕ) × Option (List ℤ))))
 
--- what stands behind the constants: names, variables, cells, free names, and which parameters the cells are
+-- what stands after the constants: names, variables, cells, free names, and which parameters the cells are
 unfoldable pub tables_at : Reading TablesParts
 tables_at = both names_at (both names_at (both names_at (both names_at cells_at)))
 
@@ -147,7 +147,7 @@ object_of p =
 -- a code whose constants are read so
 unfoldable pub code_at : Reading Const → Reading Object
 code_at constant =
-    seen object_of (both heading_at (both (list_at unit_at) (both (list_at location_at) (both (list_at constant) tables_at))))
+    map_reading object_of (both heading_at (both (list_at unit_at) (both (list_at location_at) (both (list_at constant) tables_at))))
 
 -- which kind of constant follows
 unfoldable pub tag_at : Reading Tag
@@ -159,20 +159,20 @@ tag_at p = do
 -- a tuple whose items are read so; None where it would nest too deep
 unfoldable pub tuple_at : ℕ → Option (Reading Const) → Reading Const
 tuple_at at None p = Err (TooDeep at)
-tuple_at at (Some within) p = seen (λ cs. obj.tuple (consts_of cs)) (list_at within) p
+tuple_at at (Some within) p = map_reading (λ cs. obj.tuple (consts_of cs)) (list_at within) p
 
 unfoldable pub inner_code_at : ℕ → Option (Reading Const) → Reading Const
 inner_code_at at None p = Err (TooDeep at)
-inner_code_at at (Some within) p = seen obj.code (code_at within) p
+inner_code_at at (Some within) p = map_reading obj.code (code_at within) p
 
 -- what follows the byte of a constant, which stands at an offset
 unfoldable pub after_tag : ℕ → Option (Reading Const) → Tag → Reading Const
 after_tag at within tag.None p = Ok (obj.none, p)
 after_tag at within tag.False p = Ok (obj.boolean false, p)
 after_tag at within tag.True p = Ok (obj.boolean true, p)
-after_tag at within tag.Str p = seen obj.str text_at p
-after_tag at within tag.Bytes p = seen obj.bytes (list_at byte_at) p
-after_tag at within tag.Integer p = seen obj.integer (signed_at w128) p
+after_tag at within tag.Str p = map_reading obj.str text_at p
+after_tag at within tag.Bytes p = map_reading obj.bytes (list_at byte_at) p
+after_tag at within tag.Integer p = map_reading obj.integer (signed_at w128) p
 after_tag at within tag.Tuple p = tuple_at at within p
 after_tag at within tag.Ellipsis p = Ok (obj.ellipsis, p)
 after_tag at within tag.Code p = inner_code_at at within p

@@ -5,7 +5,7 @@ use Rattle.std.specs.Int.{Width, w16, w32, w128, cast_unsigned, to_be_bytes}
 use Rattle.py_base.specs.declared.location.SourceLocation.{SourceLocation}
 use Rattle.py_bytecode.specs.declared.operand.CodeUnit.{CodeUnit}
 use Rattle.py_bytecode.specs.Objects as obj
-use Rattle.py_bytecode.specs.Objects.{Head, Const, Consts, Object, listed}
+use Rattle.py_bytecode.specs.Objects.{Head, Const, Consts, Object, const_list}
 use Rattle.py_codefile.specs.Opcodes.{opcode}
 
 -- a list: its count, and then its items
@@ -54,7 +54,7 @@ heading_spelling h =
     ++ (text_spelling h.obj_name
     ++ to_be_bytes w32 h.max_stackdepth))))))
 
--- what stands behind the constants
+-- what stands after the constants
 abbrev pub tables_spelling : Head → List ℕ
 tables_spelling h =
     names_spelling h.names
@@ -72,7 +72,7 @@ abbrev mutual
   const_spelling (obj.str t) = 3 ∷ text_spelling t
   const_spelling (obj.bytes bs) = 4 ∷ list_spelling byte_spelling bs
   const_spelling (obj.integer z) = 5 ∷ signed_spelling w128 z
-  const_spelling (obj.tuple cs) = 6 ∷ (to_be_bytes w32 (length (listed cs)) ++ consts_spelling cs)
+  const_spelling (obj.tuple cs) = 6 ∷ (to_be_bytes w32 (length (const_list cs)) ++ consts_spelling cs)
   const_spelling obj.ellipsis = 7 ∷ []
   const_spelling (obj.code o) = 8 ∷ object_spelling o
 
@@ -86,7 +86,7 @@ abbrev mutual
       heading_spelling h
       ++ (list_spelling unit_spelling h.instructions
       ++ (list_spelling location_spelling h.locations
-      ++ ((to_be_bytes w32 (length (listed cs)) ++ consts_spelling cs)
+      ++ ((to_be_bytes w32 (length (const_list cs)) ++ consts_spelling cs)
       ++ tables_spelling h)))
 
 -- what a file begins with: a name and the number of the format
@@ -94,5 +94,5 @@ abbrev pub magic : List ℕ
 magic = codes "PYCODE" ++ 0 ∷ 1 ∷ []
 
 -- a whole file
-abbrev pub spelling : Object → List ℕ
-spelling o = magic ++ object_spelling o
+abbrev pub file_spelling : Object → List ℕ
+file_spelling o = magic ++ object_spelling o

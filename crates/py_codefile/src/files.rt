@@ -28,7 +28,7 @@ pub const NESTING_LIMIT: u32 = 2048;
 ///
 /// # Errors
 /// `TooDeep` exactly where codes and tuples nest 2^11 deep or more, the outermost code counting one. `TooLong` exactly
-/// where they do not, and some list or text has 2^32 entries or bytes or more. Want of memory is free.
+/// where they do not, and some list or text has 2^32 entries or bytes or more. Out of memory is free.
 pub fn write_code(alloc: Global, code: &CodeObject) -> Result<List<u8>, WriteCodeError>
     // What is written spells the code, which so nests and counts within the limits.
     ensures spelled { IfOk result (λ bytes. Spells bytes (object code.now)) }
@@ -50,7 +50,7 @@ pub fn write_code(alloc: Global, code: &CodeObject) -> Result<List<u8>, WriteCod
 /// they claim.
 ///
 /// # Errors
-/// `ReadCodeError` says where each comes. Want of memory is free.
+/// `ReadCodeError` says where each comes. Out of memory is free.
 pub fn read_code(alloc: Global, bytes: &[u8]) -> Result<CodeObject, ReadCodeError>
     // What is read is spelled so, each byte of it.
     ensures found { IfOk result (λ code. Spells bytes.now (object code)) }

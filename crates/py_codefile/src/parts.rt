@@ -15,7 +15,7 @@ pub struct Heading {
     pub max_stackdepth: u32,
 }
 
-/// What a file says of a code behind its constants: the fields of the same names of `CodeObject`, in the order of the
+/// What a file says of a code after its constants: the fields of the same names of `CodeObject`, in the order of the
 /// file.
 #[derive(Drop)]
 pub struct Tables {

@@ -3,7 +3,7 @@ ghost use Rattle.std.specs.Prelude.{◌≡◌, ◌+◌, map, IfOk};
 ghost use Rattle.std.specs.Int.{w128};
 ghost use Rattle.py_bytecode.specs.Objects.{Object, Const, bytes, integer, str};
 ghost use Rattle.py_bytecode.specs.View.{constant, object};
-ghost use Rattle.py_codefile.specs.Places.{Gives, seen};
+ghost use Rattle.py_codefile.specs.Places.{Gives, map_reading};
 ghost use Rattle.py_codefile.specs.Parts.{heading_parts, tables_parts};
 ghost use Rattle.py_codefile.specs.Reading.{after_tag, byte_at, code_at, constant_at, heading_at, inner_code_at, list_at, many, object_of, signed_at, tables_at, tag_at, text_at, tuple_at, within};
 
@@ -206,7 +206,7 @@ fn rest_of_constant(
 #[inline(never)]
 #[tactic(auto, using(py_bytecode::proofs::View::views))]
 fn string(alloc: Global, reader: &mut Reader<'_>) -> Result<ConstantData, ReadCodeError>
-    ensures { Gives (λ c. (constant c, reader.new)) result (seen str text_at reader.old) }
+    ensures { Gives (λ c. (constant c, reader.new)) result (map_reading str text_at reader.old) }
 {
     let value = reader.text(alloc)?;
     Ok(ConstantData::Str { value })
@@ -215,7 +215,7 @@ fn string(alloc: Global, reader: &mut Reader<'_>) -> Result<ConstantData, ReadCo
 #[inline(never)]
 #[tactic(auto, using(py_bytecode::proofs::View::views))]
 fn byte_string(alloc: Global, reader: &mut Reader<'_>) -> Result<ConstantData, ReadCodeError>
-    ensures { Gives (λ c. (constant c, reader.new)) result (seen bytes (list_at byte_at) reader.old) }
+    ensures { Gives (λ c. (constant c, reader.new)) result (map_reading bytes (list_at byte_at) reader.old) }
 {
     let value = byte_list(alloc, reader)?;
     Ok(ConstantData::Bytes { value })
@@ -224,7 +224,7 @@ fn byte_string(alloc: Global, reader: &mut Reader<'_>) -> Result<ConstantData, R
 #[inline(never)]
 #[tactic(auto, using(py_bytecode::proofs::View::views))]
 fn integer_constant(reader: &mut Reader<'_>) -> Result<ConstantData, ReadCodeError>
-    ensures { Gives (λ c. (constant c, reader.new)) result (seen integer (signed_at w128) reader.old) }
+    ensures { Gives (λ c. (constant c, reader.new)) result (map_reading integer (signed_at w128) reader.old) }
 {
     let value = reader.i128()?;
     Ok(ConstantData::Integer { value })

@@ -2,7 +2,7 @@
 ghost use Rattle.std.specs.Prelude.{◌≡◌, ◌<◌, ◌^◌, ⊤, ℕ, [], ◌∷◌, ◌++◌, length, max};
 ghost use Rattle.std.specs.Int.{w16, w32, w128, to_be_bytes};
 ghost use Rattle.std.specs.Int.RustNames.{FitsSigned};
-ghost use Rattle.py_bytecode.specs.Objects.{listed, tuple};
+ghost use Rattle.py_bytecode.specs.Objects.{const_list, tuple};
 ghost use Rattle.py_bytecode.specs.View.{constant, constants_of, head_of, object};
 ghost use Rattle.py_codefile.specs.Fits.{AreConsts, AreTables, IsConst, IsFlags, IsHeading, IsObject};
 ghost use Rattle.py_codefile.specs.Limits.{const_longest, consts_longest, longest, longest_in_heading, longest_in_tables};
@@ -58,7 +58,7 @@ fn put_flags(out: &mut Vec<u8>, flags: CodeFlags) -> Result<(), WriteCodeError>
     Ok(())
 }
 
-/// Appends what stands behind the constants of a code.
+/// Appends what stands after the constants of a code.
 fn put_tables(out: &mut Vec<u8>, code: &CodeObject) -> Result<(), WriteCodeError>
     ensures { Writes result (AreTables (head_of code.now)) (tables_spelling (head_of code.now)) (longest_in_tables (head_of code.now)) out.old.items out.new.items }
 {
@@ -72,7 +72,7 @@ fn put_tables(out: &mut Vec<u8>, code: &CodeObject) -> Result<(), WriteCodeError
 /// Appends a list of constants.
 #[cycle(writing)]
 fn put_constant_list(out: &mut Vec<u8>, constants: &[ConstantData]) -> Result<(), WriteCodeError>
-    ensures { Writes result ((length (listed (constants_of constants.now)) < 2 ^ 32) × AreConsts (constants_of constants.now)) (to_be_bytes w32 (length (listed (constants_of constants.now))) ++ consts_spelling (constants_of constants.now)) (max (length (listed (constants_of constants.now))) (consts_longest (constants_of constants.now))) out.old.items out.new.items }
+    ensures { Writes result ((length (const_list (constants_of constants.now)) < 2 ^ 32) × AreConsts (constants_of constants.now)) (to_be_bytes w32 (length (const_list (constants_of constants.now))) ++ consts_spelling (constants_of constants.now)) (max (length (const_list (constants_of constants.now))) (consts_longest (constants_of constants.now))) out.old.items out.new.items }
 {
     put_count(out, constants.len())?;
     put_constants(out, constants)?;

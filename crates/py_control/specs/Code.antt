@@ -148,7 +148,7 @@ abbrev pub tail_code : {K : Type 0} → (final : Bool) → List (Item K)
 tail_code false = []
 tail_code true = Do PopBlock ∷ Do EnterFinally ∷ []
 
--- a try up to its end, where the last part has the label that the end has
+-- a try up to its end, where the finally block has the label that the end has
 abbrev pub try_code : {K : Type 0} → Bool → ℕ → ℕ → List (Item K) → List (Item K) → List (Item K) → List (Item K)
 try_code final handler other body handlers orelse =
     Do (SetupExcept handler) ∷ (body ++ (Do PopBlock ∷ Do (Jump other) ∷ Label handler ∷ (handlers ++ (Label other ∷ (orelse ++ tail_code final)))))
@@ -272,7 +272,7 @@ module _ {K : Type 0} (i : Interp K) where
   code_bs NoFilter to n = []
   code_bs (MoreFilter t bs) to n = code_t t false to n ++ code_bs bs to (n + labels_t t false)
 
-  -- the clauses, and the code of the last part after so many iterators
+  -- the clauses, and the code of the finally block after so many iterators
   abbrev pub code_c : Clauses → (ℕ → ℕ → List (Item K)) → ℕ → ℕ → List (Item K)
   code_c CLast leaf d n = leaf d n
   code_c (CEach f t bs cs) leaf d n =
@@ -335,10 +335,10 @@ closes (SGather o cs p fs) = true
 closes (SAt p f) = closes f
 closes _ = false
 
-abbrev pub closing : {K : Type 0} → Bool → List (Item K)
-closing true = []
-closing false = Do (ReturnConst (Constant const.none)) ∷ []
+abbrev pub closing_return : {K : Type 0} → Bool → List (Item K)
+closing_return true = []
+closing_return false = Do (ReturnConst (Constant const.none)) ∷ []
 
 -- a scope's code: its form's, and a return of None where the form does not close with a return
 abbrev pub body_code : {K : Type 0} → Interp K → SForm → List (Item K)
-body_code i f = code i f (record { inside = false; on_break = 0; on_continue = 0 }) 1 ++ closing (closes f)
+body_code i f = code i f (record { inside = false; on_break = 0; on_continue = 0 }) 1 ++ closing_return (closes f)

@@ -16,12 +16,12 @@ place_of [] l n = n
 place_of (Do i ∷ is) l n = place_of is l (suc n)
 place_of (Label k ∷ is) l n = if nat_eq k l then n else place_of is l n
 
-abbrev pub found : {K : Type 0} → (ℕ → ℕ) → ℕ → Option (Instr K ℕ) → Fetched K ℕ
-found spot p None = Nothing
-found spot p (Some i) = Found (at_places spot i) (suc p)
+abbrev pub found_item : {K : Type 0} → (ℕ → ℕ) → ℕ → Option (Instr K ℕ) → Fetched K ℕ
+found_item spot p None = Nothing
+found_item spot p (Some i) = Found (at_places spot i) (suc p)
 
 abbrev pub fetch_at : {K : Type 0} → List (Item K) → ℕ → Fetched K ℕ
-fetch_at is p = found (λ l. place_of is l 0) p (slice_get (instrs is) p)
+fetch_at is p = found_item (λ l. place_of is l 0) p (slice_get (instrs is) p)
 
 abbrev pub runs_code : {K : Type 0} → List (Item K) → List Answer → Ran K
 runs_code is answers = machine (fetch_at is) (fuel (size is) answers) 0 (start answers)
@@ -36,12 +36,12 @@ abbrev pub child_in : {K : Type 0} → Entry K → List K
 child_in (It x) = child_of x
 child_in (Cells cs) = []
 
-abbrev pub loaded : {K : Type 0} → Instr K ℕ → List K
-loaded (Push e) = child_in e
-loaded (ReturnConst x) = child_of x
-loaded _ = []
+abbrev pub loaded_children : {K : Type 0} → Instr K ℕ → List K
+loaded_children (Push e) = child_in e
+loaded_children (ReturnConst x) = child_of x
+loaded_children _ = []
 
 abbrev pub children : {K : Type 0} → List (Item K) → List K
 children [] = []
-children (Do i ∷ is) = loaded i ++ children is
+children (Do i ∷ is) = loaded_children i ++ children is
 children (Label l ∷ is) = children is

@@ -2,7 +2,7 @@
 use Rattle.py_bytecode.specs.Objects as const
 use Rattle.py_bytecode.specs.Machine.{start}
 use Rattle.std.proofs.Common.{◌≡◌, ℕ, List, [], ◌∷◌, ◌++◌, true, None, refl, sym, ap, ◌∙◌, append-nil, inl, inr}
-use Rattle.py_bytecode.specs.Values.{Value, Constant, Given, Child, Cell, Entry, It, Cells, Usage, Kind, Event, Operates, Makes, Accesses, StoresCells, AsksTruth, AsksNext, Answer, World, listed, Leave, Breaks, Continues, Returns, Throws, Ended, Normal, Leaves, Halts, Outcome, Returned, RaisedOut, Stopped, Wrong, Leaked, Going, Ran, choose}
+use Rattle.py_bytecode.specs.Values.{Value, Constant, Given, Child, Cell, Entry, It, Cells, Usage, Kind, Event, Operates, Makes, Accesses, StoresCells, AsksTruth, AsksNext, Answer, World, with_event, Leave, Breaks, Continues, Returns, Throws, Ended, Normal, Leaves, Halts, Outcome, Returned, RaisedOut, Stopped, Wrong, Leaked, Going, Ran, choose}
 use Rattle.py_control.specs.Form.{Scope, Interp, run, ended_so, class_end}
 use Rattle.py_control.specs.View.{View, without_places, whole, plain, value_to, values_to, event_to, events_to, entry_to, world_to, ended_to, outcome_to, ran_to}
 use Rattle.py_control.specs.Agree.{head_of, form_of, cells_of, exactly, fully, plainly, meaning_by, SameValue, SameValues, SameEvent, SameEvents, SameEntry, SameOutcome, SameRan, OneOf, AllOf}
@@ -18,12 +18,14 @@ ended_so_to c v (Leaves (Throws x) w) = refl
 ended_so_to c v (Halts es) = refl
 
 -- the end of a class body, seen with its cells or without
-shown_ends : {K L : Type 0} (c : K → L) (v : View) → v.shows ≡ true → (cs ds : List Cell) → ds ≡ v.cells cs → v.cells [] ≡ [] → ((x : Cell) (xs : List Cell) → (y : Cell) × (ys : List Cell) × (v.cells (x ∷ xs) ≡ y ∷ ys)) → (w : World K) → class_end ds (world_to c v w) ≡ ended_to c v (class_end cs w)
+shown_ends : {K L : Type 0} (c : K → L) (v : View) → v.shows ≡ true → (cs ds : List Cell) → ds ≡ v.cells cs → v.cells [] ≡ []
+    → ((x : Cell) (xs : List Cell) → (y : Cell) × (ys : List Cell) × (v.cells (x ∷ xs) ≡ y ∷ ys)) → (w : World K)
+    → class_end ds (world_to c v w) ≡ ended_to c v (class_end cs w)
 shown_ends {K} {L} c v s cs ds e n cons w = ap (λ z. class_end z (world_to c v w)) e ∙ go cs
   where
-    finish : (y : Cell) (ys xs : List Cell) → v.cells xs ≡ y ∷ ys → class_end (y ∷ ys) (world_to c v w) ≡ Leaves (Returns (entry_to c v (Cells xs))) (world_to c v (listed (StoresCells xs) w))
+    finish : (y : Cell) (ys xs : List Cell) → v.cells xs ≡ y ∷ ys → class_end (y ∷ ys) (world_to c v w) ≡ Leaves (Returns (entry_to c v (Cells xs))) (world_to c v (with_event (StoresCells xs) w))
     finish y ys xs q =
-        sym (ap (λ b. Leaves (Returns (choose b (Cells (v.cells xs)) (It (Constant const.none)))) (world_to c v (listed (StoresCells xs) w))) s
+        sym (ap (λ b. Leaves (Returns (choose b (Cells (v.cells xs)) (It (Constant const.none)))) (world_to c v (with_event (StoresCells xs) w))) s
         ∙ ap (λ es. Leaves (Returns (Cells (v.cells xs))) (record { events = es; answers = w.answers; taken = w.taken })) (events-append c v w.events (StoresCells xs ∷ []) ∙ ap (λ b. events_to c v w.events ++ (choose b (StoresCells (v.cells xs) ∷ []) [] ++ [])) s)
         ∙ ap (λ z. Leaves (Returns (Cells z)) (record { events = events_to c v w.events ++ (StoresCells z ∷ []); answers = w.answers; taken = w.taken })) q)
 
@@ -56,7 +58,8 @@ pub plainer_carries : (s : Scope) → Carries (λ t. t) plain (fully s) (plainly
 plainer_carries s = record { child = λ t. refl; kind = λ u x n. refl; place = λ u x n. refl; closure = λ t. refl; ends = λ w. hidden_ends (λ t. t) _ w }
 
 -- the meaning under a view is the exact meaning, seen
-pub meaning_is : (v : View) (view : Scope → Interp Scope) (from : Scope → Interp Scope) → ((s : Scope) → Carries (λ t. t) v (from s) (view s)) → (s : Scope) (answers : List Answer) → meaning_by view s answers ≡ ran_to (λ t. t) v (meaning_by from s answers)
+pub meaning_is : (v : View) (view : Scope → Interp Scope) (from : Scope → Interp Scope) → ((s : Scope) → Carries (λ t. t) v (from s) (view s))
+    → (s : Scope) (answers : List Answer) → meaning_by view s answers ≡ ran_to (λ t. t) v (meaning_by from s answers)
 meaning_is v view from h s answers =
     ap ended_so (form_carries (λ t. t) v (from s) (view s) (h s) (form_of s) None (start answers))
     ∙ ended_so_to (λ t. t) v (run (from s) (form_of s) None (start answers))

@@ -6,16 +6,16 @@ use Rattle.std.proofs.Math.Seq.{get_or-append_seam}
 use Rattle.std.proofs.lemmas.Option.{slice_get-get_or}
 use Rattle.py_bytecode.specs.Values.{Value, Constant, Cell, It, Answer, Event, Operates, World, for_one, Leave, Breaks, Continues, Returns, Throws, Ended, Normal, Leaves, Halts, on_ended, Outcome, Returned}
 use Rattle.py_control.specs.Form.{Interp, SForm, SThen, SReturn, SClassEnd, SGather, SAt, run_value, run_clauses, append_run, class_end, returns, run, ended_so}
-use Rattle.py_bytecode.specs.Machine.{start, fuel, Instr, ReturnConst, at_places, Fetched, Found, Config, At, Over, stopped, steps, result, machine}
+use Rattle.py_bytecode.specs.Machine.{start, fuel, Instr, ReturnConst, at_places, Fetched, Found, Config, At, Over, stopped_config, steps, result, machine}
 use Rattle.py_control.specs.Looped.{Looped}
 use Rattle.py_control.specs.Fit.{Loops, leave}
-use Rattle.py_control.specs.Code.{Item, Do, Label, size, code, closes, closing, body_code}
-use Rattle.py_control.specs.CodeRuns.{instrs, place_of, found, fetch_at, runs_code}
+use Rattle.py_control.specs.Code.{Item, Do, Label, size, code, closes, closing_return, body_code}
+use Rattle.py_control.specs.CodeRuns.{instrs, place_of, found_item, fetch_at, runs_code}
 use Rattle.py_control_proof.specs.Live.{live}
-use Rattle.py_control_proof.proofs.Reach.{Ground, Reaches, steps_add, more}
+use Rattle.py_control_proof.proofs.Reach.{Ground, Reaches, steps_add, reach_more}
 use Rattle.py_control_proof.proofs.Falls.{falls, live-append, live_size, Never, never_do, never_use}
-use Rattle.py_control_proof.proofs.Moves.{size-append, Stands, split, does, lively, do_land}
-use Rattle.py_control_proof.proofs.LoopedEnds.{Ends, looped_ends}
+use Rattle.py_control_proof.proofs.Moves.{size-append, MoveStands, move_split, does, lively, do_land}
+use Rattle.py_control_proof.proofs.LoopedEnds.{LoopedEndEnds, looped_ends}
 use Rattle.py_control_proof.proofs.Program.{form_follows}
 
 abbrev pub is_label : ℕ → ℕ → ℕ
@@ -55,35 +55,36 @@ module _ {K : Type 0} where
   instrs-append (Do i ∷ a) b = ap (λ l. i ∷ l) (instrs-append a b)
   instrs-append (Label l ∷ a) b = instrs-append a b
 
-  placed : (pre : List (Item K)) (k : ℕ) (is : List (Item K)) (n : ℕ) → occurs k pre ≡ 0 → place_of (pre ++ Label k ∷ is) k n ≡ n + size pre
-  placed [] k is n e = place_here (nat_eq k k) n (place_of is k n) (search rules) ∙ omega arith
-  placed (Do i ∷ pre) k is n e = placed pre k is (suc n) e ∙ omega arith
-  placed (Label l ∷ pre) k is n e = place_if (nat_eq l k) n _ (omega arith) ∙ placed pre k is n (omega arith)
+  assembly_placed : (pre : List (Item K)) (k : ℕ) (is : List (Item K)) (n : ℕ) → occurs k pre ≡ 0 → place_of (pre ++ Label k ∷ is) k n ≡ n + size pre
+  assembly_placed [] k is n e = place_here (nat_eq k k) n (place_of is k n) (search rules) ∙ omega arith
+  assembly_placed (Do i ∷ pre) k is n e = assembly_placed pre k is (suc n) e ∙ omega arith
+  assembly_placed (Label l ∷ pre) k is n e = place_if (nat_eq l k) n _ (omega arith) ∙ assembly_placed pre k is n (omega arith)
 
-  fetched : (pre : List (Item K)) (i : Instr K ℕ) (is : List (Item K)) (spot : ℕ → ℕ) → found spot (size pre) (slice_get (instrs (pre ++ Do i ∷ is)) (size pre)) ≡ Found (at_places spot i) (suc (size pre))
+  fetched : (pre : List (Item K)) (i : Instr K ℕ) (is : List (Item K)) (spot : ℕ → ℕ)
+      → found_item spot (size pre) (slice_get (instrs (pre ++ Do i ∷ is)) (size pre)) ≡ Found (at_places spot i) (suc (size pre))
   fetched pre i is spot =
       let at : slice_get (instrs pre ++ i ∷ instrs is) (length (instrs pre)) ≡ Some i =
       slice_get-get_or (instrs pre ++ i ∷ instrs is) (length (instrs pre)) i (omega (arith, length-append (instrs pre) (i ∷ instrs is))) ∙ ap Some (get_or-append_seam (instrs pre) i (instrs is) i) in
-      ap (λ l. found spot (size pre) (slice_get l (size pre))) (instrs-append pre (Do i ∷ is))
-      ∙ ap (λ n. found spot (size pre) (slice_get (instrs pre ++ i ∷ instrs is) n)) (sym (size_is pre))
-      ∙ ap (found spot (size pre)) at
+      ap (λ l. found_item spot (size pre) (slice_get l (size pre))) (instrs-append pre (Do i ∷ is))
+      ∙ ap (λ n. found_item spot (size pre) (slice_get (instrs pre ++ i ∷ instrs is) n)) (sym (size_is pre))
+      ∙ ap (found_item spot (size pre)) at
 
-  stands_from : (is pre : List (Item K)) → ((k : ℕ) → occurs k (pre ++ is) ≤ 1) → Stands (ground_of (pre ++ is)) is (size pre) (size (pre ++ is))
+  stands_from : (is pre : List (Item K)) → ((k : ℕ) → occurs k (pre ++ is) ≤ 1) → MoveStands (ground_of (pre ++ is)) is (size pre) (size (pre ++ is))
   stands_from [] pre h = ap size (sym (append-nil pre))
   stands_from (Do i ∷ is) pre h =
       let whole = append_assoc pre (Do i ∷ []) is in
       let rest = stands_from is (pre ++ Do i ∷ []) (λ k. subst (λ l. occurs k l ≤ 1) (sym whole) (h k)) in
-      let rest1 = subst (λ l. Stands (ground_of l) is (size (pre ++ Do i ∷ [])) (size l)) whole rest in
+      let rest1 = subst (λ l. MoveStands (ground_of l) is (size (pre ++ Do i ∷ [])) (size l)) whole rest in
       let e : size (pre ++ Do i ∷ []) ≡ suc (size pre) = omega (arith, size-append pre (Do i ∷ [])) in
-      (suc (size pre), fetched pre i is _, subst (λ n. Stands (ground_of (pre ++ Do i ∷ is)) is n (size (pre ++ Do i ∷ is))) e rest1)
+      (suc (size pre), fetched pre i is _, subst (λ n. MoveStands (ground_of (pre ++ Do i ∷ is)) is n (size (pre ++ Do i ∷ is))) e rest1)
   stands_from (Label k ∷ is) pre h =
       let whole = append_assoc pre (Label k ∷ []) is in
       let rest = stands_from is (pre ++ Label k ∷ []) (λ j. subst (λ l. occurs j l ≤ 1) (sym whole) (h j)) in
-      let rest1 = subst (λ l. Stands (ground_of l) is (size (pre ++ Label k ∷ [])) (size l)) whole rest in
+      let rest1 = subst (λ l. MoveStands (ground_of l) is (size (pre ++ Label k ∷ [])) (size l)) whole rest in
       let e : size (pre ++ Label k ∷ []) ≡ size pre = omega (arith, size-append pre (Label k ∷ [])) in
       let one : is_label k k ≡ 1 = place_here (nat_eq k k) 1 0 (search rules) in
       let none : occurs k pre ≡ 0 = omega (arith, h k, occurs-append k pre (Label k ∷ is), one) in
-      (placed pre k is 0 none ∙ zero-add _, subst (λ n. Stands (ground_of (pre ++ Label k ∷ is)) is n (size (pre ++ Label k ∷ is))) e rest1)
+      (assembly_placed pre k is 0 none ∙ zero-add _, subst (λ n. MoveStands (ground_of (pre ++ Label k ∷ is)) is n (size (pre ++ Label k ∷ is))) e rest1)
 
 module _ {K : Type 0} where
   never_class : (cs : List Cell) (w : World K) → Never (class_end cs w)
@@ -100,23 +101,25 @@ module _ {K : Type 0} where
   closed_never i _ e slot w = absurd cc
 
 module _ {K P : Type 0} where
-  over_stays : (fetch : P → Fetched K P) (n : ℕ) (events : List (Event K)) (o : Outcome K) → steps fetch n (Over events o) ≡ Over events o
-  over_stays fetch zero events o = refl
-  over_stays fetch (suc n) events o = over_stays fetch n events o
+  assembly_over_stays : (fetch : P → Fetched K P) (n : ℕ) (events : List (Event K)) (o : Outcome K) → steps fetch n (Over events o) ≡ Over events o
+  assembly_over_stays fetch zero events o = refl
+  assembly_over_stays fetch (suc n) events o = assembly_over_stays fetch n events o
 
   -- the code's end
-  abbrev at_end : (ℕ → P) → Loops → Ended K → Config K P
-  at_end spot l r = on_ended r (λ w1. Over w1.events (Returned (It (Constant const.none)))) (leave spot l [] [] None) stopped
+  abbrev assembly_at_end : (ℕ → P) → Loops → Ended K → Config K P
+  assembly_at_end spot l r = on_ended r (λ w1. Over w1.events (Returned (It (Constant const.none)))) (leave spot l [] [] None) stopped_config
 
-  ends_so : (fetch : P → Fetched K P) (spot : ℕ → P) (l : Loops) (r : Ended K) (n : ℕ) → Ends false r → result (steps fetch n (at_end spot l r)) ≡ ended_so r
-  ends_so fetch spot l (Normal w) n h = ap result (over_stays fetch n _ _)
+  ends_so : (fetch : P → Fetched K P) (spot : ℕ → P) (l : Loops) (r : Ended K) (n : ℕ) → LoopedEndEnds false r → result (steps fetch n (assembly_at_end spot l r)) ≡ ended_so r
+  ends_so fetch spot l (Normal w) n h = ap result (assembly_over_stays fetch n _ _)
   ends_so fetch spot l (Leaves Breaks w) n h = absurd h
   ends_so fetch spot l (Leaves Continues w) n h = absurd h
-  ends_so fetch spot l (Leaves (Returns v) w) n h = ap result (over_stays fetch n _ _)
-  ends_so fetch spot l (Leaves (Throws e) w) n h = ap result (over_stays fetch n _ _)
-  ends_so fetch spot l (Halts events) n h = ap result (over_stays fetch n _ _)
+  ends_so fetch spot l (Leaves (Returns v) w) n h = ap result (assembly_over_stays fetch n _ _)
+  ends_so fetch spot l (Leaves (Throws e) w) n h = ap result (assembly_over_stays fetch n _ _)
+  ends_so fetch spot l (Halts events) n h = ap result (assembly_over_stays fetch n _ _)
 
-  simulated_by : (g : Ground K P) (p : P) (r : Ended K) (l : Loops) (answers : List Answer) (m n : ℕ) → Ends false r → Reaches g m (At p [] [] None (start answers)) (at_end g.spot l r) → g.weight * length answers + m ≤ n → machine g.fetch n p (start answers) ≡ ended_so r
+  simulated_by : (g : Ground K P) (p : P) (r : Ended K) (l : Loops) (answers : List Answer) (m n : ℕ) → LoopedEndEnds false r
+      → Reaches g m (At p [] [] None (start answers)) (assembly_at_end g.spot l r) → g.weight * length answers + m ≤ n
+      → machine g.fetch n p (start answers) ≡ ended_so r
   simulated_by g p r l answers m n ends h le =
       let fits : h.cost + (n - h.cost) ≡ n = omega (arith, h.bound) in
       ap (λ k. machine g.fetch k p (start answers)) (sym fits)
@@ -124,26 +127,28 @@ module _ {K P : Type 0} where
       ∙ ap (λ c. result (steps g.fetch (n - h.cost) c)) h.runs
       ∙ ends_so g.fetch g.spot l r (n - h.cost) ends
 
-  never_land : (r : Ended K) (land land1 : World K → Config K P) (leaves : Leave K → World K → Config K P) → Never r → on_ended r land leaves stopped ≡ on_ended r land1 leaves stopped
+  never_land : (r : Ended K) (land land1 : World K → Config K P) (leaves : Leave K → World K → Config K P) → Never r → on_ended r land leaves stopped_config ≡ on_ended r land1 leaves stopped_config
   never_land (Normal w) land land1 leaves h = absurd h
   never_land (Leaves why w) land land1 leaves h = refl
   never_land (Halts events) land land1 leaves h = refl
 
   -- where a scope's code ends; b says whether its form's code may come to the closing
-  closing_lands : (g : Ground K P) (closed b : Bool) (r : Ended K) (m : ℕ) (c : Config K P) (q end : P) (l : Loops) → (closed ≡ true → Never r) → (b ≡ false → Never r) → Stands g (closing closed) q end → Reaches g m c (on_ended r (λ w. At q [] [] None w) (leave g.spot l [] [] None) stopped) → Reaches g (m + live {K = K} b (closing closed)) c (at_end g.spot l r)
+  closing_lands : (g : Ground K P) (closed b : Bool) (r : Ended K) (m : ℕ) (c : Config K P) (q end : P) (l : Loops) → (closed ≡ true → Never r) → (b ≡ false → Never r) → MoveStands g (closing_return closed) q end → Reaches g m c (on_ended r (λ w. At q [] [] None w) (leave g.spot l [] [] None) stopped_config) → Reaches g (m + live {K = K} b (closing_return closed)) c (assembly_at_end g.spot l r)
   closing_lands g true b r m c q end l h never st body =
-      more g m (m + 0) c _ (omega arith) (subst (Reaches g m c) (never_land r (λ w. At q [] [] None w) (λ w. Over w.events (Returned (It (Constant const.none)))) (leave g.spot l [] [] None) (h refl)) body)
+      reach_more g m (m + 0) c _ (omega arith) (subst (Reaches g m c) (never_land r (λ w. At q [] [] None w) (λ w. Over w.events (Returned (It (Constant const.none)))) (leave g.spot l [] [] None) (h refl)) body)
   closing_lands g false b r m c q end l h never st body =
-      do_land g b r m (live {K = K} b (closing false)) c (λ w. At q [] [] None w) (λ w. Over w.events (Returned (It (Constant const.none)))) (leave g.spot l [] [] None) never body (λ e w. lively g b (closing false) _ _ e (does g (ReturnConst (Constant const.none)) q st.0 [] [] None w st.1))
+      do_land g b r m (live {K = K} b (closing_return false)) c (λ w. At q [] [] None w) (λ w. Over w.events (Returned (It (Constant const.none)))) (leave g.spot l [] [] None) never body (λ e w. lively g b (closing_return false) _ _ e (does g (ReturnConst (Constant const.none)) q st.0 [] [] None w st.1))
 
   -- the machine where a scope's code stands does what its form does
-  pub simulated_at : (g : Ground K P) (i : Interp K) (f : SForm) (p q : P) → Stands g (body_code i f) p q → Looped false f → live true (body_code i f) ≤ g.weight → (answers : List Answer) (n : ℕ) → g.weight * length answers + live true (body_code i f) ≤ n → machine g.fetch n p (start answers) ≡ ended_so (run i f None (start answers))
+  pub simulated_at : (g : Ground K P) (i : Interp K) (f : SForm) (p q : P) → MoveStands g (body_code i f) p q → Looped false f
+      → live true (body_code i f) ≤ g.weight → (answers : List Answer) (n : ℕ) → g.weight * length answers + live true (body_code i f) ≤ n
+      → machine g.fetch n p (start answers) ≡ ended_so (run i f None (start answers))
   simulated_at g i f p q st ok heavy answers n le =
       let l : Loops = record { inside = false; on_break = 0; on_continue = 0 } in
       let a : List (Item K) = code i f l 1 in
-      let z : ℕ = live {K = K} (falls true a) (closing (closes f)) in
-      let sizes : live true (body_code i f) ≡ live true a + z = live-append true a (closing (closes f)) in
-      let r = split g a (closing (closes f)) p q st in
+      let z : ℕ = live {K = K} (falls true a) (closing_return (closes f)) in
+      let sizes : live true (body_code i f) ≡ live true a + z = live-append true a (closing_return (closes f)) in
+      let r = move_split g a (closing_return (closes f)) p q st in
       let follows = form_follows i g f l 1 ok in
       let body = follows.by (omega (arith, sizes, heavy)) p r.0 r.1 [] [] None tt (λ e. absurd (let z : false ≡ true = e in cc)) (start answers) in
       let all = closing_lands g (closes f) (falls true a) (run i f None (start answers)) (live true a) _ r.0 q l (λ e. closed_never i f e None (start answers)) (λ e. follows.never e None (start answers)) r.2 body in

@@ -6,9 +6,9 @@ use Rattle.std.proofs.lemmas.Option.{slice_get_within}
 use Rattle.py_bytecode.specs.Objects.{Object}
 use Rattle.py_bytecode.specs.Machine.{Instr, Found, at_places}
 use Rattle.py_bytecode.specs.Decode.{Tables, instr_of}
-use Rattle.py_bytecode.specs.Units.{found}
+use Rattle.py_bytecode.specs.Units.{fetch_of_instr}
 use Rattle.py_bytecode.specs.Blocks as blocks
-use Rattle.py_bytecode.specs.Blocks.{Place, Of, block_at, hop, settle, settled, arrives, at_index, fetch_block}
+use Rattle.py_bytecode.specs.Blocks.{Place, Of, block_at, hop, settle, settled_place, arrives, at_index, fetch_block}
 use Rattle.py_control.specs.Code.{Item, Do, Label, size, code, body_code}
 use Rattle.py_control_proof.specs.Blocks.{Inside, IsItem, Stable, Lies, BlocksSimulate, BlocksRun}
 use Rattle.py_control_proof.specs.Live.{live, LiveRuns}
@@ -17,9 +17,9 @@ use Rattle.py_control.specs.Agree.{exactly, form_of}
 use Rattle.py_control_proof.proofs.Program.{form_follows}
 use Rattle.py_control_proof.proofs.Falls.{live_size}
 use Rattle.py_control_proof.proofs.Assembly.{simulated, simulated_at, simulated_within, fuel_covers}
-use Rattle.py_control_proof.proofs.Labels.{once}
+use Rattle.py_control_proof.proofs.Labels.{label_once}
 use Rattle.py_control_proof.proofs.Reach.{Ground}
-use Rattle.py_control_proof.proofs.Moves.{Stands}
+use Rattle.py_control_proof.proofs.Moves.{MoveStands}
 use Rattle.py_control_proof.proofs.DecodeAt.{place_at, option_at, decode_at}
 
 here_if : (b : Bool) (p q : Place) → b ≡ true → (if b then p else q) ≡ p
@@ -60,7 +60,7 @@ stable_from bs n m p h le = let e : m ≡ n + (m - n) = omega arith in ap (λ k.
 
 -- where labels are
 abbrev pub spot_in : List blocks.Block → ℕ → Place
-spot_in bs l = settled bs (Of l 0)
+spot_in bs l = settled_place bs (Of l 0)
 
 some_if : {A : Type 0} (b : Bool) (x : A) → b ≡ true → (if b then Some x else None) ≡ Some x
 some_if true x e = refl
@@ -70,19 +70,21 @@ arrives_at : (bs : List blocks.Block) (to : Option ℕ) → Inside bs to → arr
 arrives_at bs None h = refl
 arrives_at bs (Some b) h = some_if (nat_lt b (length bs)) (spot_in bs b) (lt-ltb b (length bs) h)
 
-finds : (t : Tables) (bs : List blocks.Block) (b k : ℕ) (i : Instr Object ℕ) (o : Option blocks.Item) → IsItem t bs o i → at_index t bs b k o ≡ Found (at_places (spot_in bs) i) (settled bs (Of b (suc k)))
+finds : (t : Tables) (bs : List blocks.Block) (b k : ℕ) (i : Instr Object ℕ) (o : Option blocks.Item) → IsItem t bs o i
+    → at_index t bs b k o ≡ Found (at_places (spot_in bs) i) (settled_place bs (Of b (suc k)))
 finds t bs b k i None h = absurd h
 finds t bs b k i (Some x) h =
-    ap (λ to. found (instr_of t to x.op x.arg) (settled bs (Of b (suc k)))) (arrives_at bs x.target h.1)
-    ∙ ap (λ z. found z (settled bs (Of b (suc k)))) (decode_at (spot_in bs) t x.target x.op x.arg ∙ ap (option_at (spot_in bs)) h.0)
+    ap (λ to. fetch_of_instr (instr_of t to x.op x.arg) (settled_place bs (Of b (suc k)))) (arrives_at bs x.target h.1)
+    ∙ ap (λ z. fetch_of_instr z (settled_place bs (Of b (suc k)))) (decode_at (spot_in bs) t x.target x.op x.arg ∙ ap (option_at (spot_in bs)) h.0)
 
 abbrev pub block_ground : Tables → List blocks.Block → ℕ → Ground Object Place
 block_ground t bs weight = record { fetch = fetch_block t bs; spot = spot_in bs; weight = weight }
 
-pub stands_in_blocks : (t : Tables) (bs : List blocks.Block) (weight n : ℕ) (is : List (Item Object)) (p q : Place) → Lies t bs n is p q → n ≤ length bs → Stands (block_ground t bs weight) is (settled bs p) (settled bs q)
-stands_in_blocks t bs weight n [] p q h le = ap (settled bs) h.0
+pub stands_in_blocks : (t : Tables) (bs : List blocks.Block) (weight n : ℕ) (is : List (Item Object)) (p q : Place) → Lies t bs n is p q → n ≤ length bs
+    → MoveStands (block_ground t bs weight) is (settled_place bs p) (settled_place bs q)
+stands_in_blocks t bs weight n [] p q h le = ap (settled_place bs) h.0
 stands_in_blocks t bs weight n (Do x ∷ is) (Of b i) q h le =
-    (settled bs (Of b (suc i)), ap (fetch_block t bs) (settle_here bs (length bs) b i (item_at t bs b i x h.0)) ∙ finds t bs b i x (slice_get (block_at bs b).items i) h.0, stands_in_blocks t bs weight n is (Of b (suc i)) q h.1 le)
+    (settled_place bs (Of b (suc i)), ap (fetch_block t bs) (settle_here bs (length bs) b i (item_at t bs b i x h.0)) ∙ finds t bs b i x (slice_get (block_at bs b).items i) h.0, stands_in_blocks t bs weight n is (Of b (suc i)) q h.1 le)
 stands_in_blocks t bs weight zero (Label l ∷ is) (Of b i) q h le = absurd h
 stands_in_blocks t bs weight (suc n) (Label l ∷ is) (Of b i) q h le =
     let st = lies_stable t bs n is (Of l 0) q h.2 in
@@ -90,13 +92,13 @@ stands_in_blocks t bs weight (suc n) (Label l ∷ is) (Of b i) q h le =
     let one : length bs ≡ suc (length bs - 1) = omega arith in
     let from : settle bs (length bs) (Of b i) ≡ settle bs n (Of l 0) =
     ap (λ m. settle bs m (Of b i)) one ∙ settle_on bs (length bs - 1) b i l h.0 h.1 ∙ stable_from bs n (length bs - 1) (Of l 0) st (omega arith) in
-    (all ∙ sym from, subst (λ x. Stands (block_ground t bs weight) is x (settled bs q)) (all ∙ sym from) (stands_in_blocks t bs weight n is (Of l 0) q h.2 (omega arith)))
+    (all ∙ sym from, subst (λ x. MoveStands (block_ground t bs weight) is x (settled_place bs q)) (all ∙ sym from) (stands_in_blocks t bs weight n is (Of l 0) q h.2 (omega arith)))
 
 pub blocks_simulate : BlocksSimulate
 blocks_simulate i t bs hops f l n p q lies le s entered slot w fit within ok =
     let g : Ground Object Place = block_ground t bs (size (code i f l n)) in
     let least = live_size true (code i f l n) in
-    let r = (form_follows i g f l n ok).by least (settled bs p) (settled bs q) (stands_in_blocks t bs (size (code i f l n)) hops (code i f l n) p q lies le) s entered slot fit within w in
+    let r = (form_follows i g f l n ok).by least (settled_place bs p) (settled_place bs q) (stands_in_blocks t bs (size (code i f l n)) hops (code i f l n) p q lies le) s entered slot fit within w in
     (r.cost, omega (arith, r.bound, least), r.runs)
 
 pub blocks_run : BlocksRun
@@ -104,10 +106,10 @@ blocks_run child s t bs hops q lies le ok answers n enough =
     let i : Interp Object = exactly child s in
     let is : List (Item Object) = body_code i (form_of s) in
     let g : Ground Object Place = block_ground t bs (live true is) in
-    simulated_at g i (form_of s) (settled bs (Of 0 0)) (settled bs q) (stands_in_blocks t bs (live true is) hops is (Of 0 0) q lies le) ok (le_refl _) answers n (fuel_covers (live true is) n answers enough)
-    ∙ sym (simulated i (form_of s) ok (once i (form_of s)) answers)
+    simulated_at g i (form_of s) (settled_place bs (Of 0 0)) (settled_place bs q) (stands_in_blocks t bs (live true is) hops is (Of 0 0) q lies le) ok (le_refl _) answers n (fuel_covers (live true is) n answers enough)
+    ∙ sym (simulated i (form_of s) ok (label_once i (form_of s)) answers)
 
 pub live_runs : LiveRuns
 live_runs child s ok answers n enough =
     let i : Interp Object = exactly child s in
-    simulated_within i (form_of s) ok (once i (form_of s)) answers n enough ∙ sym (simulated i (form_of s) ok (once i (form_of s)) answers)
+    simulated_within i (form_of s) ok (label_once i (form_of s)) answers n enough ∙ sym (simulated i (form_of s) ok (label_once i (form_of s)) answers)

@@ -9,7 +9,7 @@ use Rattle.py_control.specs.Form.{Fixed, Resolved, FixedByName, FixedGlobal, Fix
 use Rattle.py_control.specs.Code.{body_code}
 use Rattle.py_control.specs.Agree.{form_of, exactly, fully, plainly, meaning_by}
 use Rattle.py_control.specs.CodeRuns.{runs_code}
-use Rattle.py_control_proof.proofs.SampleTools.{unit, at}
+use Rattle.py_control_proof.proofs.SampleTools.{sample_tool_unit, sample_tool_at}
 
 -- the method, which returns `__class__`
 abbrev method_code : Object
@@ -22,7 +22,7 @@ method_code = obj.object_of (record {
   first_line_number = None;
   obj_name = codes "g";
   max_stackdepth = 1;
-  instructions = unit op.LoadDeref 0 ∷ unit op.ReturnValue 0 ∷ [];
+  instructions = sample_tool_unit op.LoadDeref 0 ∷ sample_tool_unit op.ReturnValue 0 ∷ [];
   locations = [];
   names = [];
   varnames = codes "self" ∷ [];
@@ -42,7 +42,7 @@ class_code = obj.object_of (record {
   first_line_number = None;
   obj_name = codes "A";
   max_stackdepth = 3;
-  instructions = unit op.LoadGlobal 0 ∷ unit op.StoreLocal 1 ∷ unit op.LoadConst 0 ∷ unit op.StoreLocal 2 ∷ unit op.LoadConst 1 ∷ unit op.StoreLocal 3 ∷ unit op.LoadClosure 0 ∷ unit op.BuildTuple 1 ∷ unit op.LoadConst 2 ∷ unit op.LoadConst 3 ∷ unit op.MakeFunction 1 ∷ unit op.StoreLocal 4 ∷ unit op.LoadClosure 0 ∷ unit op.Duplicate 0 ∷ unit op.StoreLocal 5 ∷ unit op.ReturnValue 0 ∷ [];
+  instructions = sample_tool_unit op.LoadGlobal 0 ∷ sample_tool_unit op.StoreLocal 1 ∷ sample_tool_unit op.LoadConst 0 ∷ sample_tool_unit op.StoreLocal 2 ∷ sample_tool_unit op.LoadConst 1 ∷ sample_tool_unit op.StoreLocal 3 ∷ sample_tool_unit op.LoadClosure 0 ∷ sample_tool_unit op.BuildTuple 1 ∷ sample_tool_unit op.LoadConst 2 ∷ sample_tool_unit op.LoadConst 3 ∷ sample_tool_unit op.MakeFunction 1 ∷ sample_tool_unit op.StoreLocal 4 ∷ sample_tool_unit op.LoadClosure 0 ∷ sample_tool_unit op.Duplicate 0 ∷ sample_tool_unit op.StoreLocal 5 ∷ sample_tool_unit op.ReturnValue 0 ∷ [];
   locations = [];
   names = codes "__name__" ∷ codes "__module__" ∷ codes "__qualname__" ∷ codes "__doc__" ∷ codes "g" ∷ codes "__classcell__" ∷ [];
   varnames = [];
@@ -58,10 +58,10 @@ class_kind u FixedGlobal n = Global
 class_kind u FixedFast n = ByName
 
 abbrev method : Scope
-method = MkScope (record { number = 2; kind = λ u x n. Deref; place = λ u x n. 0; cell_place = λ n. 0; free = codes "__class__" ∷ []; class_cell = [] }) (SAt (at 2 18) (SReturn (VAt (at 2 25) (VLoad Resolved (codes "__class__")))))
+method = MkScope (record { number = 2; kind = λ u x n. Deref; place = λ u x n. 0; cell_place = λ n. 0; free = codes "__class__" ∷ []; class_cell = [] }) (SAt (sample_tool_at 2 18) (SReturn (VAt (sample_tool_at 2 25) (VLoad Resolved (codes "__class__")))))
 
 abbrev class_body : Scope
-class_body = MkScope (record { number = 1; kind = class_kind; place = λ u x n. 0; cell_place = λ n. 0; free = []; class_cell = codes "__class__" ∷ [] }) (SThen (SInto (VLoad FixedGlobal (codes "__name__")) (GStore FixedByName (codes "__module__"))) (SThen (SInto (VConst (obj.str (codes "A"))) (GStore FixedByName (codes "__qualname__"))) (SThen (SInto (VConst obj.none) (GStore FixedByName (codes "__doc__"))) (SThen (SAt (at 2 5) (SInto (VMake 0 VNone method (codes "A.g") VNone) (GStore Resolved (codes "g")))) SClassEnd))))
+class_body = MkScope (record { number = 1; kind = class_kind; place = λ u x n. 0; cell_place = λ n. 0; free = []; class_cell = codes "__class__" ∷ [] }) (SThen (SInto (VLoad FixedGlobal (codes "__name__")) (GStore FixedByName (codes "__module__"))) (SThen (SInto (VConst (obj.str (codes "A"))) (GStore FixedByName (codes "__qualname__"))) (SThen (SInto (VConst obj.none) (GStore FixedByName (codes "__doc__"))) (SThen (SAt (sample_tool_at 2 5) (SInto (VMake 0 VNone method (codes "A.g") VNone) (GStore Resolved (codes "g")))) SClassEnd))))
 
 abbrev cells : List Cell
 cells = record { name = codes "__class__"; place = 0 } ∷ []

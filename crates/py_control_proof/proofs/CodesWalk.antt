@@ -8,7 +8,7 @@ use Rattle.py_bytecode.specs.Values.{Constant, Cell}
 use Rattle.py_bytecode.specs.Machine.{ReturnValue, ReturnConst}
 use Rattle.py_control.specs.Form.{VForm, VConst, VLoad, VOp, VMake, VShort, VChain, VChoice, VKeep, VSwap, VAt, SForm, SThen, SReturn, SClassEnd, SGather, SAt, Interp}
 use Rattle.py_control.specs.Fit.{Loops}
-use Rattle.py_control.specs.Code.{Item, Do, Label, labels, class_code, code_v, code_c, append_code, return_code, code, closes, closing, body_code}
+use Rattle.py_control.specs.Code.{Item, Do, Label, labels, class_code, code_v, code_c, append_code, return_code, code, closes, closing_return, body_code}
 use Rattle.py_control_proof.specs.Walks.{Shape, shape, Then, Falls, Never, fall, after, Walks}
 use Rattle.py_control.specs.Agree.{exactly, form_of}
 use Rattle.py_control_proof.specs.Laws.{CodesWalk}
@@ -16,7 +16,7 @@ use Rattle.py_control.specs.Looped.{Looped}
 use Rattle.py_control_proof.proofs.FormFlowLemmas.{WalksOn, walk_none, walk_then, walk_do}
 use Rattle.py_control_proof.proofs.Soundness.{form_walks}
 use Rattle.py_control_proof.proofs.LabelShapes.{shapes}
-use Rattle.py_control_proof.proofs.LabelShapeLemmas.{Known, Holds, fits}
+use Rattle.py_control_proof.proofs.LabelShapeLemmas.{LabelShapeKnown, LabelShapeHolds, label_shape_fits}
 
 -- the shape that a label has, by the shapes of the labels from 1 on
 abbrev pub shape_at : List Shape → ℕ → Option Shape
@@ -26,14 +26,14 @@ shape_at xs (suc k) = slice_get xs k
 seam : (pre : List Shape) (x : Shape) (xs : List Shape) → slice_get (pre ++ x ∷ xs) (length pre) ≡ Some x
 seam pre x xs = slice_get-get_or (pre ++ x ∷ xs) (length pre) x (omega (arith, length-append pre (x ∷ xs))) ∙ ap Some (get_or-append_seam pre x xs x)
 
-holds_from : (pre xs all : List Shape) → pre ++ xs ≡ all → Holds (shape_at all) (suc (length pre)) xs
+holds_from : (pre xs all : List Shape) → pre ++ xs ≡ all → LabelShapeHolds (shape_at all) (suc (length pre)) xs
 holds_from pre [] all e = tt
 holds_from pre (x ∷ xs) all e =
     let rest = holds_from (pre ++ x ∷ []) xs all (append_assoc pre (x ∷ []) xs ∙ e) in
     let n : suc (length (pre ++ x ∷ [])) ≡ 1 + suc (length pre) = omega (arith, length-append pre (x ∷ [])) in
-    (ap (λ l. slice_get l (length pre)) (sym e) ∙ seam pre x xs, subst (λ k. Holds (shape_at all) k xs) n rest)
+    (ap (λ l. slice_get l (length pre)) (sym e) ∙ seam pre x xs, subst (λ k. LabelShapeHolds (shape_at all) k xs) n rest)
 
-pub shapes_known : (xs : List Shape) → Known (shape_at xs) 1 xs
+pub shapes_known : (xs : List Shape) → LabelShapeKnown (shape_at xs) 1 xs
 shapes_known xs = record { each = holds_from [] xs xs refl }
 
 -- only these labels have a shape
@@ -109,11 +109,11 @@ module _ {K : Type 0} (at : ℕ → Option Shape) where
     closed_end (SAt p f) e l n t = closed_end f e l n t
     closed_end _ e l n t = absurd cc
 
-    body_end : (f : SForm) (b : Bool) → closes f ≡ b → (l : Loops) (n : ℕ) (t : Then) → state_after (code i f l n ++ closing b) t ≡ Never
+    body_end : (f : SForm) (b : Bool) → closes f ≡ b → (l : Loops) (n : ℕ) (t : Then) → state_after (code i f l n ++ closing_return b) t ≡ Never
     body_end f true e l n t = after_append (code i f l n) [] t ∙ closed_end f e l n t
     body_end f false e l n t = after_append (code i f l n) (Do (ReturnConst (Constant const.none)) ∷ []) t ∙ const_end (state_after (code i f l n) t)
 
-closing_walk : (K : Type 0) (at : ℕ → Option Shape) (b : Bool) → WalksOn K at (closing b) (shape 0 []) (shape 0 [])
+closing_walk : (K : Type 0) (at : ℕ → Option Shape) (b : Bool) → WalksOn K at (closing_return b) (shape 0 []) (shape 0 [])
 closing_walk K at true = walk_none K at (shape 0 [])
 closing_walk K at false = walk_do K at {i = ReturnConst (Constant const.none)} (shape 0 []) tt tt (walk_none K at (shape 0 []))
 
@@ -122,7 +122,7 @@ pub body_walks : {K : Type 0} (i : Interp K) (f : SForm) → Looped false f → 
 body_walks {K} i f g =
     let at : ℕ → Option Shape = shape_at (shapes f 0 []) in
     let l : Loops = record { inside = false; on_break = 0; on_continue = 0 } in
-    let w = walk_then K at (form_walks K at i f l 1 0 [] (omega arith) (fits at false f g l 1 0 [] tt (shapes_known (shapes f 0 [])))) (closing_walk K at (closes f)) in
+    let w = walk_then K at (form_walks K at i f l 1 0 [] (omega arith) (label_shape_fits at false f g l 1 0 [] tt (shapes_known (shapes f 0 [])))) (closing_walk K at (closes f)) in
     let r = w.by (Falls (shape 0 [])) refl in
     subst (Walks at (body_code i f) (Falls (shape 0 []))) (sym (walks_end at (body_code i f) (Falls (shape 0 [])) r.0 r.2) ∙ body_end at i f (closes f) refl l 1 (Falls (shape 0 []))) r.2
 

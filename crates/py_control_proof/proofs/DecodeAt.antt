@@ -8,7 +8,7 @@ use Rattle.py_bytecode.specs.declared.instruction.OperandKind.TheVariants as kin
 use Rattle.py_bytecode.specs.Table.{range_of}
 use Rattle.py_bytecode.specs.Objects.{Object}
 use Rattle.py_bytecode.specs.Machine.{Instr, at_places}
-use Rattle.py_bytecode.specs.Decode.{Tables, for_some, below, within, raising, instr_of}
+use Rattle.py_bytecode.specs.Decode.{Tables, for_some, below, within, raise_instr, instr_of}
 
 module _ {P Q : Type 0} (f : P → Q) where
   abbrev pub place_at : Option P → Option Q
@@ -19,9 +19,9 @@ module _ {P Q : Type 0} (f : P → Q) where
   option_at None = None
   option_at (Some i) = Some (at_places f i)
 
-  some_at : {A : Type 0} (o : Option A) (k : A → Instr Object P) (k1 : A → Instr Object Q) → ((x : A) → k1 x ≡ at_places f (k x)) → for_some o k1 ≡ option_at (for_some o k)
-  some_at None k k1 h = refl
-  some_at (Some x) k k1 h = ap Some (h x)
+  decode_at_some_at : {A : Type 0} (o : Option A) (k : A → Instr Object P) (k1 : A → Instr Object Q) → ((x : A) → k1 x ≡ at_places f (k x)) → for_some o k1 ≡ option_at (for_some o k)
+  decode_at_some_at None k k1 h = refl
+  decode_at_some_at (Some x) k k1 h = ap Some (h x)
 
   jump_at : (o : Option P) (k : P → Instr Object P) (k1 : Q → Instr Object Q) → ((p : P) → k1 (f p) ≡ at_places f (k p)) → for_some (place_at o) k1 ≡ option_at (for_some o k)
   jump_at None k k1 h = refl
@@ -31,49 +31,49 @@ module _ {P Q : Type 0} (f : P → Q) where
   if_at true i i1 h = ap Some h
   if_at false i i1 h = refl
 
-  below_at : (m : Option ℕ) (n : ℕ) (i : Instr Object P) (i1 : Instr Object Q) → i1 ≡ at_places f i → below m n i1 ≡ option_at (below m n i)
-  below_at None n i i1 h = ap Some h
-  below_at (Some m) n i i1 h = if_at (nat_lt n m) i i1 h
+  decode_at_below_at : (m : Option ℕ) (n : ℕ) (i : Instr Object P) (i1 : Instr Object Q) → i1 ≡ at_places f i → below m n i1 ≡ option_at (below m n i)
+  decode_at_below_at None n i i1 h = ap Some h
+  decode_at_below_at (Some m) n i i1 h = if_at (nat_lt n m) i i1 h
 
   within_at : (k : OperandKind) (n : ℕ) (i : Instr Object P) (i1 : Instr Object Q) → i1 ≡ at_places f i → within k n i1 ≡ option_at (within k n i)
-  within_at k n i i1 h = below_at (range_of k) n i i1 h
+  within_at k n i i1 h = decode_at_below_at (range_of k) n i i1 h
 
   pick_at : (b : Bool) (i j : Instr Object P) (i1 j1 : Instr Object Q) → i1 ≡ at_places f i → j1 ≡ at_places f j → (if b then i1 else j1) ≡ at_places f (if b then i else j)
   pick_at true i j i1 j1 h g = h
   pick_at false i j i1 j1 h g = g
 
-  raising_at : (n : ℕ) → raising n ≡ at_places f (raising n)
+  raising_at : (n : ℕ) → raise_instr n ≡ at_places f (raise_instr n)
   raising_at n = pick_at (nat_eq n 0) _ _ _ _ refl (pick_at (nat_eq n 1) _ _ _ _ refl refl)
 
   -- an instruction decoded with another place for its target
   pub decode_at : (t : Tables) (to : Option P) (i : Instruction) (n : ℕ) → instr_of t (place_at to) i n ≡ option_at (instr_of t to i n)
-  decode_at t to op.ImportName n = some_at (slice_get t.names n) _ _ (λ x. refl)
+  decode_at t to op.ImportName n = decode_at_some_at (slice_get t.names n) _ _ (λ x. refl)
   decode_at t to op.ImportNameless n = within_at kind.None n _ _ refl
   decode_at t to op.ImportStar n = within_at kind.None n _ _ refl
-  decode_at t to op.ImportFrom n = some_at (slice_get t.names n) _ _ (λ x. refl)
-  decode_at t to op.LoadFast n = some_at (slice_get t.varnames n) _ _ (λ x. refl)
-  decode_at t to op.LoadNameAny n = some_at (slice_get t.names n) _ _ (λ x. refl)
-  decode_at t to op.LoadGlobal n = some_at (slice_get t.names n) _ _ (λ x. refl)
-  decode_at t to op.LoadDeref n = some_at (slice_get t.cells n) _ _ (λ x. refl)
-  decode_at t to op.LoadClassDeref n = some_at (slice_get t.cells n) _ _ (λ x. refl)
-  decode_at t to op.LoadClosure n = some_at (slice_get t.cells n) _ _ (λ x. refl)
-  decode_at t to op.StoreFast n = some_at (slice_get t.varnames n) _ _ (λ x. refl)
-  decode_at t to op.StoreLocal n = some_at (slice_get t.names n) _ _ (λ x. refl)
-  decode_at t to op.StoreGlobal n = some_at (slice_get t.names n) _ _ (λ x. refl)
-  decode_at t to op.StoreDeref n = some_at (slice_get t.cells n) _ _ (λ x. refl)
-  decode_at t to op.DeleteFast n = some_at (slice_get t.varnames n) _ _ (λ x. refl)
-  decode_at t to op.DeleteLocal n = some_at (slice_get t.names n) _ _ (λ x. refl)
-  decode_at t to op.DeleteGlobal n = some_at (slice_get t.names n) _ _ (λ x. refl)
-  decode_at t to op.DeleteDeref n = some_at (slice_get t.cells n) _ _ (λ x. refl)
+  decode_at t to op.ImportFrom n = decode_at_some_at (slice_get t.names n) _ _ (λ x. refl)
+  decode_at t to op.LoadFast n = decode_at_some_at (slice_get t.varnames n) _ _ (λ x. refl)
+  decode_at t to op.LoadNameAny n = decode_at_some_at (slice_get t.names n) _ _ (λ x. refl)
+  decode_at t to op.LoadGlobal n = decode_at_some_at (slice_get t.names n) _ _ (λ x. refl)
+  decode_at t to op.LoadDeref n = decode_at_some_at (slice_get t.cells n) _ _ (λ x. refl)
+  decode_at t to op.LoadClassDeref n = decode_at_some_at (slice_get t.cells n) _ _ (λ x. refl)
+  decode_at t to op.LoadClosure n = decode_at_some_at (slice_get t.cells n) _ _ (λ x. refl)
+  decode_at t to op.StoreFast n = decode_at_some_at (slice_get t.varnames n) _ _ (λ x. refl)
+  decode_at t to op.StoreLocal n = decode_at_some_at (slice_get t.names n) _ _ (λ x. refl)
+  decode_at t to op.StoreGlobal n = decode_at_some_at (slice_get t.names n) _ _ (λ x. refl)
+  decode_at t to op.StoreDeref n = decode_at_some_at (slice_get t.cells n) _ _ (λ x. refl)
+  decode_at t to op.DeleteFast n = decode_at_some_at (slice_get t.varnames n) _ _ (λ x. refl)
+  decode_at t to op.DeleteLocal n = decode_at_some_at (slice_get t.names n) _ _ (λ x. refl)
+  decode_at t to op.DeleteGlobal n = decode_at_some_at (slice_get t.names n) _ _ (λ x. refl)
+  decode_at t to op.DeleteDeref n = decode_at_some_at (slice_get t.cells n) _ _ (λ x. refl)
   decode_at t to op.Subscript n = within_at kind.None n _ _ refl
   decode_at t to op.StoreSubscript n = within_at kind.None n _ _ refl
   decode_at t to op.DeleteSubscript n = within_at kind.None n _ _ refl
-  decode_at t to op.LoadAttr n = some_at (slice_get t.names n) _ _ (λ x. refl)
-  decode_at t to op.StoreAttr n = some_at (slice_get t.names n) _ _ (λ x. refl)
-  decode_at t to op.DeleteAttr n = some_at (slice_get t.names n) _ _ (λ x. refl)
-  decode_at t to op.LoadMethod n = some_at (slice_get t.names n) _ _ (λ x. refl)
-  decode_at t to op.LoadConst n = some_at (slice_get t.constants n) _ _ (λ x. refl)
-  decode_at t to op.ReturnConst n = some_at (slice_get t.constants n) _ _ (λ x. refl)
+  decode_at t to op.LoadAttr n = decode_at_some_at (slice_get t.names n) _ _ (λ x. refl)
+  decode_at t to op.StoreAttr n = decode_at_some_at (slice_get t.names n) _ _ (λ x. refl)
+  decode_at t to op.DeleteAttr n = decode_at_some_at (slice_get t.names n) _ _ (λ x. refl)
+  decode_at t to op.LoadMethod n = decode_at_some_at (slice_get t.names n) _ _ (λ x. refl)
+  decode_at t to op.LoadConst n = decode_at_some_at (slice_get t.constants n) _ _ (λ x. refl)
+  decode_at t to op.ReturnConst n = decode_at_some_at (slice_get t.constants n) _ _ (λ x. refl)
   decode_at t to op.UnaryOperation n = within_at kind.Unary n _ _ refl
   decode_at t to op.BinaryOperation n = within_at kind.Binary n _ _ refl
   decode_at t to op.BinaryOperationInplace n = within_at kind.Binary n _ _ refl

@@ -73,8 +73,8 @@ module _ {K : Type 0} where
   pub going : {A : Type 0} (is : List (Item K)) → falls true is ≡ true → falls true is ≡ false → A
   going is e f = absurd (cc)
 
-  pub opened : {A : Type 0} (is : List (Item K)) → Opens is → falls true is ≡ false → A
-  opened is x f = going is (x.by true) f
+  pub fall_opened : {A : Type 0} (is : List (Item K)) → Opens is → falls true is ≡ false → A
+  fall_opened is x f = going is (x.by true) f
 
   pub never_do : (r : Ended K) (k : World K → Ended K) → ((w : World K) → Never (k w)) → Never (then_do r k)
   never_do (Normal w) k h = h w
@@ -111,8 +111,10 @@ module _ {K : Type 0} where
   never_raises (Raises x w) e = tt
   never_raises (Stops events) e = tt
 
-  -- the last part never goes on
-  pub never_last : (r : Ended K) (last : Option (Value K) → World K → Ended K) (slot : Option (Value K)) → ((slot : Option (Value K)) (w : World K) → Never (last slot w)) → Never (on_ended r (λ w. last slot w) (λ why w. then_do (last (in_hand why slot) w) (λ w1. Leaves why w1)) Halts)
+  -- the finally block never goes on
+  pub never_last : (r : Ended K) (last : Option (Value K) → World K → Ended K) (slot : Option (Value K))
+      → ((slot : Option (Value K)) (w : World K) → Never (last slot w))
+      → Never (on_ended r (λ w. last slot w) (λ why w. then_do (last (in_hand why slot) w) (λ w1. Leaves why w1)) Halts)
   never_last (Normal w) last slot h = h slot w
   never_last (Leaves why w) last slot h = never_do (last (in_hand why slot) w) _ (λ w1. tt)
   never_last (Halts events) last slot h = tt

@@ -61,47 +61,47 @@ module _ (at : ℕ → Option Shape) where
   FitsBs NoFilter to n h ms = Unit {0}
   FitsBs (MoreFilter t bs) to n h ms = FitsT t false to n h ms × FitsBs bs to (n + labels_t t false) h ms
 
-  -- the last part is at some label number and height
+  -- the finally block is at some label number and height
   abbrev pub FitsC : Clauses → (ℕ → ℕ → Type 0) → (n h : ℕ) → List Mark → Type 0
   FitsC CLast leaf n h ms = leaf n h
   FitsC (CEach f t bs cs) leaf n h ms =
       (at n ≡ Some (shape (1 + h) ms)) × (at (1 + n) ≡ Some (shape h ms)) × FitsV f (2 + n) h ms × FitsG t (2 + n + labels_v f) (1 + h) ms × FitsBs bs n (2 + n + labels_v f + labels_g t) (1 + h) ms × FitsC cs leaf (2 + n + labels_v f + labels_g t + labels_bs bs) (1 + h) ms
 
   abbrev mutual
-    pub Fits : SForm → Loops → (n h : ℕ) → List Mark → Type 0
-    Fits SSkip l n h ms = Unit {0}
-    Fits (SThen a b) l n h ms = Fits a l n h ms × Fits b l (n + labels a) h ms
-    Fits (SDo o r fs) l n h ms = FitsVs fs n h ms
-    Fits (SInto f t) l n h ms = FitsV f n h ms × FitsG t (n + labels_v f) h ms
-    Fits (SRemove x m) l n h ms = Unit {0}
-    Fits (SIf t a) l n h ms = (at n ≡ Some (shape h ms)) × FitsT t false n (1 + n) h ms × Fits a l (1 + n + labels_t t false) h ms
-    Fits (SIfElse t a b) l n h ms =
-        (at n ≡ Some (shape h ms)) × (at (1 + n) ≡ Some (shape h ms)) × FitsT t false n (2 + n) h ms × Fits a l (2 + n + labels_t t false) h ms × Fits b l (2 + n + labels_t t false + labels a) h ms
-    Fits (SWhile t a b) l n h ms =
-        (at n ≡ Some (shape h (mark LoopSort h ∷ ms))) × (at (1 + n) ≡ Some (shape h (mark LoopSort h ∷ ms))) × (at (2 + n) ≡ Some (shape h ms)) × FitsT t false (1 + n) (3 + n) h (mark LoopSort h ∷ ms) × Fits a (record { inside = true; on_break = 2 + n; on_continue = n }) (3 + n + labels_t t false) h (mark LoopSort h ∷ ms) × Fits b l (3 + n + labels_t t false + labels a) h ms
-    Fits (SFor f t a b) l n h ms =
-        (at n ≡ Some (shape (1 + h) (mark LoopSort h ∷ ms))) × (at (1 + n) ≡ Some (shape h (mark LoopSort h ∷ ms))) × (at (2 + n) ≡ Some (shape h ms)) × FitsV f (3 + n) h (mark LoopSort h ∷ ms) × FitsG t (3 + n + labels_v f) (1 + h) (mark LoopSort h ∷ ms) × Fits a (record { inside = true; on_break = 2 + n; on_continue = n }) (3 + n + labels_v f + labels_g t) (1 + h) (mark LoopSort h ∷ ms) × Fits b l (3 + n + labels_v f + labels_g t + labels a) h ms
-    Fits SBreak l n h ms = BreaksTo (loop_at ms) (at l.on_break)
-    Fits SContinue l n h ms = ContinuesTo (loop_at ms) (cut_height ms h) (at l.on_continue)
-    Fits (SReturn f) l n h ms = FitsV f n h ms
-    Fits SClassEnd l n h ms = Unit {0}
-    Fits SReraise l n h ms = Unit {0}
-    Fits (SAugment f get v op put) l n h ms = FitsV f n h ms × FitsV v (n + labels_v f) (2 + h) ms
-    Fits (SAugmentTwo f g get v op put) l n h ms = FitsV f n h ms × FitsV g (n + labels_v f) (1 + h) ms × FitsV v (n + labels_v f + labels_v g) (3 + h) ms
-    Fits (STry a hs b) l n h ms =
-        (at n ≡ Some (shape (1 + h) (mark HandlerSort h ∷ ms))) × (at (1 + n) ≡ Some (shape h ms)) × (at (2 + n) ≡ Some (shape h ms)) × Fits a l (3 + n) h (mark ExceptSort h ∷ ms) × FitsH hs l (3 + n + labels a) h ms × Fits b l (3 + n + labels a + labels_h hs) h ms
-    Fits (STryFinal a hs b c) l n h ms =
-        (at n ≡ Some (shape (1 + h) (mark HandlerSort h ∷ mark FinallySort h ∷ ms))) × (at (1 + n) ≡ Some (shape h (mark FinallySort h ∷ ms))) × (at (2 + n) ≡ Some (shape h (mark LastSort h ∷ ms))) × Fits a l (3 + n) h (mark ExceptSort h ∷ mark FinallySort h ∷ ms) × FitsH hs l (3 + n + labels a) h (mark FinallySort h ∷ ms) × Fits b l (3 + n + labels a + labels_h hs) h (mark FinallySort h ∷ ms) × Fits c l (3 + n + labels a + labels_h hs + labels b) h (mark LastSort h ∷ ms)
-    Fits (SFinally a c) l n h ms = (at n ≡ Some (shape h (mark LastSort h ∷ ms))) × Fits a l (1 + n) h (mark FinallySort h ∷ ms) × Fits c l (1 + n + labels a) h (mark LastSort h ∷ ms)
-    Fits (SWith f t a) l n h ms =
-        (at n ≡ Some (shape (1 + h) (mark CleanupSort (1 + h) ∷ ms))) × FitsV f (1 + n) h ms × FitsG t (1 + n + labels_v f) (1 + h) (mark ExitSort (1 + h) ∷ ms) × Fits a l (1 + n + labels_v f + labels_g t) (1 + h) (mark ExitSort (1 + h) ∷ ms)
-    Fits (SGather o cs p fs) l n h ms = FitsC cs (λ m k. FitsVs fs m k ms) n (1 + h) ms
-    Fits (SGenerate cs f) l n h ms = FitsC cs (λ m k. FitsV f m k ms) n h ms
-    Fits (SAt p f) l n h ms = Fits f l n h ms
+    pub ControlFits : SForm → Loops → (n h : ℕ) → List Mark → Type 0
+    ControlFits SSkip l n h ms = Unit {0}
+    ControlFits (SThen a b) l n h ms = ControlFits a l n h ms × ControlFits b l (n + labels a) h ms
+    ControlFits (SDo o r fs) l n h ms = FitsVs fs n h ms
+    ControlFits (SInto f t) l n h ms = FitsV f n h ms × FitsG t (n + labels_v f) h ms
+    ControlFits (SRemove x m) l n h ms = Unit {0}
+    ControlFits (SIf t a) l n h ms = (at n ≡ Some (shape h ms)) × FitsT t false n (1 + n) h ms × ControlFits a l (1 + n + labels_t t false) h ms
+    ControlFits (SIfElse t a b) l n h ms =
+        (at n ≡ Some (shape h ms)) × (at (1 + n) ≡ Some (shape h ms)) × FitsT t false n (2 + n) h ms × ControlFits a l (2 + n + labels_t t false) h ms × ControlFits b l (2 + n + labels_t t false + labels a) h ms
+    ControlFits (SWhile t a b) l n h ms =
+        (at n ≡ Some (shape h (mark LoopSort h ∷ ms))) × (at (1 + n) ≡ Some (shape h (mark LoopSort h ∷ ms))) × (at (2 + n) ≡ Some (shape h ms)) × FitsT t false (1 + n) (3 + n) h (mark LoopSort h ∷ ms) × ControlFits a (record { inside = true; on_break = 2 + n; on_continue = n }) (3 + n + labels_t t false) h (mark LoopSort h ∷ ms) × ControlFits b l (3 + n + labels_t t false + labels a) h ms
+    ControlFits (SFor f t a b) l n h ms =
+        (at n ≡ Some (shape (1 + h) (mark LoopSort h ∷ ms))) × (at (1 + n) ≡ Some (shape h (mark LoopSort h ∷ ms))) × (at (2 + n) ≡ Some (shape h ms)) × FitsV f (3 + n) h (mark LoopSort h ∷ ms) × FitsG t (3 + n + labels_v f) (1 + h) (mark LoopSort h ∷ ms) × ControlFits a (record { inside = true; on_break = 2 + n; on_continue = n }) (3 + n + labels_v f + labels_g t) (1 + h) (mark LoopSort h ∷ ms) × ControlFits b l (3 + n + labels_v f + labels_g t + labels a) h ms
+    ControlFits SBreak l n h ms = BreaksTo (loop_at ms) (at l.on_break)
+    ControlFits SContinue l n h ms = ContinuesTo (loop_at ms) (cut_height ms h) (at l.on_continue)
+    ControlFits (SReturn f) l n h ms = FitsV f n h ms
+    ControlFits SClassEnd l n h ms = Unit {0}
+    ControlFits SReraise l n h ms = Unit {0}
+    ControlFits (SAugment f get v op put) l n h ms = FitsV f n h ms × FitsV v (n + labels_v f) (2 + h) ms
+    ControlFits (SAugmentTwo f g get v op put) l n h ms = FitsV f n h ms × FitsV g (n + labels_v f) (1 + h) ms × FitsV v (n + labels_v f + labels_v g) (3 + h) ms
+    ControlFits (STry a hs b) l n h ms =
+        (at n ≡ Some (shape (1 + h) (mark HandlerSort h ∷ ms))) × (at (1 + n) ≡ Some (shape h ms)) × (at (2 + n) ≡ Some (shape h ms)) × ControlFits a l (3 + n) h (mark ExceptSort h ∷ ms) × FitsH hs l (3 + n + labels a) h ms × ControlFits b l (3 + n + labels a + labels_h hs) h ms
+    ControlFits (STryFinal a hs b c) l n h ms =
+        (at n ≡ Some (shape (1 + h) (mark HandlerSort h ∷ mark FinallySort h ∷ ms))) × (at (1 + n) ≡ Some (shape h (mark FinallySort h ∷ ms))) × (at (2 + n) ≡ Some (shape h (mark LastSort h ∷ ms))) × ControlFits a l (3 + n) h (mark ExceptSort h ∷ mark FinallySort h ∷ ms) × FitsH hs l (3 + n + labels a) h (mark FinallySort h ∷ ms) × ControlFits b l (3 + n + labels a + labels_h hs) h (mark FinallySort h ∷ ms) × ControlFits c l (3 + n + labels a + labels_h hs + labels b) h (mark LastSort h ∷ ms)
+    ControlFits (SFinally a c) l n h ms = (at n ≡ Some (shape h (mark LastSort h ∷ ms))) × ControlFits a l (1 + n) h (mark FinallySort h ∷ ms) × ControlFits c l (1 + n + labels a) h (mark LastSort h ∷ ms)
+    ControlFits (SWith f t a) l n h ms =
+        (at n ≡ Some (shape (1 + h) (mark CleanupSort (1 + h) ∷ ms))) × FitsV f (1 + n) h ms × FitsG t (1 + n + labels_v f) (1 + h) (mark ExitSort (1 + h) ∷ ms) × ControlFits a l (1 + n + labels_v f + labels_g t) (1 + h) (mark ExitSort (1 + h) ∷ ms)
+    ControlFits (SGather o cs p fs) l n h ms = FitsC cs (λ m k. FitsVs fs m k ms) n (1 + h) ms
+    ControlFits (SGenerate cs f) l n h ms = FitsC cs (λ m k. FitsV f m k ms) n h ms
+    ControlFits (SAt p f) l n h ms = ControlFits f l n h ms
 
     pub FitsH : Handlers → Loops → (n h : ℕ) → List Mark → Type 0
     FitsH HNone l n h ms = Unit {0}
     FitsH (HAny t b hs) l n h ms =
-        (at n ≡ Some (shape (1 + h) (mark HandlerSort h ∷ ms))) × FitsG t (1 + n) h (mark HandlerSort h ∷ ms) × Fits b l (1 + n + labels_g t) h (mark HandlerSort h ∷ ms) × FitsH hs l (1 + n + labels_g t + labels b) h ms
+        (at n ≡ Some (shape (1 + h) (mark HandlerSort h ∷ ms))) × FitsG t (1 + n) h (mark HandlerSort h ∷ ms) × ControlFits b l (1 + n + labels_g t) h (mark HandlerSort h ∷ ms) × FitsH hs l (1 + n + labels_g t + labels b) h ms
     FitsH (HTyped f t b hs) l n h ms =
-        (at n ≡ Some (shape (1 + h) (mark HandlerSort h ∷ ms))) × FitsV f (1 + n) (2 + h) (mark HandlerSort h ∷ ms) × FitsG t (1 + n + labels_v f) h (mark HandlerSort h ∷ ms) × Fits b l (1 + n + labels_v f + labels_g t) h (mark HandlerSort h ∷ ms) × FitsH hs l (1 + n + labels_v f + labels_g t + labels b) h ms
+        (at n ≡ Some (shape (1 + h) (mark HandlerSort h ∷ ms))) × FitsV f (1 + n) (2 + h) (mark HandlerSort h ∷ ms) × FitsG t (1 + n + labels_v f) h (mark HandlerSort h ∷ ms) × ControlFits b l (1 + n + labels_v f + labels_g t) h (mark HandlerSort h ∷ ms) × FitsH hs l (1 + n + labels_v f + labels_g t + labels b) h ms

@@ -52,8 +52,8 @@ module _ (K : Type 0) (at : ℕ → Option Shape) where
   level a b ms e = ap (λ h. shape h ms) e
 
   module _ (h : ℕ) (ms : List Mark) (low : floor ms ≤ h) where
-    abbrev pub here : Shape
-    here = shape h ms
+    abbrev pub form_flow_here : Shape
+    form_flow_here = shape h ms
 
     abbrev pub up : ℕ → Shape
     up n = shape (n + h) ms
@@ -62,18 +62,22 @@ module _ (K : Type 0) (at : ℕ → Option Shape) where
     pub operate_walks : (o : Operation) (n k : ℕ) → WalksOn (Do (Operate o n (Some k)) ∷ []) (up n) (up k)
     operate_walks o n k = walk_do (up k) (omega (arith, low)) (level _ _ ms (omega arith)) (walk_none (up k))
 
-    pub choice_walks : (test a b : List (Item K)) (other end : ℕ) (u : Shape) → at other ≡ Some here → at end ≡ Some u → WalksOn test here here → WalksOn a here u → WalksOn b here u → WalksOn (choice_code other end test a b) here u
+    pub choice_walks : (test a b : List (Item K)) (other end : ℕ) (u : Shape) → at other ≡ Some form_flow_here → at end ≡ Some u
+        → WalksOn test form_flow_here form_flow_here → WalksOn a form_flow_here u → WalksOn b form_flow_here u
+        → WalksOn (choice_code other end test a b) form_flow_here u
     choice_walks test a b other end u eo ee ht ha hb =
-        walk_then ht (walk_then ha (walk_do here (u, ee, inl refl) tt (walk_label eo (walk_then hb (walk_label ee (walk_none u))))))
+        walk_then ht (walk_then ha (walk_do form_flow_here (u, ee, inl refl) tt (walk_label eo (walk_then hb (walk_label ee (walk_none u))))))
 
-    pub if_walks : (test a : List (Item K)) (end : ℕ) → at end ≡ Some here → WalksOn test here here → WalksOn a here here → WalksOn (if_code end test a) here here
-    if_walks test a end ee ht ha = walk_then ht (walk_then ha (walk_label ee (walk_none here)))
+    pub if_walks : (test a : List (Item K)) (end : ℕ) → at end ≡ Some form_flow_here → WalksOn test form_flow_here form_flow_here
+        → WalksOn a form_flow_here form_flow_here → WalksOn (if_code end test a) form_flow_here form_flow_here
+    if_walks test a end ee ht ha = walk_then ht (walk_then ha (walk_label ee (walk_none form_flow_here)))
 
-    pub test_walks : (a : List (Item K)) (c : Bool) (to : ℕ) → at to ≡ Some here → WalksOn a here (up 1) → WalksOn (a ++ Do (JumpIf c to) ∷ []) here here
-    test_walks a c to e ha = walk_then ha (walk_do here ((omega (arith, low)), e ∙ ap Some (level _ _ ms (omega arith))) (level _ _ ms (omega arith)) (walk_none here))
+    pub test_walks : (a : List (Item K)) (c : Bool) (to : ℕ) → at to ≡ Some form_flow_here → WalksOn a form_flow_here (up 1) → WalksOn (a ++ Do (JumpIf c to) ∷ []) form_flow_here form_flow_here
+    test_walks a c to e ha = walk_then ha (walk_do form_flow_here ((omega (arith, low)), e ∙ ap Some (level _ _ ms (omega arith))) (level _ _ ms (omega arith)) (walk_none form_flow_here))
 
-    pub short_walks : (d : Bool) (a b : List (Item K)) (end : ℕ) → at end ≡ Some (up 1) → WalksOn a here (up 1) → WalksOn b here (up 1) → WalksOn (a ++ (Do (JumpIfOrPop d end) ∷ b)) here (up 1)
-    short_walks d a b end e ha hb = walk_then ha (walk_do here ((omega (arith, low)), e) (level _ _ ms (omega arith)) hb)
+    pub short_walks : (d : Bool) (a b : List (Item K)) (end : ℕ) → at end ≡ Some (up 1) → WalksOn a form_flow_here (up 1) → WalksOn b form_flow_here (up 1)
+        → WalksOn (a ++ (Do (JumpIfOrPop d end) ∷ b)) form_flow_here (up 1)
+    short_walks d a b end e ha hb = walk_then ha (walk_do form_flow_here ((omega (arith, low)), e) (level _ _ ms (omega arith)) hb)
 
     -- a link of a chain: out is one higher than a value
     pub link_walks : (o : Operation) (out : ℕ) → at out ≡ Some (up 2) → WalksOn (link_code o out) (up 2) (up 1)
@@ -85,12 +89,14 @@ module _ (K : Type 0) (at : ℕ → Option Shape) where
     chain_walks a out end eo ee ha =
         walk_then ha (walk_do (up 2) (up 1, ee, inl refl) tt (walk_label eo (walk_do (up 2) (omega (arith, low)) refl (walk_do (up 1) (omega (arith, low)) (level _ _ ms (omega arith)) (walk_label ee (walk_none (up 1)))))))
 
-    abbrev pub in_loop : Shape
-    in_loop = shape h (mark LoopSort h ∷ ms)
+    abbrev pub form_flow_in_loop : Shape
+    form_flow_in_loop = shape h (mark LoopSort h ∷ ms)
 
-    pub while_walks : (start other end : ℕ) (test body orelse : List (Item K)) → at start ≡ Some in_loop → at other ≡ Some in_loop → at end ≡ Some here → WalksOn test in_loop in_loop → WalksOn body in_loop in_loop → WalksOn orelse here here → WalksOn (while_code start other end test body orelse) here here
+    pub while_walks : (start other end : ℕ) (test body orelse : List (Item K)) → at start ≡ Some form_flow_in_loop → at other ≡ Some form_flow_in_loop
+        → at end ≡ Some form_flow_here → WalksOn test form_flow_in_loop form_flow_in_loop → WalksOn body form_flow_in_loop form_flow_in_loop
+        → WalksOn orelse form_flow_here form_flow_here → WalksOn (while_code start other end test body orelse) form_flow_here form_flow_here
     while_walks start other end test body orelse es eo ee ht hb he =
-        walk_do in_loop tt refl (walk_label es (walk_then ht (walk_then hb (walk_do in_loop (in_loop, es, inl refl) tt (walk_label eo (walk_do here (tt, omega (arith, low)) refl (walk_then he (walk_label ee (walk_none here)))))))))
+        walk_do form_flow_in_loop tt refl (walk_label es (walk_then ht (walk_then hb (walk_do form_flow_in_loop (form_flow_in_loop, es, inl refl) tt (walk_label eo (walk_do form_flow_here (tt, omega (arith, low)) refl (walk_then he (walk_label ee (walk_none form_flow_here)))))))))
 
     abbrev pub in_for : Shape
     in_for = shape (1 + h) (mark LoopSort h ∷ ms)
@@ -98,14 +104,18 @@ module _ (K : Type 0) (at : ℕ → Option Shape) where
     abbrev pub in_turn : Shape
     in_turn = shape (2 + h) (mark LoopSort h ∷ ms)
 
-    pub for_walks : (start other end : ℕ) (iter turn orelse : List (Item K)) → at start ≡ Some in_for → at other ≡ Some in_loop → at end ≡ Some here → WalksOn iter in_loop in_for → WalksOn turn in_turn in_for → WalksOn orelse here here → WalksOn (for_code start other end iter turn orelse) here here
+    pub for_walks : (start other end : ℕ) (iter turn orelse : List (Item K)) → at start ≡ Some in_for → at other ≡ Some form_flow_in_loop
+        → at end ≡ Some form_flow_here → WalksOn iter form_flow_in_loop in_for → WalksOn turn in_turn in_for → WalksOn orelse form_flow_here form_flow_here
+        → WalksOn (for_code start other end iter turn orelse) form_flow_here form_flow_here
     for_walks start other end iter turn orelse es eo ee hi ht he =
-        walk_do in_loop tt refl (walk_then hi (walk_label es (walk_do in_turn ((omega arith), eo ∙ ap Some (level _ _ (mark LoopSort h ∷ ms) (omega arith))) (level _ _ (mark LoopSort h ∷ ms) (omega arith))
-        (walk_then ht (walk_do in_loop (in_for, es, inl refl) tt (walk_label eo (walk_do here (tt, omega (arith, low)) refl (walk_then he (walk_label ee (walk_none here))))))))))
+        walk_do form_flow_in_loop tt refl (walk_then hi (walk_label es (walk_do in_turn ((omega arith), eo ∙ ap Some (level _ _ (mark LoopSort h ∷ ms) (omega arith))) (level _ _ (mark LoopSort h ∷ ms) (omega arith))
+        (walk_then ht (walk_do form_flow_in_loop (in_for, es, inl refl) tt (walk_label eo (walk_do form_flow_here (tt, omega (arith, low)) refl (walk_then he (walk_label ee (walk_none form_flow_here))))))))))
 
-    pub each_walks : (start end : ℕ) (iter assign filter body : List (Item K)) → at start ≡ Some (up 1) → at end ≡ Some here → WalksOn iter here (up 1) → WalksOn assign (up 2) (up 1) → WalksOn filter (up 1) (up 1) → WalksOn body (up 1) (up 1) → WalksOn (each_code start end iter assign filter body) here here
+    pub each_walks : (start end : ℕ) (iter assign filter body : List (Item K)) → at start ≡ Some (up 1) → at end ≡ Some form_flow_here
+        → WalksOn iter form_flow_here (up 1) → WalksOn assign (up 2) (up 1) → WalksOn filter (up 1) (up 1) → WalksOn body (up 1) (up 1)
+        → WalksOn (each_code start end iter assign filter body) form_flow_here form_flow_here
     each_walks start end iter assign filter body es ee hi ha hf hb =
-        walk_then hi (walk_label es (walk_do (up 2) ((omega (arith, low)), ee ∙ ap Some (level _ _ ms (omega arith))) (level _ _ ms (omega arith)) (walk_then ha (walk_then hf (walk_then hb (walk_do here (up 1, es, inl refl) tt (walk_label ee (walk_none here))))))))
+        walk_then hi (walk_label es (walk_do (up 2) ((omega (arith, low)), ee ∙ ap Some (level _ _ ms (omega arith))) (level _ _ ms (omega arith)) (walk_then ha (walk_then hf (walk_then hb (walk_do form_flow_here (up 1, es, inl refl) tt (walk_label ee (walk_none form_flow_here))))))))
 
     abbrev pub in_try : Shape
     in_try = shape h (mark ExceptSort h ∷ ms)
@@ -117,14 +127,22 @@ module _ (K : Type 0) (at : ℕ → Option Shape) where
     in_body = shape h (mark HandlerSort h ∷ ms)
 
     -- a try: u is what its tails come to
-    pub try_walks : (final : Bool) (handler other : ℕ) (body handlers orelse : List (Item K)) (u : Shape) → at handler ≡ Some in_handler → at other ≡ Some here → WalksOn body in_try in_try → WalksOn handlers in_handler here → WalksOn orelse here here → WalksOn (tail_code final) here u → WalksOn (try_code final handler other body handlers orelse) here u
+    pub try_walks : (final : Bool) (handler other : ℕ) (body handlers orelse : List (Item K)) (u : Shape) → at handler ≡ Some in_handler
+        → at other ≡ Some form_flow_here → WalksOn body in_try in_try → WalksOn handlers in_handler form_flow_here
+        → WalksOn orelse form_flow_here form_flow_here → WalksOn (tail_code final) form_flow_here u
+        → WalksOn (try_code final handler other body handlers orelse) form_flow_here u
     try_walks final handler other body handlers orelse u eh eo hb hh ho ht =
-        walk_do in_try eh refl (walk_then hb (walk_do here (tt, omega (arith, low)) refl (walk_do in_handler (here, eo, inl refl) tt (walk_label eh (walk_then hh (walk_label eo (walk_then ho ht)))))))
+        walk_do in_try eh refl (walk_then hb (walk_do form_flow_here (tt, omega (arith, low)) refl (walk_do in_handler (form_flow_here, eo, inl refl) tt (walk_label eh (walk_then hh (walk_label eo (walk_then ho ht)))))))
 
-    pub any_walks : (final : Bool) (next end : ℕ) (body others : List (Item K)) (u w : Shape) → at next ≡ Some in_handler → at end ≡ Some w → Joins u w → WalksOn body in_handler in_body → WalksOn (tail_code final) here u → WalksOn others in_handler here → WalksOn (any_code final next end body others) in_handler here
-    any_walks final next end body others u w en ee j hb ht ho = walk_then hb (walk_do here (tt, omega (arith, low)) refl (walk_then ht (walk_do in_handler (w, ee, j) tt (walk_label en ho))))
+    pub any_walks : (final : Bool) (next end : ℕ) (body others : List (Item K)) (u w : Shape) → at next ≡ Some in_handler → at end ≡ Some w → Joins u w
+        → WalksOn body in_handler in_body → WalksOn (tail_code final) form_flow_here u → WalksOn others in_handler form_flow_here
+        → WalksOn (any_code final next end body others) in_handler form_flow_here
+    any_walks final next end body others u w en ee j hb ht ho = walk_then hb (walk_do form_flow_here (tt, omega (arith, low)) refl (walk_then ht (walk_do in_handler (w, ee, j) tt (walk_label en ho))))
 
-    pub typed_walks : (final : Bool) (next end : ℕ) (type body others : List (Item K)) (u w : Shape) → at next ≡ Some in_handler → at end ≡ Some w → Joins u w → WalksOn type (shape (2 + h) (mark HandlerSort h ∷ ms)) (shape (3 + h) (mark HandlerSort h ∷ ms)) → WalksOn body in_handler in_body → WalksOn (tail_code final) here u → WalksOn others in_handler here → WalksOn (typed_code final next end type body others) in_handler here
+    pub typed_walks : (final : Bool) (next end : ℕ) (type body others : List (Item K)) (u w : Shape) → at next ≡ Some in_handler → at end ≡ Some w → Joins u w
+        → WalksOn type (shape (2 + h) (mark HandlerSort h ∷ ms)) (shape (3 + h) (mark HandlerSort h ∷ ms)) → WalksOn body in_handler in_body
+        → WalksOn (tail_code final) form_flow_here u → WalksOn others in_handler form_flow_here
+        → WalksOn (typed_code final next end type body others) in_handler form_flow_here
     typed_walks final next end type body others u w en ee j hy hb ht ho =
         let hs : List Mark = mark HandlerSort h ∷ ms in
         walk_do (shape (2 + h) hs) (omega arith) (level _ _ hs (omega arith)) (walk_then hy (walk_do (shape (2 + h) hs) (omega arith) (level _ _ hs (omega arith)) (walk_do in_handler ((omega arith), en ∙ ap Some (level _ _ hs (omega arith))) (level _ _ hs (omega arith)) (any_walks final next end body others u w en ee j hb ht ho))))
@@ -140,25 +158,29 @@ module _ (K : Type 0) (at : ℕ → Option Shape) where
     in_open = shape h (mark OpenSort h ∷ ms)
 
     pub tail_walks : WalksOn (tail_code true) in_finally in_open
-    tail_walks = walk_do here (tt, omega (arith, low)) refl (walk_do in_open tt refl (walk_none in_open))
+    tail_walks = walk_do form_flow_here (tt, omega (arith, low)) refl (walk_do in_open tt refl (walk_none in_open))
 
-    pub last_walks : (handler : ℕ) (inner last : List (Item K)) → at handler ≡ Some in_last → WalksOn inner in_finally in_open → WalksOn last in_last in_last → WalksOn (last_code handler inner last) here here
+    pub last_walks : (handler : ℕ) (inner last : List (Item K)) → at handler ≡ Some in_last → WalksOn inner in_finally in_open → WalksOn last in_last in_last
+        → WalksOn (last_code handler inner last) form_flow_here form_flow_here
     last_walks handler inner last eh hi hl =
-        walk_do in_finally eh refl (walk_then hi (walk_join eh (inr (inl refl)) (walk_then hl (walk_do here (tt, refl, omega (arith, low)) refl (walk_none here)))))
+        walk_do in_finally eh refl (walk_then hi (walk_join eh (inr (inl refl)) (walk_then hl (walk_do form_flow_here (tt, refl, omega (arith, low)) refl (walk_none form_flow_here)))))
 
     -- a with: the exit lies below its block
-    pub with_walks : (handler : ℕ) (item body : List (Item K)) → at handler ≡ Some (shape (1 + h) (mark CleanupSort (1 + h) ∷ ms)) → WalksOn item here (up 1) → WalksOn body (shape (2 + h) (mark ExitSort (1 + h) ∷ ms)) (shape (1 + h) (mark ExitSort (1 + h) ∷ ms)) → WalksOn (with_code handler item body) here here
+    pub with_walks : (handler : ℕ) (item body : List (Item K)) → at handler ≡ Some (shape (1 + h) (mark CleanupSort (1 + h) ∷ ms))
+        → WalksOn item form_flow_here (up 1) → WalksOn body (shape (2 + h) (mark ExitSort (1 + h) ∷ ms)) (shape (1 + h) (mark ExitSort (1 + h) ∷ ms))
+        → WalksOn (with_code handler item body) form_flow_here form_flow_here
     with_walks handler item body eh hi hb =
         let hs : List Mark = mark CleanupSort (1 + h) ∷ ms in
         walk_then hi (walk_do (shape (2 + h) (mark ExitSort (1 + h) ∷ ms)) ((omega (arith, low)), eh) (level _ _ (mark ExitSort (1 + h) ∷ ms) (omega arith))
-        (walk_then hb (walk_do (up 1) (tt, omega (arith, low)) refl (walk_do (shape (1 + h) (mark OpenSort (1 + h) ∷ ms)) tt refl (walk_join eh (inr (inr refl)) (walk_do (shape (1 + h) hs) (tt, (omega arith)) refl (walk_do here (tt, (omega arith), refl, omega (arith, low)) (level _ _ ms (omega arith)) (walk_none here))))))))
+        (walk_then hb (walk_do (up 1) (tt, omega (arith, low)) refl (walk_do (shape (1 + h) (mark OpenSort (1 + h) ∷ ms)) tt refl (walk_join eh (inr (inr refl)) (walk_do (shape (1 + h) hs) (tt, (omega arith)) refl (walk_do form_flow_here (tt, (omega arith), refl, omega (arith, low)) (level _ _ ms (omega arith)) (walk_none form_flow_here))))))))
 
-    pub augment_walks : (held value : List (Item K)) (get op put : Operation) → WalksOn held here (up 1) → WalksOn value (up 2) (up 3) → WalksOn (augment_code held get value op put) here here
+    pub augment_walks : (held value : List (Item K)) (get op put : Operation) → WalksOn held form_flow_here (up 1) → WalksOn value (up 2) (up 3)
+        → WalksOn (augment_code held get value op put) form_flow_here form_flow_here
     augment_walks held value get op put hh hv =
-        walk_then hh (walk_do (up 2) (omega (arith, low)) (level _ _ ms (omega arith)) (walk_do (up 2) (omega (arith, low)) (level _ _ ms (omega arith)) (walk_then hv (walk_do (up 2) (omega (arith, low)) (level _ _ ms (omega arith)) (walk_do (up 2) (omega (arith, low)) refl (walk_do here (omega (arith, low)) (level _ _ ms (omega arith)) (walk_none here)))))))
+        walk_then hh (walk_do (up 2) (omega (arith, low)) (level _ _ ms (omega arith)) (walk_do (up 2) (omega (arith, low)) (level _ _ ms (omega arith)) (walk_then hv (walk_do (up 2) (omega (arith, low)) (level _ _ ms (omega arith)) (walk_do (up 2) (omega (arith, low)) refl (walk_do form_flow_here (omega (arith, low)) (level _ _ ms (omega arith)) (walk_none form_flow_here)))))))
 
-    pub append_walks : (a : List (Item K)) (o : Operation) (n d : ℕ) → suc d ≤ h → WalksOn a here (up n) → WalksOn (a ++ Do (Append o n d) ∷ []) here here
-    append_walks a o n d le ha = walk_then ha (walk_do here ((omega (arith, low)), (omega (arith, le))) (level _ _ ms (omega arith)) (walk_none here))
+    pub append_walks : (a : List (Item K)) (o : Operation) (n d : ℕ) → suc d ≤ h → WalksOn a form_flow_here (up n) → WalksOn (a ++ Do (Append o n d) ∷ []) form_flow_here form_flow_here
+    append_walks a o n d le ha = walk_then ha (walk_do form_flow_here ((omega (arith, low)), (omega (arith, le))) (level _ _ ms (omega arith)) (walk_none form_flow_here))
 
-    pub unpack_walks : (o : Operation) (n : ℕ) (b : List (Item K)) → WalksOn b (up n) here → WalksOn (Do (Unpack o n) ∷ b) (up 1) here
+    pub unpack_walks : (o : Operation) (n : ℕ) (b : List (Item K)) → WalksOn b (up n) form_flow_here → WalksOn (Do (Unpack o n) ∷ b) (up 1) form_flow_here
     unpack_walks o n b hb = walk_do (up n) (omega (arith, low)) (level _ _ ms (omega arith)) hb

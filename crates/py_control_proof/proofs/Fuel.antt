@@ -2,7 +2,7 @@
 use Rattle.std.proofs.Common.{◌≡◌, ℕ, zero, suc, ◌+◌, [], None, refl, ap, ◌∙◌, suc-add, length, ◌≤◌, nat_le, List, Bool, true, false}
 use Rattle.py_bytecode.specs.Values.{World, Event, Outcome, choose}
 use Rattle.std.proofs.lemmas.Bool.{le-leb}
-use Rattle.py_bytecode.specs.Machine.{Fetched, Config, At, Over, act_at, step, steps, result, machine, limited, limited_steps, limited_machine}
+use Rattle.py_bytecode.specs.Machine.{Fetched, Config, At, Over, act_at, step, steps, result, machine, limited_config, limited_steps, limited_machine}
 use Rattle.py_control_proof.specs.Laws.{IsEnd}
 
 module _ {K P : Type 0} (fetch fetch1 : P → Fetched K P) (h : (p : P) → fetch p ≡ fetch1 p) where
@@ -20,7 +20,7 @@ module _ {K P : Type 0} (fetch fetch1 : P → Fetched K P) (h : (p : P) → fetc
 
   pub limited_steps_alike : (height n : ℕ) (c : Config K P) → limited_steps fetch height n c ≡ limited_steps fetch1 height n c
   limited_steps_alike height zero c = refl
-  limited_steps_alike height (suc n) c = limited_steps_alike height n (limited height (step fetch c)) ∙ ap (λ d. limited_steps fetch1 height n (limited height d)) (step_alike c)
+  limited_steps_alike height (suc n) c = limited_steps_alike height n (limited_config height (step fetch c)) ∙ ap (λ d. limited_steps fetch1 height n (limited_config height d)) (step_alike c)
 
   pub limited_alike : (height n : ℕ) (p : P) (w : World K) → limited_machine fetch height n p w ≡ limited_machine fetch1 height n p w
   limited_alike height n p w = ap result (limited_steps_alike height n (At p [] [] None w))
@@ -47,7 +47,7 @@ module _ {K P : Type 0} (fetch : P → Fetched K P) where
   more_limited : (height n k : ℕ) (c : Config K P) → IsEnd (result (limited_steps fetch height n c)).outcome → result (limited_steps fetch height (n + k) c) ≡ result (limited_steps fetch height n c)
   more_limited height zero k (At p s bs slot w) e = absurd e
   more_limited height zero k (Over events o) e = ap result (over_limited height (zero + k) events o)
-  more_limited height (suc n) k c e = ap (λ m. result (limited_steps fetch height m c)) (suc-add n k) ∙ more_limited height n k (limited height (step fetch c)) e
+  more_limited height (suc n) k c e = ap (λ m. result (limited_steps fetch height m c)) (suc-add n k) ∙ more_limited height n k (limited_config height (step fetch c)) e
 
   pub more_limited_fuel : (height n k : ℕ) (p : P) (w : World K) → IsEnd (limited_machine fetch height n p w).outcome → limited_machine fetch height (n + k) p w ≡ limited_machine fetch height n p w
   more_limited_fuel height n k p w e = more_limited height n k (At p [] [] None w) e
@@ -58,12 +58,12 @@ height_of (Over events o) = 0
 
 -- a machine whose states keep what implies a height within the limit runs as if there were none
 module _ {K P : Type 0} (fetch : P → Fetched K P) (limit : ℕ) (Keeps : Config K P → Type 0) (next : (c : Config K P) → Keeps c → Keeps (step fetch c)) (low : (c : Config K P) → Keeps c → height_of c ≤ limit) where
-  within : (b : Bool) (c d : Config K P) → b ≡ true → choose b c d ≡ c
-  within true c d e = refl
-  within false c d e = absurd cc
+  fuel_within : (b : Bool) (c d : Config K P) → b ≡ true → choose b c d ≡ c
+  fuel_within true c d e = refl
+  fuel_within false c d e = absurd cc
 
-  limited_same : (c : Config K P) → height_of c ≤ limit → limited limit c ≡ c
-  limited_same (At p s bs slot w) h = within (nat_le (length s) limit) _ _ (le-leb (length s) limit h)
+  limited_same : (c : Config K P) → height_of c ≤ limit → limited_config limit c ≡ c
+  limited_same (At p s bs slot w) h = fuel_within (nat_le (length s) limit) _ _ (le-leb (length s) limit h)
   limited_same (Over events o) h = refl
 
   steps_within : (n : ℕ) (c : Config K P) → Keeps c → limited_steps fetch limit n c ≡ steps fetch n c

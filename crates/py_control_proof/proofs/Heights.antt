@@ -19,9 +19,9 @@ widened : (a b : ℕ) → a ≤ b → (us : List Shape) → AllBounded a us → 
 widened a b le [] h = tt
 widened a b le (u ∷ us) h = ((h.0.0, omega (arith, h.0.1)), widened a b le us h.1)
 
-parts : (a b top : ℕ) (us vs : List Shape) → AllBounded a us → a ≤ top → AllBounded b vs → b ≤ top → AllBounded top (us ++ vs)
-parts a b top [] vs h le g le2 = widened b top le2 vs g
-parts a b top (u ∷ us) vs h le g le2 = ((h.0.0, omega (arith, h.0.1)), parts a b top us vs h.1 le g le2)
+height_parts : (a b top : ℕ) (us vs : List Shape) → AllBounded a us → a ≤ top → AllBounded b vs → b ≤ top → AllBounded top (us ++ vs)
+height_parts a b top [] vs h le g le2 = widened b top le2 vs g
+height_parts a b top (u ∷ us) vs h le g le2 = ((h.0.0, omega (arith, h.0.1)), height_parts a b top us vs h.1 le g le2)
 
 module _ {K : Type 0} where
   pub rises-append : (a b : List (Item K)) → rises (a ++ b) ≡ rises a + rises b
@@ -63,7 +63,7 @@ module _ {K : Type 0} (i : Interp K) where
     high_v (VOp o fs) n h ms low = widened _ _ (simp rises-append (omega arith)) _ (high_vs fs n h ms low)
     high_v (VMake fl a s m b) n h ms low =
         let r = values_rise a n in
-        parts _ _ _ _ _ (high_vs a n h ms low) (simp rises-append (omega arith)) (high_vs b (n + labels_vs a) (count a + h) ms (omega (arith, low))) (simp rises-append (omega (arith, r)))
+        height_parts _ _ _ _ _ (high_vs a n h ms low) (simp rises-append (omega arith)) (high_vs b (n + labels_vs a) (count a + h) ms (omega (arith, low))) (simp rises-append (omega (arith, r)))
     high_v (VShort d ss) n h ms low =
         let r = shorts_rise ss d n (1 + n) in
         ((omega (arith, low), simp rises-append (omega (arith, r))), widened _ _ (simp rises-append (omega arith)) _ (high_ss ss d n (1 + n) h ms low))
@@ -73,8 +73,8 @@ module _ {K : Type 0} (i : Interp K) where
           (omega (arith, low), simp rises-append (omega (arith, r, q))),
           (
             (omega (arith, low), simp rises-append (omega (arith, r))),
-            parts _ (h + rises (code_v i (VChain f o g ls) n)) _ _ _ (high_v f (2 + n) h ms low) (simp rises-append (omega arith))
-                (parts _ _ _ _ _ (high_v g (2 + n + labels_v f) (1 + h) ms (omega (arith, low))) (simp rises-append (omega (arith, r))) (high_ls ls n (2 + n + labels_v f + labels_v g) h ms low) (simp rises-append (omega (arith, r)))) (omega arith),
+            height_parts _ (h + rises (code_v i (VChain f o g ls) n)) _ _ _ (high_v f (2 + n) h ms low) (simp rises-append (omega arith))
+                (height_parts _ _ _ _ _ (high_v g (2 + n + labels_v f) (1 + h) ms (omega (arith, low))) (simp rises-append (omega (arith, r))) (high_ls ls n (2 + n + labels_v f + labels_v g) h ms low) (simp rises-append (omega (arith, r)))) (omega arith),
           ),
         )
     high_v (VChoice t a b) n h ms low =
@@ -82,35 +82,35 @@ module _ {K : Type 0} (i : Interp K) where
           (omega (arith, low), omega arith),
           (
             (omega (arith, low), simp rises-append (omega (arith, r))),
-            parts _ (h + rises (code_v i (VChoice t a b) n)) _ _ _ (high_t t false n (2 + n) h ms low) (simp rises-append (omega arith))
-                (parts _ _ _ _ _ (high_v a (2 + n + labels_t t false) h ms low) (simp rises-append (omega arith)) (high_v b (2 + n + labels_t t false + labels_v a) h ms low) (simp rises-append (omega arith))) (omega arith),
+            height_parts _ (h + rises (code_v i (VChoice t a b) n)) _ _ _ (high_t t false n (2 + n) h ms low) (simp rises-append (omega arith))
+                (height_parts _ _ _ _ _ (high_v a (2 + n + labels_t t false) h ms low) (simp rises-append (omega arith)) (high_v b (2 + n + labels_t t false + labels_v a) h ms low) (simp rises-append (omega arith))) (omega arith),
           ),
         )
     high_v (VKeep f how t) n h ms low =
         let r = value_rise f n in
         let k = rise_kept K how in
-        parts _ _ _ _ _ (high_v f n h ms low) (simp rises-append (omega arith)) (high_g t (n + labels_v f) (1 + h) ms (omega (arith, low))) (simp rises-append (omega (arith, r, k)))
+        height_parts _ _ _ _ _ (high_v f n h ms low) (simp rises-append (omega arith)) (high_g t (n + labels_v f) (1 + h) ms (omega (arith, low))) (simp rises-append (omega (arith, r, k)))
     high_v (VSwap o a b fs) n h ms low =
         let r = value_rise a n in
         let q = value_rise b (n + labels_v a) in
-        parts _ (h + rises (code_v i (VSwap o a b fs) n)) _ _ _ (high_v a n h ms low) (simp rises-append (omega arith))
-        (parts _ _ _ _ _ (high_v b (n + labels_v a) (1 + h) ms (omega (arith, low))) (simp rises-append (omega (arith, r))) (high_vs fs (n + labels_v a + labels_v b) (2 + h) ms (omega (arith, low))) (simp rises-append (omega (arith, r, q)))) (omega arith)
+        height_parts _ (h + rises (code_v i (VSwap o a b fs) n)) _ _ _ (high_v a n h ms low) (simp rises-append (omega arith))
+        (height_parts _ _ _ _ _ (high_v b (n + labels_v a) (1 + h) ms (omega (arith, low))) (simp rises-append (omega (arith, r))) (high_vs fs (n + labels_v a + labels_v b) (2 + h) ms (omega (arith, low))) (simp rises-append (omega (arith, r, q)))) (omega arith)
     high_v (VAt p f) n h ms low = high_v f n h ms low
 
     high_vs : (fs : VForms) (n h : ℕ) (ms : List Mark) → floor ms ≤ h → AllBounded (h + rises (code_vs i fs n)) (shapes_vs fs h ms)
     high_vs VNone n h ms low = tt
     high_vs (VMore f fs) n h ms low =
         let r = value_rise f n in
-        parts _ _ _ _ _ (high_v f n h ms low) (simp rises-append (omega arith)) (high_vs fs (n + labels_v f) (1 + h) ms (omega (arith, low))) (simp rises-append (omega (arith, r)))
-    high_vs (VMethod o f fs) n h ms low = parts _ _ _ _ _ (high_v f n h ms low) (simp rises-append (omega arith)) (high_vs fs (n + labels_v f) (3 + h) ms (omega (arith, low))) (simp rises-append (omega arith))
+        height_parts _ _ _ _ _ (high_v f n h ms low) (simp rises-append (omega arith)) (high_vs fs (n + labels_v f) (1 + h) ms (omega (arith, low))) (simp rises-append (omega (arith, r)))
+    high_vs (VMethod o f fs) n h ms low = height_parts _ _ _ _ _ (high_v f n h ms low) (simp rises-append (omega arith)) (high_vs fs (n + labels_v f) (3 + h) ms (omega (arith, low))) (simp rises-append (omega arith))
 
     high_ss : (ss : Shorts) (d : Bool) (end n h : ℕ) (ms : List Mark) → floor ms ≤ h → AllBounded (h + rises (code_ss i ss d end n)) (shapes_ss ss h ms)
     high_ss (OneShort f) d end n h ms low = high_v f n h ms low
-    high_ss (MoreShort f ss) d end n h ms low = parts _ _ _ _ _ (high_v f n h ms low) (simp rises-append (omega arith)) (high_ss ss d end (n + labels_v f) h ms low) (simp rises-append (omega arith))
+    high_ss (MoreShort f ss) d end n h ms low = height_parts _ _ _ _ _ (high_v f n h ms low) (simp rises-append (omega arith)) (high_ss ss d end (n + labels_v f) h ms low) (simp rises-append (omega arith))
 
     high_ls : (ls : Links) (out n h : ℕ) (ms : List Mark) → floor ms ≤ h → AllBounded (1 + h + rises (code_ls i ls out n)) (shapes_ls ls h ms)
     high_ls (LastLink o f) out n h ms low = widened _ _ (simp rises-append (omega arith)) _ (high_v f n (1 + h) ms (omega (arith, low)))
-    high_ls (MoreLink o f ls) out n h ms low = parts _ _ _ _ _ (high_v f n (1 + h) ms (omega (arith, low))) (simp rises-append (omega arith)) (high_ls ls out (n + labels_v f) h ms low) (simp rises-append (omega arith))
+    high_ls (MoreLink o f ls) out n h ms low = height_parts _ _ _ _ _ (high_v f n (1 + h) ms (omega (arith, low))) (simp rises-append (omega arith)) (high_ls ls out (n + labels_v f) h ms low) (simp rises-append (omega arith))
 
     high_t : (t : TForm) (c : Bool) (to n h : ℕ) (ms : List Mark) → floor ms ≤ h → AllBounded (h + rises (code_t i t c to n)) (shapes_t t c h ms)
     high_t (TTruth f) c to n h ms low = widened _ _ (simp rises-append (omega arith)) _ (high_v f n h ms low)
@@ -121,7 +121,7 @@ module _ {K : Type 0} (i : Interp K) where
     high_ts : (ts : Tests) (c : Bool) (to out n h : ℕ) (ms : List Mark) → floor ms ≤ h → AllBounded (h + rises (code_ts i ts c to out n)) (shapes_ts ts c h ms)
     high_ts (OneTest t) c to out n h ms low = high_t t c to n h ms low
     high_ts (MoreTest t ts) c to out n h ms low =
-        parts _ _ _ _ _ (high_t t false out n h ms low) (simp rises-append (omega arith)) (high_ts ts c to out (n + labels_t t false) h ms low) (simp rises-append (omega arith))
+        height_parts _ _ _ _ _ (high_t t false out n h ms low) (simp rises-append (omega arith)) (high_ts ts c to out (n + labels_t t false) h ms low) (simp rises-append (omega arith))
 
     high_g : (t : Target) (n h : ℕ) (ms : List Mark) → floor ms ≤ h → AllBounded (1 + h + rises (code_g i t n)) (shapes_g t h ms)
     high_g (GStore x m) n h ms low = tt
@@ -133,12 +133,12 @@ module _ {K : Type 0} (i : Interp K) where
     high_gs : (ts : Targets) (n h : ℕ) (ms : List Mark) → floor ms ≤ h → AllBounded (targets ts + h + rises (code_gs i ts n)) (shapes_gs ts h ms)
     high_gs NoTarget n h ms low = tt
     high_gs (MoreTarget t ts) n h ms low =
-        parts _ _ _ _ _ (high_g t n (targets ts + h) ms (omega (arith, low))) (simp rises-append (omega arith)) (high_gs ts (n + labels_g t) h ms low) (simp rises-append (omega arith))
+        height_parts _ _ _ _ _ (high_g t n (targets ts + h) ms (omega (arith, low))) (simp rises-append (omega arith)) (high_gs ts (n + labels_g t) h ms low) (simp rises-append (omega arith))
 
   high_bs : (bs : Filters) (to n h : ℕ) (ms : List Mark) → floor ms ≤ h → AllBounded (h + rises (code_bs i bs to n)) (shapes_bs bs h ms)
   high_bs NoFilter to n h ms low = tt
   high_bs (MoreFilter t bs) to n h ms low =
-      parts _ _ _ _ _ (high_t t false to n h ms low) (simp rises-append (omega arith)) (high_bs bs to (n + labels_t t false) h ms low) (simp rises-append (omega arith))
+      height_parts _ _ _ _ _ (high_t t false to n h ms low) (simp rises-append (omega arith)) (high_bs bs to (n + labels_t t false) h ms low) (simp rises-append (omega arith))
 
   high_return : (f : VForm) (n h : ℕ) (ms : List Mark) → floor ms ≤ h → AllBounded (h + rises (return_code i f n)) (shapes_v f h ms)
   high_return (VConst c) n h ms low = tt
@@ -152,7 +152,9 @@ module _ {K : Type 0} (i : Interp K) where
   high_return (VSwap o a b fs) n h ms low = widened (h + rises (code_v i (VSwap o a b fs) n)) (h + rises (return_code i (VSwap o a b fs) n)) (simp rises-append (omega arith)) (shapes_v (VSwap o a b fs) h ms) (high_v (VSwap o a b fs) n h ms low)
   high_return (VAt p f) n h ms low = high_return f n h ms low
 
-  high_c : (cs : Clauses) (part : ℕ → ℕ → List (Item K)) (leaf : ℕ → List Shape) (ms : List Mark) → ((d n h : ℕ) → floor ms ≤ h → AllBounded (h + rises (part d n)) (leaf h)) → (d n h : ℕ) → floor ms ≤ h → AllBounded (h + rises (code_c i cs part d n)) (shapes_c cs leaf h ms)
+  high_c : (cs : Clauses) (part : ℕ → ℕ → List (Item K)) (leaf : ℕ → List Shape) (ms : List Mark)
+      → ((d n h : ℕ) → floor ms ≤ h → AllBounded (h + rises (part d n)) (leaf h)) → (d n h : ℕ) → floor ms ≤ h
+      → AllBounded (h + rises (code_c i cs part d n)) (shapes_c cs leaf h ms)
   high_c CLast part leaf ms lf d n h low = lf d n h low
   high_c (CEach f t bs cs) part leaf ms lf d n h low =
       let r = value_rise f (2 + n) in
@@ -160,27 +162,27 @@ module _ {K : Type 0} (i : Interp K) where
         (omega (arith, low), simp rises-append (omega (arith, r))),
         (
           (low, omega arith),
-          parts _ top _ _ _ (high_v f (2 + n) h ms low) (simp rises-append (omega arith))
-              (parts _ top _ _ _ (high_g t (2 + n + labels_v f) (1 + h) ms (omega (arith, low))) (simp rises-append (omega (arith, r)))
-              (parts _ _ _ _ _ (high_bs bs n (2 + n + labels_v f + labels_g t) (1 + h) ms (omega (arith, low))) (simp rises-append (omega (arith, r))) (high_c cs part leaf ms lf (suc d) (2 + n + labels_v f + labels_g t + labels_bs bs) (1 + h) (omega (arith, low))) (simp rises-append (omega (arith, r)))) (omega arith)) (omega arith),
+          height_parts _ top _ _ _ (high_v f (2 + n) h ms low) (simp rises-append (omega arith))
+              (height_parts _ top _ _ _ (high_g t (2 + n + labels_v f) (1 + h) ms (omega (arith, low))) (simp rises-append (omega (arith, r)))
+              (height_parts _ _ _ _ _ (high_bs bs n (2 + n + labels_v f + labels_g t) (1 + h) ms (omega (arith, low))) (simp rises-append (omega (arith, r))) (high_c cs part leaf ms lf (suc d) (2 + n + labels_v f + labels_g t + labels_bs bs) (1 + h) (omega (arith, low))) (simp rises-append (omega (arith, r)))) (omega arith)) (omega arith),
         ),
       )
 
   mutual
     pub high : (f : SForm) (l : Loops) (n h : ℕ) (ms : List Mark) → floor ms ≤ h → AllBounded (h + rises (code i f l n)) (shapes f h ms)
     high SSkip l n h ms low = tt
-    high (SThen a b) l n h ms low = parts _ _ _ _ _ (high a l n h ms low) (simp rises-append (omega arith)) (high b l (n + labels a) h ms low) (simp rises-append (omega arith))
+    high (SThen a b) l n h ms low = height_parts _ _ _ _ _ (high a l n h ms low) (simp rises-append (omega arith)) (high b l (n + labels a) h ms low) (simp rises-append (omega arith))
     high (SDo o r fs) l n h ms low = widened _ _ (simp rises-append (omega arith)) _ (high_vs fs n h ms low)
     high (SInto f t) l n h ms low =
         let r = value_rise f n in
-        parts _ _ _ _ _ (high_v f n h ms low) (simp rises-append (omega arith)) (high_g t (n + labels_v f) h ms low) (simp rises-append (omega (arith, r)))
+        height_parts _ _ _ _ _ (high_v f n h ms low) (simp rises-append (omega arith)) (high_g t (n + labels_v f) h ms low) (simp rises-append (omega (arith, r)))
     high (SRemove x m) l n h ms low = tt
-    high (SIf t a) l n h ms low = ((low, omega arith), parts _ _ _ _ _ (high_t t false n (1 + n) h ms low) (simp rises-append (omega arith)) (high a l (1 + n + labels_t t false) h ms low) (simp rises-append (omega arith)))
+    high (SIf t a) l n h ms low = ((low, omega arith), height_parts _ _ _ _ _ (high_t t false n (1 + n) h ms low) (simp rises-append (omega arith)) (high a l (1 + n + labels_t t false) h ms low) (simp rises-append (omega arith)))
     high (SIfElse t a b) l n h ms low =
-        let top : ℕ = h + rises (code i (SIfElse t a b) l n) in ((low, omega arith), ((low, omega arith), parts _ top _ _ _ (high_t t false n (2 + n) h ms low) (simp rises-append (omega arith)) (parts _ _ _ _ _ (high a l (2 + n + labels_t t false) h ms low) (simp rises-append (omega arith)) (high b l (2 + n + labels_t t false + labels a) h ms low) (simp rises-append (omega arith))) (omega arith)))
+        let top : ℕ = h + rises (code i (SIfElse t a b) l n) in ((low, omega arith), ((low, omega arith), height_parts _ top _ _ _ (high_t t false n (2 + n) h ms low) (simp rises-append (omega arith)) (height_parts _ _ _ _ _ (high a l (2 + n + labels_t t false) h ms low) (simp rises-append (omega arith)) (high b l (2 + n + labels_t t false + labels a) h ms low) (simp rises-append (omega arith))) (omega arith)))
     high (SWhile t a b) l n h ms low =
         let top : ℕ = h + rises (code i (SWhile t a b) l n) in
-        let ns : List Mark = mark LoopSort h ∷ ms in ((omega arith, omega arith), ((omega arith, omega arith), ((low, omega arith), parts _ top _ _ _ (high_t t false (1 + n) (3 + n) h ns (omega arith)) (simp rises-append (omega arith)) (parts _ _ _ _ _ (high a (record { inside = true; on_break = 2 + n; on_continue = n }) (3 + n + labels_t t false) h ns (omega arith)) (simp rises-append (omega arith)) (high b l (3 + n + labels_t t false + labels a) h ms low) (simp rises-append (omega arith))) (omega arith))))
+        let ns : List Mark = mark LoopSort h ∷ ms in ((omega arith, omega arith), ((omega arith, omega arith), ((low, omega arith), height_parts _ top _ _ _ (high_t t false (1 + n) (3 + n) h ns (omega arith)) (simp rises-append (omega arith)) (height_parts _ _ _ _ _ (high a (record { inside = true; on_break = 2 + n; on_continue = n }) (3 + n + labels_t t false) h ns (omega arith)) (simp rises-append (omega arith)) (high b l (3 + n + labels_t t false + labels a) h ms low) (simp rises-append (omega arith))) (omega arith))))
     high (SFor f t a b) l n h ms low =
         let r = value_rise f (3 + n) in
         let top : ℕ = h + rises (code i (SFor f t a b) l n) in
@@ -190,9 +192,9 @@ module _ {K : Type 0} (i : Interp K) where
             (omega arith, omega arith),
             (
               (low, omega arith),
-              parts _ top _ _ _ (high_v f (3 + n) h ns (omega arith)) (simp rises-append (omega arith))
-                  (parts _ top _ _ _ (high_g t (3 + n + labels_v f) (1 + h) ns (omega arith)) (simp rises-append (omega (arith, r)))
-                  (parts _ _ _ _ _ (high a (record { inside = true; on_break = 2 + n; on_continue = n }) (3 + n + labels_v f + labels_g t) (1 + h) ns (omega arith)) (simp rises-append (omega (arith, r))) (high b l (3 + n + labels_v f + labels_g t + labels a) h ms low) (simp rises-append (omega arith))) (omega arith)) (omega arith),
+              height_parts _ top _ _ _ (high_v f (3 + n) h ns (omega arith)) (simp rises-append (omega arith))
+                  (height_parts _ top _ _ _ (high_g t (3 + n + labels_v f) (1 + h) ns (omega arith)) (simp rises-append (omega (arith, r)))
+                  (height_parts _ _ _ _ _ (high a (record { inside = true; on_break = 2 + n; on_continue = n }) (3 + n + labels_v f + labels_g t) (1 + h) ns (omega arith)) (simp rises-append (omega (arith, r))) (high b l (3 + n + labels_v f + labels_g t + labels a) h ms low) (simp rises-append (omega arith))) (omega arith)) (omega arith),
             ),
           ),
         )
@@ -203,14 +205,14 @@ module _ {K : Type 0} (i : Interp K) where
     high SReraise l n h ms low = tt
     high (SAugment f get v op put) l n h ms low =
         let r = value_rise f n in
-        parts _ _ _ _ _ (high_v f n h ms low) (simp rises-append (omega arith)) (high_v v (n + labels_v f) (2 + h) ms (omega (arith, low))) (simp rises-append (omega (arith, r)))
+        height_parts _ _ _ _ _ (high_v f n h ms low) (simp rises-append (omega arith)) (high_v v (n + labels_v f) (2 + h) ms (omega (arith, low))) (simp rises-append (omega (arith, r)))
     high (SAugmentTwo f g get v op put) l n h ms low =
         let r = value_rise f n in
         let q = value_rise g (n + labels_v f) in
         let top : ℕ = h + rises (code i (SAugmentTwo f g get v op put) l n) in
-        parts _ top _ _ _ (high_v f n h ms low) (simp rises-append (omega arith)) (parts _ _ _ _ _ (high_v g (n + labels_v f) (1 + h) ms (omega (arith, low))) (simp rises-append (omega (arith, r))) (high_v v (n + labels_v f + labels_v g) (3 + h) ms (omega (arith, low))) (simp rises-append (omega (arith, r, q)))) (omega arith)
+        height_parts _ top _ _ _ (high_v f n h ms low) (simp rises-append (omega arith)) (height_parts _ _ _ _ _ (high_v g (n + labels_v f) (1 + h) ms (omega (arith, low))) (simp rises-append (omega (arith, r))) (high_v v (n + labels_v f + labels_v g) (3 + h) ms (omega (arith, low))) (simp rises-append (omega (arith, r, q)))) (omega arith)
     high (STry a hs b) l n h ms low =
-        let top : ℕ = h + rises (code i (STry a hs b) l n) in ((omega arith, simp rises-append (omega arith)), ((low, omega arith), ((low, omega arith), parts _ top _ _ _ (high a l (3 + n) h (mark ExceptSort h ∷ ms) (omega arith)) (simp rises-append (omega arith)) (parts _ _ _ _ _ (high_h hs false l (2 + n) (3 + n + labels a) h ms low) (simp rises-append (omega arith)) (high b l (3 + n + labels a + labels_h hs) h ms low) (simp rises-append (omega arith))) (omega arith))))
+        let top : ℕ = h + rises (code i (STry a hs b) l n) in ((omega arith, simp rises-append (omega arith)), ((low, omega arith), ((low, omega arith), height_parts _ top _ _ _ (high a l (3 + n) h (mark ExceptSort h ∷ ms) (omega arith)) (simp rises-append (omega arith)) (height_parts _ _ _ _ _ (high_h hs false l (2 + n) (3 + n + labels a) h ms low) (simp rises-append (omega arith)) (high b l (3 + n + labels a + labels_h hs) h ms low) (simp rises-append (omega arith))) (omega arith))))
     high (STryFinal a hs b e) l n h ms low =
         let top : ℕ = h + rises (code i (STryFinal a hs b e) l n) in
         let ns : List Mark = mark FinallySort h ∷ ms in (
@@ -219,18 +221,18 @@ module _ {K : Type 0} (i : Interp K) where
             (omega arith, omega arith),
             (
               (omega arith, omega arith),
-              parts _ top _ _ _ (high a l (3 + n) h (mark ExceptSort h ∷ ns) (omega arith)) (simp rises-append (omega arith))
-                  (parts _ top _ _ _ (high_h hs true l (2 + n) (3 + n + labels a) h ns (omega arith)) (simp rises-append (omega arith))
-                  (parts _ _ _ _ _ (high b l (3 + n + labels a + labels_h hs) h ns (omega arith)) (simp rises-append (omega arith)) (high e l (3 + n + labels a + labels_h hs + labels b) h (mark LastSort h ∷ ms) (omega arith)) (simp rises-append (omega arith))) (omega arith)) (omega arith),
+              height_parts _ top _ _ _ (high a l (3 + n) h (mark ExceptSort h ∷ ns) (omega arith)) (simp rises-append (omega arith))
+                  (height_parts _ top _ _ _ (high_h hs true l (2 + n) (3 + n + labels a) h ns (omega arith)) (simp rises-append (omega arith))
+                  (height_parts _ _ _ _ _ (high b l (3 + n + labels a + labels_h hs) h ns (omega arith)) (simp rises-append (omega arith)) (high e l (3 + n + labels a + labels_h hs + labels b) h (mark LastSort h ∷ ms) (omega arith)) (simp rises-append (omega arith))) (omega arith)) (omega arith),
             ),
           ),
         )
     high (SFinally a e) l n h ms low =
-        ((omega arith, omega arith), parts _ _ _ _ _ (high a l (1 + n) h (mark FinallySort h ∷ ms) (omega arith)) (simp rises-append (omega arith)) (high e l (1 + n + labels a) h (mark LastSort h ∷ ms) (omega arith)) (simp rises-append (omega arith)))
+        ((omega arith, omega arith), height_parts _ _ _ _ _ (high a l (1 + n) h (mark FinallySort h ∷ ms) (omega arith)) (simp rises-append (omega arith)) (high e l (1 + n + labels a) h (mark LastSort h ∷ ms) (omega arith)) (simp rises-append (omega arith)))
     high (SWith f t a) l n h ms low =
         let r = value_rise f (1 + n) in
         let ns : List Mark = mark ExitSort (1 + h) ∷ ms in
-        let top : ℕ = h + rises (code i (SWith f t a) l n) in ((omega arith, simp rises-append (omega (arith, r))), parts _ top _ _ _ (high_v f (1 + n) h ms low) (simp rises-append (omega arith)) (parts _ _ _ _ _ (high_g t (1 + n + labels_v f) (1 + h) ns (omega arith)) (simp rises-append (omega (arith, r))) (high a l (1 + n + labels_v f + labels_g t) (1 + h) ns (omega arith)) (simp rises-append (omega (arith, r)))) (omega arith))
+        let top : ℕ = h + rises (code i (SWith f t a) l n) in ((omega arith, simp rises-append (omega (arith, r))), height_parts _ top _ _ _ (high_v f (1 + n) h ms low) (simp rises-append (omega arith)) (height_parts _ _ _ _ _ (high_g t (1 + n + labels_v f) (1 + h) ns (omega arith)) (simp rises-append (omega (arith, r))) (high a l (1 + n + labels_v f + labels_g t) (1 + h) ns (omega arith)) (simp rises-append (omega (arith, r)))) (omega arith))
     high (SGather o cs p fs) l n h ms low =
         widened _ _ (simp rises-append (omega arith)) _ (high_c cs (append_code i p fs) (λ k. shapes_vs fs k ms) ms (λ d m k lo. widened _ _ (simp rises-append (omega arith)) _ (high_vs fs m k ms lo)) 0 n (1 + h) (omega (arith, low)))
     high (SGenerate cs f) l n h ms low = high_c cs (drop_code i f) (λ k. shapes_v f k ms) ms (λ d m k lo. widened _ _ (simp rises-append (omega arith)) _ (high_v f m k ms lo)) 0 n h low
@@ -240,14 +242,14 @@ module _ {K : Type 0} (i : Interp K) where
     high_h HNone final l end n h ms low = tt
     high_h (HAny t b hs) final l end n h ms low =
         let ns : List Mark = mark HandlerSort h ∷ ms in
-        let top : ℕ = 1 + h + rises (code_h i (HAny t b hs) final l end n) in ((omega arith, omega arith), parts _ top _ _ _ (high_g t (1 + n) h ns (omega arith)) (simp rises-append (omega arith)) (parts _ _ _ _ _ (high b l (1 + n + labels_g t) h ns (omega arith)) (simp rises-append (omega arith)) (high_h hs final l end (1 + n + labels_g t + labels b) h ms low) (simp rises-append (omega arith))) (omega arith))
+        let top : ℕ = 1 + h + rises (code_h i (HAny t b hs) final l end n) in ((omega arith, omega arith), height_parts _ top _ _ _ (high_g t (1 + n) h ns (omega arith)) (simp rises-append (omega arith)) (height_parts _ _ _ _ _ (high b l (1 + n + labels_g t) h ns (omega arith)) (simp rises-append (omega arith)) (high_h hs final l end (1 + n + labels_g t + labels b) h ms low) (simp rises-append (omega arith))) (omega arith))
     high_h (HTyped f t b hs) final l end n h ms low =
         let ns : List Mark = mark HandlerSort h ∷ ms in
         let top : ℕ = 1 + h + rises (code_h i (HTyped f t b hs) final l end n) in (
           (omega arith, omega arith),
-          parts _ top _ _ _ (high_v f (1 + n) (2 + h) ns (omega arith)) (simp rises-append (omega arith))
-              (parts _ top _ _ _ (high_g t (1 + n + labels_v f) h ns (omega arith)) (simp rises-append (omega arith))
-              (parts _ _ _ _ _ (high b l (1 + n + labels_v f + labels_g t) h ns (omega arith)) (simp rises-append (omega arith)) (high_h hs final l end (1 + n + labels_v f + labels_g t + labels b) h ms low) (simp rises-append (omega arith))) (omega arith)) (omega arith),
+          height_parts _ top _ _ _ (high_v f (1 + n) (2 + h) ns (omega arith)) (simp rises-append (omega arith))
+              (height_parts _ top _ _ _ (high_g t (1 + n + labels_v f) h ns (omega arith)) (simp rises-append (omega arith))
+              (height_parts _ _ _ _ _ (high b l (1 + n + labels_v f + labels_g t) h ns (omega arith)) (simp rises-append (omega arith)) (high_h hs final l end (1 + n + labels_v f + labels_g t + labels b) h ms low) (simp rises-append (omega arith))) (omega arith)) (omega arith),
         )
 
   -- the labels of a body are no higher than what its instructions give

@@ -5,7 +5,7 @@ use Rattle.py_bytecode.specs.Values.{Cell, flip}
 use Rattle.py_bytecode.specs.Machine.{Instr, ReturnValue}
 use Rattle.py_control.specs.Form.{VForm, VConst, VLoad, VOp, VMake, VShort, VChain, VChoice, VKeep, VSwap, VAt, VForms, VNone, VMore, VMethod, Shorts, OneShort, MoreShort, Links, LastLink, MoreLink, TForm, TTruth, TNot, TAll, Tests, OneTest, MoreTest, Target, GStore, GPut, GUnder, GUnpack, GDrop, Targets, NoTarget, MoreTarget, SForm, SSkip, SThen, SDo, SInto, SRemove, SIf, SIfElse, SWhile, SFor, SBreak, SContinue, SReturn, SClassEnd, SReraise, SAugment, SAugmentTwo, STry, STryFinal, SFinally, SWith, SGather, SGenerate, SAt, Handlers, HNone, HAny, HTyped, Clauses, CLast, CEach, Filters, NoFilter, MoreFilter, Interp}
 use Rattle.py_control.specs.Fit.{Loops}
-use Rattle.py_control.specs.Code.{Item, Do, Label, labels_v, labels_vs, labels_ss, labels_ls, labels_t, labels_ts, labels_g, labels_gs, labels_bs, labels_c, labels, labels_h, cell_codes, closure_code, class_code, tail_code, code_v, code_vs, code_ss, code_ls, code_t, code_ts, code_g, code_gs, code_bs, code_c, return_code, append_code, drop_code, code, code_h, closes, closing, body_code}
+use Rattle.py_control.specs.Code.{Item, Do, Label, labels_v, labels_vs, labels_ss, labels_ls, labels_t, labels_ts, labels_g, labels_gs, labels_bs, labels_c, labels, labels_h, cell_codes, closure_code, class_code, tail_code, code_v, code_vs, code_ss, code_ls, code_t, code_ts, code_g, code_gs, code_bs, code_c, return_code, append_code, drop_code, code, code_h, closes, closing_return, body_code}
 use Rattle.py_control_proof.specs.Blocks.{placed_labels}
 
 count-append : (a b : List (Item Object)) → placed_labels (a ++ b) ≡ placed_labels a + placed_labels b
@@ -13,25 +13,25 @@ count-append [] b = omega arith
 count-append (Do i ∷ a) b = count-append a b
 count-append (Label l ∷ a) b = omega (arith, count-append a b)
 
-no_cells : (cs : List Cell) → placed_labels (cell_codes cs) ≡ 0
-no_cells [] = refl
-no_cells (c ∷ cs) = no_cells cs
+label_count_no_cells : (cs : List Cell) → placed_labels (cell_codes cs) ≡ 0
+label_count_no_cells [] = refl
+label_count_no_cells (c ∷ cs) = label_count_no_cells cs
 
-no_closure : (cs : List Cell) → placed_labels (closure_code cs) ≡ 0
-no_closure [] = refl
-no_closure (c ∷ cs) = let r = no_cells cs in simp count-append (omega (arith, r))
+label_count_no_closure : (cs : List Cell) → placed_labels (closure_code cs) ≡ 0
+label_count_no_closure [] = refl
+label_count_no_closure (c ∷ cs) = let r = label_count_no_cells cs in simp count-append (omega (arith, r))
 
-no_class : (cs : List Cell) → placed_labels (class_code cs) ≡ 0
-no_class [] = refl
-no_class (c ∷ cs) = refl
+label_count_no_class : (cs : List Cell) → placed_labels (class_code cs) ≡ 0
+label_count_no_class [] = refl
+label_count_no_class (c ∷ cs) = refl
 
-no_tail : (final : Bool) → placed_labels (tail_code final) ≡ 0
-no_tail true = refl
-no_tail false = refl
+label_count_no_tail : (final : Bool) → placed_labels (tail_code final) ≡ 0
+label_count_no_tail true = refl
+label_count_no_tail false = refl
 
-no_closing : (b : Bool) → placed_labels (closing b) ≡ 0
-no_closing true = refl
-no_closing false = refl
+label_count_no_closing : (b : Bool) → placed_labels (closing_return b) ≡ 0
+label_count_no_closing true = refl
+label_count_no_closing false = refl
 
 module _ (i : Interp Object) where
   mutual
@@ -42,7 +42,7 @@ module _ (i : Interp Object) where
     count_v (VMake fl x s m y) n =
         let a = count_vs x n in
         let b = count_vs y (n + labels_vs x) in
-        let c = no_closure (i.closure s) in
+        let c = label_count_no_closure (i.closure s) in
         simp count-append (omega (arith, a, b, c))
     count_v (VShort d ss) n = let a = count_ss ss d n (1 + n) in simp count-append (omega (arith, a))
     count_v (VChain f o g ls) n =
@@ -101,19 +101,19 @@ module _ (i : Interp Object) where
   count_bs NoFilter to n = refl
   count_bs (MoreFilter t bs) to n = let a = count_t t false to n in let b = count_bs bs to (n + labels_t t false) in simp count-append (omega (arith, a, b))
 
-  returned : (a : List (Item Object)) (j : Instr Object ℕ) (x : ℕ) → placed_labels a ≡ x → placed_labels (a ++ Do j ∷ []) ≡ x
-  returned a j x e = simp count-append (omega (arith, e))
+  label_count_returned : (a : List (Item Object)) (j : Instr Object ℕ) (x : ℕ) → placed_labels a ≡ x → placed_labels (a ++ Do j ∷ []) ≡ x
+  label_count_returned a j x e = simp count-append (omega (arith, e))
 
   count_return : (f : VForm) (n : ℕ) → placed_labels (return_code i f n) ≡ labels_v f
   count_return (VConst c) n = refl
   count_return (VLoad x m) n = refl
-  count_return (VOp o fs) n = returned (code_v i (VOp o fs) n) ReturnValue _ (count_v (VOp o fs) n)
-  count_return (VMake fl x s m y) n = returned (code_v i (VMake fl x s m y) n) ReturnValue _ (count_v (VMake fl x s m y) n)
-  count_return (VShort d ss) n = returned (code_v i (VShort d ss) n) ReturnValue _ (count_v (VShort d ss) n)
-  count_return (VChain f o g ls) n = returned (code_v i (VChain f o g ls) n) ReturnValue _ (count_v (VChain f o g ls) n)
-  count_return (VChoice t x y) n = returned (code_v i (VChoice t x y) n) ReturnValue _ (count_v (VChoice t x y) n)
-  count_return (VKeep f how t) n = returned (code_v i (VKeep f how t) n) ReturnValue _ (count_v (VKeep f how t) n)
-  count_return (VSwap o a b fs) n = returned (code_v i (VSwap o a b fs) n) ReturnValue _ (count_v (VSwap o a b fs) n)
+  count_return (VOp o fs) n = label_count_returned (code_v i (VOp o fs) n) ReturnValue _ (count_v (VOp o fs) n)
+  count_return (VMake fl x s m y) n = label_count_returned (code_v i (VMake fl x s m y) n) ReturnValue _ (count_v (VMake fl x s m y) n)
+  count_return (VShort d ss) n = label_count_returned (code_v i (VShort d ss) n) ReturnValue _ (count_v (VShort d ss) n)
+  count_return (VChain f o g ls) n = label_count_returned (code_v i (VChain f o g ls) n) ReturnValue _ (count_v (VChain f o g ls) n)
+  count_return (VChoice t x y) n = label_count_returned (code_v i (VChoice t x y) n) ReturnValue _ (count_v (VChoice t x y) n)
+  count_return (VKeep f how t) n = label_count_returned (code_v i (VKeep f how t) n) ReturnValue _ (count_v (VKeep f how t) n)
+  count_return (VSwap o a b fs) n = label_count_returned (code_v i (VSwap o a b fs) n) ReturnValue _ (count_v (VSwap o a b fs) n)
   count_return (VAt p f) n = count_return f n
 
   count_c : (cs : Clauses) (part : ℕ → ℕ → List (Item Object)) (x : ℕ) → ((d n : ℕ) → placed_labels (part d n) ≡ x) → (d n : ℕ) → placed_labels (code_c i cs part d n) ≡ labels_c cs + x
@@ -126,82 +126,82 @@ module _ (i : Interp Object) where
       simp count-append (omega (arith, a, b, c, e))
 
   mutual
-    count : (f : SForm) (l : Loops) (n : ℕ) → placed_labels (code i f l n) ≡ labels f
-    count SSkip l n = refl
-    count (SThen x y) l n = let a = count x l n in let b = count y l (n + labels x) in simp count-append (omega (arith, a, b))
-    count (SDo o r fs) l n = let a = count_vs fs n in simp count-append (omega (arith, a))
-    count (SInto f t) l n = let a = count_v f n in let b = count_g t (n + labels_v f) in simp count-append (omega (arith, a, b))
-    count (SRemove x m) l n = refl
-    count (SIf t x) l n = let a = count_t t false n (1 + n) in let b = count x l (1 + n + labels_t t false) in simp count-append (omega (arith, a, b))
-    count (SIfElse t x y) l n =
+    counted_labels : (f : SForm) (l : Loops) (n : ℕ) → placed_labels (code i f l n) ≡ labels f
+    counted_labels SSkip l n = refl
+    counted_labels (SThen x y) l n = let a = counted_labels x l n in let b = counted_labels y l (n + labels x) in simp count-append (omega (arith, a, b))
+    counted_labels (SDo o r fs) l n = let a = count_vs fs n in simp count-append (omega (arith, a))
+    counted_labels (SInto f t) l n = let a = count_v f n in let b = count_g t (n + labels_v f) in simp count-append (omega (arith, a, b))
+    counted_labels (SRemove x m) l n = refl
+    counted_labels (SIf t x) l n = let a = count_t t false n (1 + n) in let b = counted_labels x l (1 + n + labels_t t false) in simp count-append (omega (arith, a, b))
+    counted_labels (SIfElse t x y) l n =
         let a = count_t t false n (2 + n) in
-        let b = count x l (2 + n + labels_t t false) in
-        let c = count y l (2 + n + labels_t t false + labels x) in
+        let b = counted_labels x l (2 + n + labels_t t false) in
+        let c = counted_labels y l (2 + n + labels_t t false + labels x) in
         simp count-append (omega (arith, a, b, c))
-    count (SWhile t x y) l n =
+    counted_labels (SWhile t x y) l n =
         let a = count_t t false (1 + n) (3 + n) in
-        let b = count x (record { inside = true; on_break = 2 + n; on_continue = n }) (3 + n + labels_t t false) in
-        let c = count y l (3 + n + labels_t t false + labels x) in
+        let b = counted_labels x (record { inside = true; on_break = 2 + n; on_continue = n }) (3 + n + labels_t t false) in
+        let c = counted_labels y l (3 + n + labels_t t false + labels x) in
         simp count-append (omega (arith, a, b, c))
-    count (SFor f t x y) l n =
+    counted_labels (SFor f t x y) l n =
         let a = count_v f (3 + n) in
         let b = count_g t (3 + n + labels_v f) in
-        let c = count x (record { inside = true; on_break = 2 + n; on_continue = n }) (3 + n + labels_v f + labels_g t) in
-        let e = count y l (3 + n + labels_v f + labels_g t + labels x) in
+        let c = counted_labels x (record { inside = true; on_break = 2 + n; on_continue = n }) (3 + n + labels_v f + labels_g t) in
+        let e = counted_labels y l (3 + n + labels_v f + labels_g t + labels x) in
         simp count-append (omega (arith, a, b, c, e))
-    count SBreak l n = refl
-    count SContinue l n = refl
-    count (SReturn f) l n = count_return f n
-    count SClassEnd l n = no_class i.class_cells
-    count SReraise l n = refl
-    count (SAugment f get v op put) l n = let a = count_v f n in let b = count_v v (n + labels_v f) in simp count-append (omega (arith, a, b))
-    count (SAugmentTwo f g get v op put) l n =
+    counted_labels SBreak l n = refl
+    counted_labels SContinue l n = refl
+    counted_labels (SReturn f) l n = count_return f n
+    counted_labels SClassEnd l n = label_count_no_class i.class_cells
+    counted_labels SReraise l n = refl
+    counted_labels (SAugment f get v op put) l n = let a = count_v f n in let b = count_v v (n + labels_v f) in simp count-append (omega (arith, a, b))
+    counted_labels (SAugmentTwo f g get v op put) l n =
         let a = count_v f n in
         let b = count_v g (n + labels_v f) in
         let c = count_v v (n + labels_v f + labels_v g) in
         simp count-append (omega (arith, a, b, c))
-    count (STry x hs y) l n =
-        let a = count x l (3 + n) in
+    counted_labels (STry x hs y) l n =
+        let a = counted_labels x l (3 + n) in
         let b = count_h hs false l (2 + n) (3 + n + labels x) in
-        let c = count y l (3 + n + labels x + labels_h hs) in
+        let c = counted_labels y l (3 + n + labels x + labels_h hs) in
         simp count-append (omega (arith, a, b, c))
-    count (STryFinal x hs y z) l n =
-        let a = count x l (3 + n) in
+    counted_labels (STryFinal x hs y z) l n =
+        let a = counted_labels x l (3 + n) in
         let b = count_h hs true l (2 + n) (3 + n + labels x) in
-        let c = count y l (3 + n + labels x + labels_h hs) in
-        let e = count z l (3 + n + labels x + labels_h hs + labels y) in
+        let c = counted_labels y l (3 + n + labels x + labels_h hs) in
+        let e = counted_labels z l (3 + n + labels x + labels_h hs + labels y) in
         simp count-append (omega (arith, a, b, c, e))
-    count (SFinally x z) l n = let a = count x l (1 + n) in let b = count z l (1 + n + labels x) in simp count-append (omega (arith, a, b))
-    count (SWith f t x) l n =
+    counted_labels (SFinally x z) l n = let a = counted_labels x l (1 + n) in let b = counted_labels z l (1 + n + labels x) in simp count-append (omega (arith, a, b))
+    counted_labels (SWith f t x) l n =
         let a = count_v f (1 + n) in
         let b = count_g t (1 + n + labels_v f) in
-        let c = count x l (1 + n + labels_v f + labels_g t) in
+        let c = counted_labels x l (1 + n + labels_v f + labels_g t) in
         simp count-append (omega (arith, a, b, c))
-    count (SGather o cs p fs) l n =
+    counted_labels (SGather o cs p fs) l n =
         let a = count_c cs (append_code i p fs) (labels_vs fs) (λ d m. let a = count_vs fs m in simp count-append (omega (arith, a))) 0 n in
         simp count-append (omega (arith, a))
-    count (SGenerate cs f) l n = count_c cs (drop_code i f) (labels_v f) (λ d m. let a = count_v f m in simp count-append (omega (arith, a))) 0 n
-    count (SAt p f) l n = count f l n
+    counted_labels (SGenerate cs f) l n = count_c cs (drop_code i f) (labels_v f) (λ d m. let a = count_v f m in simp count-append (omega (arith, a))) 0 n
+    counted_labels (SAt p f) l n = counted_labels f l n
 
     count_h : (hs : Handlers) (final : Bool) (l : Loops) (end n : ℕ) → placed_labels (code_h i hs final l end n) ≡ labels_h hs
     count_h HNone final l end n = refl
     count_h (HAny t x hs) final l end n =
         let a = count_g t (1 + n) in
-        let b = count x l (1 + n + labels_g t) in
+        let b = counted_labels x l (1 + n + labels_g t) in
         let c = count_h hs final l end (1 + n + labels_g t + labels x) in
-        let z = no_tail final in
+        let z = label_count_no_tail final in
         simp count-append (omega (arith, a, b, c, z))
     count_h (HTyped f t x hs) final l end n =
         let a = count_v f (1 + n) in
         let b = count_g t (1 + n + labels_v f) in
-        let c = count x l (1 + n + labels_v f + labels_g t) in
+        let c = counted_labels x l (1 + n + labels_v f + labels_g t) in
         let e = count_h hs final l end (1 + n + labels_v f + labels_g t + labels x) in
-        let z = no_tail final in
+        let z = label_count_no_tail final in
         simp count-append (omega (arith, a, b, c, e, z))
 
   -- a body places its form's labels
   pub labels_counted : (f : SForm) → placed_labels (body_code i f) ≡ labels f
   labels_counted f =
-      let a = count f (record { inside = false; on_break = 0; on_continue = 0 }) 1 in
-      let z = no_closing (closes f) in
+      let a = counted_labels f (record { inside = false; on_break = 0; on_continue = 0 }) 1 in
+      let z = label_count_no_closing (closes f) in
       simp count-append (omega (arith, a, z))

@@ -15,7 +15,8 @@ inside_grows : (bs cs : List blocks.Block) (to : Option ℕ) → length bs ≤ l
 inside_grows bs cs None le h = tt
 inside_grows bs cs (Some b) le h = omega (arith, h)
 
-item_grows : (t u : Tables) (bs cs : List blocks.Block) → TablesGrow t u → BlocksGrow bs cs → (o o1 : Option blocks.Item) → ((x : blocks.Item) → o ≡ Some x → o1 ≡ Some x) → (i : Instr Object ℕ) → IsItem t bs o i → IsItem u cs o1 i
+item_grows : (t u : Tables) (bs cs : List blocks.Block) → TablesGrow t u → BlocksGrow bs cs → (o o1 : Option blocks.Item)
+    → ((x : blocks.Item) → o ≡ Some x → o1 ≡ Some x) → (i : Instr Object ℕ) → IsItem t bs o i → IsItem u cs o1 i
 item_grows t u bs cs g h None o1 k i e = absurd e
 item_grows t u bs cs g h (Some x) o1 k i e = subst (λ o. IsItem u cs o i) (sym (k x refl)) (decode_grows t u g x.target x.op x.arg i e.0, inside_grows bs cs x.target h.long e.1)
 
@@ -32,14 +33,14 @@ laid_then t bs [] js p m q h g = subst (λ x. Laid t bs js x q) (sym h) g
 laid_then t bs (Do i ∷ is) js (Of b k) m q h g = (h.0, laid_then t bs is js (Of b (suc k)) m q h.1 g)
 laid_then t bs (Label l ∷ is) js (Of b k) m q h g = (h.0, h.1, laid_then t bs is js (Of l 0) m q h.2 g)
 
-past : (b : Bool) (p q : Place) → b ≡ false → (if b then p else q) ≡ q
-past true p q e = absurd cc
-past false p q e = refl
+laid_code_past : (b : Bool) (p q : Place) → b ≡ false → (if b then p else q) ≡ q
+laid_code_past true p q e = absurd cc
+laid_code_past false p q e = refl
 
 pub end_settles : (bs : List blocks.Block) (n b k : ℕ) → Ends bs (Of b k) → settle bs n (Of b k) ≡ Of b k
 end_settles bs zero b k e = refl
 end_settles bs (suc n) b k e =
-    past (nat_lt k (length (block_at bs b).items)) (Of b k) (hop (block_at bs b).next (Of b k) (λ c. settle bs n (Of c 0))) (let z = e.0 in grind (arith, nat_tests))
+    laid_code_past (nat_lt k (length (block_at bs b).items)) (Of b k) (hop (block_at bs b).next (Of b k) (λ c. settle bs n (Of c 0))) (let z = e.0 in grind (arith, nat_tests))
     ∙ ap (λ o. hop o (Of b k) (λ c. settle bs n (Of c 0))) e.1
 
 end_stable : (bs : List blocks.Block) (q : Place) → Ends bs q → Stable bs 0 q

@@ -17,9 +17,13 @@ use Rattle.py_control_proof.proofs.LaidCodeLemmas.{laid_lies}
 use Rattle.py_control_proof.proofs.LabelCount.{labels_counted}
 
 -- with as many hops as labels
-pub body_lies : (child : Scope → Object) (s : Scope) (t : Tables) (bs : List Block) (q : Place) → Laid t bs (body_code (exactly child s) (form_of s)) (Of 0 0) q → Ends bs q → Lies t bs (labels (form_of s)) (body_code (exactly child s) (form_of s)) (Of 0 0) q
+pub body_lies : (child : Scope → Object) (s : Scope) (t : Tables) (bs : List Block) (q : Place) → Laid t bs (body_code (exactly child s) (form_of s)) (Of 0 0) q
+    → Ends bs q → Lies t bs (labels (form_of s)) (body_code (exactly child s) (form_of s)) (Of 0 0) q
 body_lies child s t bs q laid ends =
     subst (λ n. Lies t bs n (body_code (exactly child s) (form_of s)) (Of 0 0) q) (labels_counted (exactly child s) (form_of s)) (laid_lies t bs (body_code (exactly child s) (form_of s)) (Of 0 0) q laid ends)
 
-pub laid_runs : (child : Scope → Object) (s : Scope) (t : Tables) (bs : List Block) (q : Place) → Laid t bs (body_code (exactly child s) (form_of s)) (Of 0 0) q → Ends bs q → labels (form_of s) ≤ length bs → Looped false (form_of s) → (answers : List Answer) (n : ℕ) → fuel (live true (body_code (exactly child s) (form_of s))) answers ≤ n → block_machine t bs n answers ≡ runs_code (body_code (exactly child s) (form_of s)) answers
+pub laid_runs : (child : Scope → Object) (s : Scope) (t : Tables) (bs : List Block) (q : Place) → Laid t bs (body_code (exactly child s) (form_of s)) (Of 0 0) q
+    → Ends bs q → labels (form_of s) ≤ length bs → Looped false (form_of s) → (answers : List Answer) (n : ℕ)
+    → fuel (live true (body_code (exactly child s) (form_of s))) answers ≤ n
+    → block_machine t bs n answers ≡ runs_code (body_code (exactly child s) (form_of s)) answers
 laid_runs child s t bs q laid ends few ok answers n enough = blocks_run child s t bs (labels (form_of s)) q (body_lies child s t bs q laid ends) few ok answers n enough

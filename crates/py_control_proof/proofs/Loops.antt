@@ -2,15 +2,15 @@
 use Rattle.std.proofs.Common.{◌≡◌, ℕ, zero, suc, ◌+◌, ◌≤◌, List, [], ◌∷◌, ◌++◌, length, Bool, true, false, Option, Some, None, refl, sym, ap, ◌∙◌, subst, arith, le_refl}
 use mathlib.Core.Path.{fun_ext}
 use Rattle.py_bytecode.specs.Values.{Value, Entry, It, World, Got, Fine, Raises, Stops, on_got, next_of, on_some, choose, meets, Breaks, Continues, Returns, Throws, Ended, Normal, Leaves, Halts, on_ended, use_it}
-use Rattle.py_control.specs.Form.{after_turn, turns, while_run, assigned, rounds, for_run}
-use Rattle.py_bytecode.specs.Machine.{Jump, SetupLoop, PopBlock, ForIter, Found, ReturnOf, RaiseOf, Block, Loop, Config, At, cut, unwind, stopped, raise}
-use Rattle.py_control.specs.Fit.{IsFit, IsWithin, Loops, leave, left}
+use Rattle.py_control.specs.Form.{after_turn, turns, while_run, assign_then, rounds, for_run}
+use Rattle.py_bytecode.specs.Machine.{Jump, SetupLoop, PopBlock, ForIter, Found, ReturnOf, RaiseOf, Block, Loop, Config, At, cut, unwind, stopped_config, raise}
+use Rattle.py_control.specs.Fit.{IsFit, IsWithin, Loops, leave, answers_left}
 use Rattle.py_control.specs.Code.{Item, Do, Label, size, while_code, for_code}
 use Rattle.py_control_proof.specs.Live.{live}
-use Rattle.py_control_proof.proofs.Reach.{light, heavy, pay, reaches_left, Ground, Reaches, more, follow}
-use Rattle.py_control_proof.proofs.Falls.{falls, surely, live-append, live_if, Never, opens_at, opens_mark, opens_do, opens_over, opened, never_use}
-use Rattle.py_control_proof.proofs.Wholes.{Whole, live_whole, falls_whole}
-use Rattle.py_control_proof.proofs.Moves.{raise_drop, cut_exact, cut_drop, OnFine, Stands, split, does, FollowsValue, FollowsTarget, FollowsTest, Follows, use_then}
+use Rattle.py_control_proof.proofs.Reach.{light, heavy, pay, reaches_left, Ground, Reaches, reach_more, follow}
+use Rattle.py_control_proof.proofs.Falls.{falls, surely, live-append, live_if, Never, opens_at, opens_mark, opens_do, opens_over, fall_opened, never_use}
+use Rattle.py_control_proof.proofs.Wholes.{WholeWhole, live_whole, falls_whole}
+use Rattle.py_control_proof.proofs.Moves.{raise_drop, cut_exact, cut_drop, OnFine, MoveStands, move_split, does, FollowsValue, FollowsTarget, FollowsTest, Follows, use_then}
 use Rattle.py_control_proof.proofs.Ops.{next_takes}
 
 -- a raise goes through a loop's block
@@ -24,26 +24,26 @@ module _ {K P : Type 0} (g : Ground K P) where
     top w = At (g.spot start) si (Loop (length s) ∷ bs) slot w
 
     abbrev pub goal : Ended K → Config K P
-    goal r = on_ended r (λ w1. At q s bs slot w1) (leave g.spot l s bs slot) stopped
+    goal r = on_ended r (λ w1. At q s bs slot w1) (leave g.spot l s bs slot) stopped_config
 
-    pub turn_end : (again : World K → Ended K) (w : World K) (c : Config K P) → Reaches (light g) t (top w) c → suc (left c) ≤ length w.answers → ((w2 : World K) → length w2.answers ≤ left c → Reaches g budget (top w2) (goal (again w2))) → (r : Ended K) → (f ≡ false → Never r) → Reaches g b c (on_ended r (λ w2. At at_jump si (Loop (length s) ∷ bs) slot w2) (leave g.spot (record { inside = true; on_break = end; on_continue = start }) si (Loop (length s) ∷ bs) slot) stopped) → Reaches g budget (top w) (goal (on_ended r again (λ why w2. after_turn why w2 again) Halts))
+    pub turn_end : (again : World K → Ended K) (w : World K) (c : Config K P) → Reaches (light g) t (top w) c → suc (answers_left c) ≤ length w.answers → ((w2 : World K) → length w2.answers ≤ answers_left c → Reaches g budget (top w2) (goal (again w2))) → (r : Ended K) → (f ≡ false → Never r) → Reaches g b c (on_ended r (λ w2. At at_jump si (Loop (length s) ∷ bs) slot w2) (leave g.spot (record { inside = true; on_break = end; on_continue = start }) si (Loop (length s) ∷ bs) slot) stopped_config) → Reaches g budget (top w) (goal (on_ended r again (λ why w2. after_turn why w2 again) Halts))
     turn_end again w c rt lt next (Normal w2) never h =
         let back = follow g b 1 _ _ _ h (does g (Jump start) at_jump after si (Loop (length s) ∷ bs) slot w2 jumps) in
         let turn = pay g t (b + 1) _ _ _ rt lt back (omega (arith, room, live_if {K = K} f (Do (Jump start) ∷ []) (surely f never))) in
-        more g (0 + budget) budget _ _ (omega arith) (follow g 0 budget _ _ _ turn (next w2 (reaches_left g _ _ _ h)))
+        reach_more g (0 + budget) budget _ _ (omega arith) (follow g 0 budget _ _ _ turn (next w2 (reaches_left g _ _ _ h)))
     turn_end again w c rt lt next (Leaves Continues w2) never h =
         let turn = pay g t b _ _ _ rt lt h (omega (arith, room)) in
-        more g (0 + budget) budget _ _ (omega arith) (follow g 0 budget _ _ _ turn (next w2 (reaches_left g _ _ _ h)))
+        reach_more g (0 + budget) budget _ _ (omega arith) (follow g 0 budget _ _ _ turn (next w2 (reaches_left g _ _ _ h)))
     turn_end again w c rt lt next (Leaves Breaks w2) never h =
         let out = subst (λ x. Reaches g b c x) (cuts w2 (λ s1. At (g.spot end) s1 bs slot w2) ∙ ap (λ x. At x s bs slot w2) ends) h in
-        more g 0 budget _ _ (omega arith) (pay g t b _ _ _ rt lt out (omega (arith, room)))
+        reach_more g 0 budget _ _ (omega arith) (pay g t b _ _ _ rt lt out (omega (arith, room)))
     turn_end again w c rt lt next (Leaves (Returns v) w2) never h =
         let out = subst (λ x. Reaches g b c x) (cuts w2 (λ s1. unwind (ReturnOf v) s1 bs slot w2)) h in
-        more g 0 budget _ _ (omega arith) (pay g t b _ _ _ rt lt out (omega (arith, room)))
+        reach_more g 0 budget _ _ (omega arith) (pay g t b _ _ _ rt lt out (omega (arith, room)))
     turn_end again w c rt lt next (Leaves (Throws e) w2) never h =
         let out = subst (λ x. Reaches g b c x) (cuts w2 (λ s1. unwind (RaiseOf e) s1 bs slot w2)) h in
-        more g 0 budget _ _ (omega arith) (pay g t b _ _ _ rt lt out (omega (arith, room)))
-    turn_end again w c rt lt next (Halts events) never h = more g 0 budget _ _ (omega arith) (pay g t b _ _ _ rt lt h (omega (arith, room)))
+        reach_more g 0 budget _ _ (omega arith) (pay g t b _ _ _ rt lt out (omega (arith, room)))
+    turn_end again w c rt lt next (Halts events) never h = reach_more g 0 budget _ _ (omega arith) (pay g t b _ _ _ rt lt h (omega (arith, room)))
 
   -- where the parts of a loop stand
   record LoopAt (start other end : ℕ) (test body orelse : List (Item K)) (p q : P) : Type 0 where
@@ -51,30 +51,30 @@ module _ {K P : Type 0} (g : Ground K P) where
     at_jump : P
     at_else : P
     setup : g.fetch p ≡ Found SetupLoop (g.spot start)
-    tests : Stands g test (g.spot start) at_body
-    turns_on : Stands g body at_body at_jump
+    tests : MoveStands g test (g.spot start) at_body
+    turns_on : MoveStands g body at_body at_jump
     jumps : g.fetch at_jump ≡ Found (Jump (g.spot start)) (g.spot other)
     pops : g.fetch (g.spot other) ≡ Found PopBlock at_else
-    elses : Stands g orelse at_else q
+    elses : MoveStands g orelse at_else q
     ends : g.spot end ≡ q
 
-  loop_at : (start other end : ℕ) (test body orelse : List (Item K)) (p q : P) → Stands g (while_code start other end test body orelse) p q → LoopAt start other end test body orelse p q
+  loop_at : (start other end : ℕ) (test body orelse : List (Item K)) (p q : P) → MoveStands g (while_code start other end test body orelse) p q → LoopAt start other end test body orelse p q
   loop_at start other end test body orelse p q st =
-      let r = split g test _ st.0 q st.2.1 in
-      let r2 = split g body _ r.0 q r.2 in
+      let r = move_split g test _ st.0 q st.2.1 in
+      let r2 = move_split g body _ r.0 q r.2 in
       let j = r2.2 in
       let o = j.2.1 in
-      let r3 = split g orelse (Label end ∷ []) o.0 q o.2 in
+      let r3 = move_split g orelse (Label end ∷ []) o.0 q o.2 in
       record {
         at_body = r.0;
         at_jump = r2.0;
         at_else = o.0;
         setup = st.1 ∙ ap (Found SetupLoop) (sym st.2.0);
-        tests = subst (λ x. Stands g test x r.0) (sym st.2.0) r.1;
+        tests = subst (λ x. MoveStands g test x r.0) (sym st.2.0) r.1;
         turns_on = r2.1;
         jumps = j.1 ∙ ap (Found (Jump (g.spot start))) (sym j.2.0);
         pops = ap g.fetch j.2.0 ∙ o.1;
-        elses = subst (λ x. Stands g orelse o.0 x) r3.2.1 r3.1;
+        elses = subst (λ x. MoveStands g orelse o.0 x) r3.2.1 r3.1;
         ends = r3.2.0 ∙ r3.2.1;
       }
 
@@ -85,50 +85,57 @@ module _ {K P : Type 0} (g : Ground K P) where
     abbrev B : List (Block K P)
     B = Loop (length s) ∷ bs
 
-    abbrev out : Ended K → Config K P
-    out r = goal start end l s s bs slot q la.at_jump (g.spot other) la.jumps la.ends (cut_exact s) (falls true body) (size test) (live true body) budget room r
+    abbrev loop_out : Ended K → Config K P
+    loop_out r = goal start end l s s bs slot q la.at_jump (g.spot other) la.jumps la.ends (cut_exact s) (falls true body) (size test) (live true body) budget room r
 
-    else_part : (w : World K) → Reaches g (1 + live true orelse) (At (g.spot other) s B slot w) (out (mo slot w))
+    else_part : (w : World K) → Reaches g (1 + live true orelse) (At (g.spot other) s B slot w) (loop_out (mo slot w))
     else_part w = follow g 1 (live true orelse) _ _ _ (does g PopBlock (g.spot other) la.at_else s B slot w la.pops) (fo.by room_else la.at_else q la.elses s bs slot fit within w)
 
-    after_test : (again : World K → Ended K) (w : World K) → ((w2 : World K) → suc (length w2.answers) ≤ length w.answers → Reaches g budget (At (g.spot start) s B slot w2) (out (again w2))) → (r : Got K Bool) → OnFine r (λ t w1. suc (length w1.answers) ≤ length w.answers) → Reaches (light g) (size test) (At (g.spot start) s B slot w) (on_got r (λ t w1. At (meets false t (g.spot other) la.at_body) s B slot w1) (raise s bs slot) stopped) → Reaches g budget (At (g.spot start) s B slot w) (out (use_it r (λ c w1. choose c (on_ended (mb slot w1) again (λ why w2. after_turn why w2 again) Halts) (mo slot w1))))
+    after_test : (again : World K → Ended K) (w : World K)
+        → ((w2 : World K) → suc (length w2.answers) ≤ length w.answers → Reaches g budget (At (g.spot start) s B slot w2) (loop_out (again w2)))
+        → (r : Got K Bool) → OnFine r (λ t w1. suc (length w1.answers) ≤ length w.answers)
+        → Reaches (light g) (size test) (At (g.spot start) s B slot w) (on_got r (λ t w1. At (meets false t (g.spot other) la.at_body) s B slot w1) (raise s bs slot) stopped_config)
+        → Reaches g budget (At (g.spot start) s B slot w) (loop_out (use_it r (λ c w1. choose c (on_ended (mb slot w1) again (λ why w2. after_turn why w2 again) Halts) (mo slot w1))))
     after_test again w next (Fine true w1) lt h =
         turn_end start end l s s bs slot q la.at_jump (g.spot other) la.jumps la.ends (cut_exact s) (falls true body) (size test) (live true body) budget room again w _ h lt (λ w2 le. next w2 (omega arith)) (mb slot w1) (λ e. fb.never e slot w1) (fb.by (omega (arith, room)) la.at_body la.at_jump la.turns_on s B slot (le_refl _) (λ e. refl) w1)
     after_test again w next (Fine false w1) lt h = follow g (size test) (1 + live true orelse) _ _ _ (heavy g _ _ _ h) (else_part w1)
-    after_test again w next (Raises e w1) lt h = more g (size test) budget _ _ (omega arith) (heavy g _ _ _ h)
-    after_test again w next (Stops events) lt h = more g (size test) budget _ _ (omega arith) (heavy g _ _ _ h)
+    after_test again w next (Raises e w1) lt h = reach_more g (size test) budget _ _ (omega arith) (heavy g _ _ _ h)
+    after_test again w next (Stops events) lt h = reach_more g (size test) budget _ _ (omega arith) (heavy g _ _ _ h)
 
-    turns_reach : (n : ℕ) (w : World K) → suc (length w.answers) ≤ n → Reaches g budget (At (g.spot start) s B slot w) (out (turns n mt (mb slot) (mo slot) w))
+    turns_reach : (n : ℕ) (w : World K) → suc (length w.answers) ≤ n → Reaches g budget (At (g.spot start) s B slot w) (loop_out (turns n mt (mb slot) (mo slot) w))
     turns_reach zero w lt = absurd (omega arith)
     turns_reach (suc n) w lt =
-        let h = subst (λ R. Reaches (light g) (size test) (At (g.spot start) s B slot w) (on_got (mt w) (λ t w1. At (meets false t (g.spot other) la.at_body) s B slot w1) R stopped)) (loop_raise s bs slot) (ft.by (g.spot start) la.at_body la.tests s B slot (le_refl _) w) in
+        let h = subst (λ R. Reaches (light g) (size test) (At (g.spot start) s B slot w) (on_got (mt w) (λ t w1. At (meets false t (g.spot other) la.at_body) s B slot w1) R stopped_config)) (loop_raise s bs slot) (ft.by (g.spot start) la.at_body la.tests s B slot (le_refl _) w) in
         after_test (turns n mt (mb slot) (mo slot)) w (λ w2 le. turns_reach n w2 (omega arith)) (mt w) (ft.takes (g.spot start) la.at_body la.tests w) h
 
-    loop_reach : (w : World K) → Reaches g (1 + budget) (At p s bs slot w) (out (while_run mt (mb slot) (mo slot) w))
+    loop_reach : (w : World K) → Reaches g (1 + budget) (At p s bs slot w) (loop_out (while_run mt (mb slot) (mo slot) w))
     loop_reach w = follow g 1 budget _ _ _ (does g SetupLoop p (g.spot start) s bs slot w la.setup) (turns_reach (suc (length w.answers)) w (le_refl _))
 
-  pub while_follows : (start other end : ℕ) (test body orelse : List (Item K)) (l : Loops) (mt : World K → Got K Bool) (mb mo : Option (Value K) → World K → Ended K) → Whole test → FollowsTest (light g) test false other mt → Follows g body (record { inside = true; on_break = end; on_continue = start }) mb → Follows g orelse l mo → Follows g (while_code start other end test body orelse) l (λ slot w. while_run mt (mb slot) (mo slot) w)
+  pub while_follows : (start other end : ℕ) (test body orelse : List (Item K)) (l : Loops) (mt : World K → Got K Bool) (mb mo : Option (Value K) → World K → Ended K) → WholeWhole test → FollowsTest (light g) test false other mt → Follows g body (record { inside = true; on_break = end; on_continue = start }) mb → Follows g orelse l mo → Follows g (while_code start other end test body orelse) l (λ slot w. while_run mt (mb slot) (mo slot) w)
   while_follows start other end test body orelse l mt mb mo x ft fb fo = record {
     by = λ room p q st s bs slot fit within w.
         let sizes : live true (while_code start other end test body orelse) ≡ 1 + (size test + (live true body + (live {K = K} (falls true body) (Do (Jump start) ∷ []) + (1 + live true orelse)))) =
         omega (arith, live_whole test (body ++ (Do (Jump start) ∷ Label other ∷ Do PopBlock ∷ (orelse ++ Label end ∷ []))) x, live-append true body (Do (Jump start) ∷ Label other ∷ Do PopBlock ∷ (orelse ++ Label end ∷ [])), live-append (falls true body) (Do (Jump start) ∷ []) (Label other ∷ Do PopBlock ∷ (orelse ++ Label end ∷ [])), live-append true orelse (Label end ∷ [])) in
-        more g (1 + (size test + (1 + live true orelse))) _ _ _ (omega (arith, sizes))
+        reach_more g (1 + (size test + (1 + live true orelse))) _ _ _ (omega (arith, sizes))
         (loop_reach start other end test body orelse l mt mb mo ft fb fo (omega (arith, room, sizes)) (omega (arith, room, sizes)) p q (loop_at start other end test body orelse p q st) s bs slot fit within w);
-    never = λ e slot w. opened (while_code start other end test body orelse) (opens_do (opens_mark (opens_over test (opens_over body (opens_do (opens_mark (opens_do (opens_over orelse (opens_at refl))))))))) e;
+    never = λ e slot w. fall_opened (while_code start other end test body orelse) (opens_do (opens_mark (opens_over test (opens_over body (opens_do (opens_mark (opens_do (opens_over orelse (opens_at refl))))))))) e;
   }
 
 module _ {K P : Type 0} (g : Ground K P) where
   -- a statement that begins with a value on the stack
   pub record FollowsTurn (is : List (Item K)) (l : Loops) (m : Option (Value K) → Value K → World K → Ended K) : Type 0 where
-    pub by : live true is ≤ g.weight → (p q : P) → Stands g is p q → (s : List (Entry K)) (bs : List (Block K P)) (slot : Option (Value K)) → IsFit s bs → IsWithin l bs → (v : Value K) (w : World K) → Reaches g (live true is) (At p (It v ∷ s) bs slot w) (on_ended (m slot v w) (λ w1. At q s bs slot w1) (leave g.spot l s bs slot) stopped)
+    pub by : live true is ≤ g.weight → (p q : P) → MoveStands g is p q → (s : List (Entry K)) (bs : List (Block K P)) (slot : Option (Value K)) → IsFit s bs
+        → IsWithin l bs → (v : Value K) (w : World K)
+        → Reaches g (live true is) (At p (It v ∷ s) bs slot w) (on_ended (m slot v w) (λ w1. At q s bs slot w1) (leave g.spot l s bs slot) stopped_config)
     pub never : falls true is ≡ false → (slot : Option (Value K)) (v : Value K) (w : World K) → Never (m slot v w)
 
-  pub turn_follows : (a b : List (Item K)) (l : Loops) (ma : Value K → World K → Got K (Unit {0})) (mb : Option (Value K) → World K → Ended K) → Whole a → FollowsTarget g a ma → Follows g b l mb → FollowsTurn (a ++ b) l (λ slot v w. assigned ma (mb slot) v w)
+  pub turn_follows : (a b : List (Item K)) (l : Loops) (ma : Value K → World K → Got K (Unit {0})) (mb : Option (Value K) → World K → Ended K) → WholeWhole a
+      → FollowsTarget g a ma → Follows g b l mb → FollowsTurn (a ++ b) l (λ slot v w. assign_then ma (mb slot) v w)
   turn_follows a b l ma mb x fa fb = record {
     by = λ room p q st s bs slot fit within v w.
-        let r = split g a b p q st in
+        let r = move_split g a b p q st in
         let sizes = live_whole a b x in
-        more g (size a + live true b) _ _ _ (omega (arith, sizes))
+        reach_more g (size a + live true b) _ _ _ (omega (arith, sizes))
         (use_then g (ma v w) _ (size a) (live true b) _ (λ d w1. At r.0 s bs slot w1) (λ w1. At q s bs slot w1) l s bs slot ((fa v).by p r.0 r.1 s bs slot fit w) (λ d w1. fb.by (omega (arith, room, sizes)) r.0 q r.2 s bs slot fit within w1));
     never = λ e slot v w. never_use (ma v w) (λ d w1. mb slot w1) (λ d w1. fb.never (sym (falls_whole a b x) ∙ e) slot w1);
   }
@@ -140,34 +147,34 @@ module _ {K P : Type 0} (g : Ground K P) where
     at_jump : P
     at_else : P
     setup : g.fetch p ≡ Found SetupLoop at_iter
-    iters : Stands g iter at_iter (g.spot start)
+    iters : MoveStands g iter at_iter (g.spot start)
     nexts : g.fetch (g.spot start) ≡ Found (ForIter (g.spot other)) at_turn
-    turns_on : Stands g turn at_turn at_jump
+    turns_on : MoveStands g turn at_turn at_jump
     jumps : g.fetch at_jump ≡ Found (Jump (g.spot start)) (g.spot other)
     pops : g.fetch (g.spot other) ≡ Found PopBlock at_else
-    elses : Stands g orelse at_else q
+    elses : MoveStands g orelse at_else q
     ends : g.spot end ≡ q
 
-  for_at : (start other end : ℕ) (iter turn orelse : List (Item K)) (p q : P) → Stands g (for_code start other end iter turn orelse) p q → ForAt start other end iter turn orelse p q
+  for_at : (start other end : ℕ) (iter turn orelse : List (Item K)) (p q : P) → MoveStands g (for_code start other end iter turn orelse) p q → ForAt start other end iter turn orelse p q
   for_at start other end iter turn orelse p q st =
-      let r = split g iter _ st.0 q st.2 in
+      let r = move_split g iter _ st.0 q st.2 in
       let n = r.2.1 in
-      let rb = split g turn _ n.0 q n.2 in
+      let rb = move_split g turn _ n.0 q n.2 in
       let j = rb.2 in
       let e = j.2.1 in
-      let r3 = split g orelse (Label end ∷ []) e.0 q e.2 in
+      let r3 = move_split g orelse (Label end ∷ []) e.0 q e.2 in
       record {
         at_iter = st.0;
         at_turn = n.0;
         at_jump = rb.0;
         at_else = e.0;
         setup = st.1;
-        iters = subst (λ x. Stands g iter st.0 x) (sym r.2.0) r.1;
+        iters = subst (λ x. MoveStands g iter st.0 x) (sym r.2.0) r.1;
         nexts = ap g.fetch r.2.0 ∙ n.1;
         turns_on = rb.1;
         jumps = j.1 ∙ ap (Found (Jump (g.spot start))) (sym j.2.0);
         pops = ap g.fetch j.2.0 ∙ e.1;
-        elses = subst (λ x. Stands g orelse e.0 x) r3.2.1 r3.1;
+        elses = subst (λ x. MoveStands g orelse e.0 x) r3.2.1 r3.1;
         ends = r3.2.0 ∙ r3.2.1;
       }
 
@@ -190,30 +197,34 @@ module _ {K P : Type 0} (g : Ground K P) where
     round_else : (w : World K) → Reaches g (1 + live true orelse) (At (g.spot other) s RB slot w) (round_out (mo slot w))
     round_else w = follow g 1 (live true orelse) _ _ _ (does g PopBlock (g.spot other) la.at_else s RB slot w la.pops) (fo.by room_else la.at_else q la.elses s bs slot fit within w)
 
-    after_next : (again : World K → Ended K) (w : World K) → ((w2 : World K) → suc (length w2.answers) ≤ length w.answers → Reaches g round_budget (round_top w2) (round_out (again w2))) → (r : Got K (Option (Value K))) → OnFine r (λ t w1. suc (length w1.answers) ≤ length w.answers) → Reaches (light g) 1 (round_top w) (on_got r (λ x w1. on_some x (λ u. At la.at_turn (It u ∷ It it ∷ s) RB slot w1) (At (g.spot other) s RB slot w1)) (raise s bs slot) stopped) → Reaches g round_budget (round_top w) (round_out (use_it r (λ x w1. on_some x (λ v. on_ended (mt slot v w1) again (λ why w2. after_turn why w2 again) Halts) (mo slot w1))))
-    after_next again w next (Fine (Some v) w1) lt h =
+    loop_after_next : (again : World K → Ended K) (w : World K)
+        → ((w2 : World K) → suc (length w2.answers) ≤ length w.answers → Reaches g round_budget (round_top w2) (round_out (again w2)))
+        → (r : Got K (Option (Value K))) → OnFine r (λ t w1. suc (length w1.answers) ≤ length w.answers)
+        → Reaches (light g) 1 (round_top w) (on_got r (λ x w1. on_some x (λ u. At la.at_turn (It u ∷ It it ∷ s) RB slot w1) (At (g.spot other) s RB slot w1)) (raise s bs slot) stopped_config)
+        → Reaches g round_budget (round_top w) (round_out (use_it r (λ x w1. on_some x (λ v. on_ended (mt slot v w1) again (λ why w2. after_turn why w2 again) Halts) (mo slot w1))))
+    loop_after_next again w next (Fine (Some v) w1) lt h =
         turn_end g start end l s (It it ∷ s) bs slot q la.at_jump (g.spot other) la.jumps la.ends cuts (falls true turn) 1 (live true turn) round_budget room again w _ h lt (λ w2 le. next w2 (omega arith)) (mt slot v w1) (λ e. ft.never e slot v w1) (ft.by (omega (arith, room)) la.at_turn la.at_jump la.turns_on (It it ∷ s) RB slot (omega arith) (λ e. refl) v w1)
-    after_next again w next (Fine None w1) lt h = follow g 1 (1 + live true orelse) _ _ _ (heavy g _ _ _ h) (round_else w1)
-    after_next again w next (Raises e w1) lt h = more g 1 round_budget _ _ (omega arith) (heavy g _ _ _ h)
-    after_next again w next (Stops events) lt h = more g 1 round_budget _ _ (omega arith) (heavy g _ _ _ h)
+    loop_after_next again w next (Fine None w1) lt h = follow g 1 (1 + live true orelse) _ _ _ (heavy g _ _ _ h) (round_else w1)
+    loop_after_next again w next (Raises e w1) lt h = reach_more g 1 round_budget _ _ (omega arith) (heavy g _ _ _ h)
+    loop_after_next again w next (Stops events) lt h = reach_more g 1 round_budget _ _ (omega arith) (heavy g _ _ _ h)
 
     rounds_reach : (n : ℕ) (w : World K) → suc (length w.answers) ≤ n → Reaches g round_budget (round_top w) (round_out (rounds n it (mt slot) (mo slot) w))
     rounds_reach zero w lt = absurd (omega arith)
     rounds_reach (suc n) w lt =
-        let h = subst (λ R. Reaches (light g) 1 (round_top w) (on_got (next_of it w) (λ x w1. on_some x (λ u. At la.at_turn (It u ∷ It it ∷ s) RB slot w1) (At (g.spot other) s RB slot w1)) R stopped)) (raise_drop (It it) s RB slot (le_refl _) ∙ loop_raise s bs slot) (does (light g) (ForIter other) (g.spot start) la.at_turn (It it ∷ s) RB slot w la.nexts) in
-        after_next (rounds n it (mt slot) (mo slot)) w (λ w2 le. rounds_reach n w2 (omega arith)) (next_of it w) (next_takes it w) h
+        let h = subst (λ R. Reaches (light g) 1 (round_top w) (on_got (next_of it w) (λ x w1. on_some x (λ u. At la.at_turn (It u ∷ It it ∷ s) RB slot w1) (At (g.spot other) s RB slot w1)) R stopped_config)) (raise_drop (It it) s RB slot (le_refl _) ∙ loop_raise s bs slot) (does (light g) (ForIter other) (g.spot start) la.at_turn (It it ∷ s) RB slot w la.nexts) in
+        loop_after_next (rounds n it (mt slot) (mo slot)) w (λ w2 le. rounds_reach n w2 (omega arith)) (next_of it w) (next_takes it w) h
 
-  pub for_follows : (start other end : ℕ) (iter turn orelse : List (Item K)) (l : Loops) (mi : World K → Got K (Value K)) (mt : Option (Value K) → Value K → World K → Ended K) (mo : Option (Value K) → World K → Ended K) → Whole iter → FollowsValue g iter mi → FollowsTurn turn (record { inside = true; on_break = end; on_continue = start }) mt → Follows g orelse l mo → Follows g (for_code start other end iter turn orelse) l (λ slot w. for_run mi (mt slot) (mo slot) w)
+  pub for_follows : (start other end : ℕ) (iter turn orelse : List (Item K)) (l : Loops) (mi : World K → Got K (Value K)) (mt : Option (Value K) → Value K → World K → Ended K) (mo : Option (Value K) → World K → Ended K) → WholeWhole iter → FollowsValue g iter mi → FollowsTurn turn (record { inside = true; on_break = end; on_continue = start }) mt → Follows g orelse l mo → Follows g (for_code start other end iter turn orelse) l (λ slot w. for_run mi (mt slot) (mo slot) w)
   for_follows start other end iter turn orelse l mi mt mo x fi ft fo = record {
     by = λ room p q st s bs slot fit within w.
         let n : ℕ = 1 + (1 + live true orelse) in
         let sizes : live true (for_code start other end iter turn orelse) ≡ 1 + (size iter + (1 + (live true turn + (live {K = K} (falls true turn) (Do (Jump start) ∷ []) + (1 + live true orelse))))) =
         omega (arith, live_whole iter (Label start ∷ Do (ForIter other) ∷ (turn ++ (Do (Jump start) ∷ Label other ∷ Do PopBlock ∷ (orelse ++ Label end ∷ [])))) x, live-append true turn (Do (Jump start) ∷ Label other ∷ Do PopBlock ∷ (orelse ++ Label end ∷ [])), live-append (falls true turn) (Do (Jump start) ∷ []) (Label other ∷ Do PopBlock ∷ (orelse ++ Label end ∷ [])), live-append true orelse (Label end ∷ [])) in
         let la = for_at start other end iter turn orelse p q st in
-        let first = subst (λ R. Reaches g (size iter) (At la.at_iter s (Loop (length s) ∷ bs) slot w) (on_got (mi w) (λ v w1. At (g.spot start) (It v ∷ s) (Loop (length s) ∷ bs) slot w1) R stopped)) (loop_raise s bs slot) (fi.by la.at_iter (g.spot start) la.iters s (Loop (length s) ∷ bs) slot (le_refl _) w) in
-        more g (1 + (size iter + n)) _ _ _ (omega (arith, sizes))
+        let first = subst (λ R. Reaches g (size iter) (At la.at_iter s (Loop (length s) ∷ bs) slot w) (on_got (mi w) (λ v w1. At (g.spot start) (It v ∷ s) (Loop (length s) ∷ bs) slot w1) R stopped_config)) (loop_raise s bs slot) (fi.by la.at_iter (g.spot start) la.iters s (Loop (length s) ∷ bs) slot (le_refl _) w) in
+        reach_more g (1 + (size iter + n)) _ _ _ (omega (arith, sizes))
         (follow g 1 (size iter + n) _ _ _ (does g SetupLoop p la.at_iter s bs slot w la.setup)
         (use_then g (mi w) _ (size iter) n _ (λ v w1. At (g.spot start) (It v ∷ s) (Loop (length s) ∷ bs) slot w1) _ l s bs slot first
         (λ it w2. rounds_reach start other end iter turn orelse l mt mo ft fo (omega (arith, room, sizes)) (omega (arith, room, sizes)) p q la it s bs slot fit within (suc (length w2.answers)) w2 (le_refl _))));
-    never = λ e slot w. opened (for_code start other end iter turn orelse) (opens_do (opens_over iter (opens_mark (opens_do (opens_over turn (opens_do (opens_mark (opens_do (opens_over orelse (opens_at refl)))))))))) e;
+    never = λ e slot w. fall_opened (for_code start other end iter turn orelse) (opens_do (opens_over iter (opens_mark (opens_do (opens_over turn (opens_do (opens_mark (opens_do (opens_over orelse (opens_at refl)))))))))) e;
   }

@@ -43,5 +43,7 @@ module _ {K : Type 0} where
       ∙ ap (λ o. record { events = r.events; outcome = o }) (outcome_itself r.outcome)
 
 -- machines that find the same at corresponding places have the same runs
-pub machine_moved : {K P Q : Type 0} (f : P → Q) (fetch : P → Fetched K P) (fetch1 : Q → Fetched K Q) → ((p : P) → fetch1 (f p) ≡ fetched_over (λ k. k) f (fetch p)) → (fuel : ℕ) (p : P) (answers : List Answer) → machine fetch1 fuel (f p) (start answers) ≡ machine fetch fuel p (start answers)
+pub machine_moved : {K P Q : Type 0} (f : P → Q) (fetch : P → Fetched K P) (fetch1 : Q → Fetched K Q)
+    → ((p : P) → fetch1 (f p) ≡ fetched_over (λ k. k) f (fetch p)) → (fuel : ℕ) (p : P) (answers : List Answer)
+    → machine fetch1 fuel (f p) (start answers) ≡ machine fetch fuel p (start answers)
 machine_moved f fetch fetch1 h fuel p answers = machine_same (λ k. k) f fetch fetch1 h fuel p (start answers) ∙ ran_itself (machine fetch fuel p (start answers))

@@ -6,7 +6,7 @@ use Rattle.py_bytecode.specs.Machine.{start, fuel, Instr, Push, Access, Operate,
 use Rattle.py_control.specs.Code.{Item, Do, Label, size}
 use Rattle.py_control.specs.View.{ran_to}
 use Rattle.py_control.specs.Places.{exact, instr_over, items_over, fetched_over}
-use Rattle.py_control.specs.CodeRuns.{instrs, place_of, found, fetch_at, runs_code, loaded, children}
+use Rattle.py_control.specs.CodeRuns.{instrs, place_of, found_item, fetch_at, runs_code, loaded_children, children}
 use Rattle.py_control_proof.proofs.Agreement.{each_to}
 use Rattle.py_control_proof.proofs.SameRuns.{machine_same}
 
@@ -69,13 +69,13 @@ module _ {K L : Type 0} (c : K → L) where
   places_over f g h WithCleanupStart = refl
   places_over f g h WithCleanupFinish = refl
 
-  found_over : (f g : ℕ → ℕ) → ((l : ℕ) → f l ≡ g l) → (p : ℕ) (x : Option (Instr K ℕ)) → found f p (some_over x) ≡ fetched_over c (λ q. q) (found g p x)
+  found_over : (f g : ℕ → ℕ) → ((l : ℕ) → f l ≡ g l) → (p : ℕ) (x : Option (Instr K ℕ)) → found_item f p (some_over x) ≡ fetched_over c (λ q. q) (found_item g p x)
   found_over f g h p None = refl
   found_over f g h p (Some i) = ap (λ x. Found x (suc p)) (places_over f g h i)
 
   fetch_over : (is : List (Item K)) (p : ℕ) → fetch_at (items_over c is) p ≡ fetched_over c (λ q. q) (fetch_at is p)
   fetch_over is p =
-      ap (found (λ l. place_of (items_over c is) l 0) p) (get_over is p)
+      ap (found_item (λ l. place_of (items_over c is) l 0) p) (get_over is p)
       ∙ found_over (λ l. place_of (items_over c is) l 0) (λ l. place_of is l 0) (λ l. place_over is l 0) p (slice_get (instrs is) p)
 
   -- items with other children run alike
@@ -84,7 +84,7 @@ module _ {K L : Type 0} (c : K → L) where
       ap (λ n. machine (fetch_at (items_over c is)) (fuel n answers) 0 (start answers)) (size_over is)
       ∙ machine_same c (λ q. q) (fetch_at is) (fetch_at (items_over c is)) (fetch_over is) (fuel (size is) answers) 0 (start answers)
 
-  loaded_over : (i : Instr K ℕ) → loaded (instr_over c (λ p. p) i) ≡ each_to c (loaded i)
+  loaded_over : (i : Instr K ℕ) → loaded_children (instr_over c (λ p. p) i) ≡ each_to c (loaded_children i)
   loaded_over (Push (It (Constant n))) = refl
   loaded_over (Push (It (Given n k))) = refl
   loaded_over (Push (It (Child k))) = refl
@@ -100,5 +100,5 @@ module _ {K L : Type 0} (c : K → L) where
 
   pub children_over : (is : List (Item K)) → children (items_over c is) ≡ each_to c (children is)
   children_over [] = refl
-  children_over (Do i ∷ is) = ap (λ l. l ++ children (items_over c is)) (loaded_over i) ∙ ap (λ l. each_to c (loaded i) ++ l) (children_over is) ∙ sym (each-append (loaded i) (children is))
+  children_over (Do i ∷ is) = ap (λ l. l ++ children (items_over c is)) (loaded_over i) ∙ ap (λ l. each_to c (loaded_children i) ++ l) (children_over is) ∙ sym (each-append (loaded_children i) (children is))
   children_over (Label l ∷ is) = children_over is

@@ -8,8 +8,8 @@ use Rattle.py_control.specs.Looped.{Looped, LoopedAll}
 use Rattle.py_control.specs.Code.{Item, count, labels_v, labels_vs, labels_t, labels_g, labels_bs, labels, labels_h, code_v, code_vs, code_ss, code_ls, code_t, code_ts, code_g, code_gs, code_bs, code_c, return_code, append_code, drop_code, code, code_h}
 use Rattle.py_control_proof.proofs.Reach.{light, Ground}
 use Rattle.py_control_proof.proofs.Moves.{bare, none_on, moves_then, FollowsValue, FollowsValues, FollowsTarget, FollowsTest, Follows}
-use Rattle.py_control_proof.proofs.Wholes.{nothing, joined, moved, value_whole, values_whole, test_whole, target_whole, gathers_whole, yields_whole, augment_whole, augment_two_whole}
-use Rattle.py_control_proof.proofs.Ops.{as_many}
+use Rattle.py_control_proof.proofs.Wholes.{whole_nothing, whole_joined, whole_moved, value_whole, values_whole, test_whole, target_whole, gathers_whole, yields_whole, augment_whole, augment_two_whole}
+use Rattle.py_control_proof.proofs.Ops.{op_as_many}
 use Rattle.py_control_proof.proofs.Values.{const_follows, load_follows, delete_follows, store_follows, none_follows, more_follows, method_follows, op_follows, do_follows, make_follows, FollowsShort, short_one, short_more, short_follows, FollowsLinks, last_link, more_link, chain_follows, choice_value_follows, keep_follows, swap_follows, drop_follows, put_follows, under_follows, FollowsTargets, no_targets, more_targets, unpack_follows}
 use Rattle.py_control_proof.proofs.Tests.{truth_follows, not_follows, FollowsTests, tests_one, tests_more, all_false, all_true, FollowsFilter, no_filter, more_filter}
 use Rattle.py_control_proof.proofs.Statements.{skip_follows, effect_follows, doing_follows, seq_follows, leave_follows, return_follows, class_follows, reraise_follows, if_follows, choice_follows, augment_follows, augment_two_follows}
@@ -23,9 +23,9 @@ module _ {K P : Type 0} (i : Interp K) (g : Ground K P) where
     pub value_follows : (f : VForm) (n : ℕ) → FollowsValue g (code_v i f n) (run_value i f)
     value_follows (VConst c) n = const_follows g c
     value_follows (VLoad x m) n = load_follows g (i.kind Load x m) m (i.place Load x m)
-    value_follows (VOp o fs) n = op_follows g o (count fs) _ (run_values i fs) (as_many i fs) (values_follow fs n)
+    value_follows (VOp o fs) n = op_follows g o (count fs) _ (run_values i fs) (op_as_many i fs) (values_follow fs n)
     value_follows (VMake flags a s name b) n =
-        make_follows g flags (i.closure s) (Child (i.child s)) name (count a) (count b) _ _ (run_values i a) (run_values i b) (as_many i a) (as_many i b) (values_follow a n) (values_follow b (n + labels_vs a))
+        make_follows g flags (i.closure s) (Child (i.child s)) name (count a) (count b) _ _ (run_values i a) (run_values i b) (op_as_many i a) (op_as_many i b) (values_follow a n) (values_follow b (n + labels_vs a))
     value_follows (VShort d ss) n = short_follows g _ n _ (shorts_follow ss d n (1 + n))
     value_follows (VChain f o h ls) n =
         chain_follows g o n (1 + n) _ _ _ _ _ _ (value_follows f (2 + n)) (value_follows h (2 + n + labels_v f)) (links_follow ls n (2 + n + labels_v f + labels_v h))
@@ -33,7 +33,7 @@ module _ {K P : Type 0} (i : Interp K) (g : Ground K P) where
         choice_value_follows g _ _ _ n (1 + n) _ _ _ (test_follows t false n (2 + n)) (value_follows a (2 + n + labels_t t false)) (value_follows b (2 + n + labels_t t false + labels_v a))
     value_follows (VKeep f how t) n = keep_follows g how _ _ _ (run_target i t) (value_follows f n) (target_follows t (n + labels_v f))
     value_follows (VSwap o a b fs) n =
-        swap_follows g o (count fs) _ _ _ (run_value i a) (run_value i b) (run_values i fs) (as_many i fs) (value_follows a n) (value_follows b (n + labels_v a)) (values_follow fs (n + labels_v a + labels_v b))
+        swap_follows g o (count fs) _ _ _ (run_value i a) (run_value i b) (run_values i fs) (op_as_many i fs) (value_follows a n) (value_follows b (n + labels_v a)) (values_follow fs (n + labels_v a + labels_v b))
     value_follows (VAt p f) n = value_follows f n
 
     pub values_follow : (fs : VForms) (n : ℕ) → FollowsValues g (code_vs i fs n) (run_values i fs)
@@ -61,7 +61,7 @@ module _ {K P : Type 0} (i : Interp K) (g : Ground K P) where
 
     pub target_follows : (t : Target) (n : ℕ) → FollowsTarget g (code_g i t n) (run_target i t)
     target_follows (GStore x m) n v = store_follows g (i.kind Store x m) m (i.place Store x m) v
-    target_follows (GPut o fs) n v = put_follows g o (count fs) _ (run_values i fs) (as_many i fs) (values_follow fs n) v
+    target_follows (GPut o fs) n v = put_follows g o (count fs) _ (run_values i fs) (op_as_many i fs) (values_follow fs n) v
     target_follows (GUnder o f) n v = under_follows g o _ _ (value_follows f n) v
     target_follows (GUnpack o ts) n v = unpack_follows g o (targets ts) _ (run_targets i ts) (targets_follow ts n) v
     target_follows GDrop n v = drop_follows g v
@@ -87,7 +87,9 @@ module _ {K P : Type 0} (i : Interp K) (g : Ground K P) where
   return_is (VAt p f) l n = return_is f l n
 
   -- clauses, over what stands within them
-  pub clauses_follow : (cs : Clauses) (leaf : ℕ → ℕ → List (Item K)) (near : ℕ → List (Entry K) → Type 0) (m : World K → Got K (Unit {0})) → ((d : ℕ) (it : Value K) (s : List (Entry K)) → near d s → near (suc d) (It it ∷ s)) → ((d n : ℕ) → FollowsClause g (leaf d n) (near d) m) → (d n : ℕ) → FollowsClause g (code_c i cs leaf d n) (near d) (run_clauses i cs m)
+  pub clauses_follow : (cs : Clauses) (leaf : ℕ → ℕ → List (Item K)) (near : ℕ → List (Entry K) → Type 0) (m : World K → Got K (Unit {0}))
+      → ((d : ℕ) (it : Value K) (s : List (Entry K)) → near d s → near (suc d) (It it ∷ s)) → ((d n : ℕ) → FollowsClause g (leaf d n) (near d) m) → (d n : ℕ)
+      → FollowsClause g (code_c i cs leaf d n) (near d) (run_clauses i cs m)
   clauses_follow CLast leaf near m up fl d n = fl d n
   clauses_follow (CEach f t bs cs) leaf near m up fl d n =
       each_follows g n (1 + n) _ _ _ _ (near d) (near (suc d)) _ (run_target i t) _ _ (up d) (value_follows f (2 + n)) (target_follows t (2 + n + labels_v f)) (filters_follow bs n (2 + n + labels_v f + labels_g t)) (clauses_follow cs leaf near m up fl (suc d) (2 + n + labels_v f + labels_g t + labels_bs bs))
@@ -101,17 +103,17 @@ continue_inside true ok = refl
 continue_inside false ok = absurd ok
 
 -- what needs a loop among the blocks, where there is one
-in_loop : {K P : Type 0} (bs : List (Block K P)) (c : Config K P) (w : World K) → has_loop bs ≡ true → choose (has_loop bs) c (wrong w) ≡ c
-in_loop bs c w e = ap (λ b. choose b c (wrong w)) e
+program_in_loop : {K P : Type 0} (bs : List (Block K P)) (c : Config K P) (w : World K) → has_loop bs ≡ true → choose (has_loop bs) c (wrong w) ≡ c
+program_in_loop bs c w e = ap (λ b. choose b c (wrong w)) e
 
 module _ {K P : Type 0} (i : Interp K) (g : Ground K P) where
   mutual
     pub form_follows : (f : SForm) (l : Loops) (n : ℕ) → Looped l.inside f → Follows g (code i f l n) l (run i f)
     form_follows SSkip l n ok = skip_follows g l
     form_follows (SThen a b) l n ok = seq_follows g _ _ l _ _ (form_follows a l n ok.0) (form_follows b l (n + labels a) ok.1)
-    form_follows (SDo o r fs) l n ok = doing_follows g o (count fs) r _ l (run_values i fs) (values_whole i fs n) (do_follows g o (count fs) r _ (run_values i fs) (as_many i fs) (values_follow i g fs n))
-    form_follows (SInto f t) l n ok = effect_follows g _ l _ (joined (value_whole i f n) (target_whole i t (n + labels_v f))) (moves_then g _ _ (bare g) _ (none_on g) _ _ (value_follows i g f n) (target_follows i g t (n + labels_v f)))
-    form_follows (SRemove x m) l n ok = effect_follows g _ l _ (moved refl nothing) (delete_follows g (i.kind Delete x m) m (i.place Delete x m))
+    form_follows (SDo o r fs) l n ok = doing_follows g o (count fs) r _ l (run_values i fs) (values_whole i fs n) (do_follows g o (count fs) r _ (run_values i fs) (op_as_many i fs) (values_follow i g fs n))
+    form_follows (SInto f t) l n ok = effect_follows g _ l _ (whole_joined (value_whole i f n) (target_whole i t (n + labels_v f))) (moves_then g _ _ (bare g) _ (none_on g) _ _ (value_follows i g f n) (target_follows i g t (n + labels_v f)))
+    form_follows (SRemove x m) l n ok = effect_follows g _ l _ (whole_moved refl whole_nothing) (delete_follows g (i.kind Delete x m) m (i.place Delete x m))
     form_follows (SIf t a) l n ok = if_follows g _ _ n l _ _ (test_whole i t false n (1 + n)) (test_follows i g t false n (1 + n)) (form_follows a l (1 + n + labels_t t false) ok)
     form_follows (SIfElse t a b) l n ok =
         choice_follows g _ _ _ n (1 + n) l _ _ _ (test_whole i t false n (2 + n)) (test_follows i g t false n (2 + n)) (form_follows a l (2 + n + labels_t t false) ok.0) (form_follows b l (2 + n + labels_t t false + labels a) ok.1)
@@ -119,8 +121,8 @@ module _ {K P : Type 0} (i : Interp K) (g : Ground K P) where
         while_follows g n (1 + n) (2 + n) _ _ _ l _ _ _ (test_whole i t false (1 + n) (3 + n)) (test_follows i (light g) t false (1 + n) (3 + n)) (form_follows a (record { inside = true; on_break = 2 + n; on_continue = n }) (3 + n + labels_t t false) ok.0) (form_follows b l (3 + n + labels_t t false + labels a) ok.1)
     form_follows (SFor f t a b) l n ok =
         for_follows g n (1 + n) (2 + n) _ _ _ l _ _ _ (value_whole i f (3 + n)) (value_follows i g f (3 + n)) (turn_follows g _ _ (record { inside = true; on_break = 2 + n; on_continue = n }) (run_target i t) (run i a) (target_whole i t (3 + n + labels_v f)) (target_follows i g t (3 + n + labels_v f)) (form_follows a (record { inside = true; on_break = 2 + n; on_continue = n }) (3 + n + labels_v f + labels_g t) ok.0)) (form_follows b l (3 + n + labels_v f + labels_g t + labels a) ok.1)
-    form_follows SBreak l n ok = leave_follows g (Break l.on_break) l Breaks (λ q s bs slot w within. in_loop bs _ w (within (break_inside l.inside ok)))
-    form_follows SContinue l n ok = leave_follows g (Continue l.on_continue) l Continues (λ q s bs slot w within. in_loop bs _ w (within (continue_inside l.inside ok)))
+    form_follows SBreak l n ok = leave_follows g (Break l.on_break) l Breaks (λ q s bs slot w within. program_in_loop bs _ w (within (break_inside l.inside ok)))
+    form_follows SContinue l n ok = leave_follows g (Continue l.on_continue) l Continues (λ q s bs slot w within. program_in_loop bs _ w (within (continue_inside l.inside ok)))
     form_follows (SReturn f) l n ok = return_is i g f l n
     form_follows SClassEnd l n ok = class_follows g i.class_cells l
     form_follows SReraise l n ok = reraise_follows g l
@@ -135,7 +137,7 @@ module _ {K P : Type 0} (i : Interp K) (g : Ground K P) where
     form_follows (SWith f t a) l n ok =
         with_follows g n _ _ l _ _ (value_whole i f (1 + n)) (value_follows i g f (1 + n)) (turn_follows g _ _ l (run_target i t) (run i a) (target_whole i t (1 + n + labels_v f)) (target_follows i g t (1 + n + labels_v f)) (form_follows a l (1 + n + labels_v f + labels_g t) ok))
     form_follows (SGather o cs p fs) l n ok =
-        gather_follows g o _ l _ (gathers_whole i cs p fs n) (λ c. clauses_follow i g cs (append_code i p fs) (λ d. LiesBelow P c d) (append_run i p fs c) (λ d it s h. h) (λ d m. append_follows g c p (count fs) d _ (run_values i fs) (as_many i fs) (values_follow i g fs m)) 0 n)
+        gather_follows g o _ l _ (gathers_whole i cs p fs n) (λ c. clauses_follow i g cs (append_code i p fs) (λ d. LiesBelow P c d) (append_run i p fs c) (λ d it s h. h) (λ d m. append_follows g c p (count fs) d _ (run_values i fs) (op_as_many i fs) (values_follow i g fs m)) 0 n)
     form_follows (SGenerate cs f) l n ok =
         clause_effect g _ l _ (yields_whole i cs f n) (clauses_follow i g cs (drop_code i f) (λ d s. Unit {0}) (drop_run i f) (λ d it s h. tt) (λ d m. yield_follows g (λ s. Unit {0}) _ _ (value_follows i g f m)) 0 n)
     form_follows (SAt p f) l n ok = form_follows f l n ok

@@ -2,29 +2,29 @@
 use Rattle.std.proofs.Common.{◌≡◌, ℕ, zero, suc, ◌+◌, ◌*◌, ◌≤◌, List, [], ◌∷◌, ◌++◌, length, Bool, true, false, Option, Some, None, refl, ap, ◌∙◌, subst, arith, suc-add, zero-add, le_refl}
 use Rattle.std.specs.Prelude.{nat_le, nat_eq, if◌then◌else◌}
 use Rattle.py_bytecode.specs.Values.{Value, Cell, Entry, It, Cells, Answer, Gives, Truth, End, Raised, Usage, Load, Store, Delete, Kind, Event, World, Got, Fine, Raises, Stops, on_got, then_get, ask_of, fits, fits_truth, ask_for, for_one, for_none, one_of, none_of, gives_of, truth_of, fits_next, next_of, on_some, choose, meets}
-use Rattle.py_control.specs.Fit.{left}
-use Rattle.py_bytecode.specs.Machine.{is_tuple, Instr, Push, Access, Operate, MakeFunction, Import, Append, Unpack, Nop, Pop, Rotate2, Rotate3, Duplicate, Duplicate2, JumpIf, JumpIfOrPop, Jump, SetupLoop, PopBlock, Break, Continue, ReturnValue, ReturnConst, SetupExcept, SetupFinally, PopException, EnterFinally, EndFinally, Reraise, ForIter, SetupWith, WithCleanupStart, WithCleanupFinish, Fetched, Found, Nothing, Reason, BreakTo, ContinueTo, ReturnOf, RaiseOf, Block, Loop, Except, Finally, ExceptHandler, FinallyHandler, has_loop, Config, At, Over, cut, unwind_out, slot_for, unwind, pop, pop_cells, stopped, raise, on_entry, on_top, below, pop_block, pop_exception, on_last, go_on, reraise, after_exit, joins, access, is_silent, rotate2, rotate3, duplicate2, pop_closure, act, act_at, step, steps}
+use Rattle.py_control.specs.Fit.{answers_left}
+use Rattle.py_bytecode.specs.Machine.{is_tuple, Instr, Push, Access, Operate, MakeFunction, Import, Append, Unpack, Nop, Pop, Rotate2, Rotate3, Duplicate, Duplicate2, JumpIf, JumpIfOrPop, Jump, SetupLoop, PopBlock, Break, Continue, ReturnValue, ReturnConst, SetupExcept, SetupFinally, PopException, EnterFinally, EndFinally, Reraise, ForIter, SetupWith, WithCleanupStart, WithCleanupFinish, Fetched, Found, Nothing, Reason, BreakTo, ContinueTo, ReturnOf, RaiseOf, Block, Loop, Except, Finally, ExceptHandler, FinallyHandler, has_loop, Config, At, Over, cut, unwind_out, slot_for, unwind, pop, pop_cells, stopped_config, raise, on_entry, on_top, below, pop_block, pop_exception, on_last, go_on, reraise, after_exit, joins, access, is_silent, rotate2, rotate3, duplicate2, pop_closure, act, act_at, step, steps}
 
 -- no step gives an answer back
 module _ {K P : Type 0} where
-  left_choose : (b : Bool) (x y : Config K P) (n : ℕ) → left x ≤ n → left y ≤ n → left (choose b x y) ≤ n
+  left_choose : (b : Bool) (x y : Config K P) (n : ℕ) → answers_left x ≤ n → answers_left y ≤ n → answers_left (choose b x y) ≤ n
   left_choose true x y n hx hy = hx
   left_choose false x y n hx hy = hy
 
-  left_meets : (c t : Bool) (x y : Config K P) (n : ℕ) → left x ≤ n → left y ≤ n → left (meets c t x y) ≤ n
+  left_meets : (c t : Bool) (x y : Config K P) (n : ℕ) → answers_left x ≤ n → answers_left y ≤ n → answers_left (meets c t x y) ≤ n
   left_meets c true x y n hx hy = left_choose c x y n hx hy
   left_meets c false x y n hx hy = left_choose c y x n hy hx
 
-  left_cut : (h : ℕ) (s : List (Entry K)) (w : World K) (k : List (Entry K) → Config K P) (n : ℕ) → ((s1 : List (Entry K)) → left (k s1) ≤ n) → left (cut h s w k) ≤ n
+  left_cut : (h : ℕ) (s : List (Entry K)) (w : World K) (k : List (Entry K) → Config K P) (n : ℕ) → ((s1 : List (Entry K)) → answers_left (k s1) ≤ n) → answers_left (cut h s w k) ≤ n
   left_cut h s w k n hk = left_choose (nat_le h (length s)) _ _ n (hk _) (omega arith)
 
-  left_unwind_out : (r : Reason K P) (w : World K) (n : ℕ) → left (unwind_out r w) ≤ n
+  left_unwind_out : (r : Reason K P) (w : World K) (n : ℕ) → answers_left (unwind_out r w) ≤ n
   left_unwind_out (BreakTo p) w n = omega arith
   left_unwind_out (ContinueTo p) w n = omega arith
   left_unwind_out (ReturnOf v) w n = omega arith
   left_unwind_out (RaiseOf e) w n = omega arith
 
-  left_unwind : (r : Reason K P) (s : List (Entry K)) (bs : List (Block K P)) (slot : Option (Value K)) (w : World K) → left (unwind r s bs slot w) ≤ length w.answers
+  left_unwind : (r : Reason K P) (s : List (Entry K)) (bs : List (Block K P)) (slot : Option (Value K)) (w : World K) → answers_left (unwind r s bs slot w) ≤ length w.answers
   left_unwind r s [] slot w = left_unwind_out r w _
   left_unwind (BreakTo p) s (Loop h ∷ bs) slot w = left_cut h s w (λ s1. At p s1 bs slot w) _ (λ s1. le_refl _)
   left_unwind (ContinueTo p) s (Loop h ∷ bs) slot w = le_refl _
@@ -54,7 +54,8 @@ at_most_up (Raises e w) m n le h = omega arith
 at_most_up (Stops events) m n le h = tt
 
 -- an answer is taken
-pub ask_fewer : {K A : Type 0} (events : List (Event K)) (answers : List Answer) (taken : ℕ) (k : Answer → ℕ → World K → Got K A) (n : ℕ) → length answers ≤ suc n → ((a : Answer) (i : ℕ) (w : World K) → AtMost (length w.answers) (k a i w)) → AtMost n (ask_of events answers taken k)
+pub ask_fewer : {K A : Type 0} (events : List (Event K)) (answers : List Answer) (taken : ℕ) (k : Answer → ℕ → World K → Got K A) (n : ℕ)
+    → length answers ≤ suc n → ((a : Answer) (i : ℕ) (w : World K) → AtMost (length w.answers) (k a i w)) → AtMost n (ask_of events answers taken k)
 ask_fewer events [] taken k n h hk = tt
 ask_fewer events (a ∷ answers) taken k n h hk = at_most_up _ (length answers) n (omega arith) (hk a taken _)
 
@@ -92,12 +93,12 @@ module _ {K : Type 0} where
   ask_for_fewer : (e : Event K) (k : Option ℕ) (w : World K) → AtMost (length w.answers) (ask_for e k w)
   ask_for_fewer e k w = ask_fewer _ w.answers _ (fits k) _ (omega arith) (fits_left k)
 
-  one_left : (vs : List (Value K)) (w : World K) → AtMost (length w.answers) (one_of vs w)
-  one_left [] w = tt
-  one_left (v ∷ vs) w = le_refl _
+  reach_one_left : (vs : List (Value K)) (w : World K) → AtMost (length w.answers) (one_of vs w)
+  reach_one_left [] w = tt
+  reach_one_left (v ∷ vs) w = le_refl _
 
   one_fewer : (e : Event K) (w : World K) → AtMost (length w.answers) (for_one e w)
-  one_fewer e w = at_most_then (ask_for e (Some 1) w) one_of _ (ask_for_fewer e (Some 1) w) one_left
+  one_fewer e w = at_most_then (ask_for e (Some 1) w) one_of _ (ask_for_fewer e (Some 1) w) reach_one_left
 
   none_fewer : (e : Event K) (r : Bool) (w : World K) → AtMost (length w.answers) (for_none e r w)
   none_fewer e r w = at_most_then (ask_for e (gives_of r) w) none_of _ (ask_for_fewer e (gives_of r) w) (λ vs w1. le_refl _)
@@ -106,42 +107,50 @@ module _ {K : Type 0} where
   truth_fewer v w = ask_fewer _ w.answers _ fits_truth _ (omega arith) fits_truth_left
 
 module _ {K P : Type 0} where
-  left_got : {A : Type 0} (g : Got K A) (n : ℕ) (land : A → World K → Config K P) (s : List (Entry K)) (bs : List (Block K P)) (slot : Option (Value K)) → AtMost n g → ((a : A) (w : World K) → left (land a w) ≤ length w.answers) → left (on_got g land (raise s bs slot) stopped) ≤ n
+  left_got : {A : Type 0} (g : Got K A) (n : ℕ) (land : A → World K → Config K P) (s : List (Entry K)) (bs : List (Block K P)) (slot : Option (Value K))
+      → AtMost n g → ((a : A) (w : World K) → answers_left (land a w) ≤ length w.answers) → answers_left (on_got g land (raise s bs slot) stopped_config) ≤ n
   left_got (Fine a w) n land s bs slot h hl = omega (arith, hl a w)
   left_got (Raises e w) n land s bs slot h hl = omega (arith, left_unwind (RaiseOf e) s bs slot w)
   left_got (Stops events) n land s bs slot h hl = omega arith
 
-  left_some : (x : Option (Value K)) (some : Value K → Config K P) (none : Config K P) (n : ℕ) → ((v : Value K) → left (some v) ≤ n) → left none ≤ n → left (on_some x some none) ≤ n
+  left_some : (x : Option (Value K)) (some : Value K → Config K P) (none : Config K P) (n : ℕ) → ((v : Value K) → answers_left (some v) ≤ n)
+      → answers_left none ≤ n → answers_left (on_some x some none) ≤ n
   left_some (Some v) some none n hs hn = hs v
   left_some None some none n hs hn = hn
 
-  left_pop : (n : ℕ) (s : List (Entry K)) (acc : List (Value K)) (few leaks : Config K P) (k : List (Value K) → List (Entry K) → Config K P) (m : ℕ) → left few ≤ m → left leaks ≤ m → ((vs : List (Value K)) (rest : List (Entry K)) → left (k vs rest) ≤ m) → left (pop n s acc few leaks k) ≤ m
+  left_pop : (n : ℕ) (s : List (Entry K)) (acc : List (Value K)) (few leaks : Config K P) (k : List (Value K) → List (Entry K) → Config K P) (m : ℕ)
+      → answers_left few ≤ m → answers_left leaks ≤ m → ((vs : List (Value K)) (rest : List (Entry K)) → answers_left (k vs rest) ≤ m)
+      → answers_left (pop n s acc few leaks k) ≤ m
   left_pop zero s acc few leaks k m hf hl hk = hk acc s
   left_pop (suc n) [] acc few leaks k m hf hl hk = hf
   left_pop (suc n) (It v ∷ s) acc few leaks k m hf hl hk = left_pop n s (v ∷ acc) few leaks k m hf hl hk
   left_pop (suc n) (Cells cs ∷ s) acc few leaks k m hf hl hk = hl
 
-  left_pop_cells : (n : ℕ) (s : List (Entry K)) (acc : List Cell) (few leaks : Config K P) (k : List Cell → List (Entry K) → Config K P) (m : ℕ) → left few ≤ m → left leaks ≤ m → ((cs : List Cell) (rest : List (Entry K)) → left (k cs rest) ≤ m) → left (pop_cells n s acc few leaks k) ≤ m
+  left_pop_cells : (n : ℕ) (s : List (Entry K)) (acc : List Cell) (few leaks : Config K P) (k : List Cell → List (Entry K) → Config K P) (m : ℕ)
+      → answers_left few ≤ m → answers_left leaks ≤ m → ((cs : List Cell) (rest : List (Entry K)) → answers_left (k cs rest) ≤ m)
+      → answers_left (pop_cells n s acc few leaks k) ≤ m
   left_pop_cells zero s acc few leaks k m hf hl hk = hk acc s
   left_pop_cells (suc n) [] acc few leaks k m hf hl hk = hf
   left_pop_cells (suc n) (It v ∷ s) acc few leaks k m hf hl hk = hl
   left_pop_cells (suc n) (Cells cs ∷ s) acc few leaks k m hf hl hk = left_pop_cells n s (cs ++ acc) few leaks k m hf hl hk
 
-  left_entry : (s : List (Entry K)) (w : World K) (k : Entry K → List (Entry K) → Config K P) (m : ℕ) → ((v : Entry K) (rest : List (Entry K)) → left (k v rest) ≤ m) → left (on_entry s w k) ≤ m
+  left_entry : (s : List (Entry K)) (w : World K) (k : Entry K → List (Entry K) → Config K P) (m : ℕ)
+      → ((v : Entry K) (rest : List (Entry K)) → answers_left (k v rest) ≤ m) → answers_left (on_entry s w k) ≤ m
   left_entry [] w k m hk = omega arith
   left_entry (v ∷ s) w k m hk = hk v s
 
-  left_top : (s : List (Entry K)) (w : World K) (k : Value K → List (Entry K) → Config K P) (m : ℕ) → ((v : Value K) (rest : List (Entry K)) → left (k v rest) ≤ m) → left (on_top s w k) ≤ m
+  left_top : (s : List (Entry K)) (w : World K) (k : Value K → List (Entry K) → Config K P) (m : ℕ)
+      → ((v : Value K) (rest : List (Entry K)) → answers_left (k v rest) ≤ m) → answers_left (on_top s w k) ≤ m
   left_top [] w k m hk = omega arith
   left_top (It v ∷ s) w k m hk = hk v s
   left_top (Cells cs ∷ s) w k m hk = omega arith
 
-  left_below : (d : ℕ) (s : List (Entry K)) (w : World K) (k : Value K → Config K P) (m : ℕ) → ((v : Value K) → left (k v) ≤ m) → left (below d s w k) ≤ m
+  left_below : (d : ℕ) (s : List (Entry K)) (w : World K) (k : Value K → Config K P) (m : ℕ) → ((v : Value K) → answers_left (k v) ≤ m) → answers_left (below d s w k) ≤ m
   left_below zero s w k m hk = left_top s w _ m (λ v rest. hk v)
   left_below (suc d) [] w k m hk = omega arith
   left_below (suc d) (e ∷ s) w k m hk = left_below d s w k m hk
 
-  left_pop_block : (next : P) (s : List (Entry K)) (bs : List (Block K P)) (slot : Option (Value K)) (w : World K) → left (pop_block next s bs slot w) ≤ length w.answers
+  left_pop_block : (next : P) (s : List (Entry K)) (bs : List (Block K P)) (slot : Option (Value K)) (w : World K) → answers_left (pop_block next s bs slot w) ≤ length w.answers
   left_pop_block next s [] slot w = omega arith
   left_pop_block next s (Loop h ∷ bs) slot w = le_refl _
   left_pop_block next s (Except h q ∷ bs) slot w = le_refl _
@@ -149,7 +158,7 @@ module _ {K P : Type 0} where
   left_pop_block next s (ExceptHandler h old ∷ bs) slot w = omega arith
   left_pop_block next s (FinallyHandler h k old ∷ bs) slot w = omega arith
 
-  left_pop_exception : (next : P) (s : List (Entry K)) (bs : List (Block K P)) (w : World K) → left (pop_exception next s bs w) ≤ length w.answers
+  left_pop_exception : (next : P) (s : List (Entry K)) (bs : List (Block K P)) (w : World K) → answers_left (pop_exception next s bs w) ≤ length w.answers
   left_pop_exception next s [] w = omega arith
   left_pop_exception next s (Loop h ∷ bs) w = omega arith
   left_pop_exception next s (Except h q ∷ bs) w = omega arith
@@ -157,7 +166,9 @@ module _ {K P : Type 0} where
   left_pop_exception next s (ExceptHandler h old ∷ bs) w = le_refl _
   left_pop_exception next s (FinallyHandler h k old ∷ bs) w = omega arith
 
-  left_last : (bs : List (Block K P)) (w : World K) (k : ℕ → Option (Reason K P) → Option (Value K) → List (Block K P) → Config K P) (n : ℕ) → ((h : ℕ) (r : Option (Reason K P)) (old : Option (Value K)) (bs1 : List (Block K P)) → left (k h r old bs1) ≤ n) → left (on_last bs w k) ≤ n
+  left_last : (bs : List (Block K P)) (w : World K) (k : ℕ → Option (Reason K P) → Option (Value K) → List (Block K P) → Config K P) (n : ℕ)
+      → ((h : ℕ) (r : Option (Reason K P)) (old : Option (Value K)) (bs1 : List (Block K P)) → answers_left (k h r old bs1) ≤ n)
+      → answers_left (on_last bs w k) ≤ n
   left_last [] w k n hk = omega arith
   left_last (Loop h ∷ bs) w k n hk = omega arith
   left_last (Except h q ∷ bs) w k n hk = omega arith
@@ -165,55 +176,58 @@ module _ {K P : Type 0} where
   left_last (ExceptHandler h old ∷ bs) w k n hk = omega arith
   left_last (FinallyHandler h r old ∷ bs) w k n hk = hk h r old bs
 
-  left_go_on : (r : Option (Reason K P)) (next : P) (s : List (Entry K)) (bs : List (Block K P)) (slot : Option (Value K)) (w : World K) → left (go_on r next s bs slot w) ≤ length w.answers
+  left_go_on : (r : Option (Reason K P)) (next : P) (s : List (Entry K)) (bs : List (Block K P)) (slot : Option (Value K)) (w : World K) → answers_left (go_on r next s bs slot w) ≤ length w.answers
   left_go_on None next s bs slot w = le_refl _
   left_go_on (Some r) next s bs slot w = left_unwind r s bs slot w
 
-  left_reraise : (slot : Option (Value K)) (next : P) (s : List (Entry K)) (bs : List (Block K P)) (w : World K) → left (reraise slot next s bs w) ≤ length w.answers
+  left_reraise : (slot : Option (Value K)) (next : P) (s : List (Entry K)) (bs : List (Block K P)) (w : World K) → answers_left (reraise slot next s bs w) ≤ length w.answers
   left_reraise None next s bs w = left_got (for_none _ true w) _ _ s bs None (none_fewer _ true w) (λ vs w1. le_refl _)
   left_reraise (Some e) next s bs w = left_unwind (RaiseOf e) s bs (Some e) w
 
-  left_after_exit : (t : Bool) (k : Option (Reason K P)) (next : P) (s : List (Entry K)) (bs : List (Block K P)) (slot : Option (Value K)) (w : World K) → left (after_exit t k next s bs slot w) ≤ length w.answers
+  left_after_exit : (t : Bool) (k : Option (Reason K P)) (next : P) (s : List (Entry K)) (bs : List (Block K P)) (slot : Option (Value K)) (w : World K)
+      → answers_left (after_exit t k next s bs slot w) ≤ length w.answers
   left_after_exit t None next s bs slot w = le_refl _
   left_after_exit t (Some (BreakTo p)) next s bs slot w = left_unwind (BreakTo p) s bs slot w
   left_after_exit t (Some (ContinueTo p)) next s bs slot w = left_unwind (ContinueTo p) s bs slot w
   left_after_exit t (Some (ReturnOf v)) next s bs slot w = left_unwind (ReturnOf v) s bs slot w
   left_after_exit t (Some (RaiseOf e)) next s bs slot w = left_choose t _ _ _ (le_refl _) (left_unwind (RaiseOf e) s bs slot w)
 
-  left_joins : (b : Bool) (n : ℕ) (next : P) (s : List (Entry K)) (bs : List (Block K P)) (slot : Option (Value K)) (w : World K) → left (joins b n next s bs slot w) ≤ length w.answers
+  left_joins : (b : Bool) (n : ℕ) (next : P) (s : List (Entry K)) (bs : List (Block K P)) (slot : Option (Value K)) (w : World K) → answers_left (joins b n next s bs slot w) ≤ length w.answers
   left_joins true n next s bs slot w = left_pop_cells n s [] _ _ _ _ (omega arith) (omega arith) (λ cs rest. le_refl _)
   left_joins false n next s bs slot w = omega arith
 
-  left_access : (u : Usage) (k : Kind) (n : List ℕ) (p : ℕ) (next : P) (s : List (Entry K)) (bs : List (Block K P)) (slot : Option (Value K)) (w : World K) → left (access u k n p next s bs slot w) ≤ length w.answers
+  left_access : (u : Usage) (k : Kind) (n : List ℕ) (p : ℕ) (next : P) (s : List (Entry K)) (bs : List (Block K P)) (slot : Option (Value K)) (w : World K)
+      → answers_left (access u k n p next s bs slot w) ≤ length w.answers
   left_access Load k n p next s bs slot w = left_got (for_one _ w) _ _ s bs slot (one_fewer _ w) (λ v w1. le_refl _)
   left_access Delete k n p next s bs slot w = left_got (for_none _ false w) _ _ s bs slot (none_fewer _ false w) (λ v w1. le_refl _)
   left_access Store k n p next [] bs slot w = omega arith
   left_access Store k n p next (It v ∷ s) bs slot w = left_got (for_none _ false w) _ _ s bs slot (none_fewer _ false w) (λ v w1. le_refl _)
   left_access Store k n p next (Cells cs ∷ s) bs slot w = left_choose (is_silent k n) _ _ _ (le_refl _) (omega arith)
 
-  left_rotate2 : (s : List (Entry K)) (w : World K) (k : List (Entry K) → Config K P) (n : ℕ) → ((s1 : List (Entry K)) → left (k s1) ≤ n) → left (rotate2 s w k) ≤ n
+  left_rotate2 : (s : List (Entry K)) (w : World K) (k : List (Entry K) → Config K P) (n : ℕ) → ((s1 : List (Entry K)) → answers_left (k s1) ≤ n) → answers_left (rotate2 s w k) ≤ n
   left_rotate2 [] w k n hk = omega arith
   left_rotate2 (a ∷ []) w k n hk = omega arith
   left_rotate2 (a ∷ b ∷ s) w k n hk = hk _
 
-  left_rotate3 : (s : List (Entry K)) (w : World K) (k : List (Entry K) → Config K P) (n : ℕ) → ((s1 : List (Entry K)) → left (k s1) ≤ n) → left (rotate3 s w k) ≤ n
+  left_rotate3 : (s : List (Entry K)) (w : World K) (k : List (Entry K) → Config K P) (n : ℕ) → ((s1 : List (Entry K)) → answers_left (k s1) ≤ n) → answers_left (rotate3 s w k) ≤ n
   left_rotate3 [] w k n hk = omega arith
   left_rotate3 (a ∷ []) w k n hk = omega arith
   left_rotate3 (a ∷ b ∷ []) w k n hk = omega arith
   left_rotate3 (a ∷ b ∷ c ∷ s) w k n hk = hk _
 
-  left_duplicate2 : (s : List (Entry K)) (w : World K) (k : List (Entry K) → Config K P) (n : ℕ) → ((s1 : List (Entry K)) → left (k s1) ≤ n) → left (duplicate2 s w k) ≤ n
+  left_duplicate2 : (s : List (Entry K)) (w : World K) (k : List (Entry K) → Config K P) (n : ℕ) → ((s1 : List (Entry K)) → answers_left (k s1) ≤ n) → answers_left (duplicate2 s w k) ≤ n
   left_duplicate2 [] w k n hk = omega arith
   left_duplicate2 (a ∷ []) w k n hk = omega arith
   left_duplicate2 (a ∷ b ∷ s) w k n hk = hk _
 
-  left_closure : (c : Bool) (s : List (Entry K)) (w : World K) (k : List Cell → List (Entry K) → Config K P) (n : ℕ) → ((cs : List Cell) (s1 : List (Entry K)) → left (k cs s1) ≤ n) → left (pop_closure c s w k) ≤ n
+  left_closure : (c : Bool) (s : List (Entry K)) (w : World K) (k : List Cell → List (Entry K) → Config K P) (n : ℕ)
+      → ((cs : List Cell) (s1 : List (Entry K)) → answers_left (k cs s1) ≤ n) → answers_left (pop_closure c s w k) ≤ n
   left_closure false s w k n hk = hk [] s
   left_closure true [] w k n hk = omega arith
   left_closure true (It v ∷ s) w k n hk = omega arith
   left_closure true (Cells cs ∷ s) w k n hk = hk cs s
 
-  left_act : (i : Instr K P) (next : P) (s : List (Entry K)) (bs : List (Block K P)) (slot : Option (Value K)) (w : World K) → left (act i next s bs slot w) ≤ length w.answers
+  left_act : (i : Instr K P) (next : P) (s : List (Entry K)) (bs : List (Block K P)) (slot : Option (Value K)) (w : World K) → answers_left (act i next s bs slot w) ≤ length w.answers
   left_act (Push e) next s bs slot w = le_refl _
   left_act (Access k u n p) next s bs slot w = left_access u k n p next s bs slot w
   left_act (Operate o n k) next s bs slot w =
@@ -255,11 +269,11 @@ module _ {K P : Type 0} where
   left_act WithCleanupFinish next s bs slot w =
       left_last bs w _ _ (λ h r old bs1. left_top s w _ _ (λ a rest. left_got (truth_of a w) _ _ rest bs1 old (truth_fewer a w) (λ t w1. left_after_exit t r next rest bs1 old w1)))
 
-  left_act_at : (f : Fetched K P) (s : List (Entry K)) (bs : List (Block K P)) (slot : Option (Value K)) (w : World K) → left (act_at f s bs slot w) ≤ length w.answers
+  left_act_at : (f : Fetched K P) (s : List (Entry K)) (bs : List (Block K P)) (slot : Option (Value K)) (w : World K) → answers_left (act_at f s bs slot w) ≤ length w.answers
   left_act_at Nothing s bs slot w = omega arith
   left_act_at (Found i next) s bs slot w = left_act i next s bs slot w
 
-  left_step : (fetch : P → Fetched K P) (c : Config K P) → left (step fetch c) ≤ left c
+  left_step : (fetch : P → Fetched K P) (c : Config K P) → answers_left (step fetch c) ≤ answers_left c
   left_step fetch (At p s bs slot w) = left_act_at (fetch p) s bs slot w
   left_step fetch (Over events o) = omega arith
 
@@ -267,7 +281,7 @@ module _ {K P : Type 0} where
   steps_add fetch zero n c = ap (λ k. steps fetch k c) (zero-add n)
   steps_add fetch (suc m) n c = ap (λ k. steps fetch k c) (suc-add m n) ∙ steps_add fetch m n (step fetch c)
 
-  left_steps : (fetch : P → Fetched K P) (n : ℕ) (c : Config K P) → left (steps fetch n c) ≤ left c
+  left_steps : (fetch : P → Fetched K P) (n : ℕ) (c : Config K P) → answers_left (steps fetch n c) ≤ answers_left c
   left_steps fetch zero c = le_refl _
   left_steps fetch (suc n) c = omega (arith, left_step fetch c, left_steps fetch n (step fetch c))
 
@@ -280,7 +294,7 @@ pub record Ground (K P : Type 0) : Type 0 where
 -- the machine comes from a to b, in n steps more than the answers taken pay for
 pub record Reaches {K P : Type 0} (g : Ground K P) (n : ℕ) (a b : Config K P) : Type 0 where
   pub cost : ℕ
-  pub bound : cost + g.weight * left b ≤ g.weight * left a + n
+  pub bound : cost + g.weight * answers_left b ≤ g.weight * answers_left a + n
   pub runs : steps g.fetch cost a ≡ b
 
 -- the same ground, where answers pay for nothing
@@ -291,17 +305,17 @@ mul-le : (w m n : ℕ) → m ≤ n → w * m ≤ w * n
 mul-le w m n le = grind arith
 
 module _ {K P : Type 0} (g : Ground K P) where
-  pub reaches_left : (n : ℕ) (a b : Config K P) → Reaches g n a b → left b ≤ left a
-  reaches_left n a b r = subst (λ c. left c ≤ left a) r.runs (left_steps g.fetch r.cost a)
+  pub reaches_left : (n : ℕ) (a b : Config K P) → Reaches g n a b → answers_left b ≤ answers_left a
+  reaches_left n a b r = subst (λ c. answers_left c ≤ answers_left a) r.runs (left_steps g.fetch r.cost a)
 
   pub stay : (a : Config K P) → Reaches g 0 a a
   stay a = record { cost = 0; bound = omega arith; runs = refl }
 
-  pub same : (a b : Config K P) → a ≡ b → Reaches g 0 a b
-  same a b e = subst (λ c. Reaches g 0 a c) e (stay a)
+  pub reach_same : (a b : Config K P) → a ≡ b → Reaches g 0 a b
+  reach_same a b e = subst (λ c. Reaches g 0 a c) e (stay a)
 
-  pub more : (m n : ℕ) (a b : Config K P) → m ≤ n → Reaches g m a b → Reaches g n a b
-  more m n a b le r = record { cost = r.cost; bound = omega (arith, r.bound); runs = r.runs }
+  pub reach_more : (m n : ℕ) (a b : Config K P) → m ≤ n → Reaches g m a b → Reaches g n a b
+  reach_more m n a b le r = record { cost = r.cost; bound = omega (arith, r.bound); runs = r.runs }
 
   pub follow : (m n : ℕ) (a b c : Config K P) → Reaches g m a b → Reaches g n b c → Reaches g (m + n) a c
   follow m n a b c r s = record {
@@ -311,15 +325,15 @@ module _ {K P : Type 0} (g : Ground K P) where
   }
 
   -- an answer taken on a way without loops pays for that way and the next
-  pub pay : (t m : ℕ) (a b c : Config K P) → Reaches (light g) t a b → suc (left b) ≤ left a → Reaches g m b c → t + m ≤ g.weight → Reaches g 0 a c
+  pub pay : (t m : ℕ) (a b c : Config K P) → Reaches (light g) t a b → suc (answers_left b) ≤ answers_left a → Reaches g m b c → t + m ≤ g.weight → Reaches g 0 a c
   pay t m a b c r lt s room = record {
     cost = r.cost + s.cost;
     bound = (let le = mul-le g.weight _ _ lt in omega (arith, r.bound, s.bound, le));
     runs = steps_add g.fetch r.cost s.cost a ∙ ap (steps g.fetch s.cost) r.runs ∙ s.runs;
   }
 
-  pub one : (a : Config K P) → Reaches g 1 a (step g.fetch a)
-  one a = record { cost = 1; bound = (let le = mul-le g.weight _ _ (left_step g.fetch a) in omega (arith, le)); runs = refl }
+  pub reach_one : (a : Config K P) → Reaches g 1 a (step g.fetch a)
+  reach_one a = record { cost = 1; bound = (let le = mul-le g.weight _ _ (left_step g.fetch a) in omega (arith, le)); runs = refl }
 
 -- what an answer pays for may also be paid outright
 pub heavy : {K P : Type 0} (g : Ground K P) (n : ℕ) (a b : Config K P) → Reaches (light g) n a b → Reaches g n a b

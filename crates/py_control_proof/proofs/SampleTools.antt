@@ -13,11 +13,11 @@ use Rattle.py_control.specs.View.{plain, ran_to}
 use Rattle.py_control.specs.Agree.{form_of, exactly, fully, plainly, meaning_by}
 use Rattle.py_control.specs.CodeRuns.{runs_code}
 
-abbrev pub unit : Instruction → ℕ → CodeUnit
-unit i n = record { op = i; arg = n }
+abbrev pub sample_tool_unit : Instruction → ℕ → CodeUnit
+sample_tool_unit i n = record { op = i; arg = n }
 
-abbrev pub coded : (name : List ℕ) → (flags depth : ℕ) → List CodeUnit → (names varnames : List (List ℕ)) → List Const → Object
-coded name flags depth units names varnames constants = obj.object_of (record {
+abbrev pub sample_tool_coded : (name : List ℕ) → (flags depth : ℕ) → List CodeUnit → (names varnames : List (List ℕ)) → List Const → Object
+sample_tool_coded name flags depth units names varnames constants = obj.object_of (record {
   flags = flags;
   posonlyarg_count = 0;
   arg_count = 0;
@@ -35,8 +35,8 @@ coded name flags depth units names varnames constants = obj.object_of (record {
   cell2arg = None;
 }) (obj.consts_of constants)
 
-abbrev pub at : ℕ → ℕ → SourceLocation
-at r c = record { row = r; column = c }
+abbrev pub sample_tool_at : ℕ → ℕ → SourceLocation
+sample_tool_at r c = record { row = r; column = c }
 
 abbrev kind_where : Kind → Fixed → Kind
 kind_where k Resolved = k

@@ -8,14 +8,14 @@ use Rattle.py_control.specs.Form.{Scope, MkScope, Resolved, VConst, VLoad, VOp, 
 use Rattle.py_control.specs.Code.{size, body_code}
 use Rattle.py_control_proof.specs.Live.{live}
 use Rattle.py_control.specs.Agree.{exactly, form_of}
-use Rattle.py_control_proof.proofs.SampleTools.{unit, coded, at, program_head, Does}
+use Rattle.py_control_proof.proofs.SampleTools.{sample_tool_unit, sample_tool_coded, sample_tool_at, program_head, Does}
 
 -- `while c: break`, `else: raise x`, then `f(a, b)`
 abbrev loop_code : Object
-loop_code = coded (codes "<module>") 1 3 (unit op.SetupLoop 0 ∷ unit op.LoadNameAny 0 ∷ unit op.JumpIfFalse 5 ∷ unit op.Break 8 ∷ unit op.Jump 1 ∷ unit op.PopBlock 0 ∷ unit op.LoadNameAny 1 ∷ unit op.Raise 0 ∷ unit op.LoadNameAny 2 ∷ unit op.LoadNameAny 3 ∷ unit op.LoadNameAny 4 ∷ unit op.CallFunctionPositional 2 ∷ unit op.Pop 0 ∷ unit op.ReturnConst 0 ∷ []) (codes "c" ∷ codes "x" ∷ codes "f" ∷ codes "a" ∷ codes "b" ∷ []) ([]) (obj.none ∷ [])
+loop_code = sample_tool_coded (codes "<module>") 1 3 (sample_tool_unit op.SetupLoop 0 ∷ sample_tool_unit op.LoadNameAny 0 ∷ sample_tool_unit op.JumpIfFalse 5 ∷ sample_tool_unit op.Break 8 ∷ sample_tool_unit op.Jump 1 ∷ sample_tool_unit op.PopBlock 0 ∷ sample_tool_unit op.LoadNameAny 1 ∷ sample_tool_unit op.Raise 0 ∷ sample_tool_unit op.LoadNameAny 2 ∷ sample_tool_unit op.LoadNameAny 3 ∷ sample_tool_unit op.LoadNameAny 4 ∷ sample_tool_unit op.CallFunctionPositional 2 ∷ sample_tool_unit op.Pop 0 ∷ sample_tool_unit op.ReturnConst 0 ∷ []) (codes "c" ∷ codes "x" ∷ codes "f" ∷ codes "a" ∷ codes "b" ∷ []) ([]) (obj.none ∷ [])
 
 abbrev loop : Scope
-loop = MkScope program_head (SThen (SThen (SAt (at 1 1) (SWhile (TTruth (VAt (at 1 7) (VLoad Resolved (codes "c")))) (SAt (at 1 10) SBreak) (SAt (at 2 7) (SDo (operation op.Raise (Number 0)) true (VMore (VAt (at 2 13) (VLoad Resolved (codes "x"))) VNone))))) (SAt (at 3 1) (SInto (VAt (at 3 1) (VOp (operation op.CallFunctionPositional (Number 2)) (VMore (VAt (at 3 1) (VLoad Resolved (codes "f"))) (VMore (VAt (at 3 3) (VLoad Resolved (codes "a"))) (VMore (VAt (at 3 6) (VLoad Resolved (codes "b"))) VNone))))) GDrop))) (SReturn (VConst obj.none)))
+loop = MkScope program_head (SThen (SThen (SAt (sample_tool_at 1 1) (SWhile (TTruth (VAt (sample_tool_at 1 7) (VLoad Resolved (codes "c")))) (SAt (sample_tool_at 1 10) SBreak) (SAt (sample_tool_at 2 7) (SDo (operation op.Raise (Number 0)) true (VMore (VAt (sample_tool_at 2 13) (VLoad Resolved (codes "x"))) VNone))))) (SAt (sample_tool_at 3 1) (SInto (VAt (sample_tool_at 3 1) (VOp (operation op.CallFunctionPositional (Number 2)) (VMore (VAt (sample_tool_at 3 1) (VLoad Resolved (codes "f"))) (VMore (VAt (sample_tool_at 3 3) (VLoad Resolved (codes "a"))) (VMore (VAt (sample_tool_at 3 6) (VLoad Resolved (codes "b"))) VNone))))) GDrop))) (SReturn (VConst obj.none)))
 
 -- of its instructions only the jump after the break cannot be come to
 loop_lives : (size (body_code (exactly (λ t. t) loop) (form_of loop)) ≡ 14) × (live true (body_code (exactly (λ t. t) loop) (form_of loop)) ≡ 13)
@@ -37,23 +37,23 @@ loop_raised = (refl, refl, refl, refl)
 
 -- `while a:` with `try: break` and `finally: b`
 abbrev break_finally_code : Object
-break_finally_code = coded (codes "<module>") 1 1 (unit op.SetupLoop 0 ∷ unit op.LoadNameAny 0 ∷ unit op.JumpIfFalse 15 ∷ unit op.SetupFinally 11 ∷ unit op.SetupExcept 8 ∷ unit op.Break 16 ∷ unit op.PopBlock 0 ∷ unit op.Jump 9 ∷ unit op.Raise 2 ∷ unit op.PopBlock 0 ∷ unit op.EnterFinally 0 ∷ unit op.LoadNameAny 1 ∷ unit op.Pop 0 ∷ unit op.EndFinally 0 ∷ unit op.Jump 1 ∷ unit op.PopBlock 0 ∷ unit op.ReturnConst 0 ∷ []) (codes "a" ∷ codes "b" ∷ []) ([]) (obj.none ∷ [])
+break_finally_code = sample_tool_coded (codes "<module>") 1 1 (sample_tool_unit op.SetupLoop 0 ∷ sample_tool_unit op.LoadNameAny 0 ∷ sample_tool_unit op.JumpIfFalse 15 ∷ sample_tool_unit op.SetupFinally 11 ∷ sample_tool_unit op.SetupExcept 8 ∷ sample_tool_unit op.Break 16 ∷ sample_tool_unit op.PopBlock 0 ∷ sample_tool_unit op.Jump 9 ∷ sample_tool_unit op.Raise 2 ∷ sample_tool_unit op.PopBlock 0 ∷ sample_tool_unit op.EnterFinally 0 ∷ sample_tool_unit op.LoadNameAny 1 ∷ sample_tool_unit op.Pop 0 ∷ sample_tool_unit op.EndFinally 0 ∷ sample_tool_unit op.Jump 1 ∷ sample_tool_unit op.PopBlock 0 ∷ sample_tool_unit op.ReturnConst 0 ∷ []) (codes "a" ∷ codes "b" ∷ []) ([]) (obj.none ∷ [])
 
 abbrev break_finally : Scope
-break_finally = MkScope program_head (SThen (SAt (at 1 1) (SWhile (TTruth (VAt (at 1 7) (VLoad Resolved (codes "a")))) (SAt (at 2 5) (STryFinal (SAt (at 2 10) SBreak) HNone SSkip (SAt (at 3 14) (SInto (VAt (at 3 14) (VLoad Resolved (codes "b"))) GDrop)))) SSkip)) (SReturn (VConst obj.none)))
+break_finally = MkScope program_head (SThen (SAt (sample_tool_at 1 1) (SWhile (TTruth (VAt (sample_tool_at 1 7) (VLoad Resolved (codes "a")))) (SAt (sample_tool_at 2 5) (STryFinal (SAt (sample_tool_at 2 10) SBreak) HNone SSkip (SAt (sample_tool_at 3 14) (SInto (VAt (sample_tool_at 3 14) (VLoad Resolved (codes "b"))) GDrop)))) SSkip)) (SReturn (VConst obj.none)))
 
 -- of its instructions the two after the break cannot be come to
 break_finally_lives : (size (body_code (exactly (λ t. t) break_finally) (form_of break_finally)) ≡ 17) × (live true (body_code (exactly (λ t. t) break_finally) (form_of break_finally)) ≡ 15)
 break_finally_lives = (refl, refl)
 
--- the last part runs, and then the loop is left
+-- the finally block runs, and then the loop is left
 abbrev break_finally_left_run : {K : Type 0} → Ran K
 break_finally_left_run = ran (Accesses ByName Load (codes "a") 0 [] ∷ AsksTruth (Given 0 0) ∷ Accesses ByName Load (codes "b") 0 [] ∷ []) (Returned (It (Constant obj.none)))
 
 break_finally_left : Does break_finally_code break_finally (Gives 1 ∷ Truth true ∷ Gives 1 ∷ []) break_finally_left_run break_finally_left_run
 break_finally_left = (refl, refl, refl, refl)
 
--- the last part raises, so the break is lost
+-- the finally block raises, so the break is lost
 abbrev break_finally_last_raises_run : {K : Type 0} → Ran K
 break_finally_last_raises_run = ran (Accesses ByName Load (codes "a") 0 [] ∷ AsksTruth (Given 0 0) ∷ Accesses ByName Load (codes "b") 0 [] ∷ []) (RaisedOut (Given 2 0))
 
@@ -62,10 +62,10 @@ break_finally_last_raises = (refl, refl, refl, refl)
 
 -- `with a as x: raise e`
 abbrev with_raise_code : Object
-with_raise_code = coded (codes "<module>") 1 2 (unit op.LoadNameAny 0 ∷ unit op.SetupWith 7 ∷ unit op.StoreLocal 1 ∷ unit op.LoadNameAny 2 ∷ unit op.Raise 0 ∷ unit op.PopBlock 0 ∷ unit op.EnterFinally 0 ∷ unit op.WithCleanupStart 0 ∷ unit op.WithCleanupFinish 0 ∷ unit op.ReturnConst 0 ∷ []) (codes "a" ∷ codes "x" ∷ codes "e" ∷ []) ([]) (obj.none ∷ [])
+with_raise_code = sample_tool_coded (codes "<module>") 1 2 (sample_tool_unit op.LoadNameAny 0 ∷ sample_tool_unit op.SetupWith 7 ∷ sample_tool_unit op.StoreLocal 1 ∷ sample_tool_unit op.LoadNameAny 2 ∷ sample_tool_unit op.Raise 0 ∷ sample_tool_unit op.PopBlock 0 ∷ sample_tool_unit op.EnterFinally 0 ∷ sample_tool_unit op.WithCleanupStart 0 ∷ sample_tool_unit op.WithCleanupFinish 0 ∷ sample_tool_unit op.ReturnConst 0 ∷ []) (codes "a" ∷ codes "x" ∷ codes "e" ∷ []) ([]) (obj.none ∷ [])
 
 abbrev with_raise : Scope
-with_raise = MkScope program_head (SThen (SAt (at 1 1) (SWith (VAt (at 1 6) (VLoad Resolved (codes "a"))) (GStore Resolved (codes "x")) (SAt (at 1 14) (SDo (operation op.Raise (Number 0)) true (VMore (VAt (at 1 20) (VLoad Resolved (codes "e"))) VNone))))) (SReturn (VConst obj.none)))
+with_raise = MkScope program_head (SThen (SAt (sample_tool_at 1 1) (SWith (VAt (sample_tool_at 1 6) (VLoad Resolved (codes "a"))) (GStore Resolved (codes "x")) (SAt (sample_tool_at 1 14) (SDo (operation op.Raise (Number 0)) true (VMore (VAt (sample_tool_at 1 20) (VLoad Resolved (codes "e"))) VNone))))) (SReturn (VConst obj.none)))
 
 -- the exit answers true, so the exception is gone
 abbrev with_raise_swallowed_run : {K : Type 0} → Ran K

@@ -6,7 +6,7 @@ use Rattle.py_bytecode.specs.Machine.{Operate, ReturnValue}
 use Rattle.py_control.specs.Code.{Item, Do, count, labels_v, labels_vs, labels_t, labels_g, code_v, code_vs, code_ss, code_ls, code_t, code_ts, code_g, code_gs, cell_codes, closure_code, has_cells, make_code, class_code, tail_code, labels_bs, labels, labels_h, return_code, code_bs, code_c, append_code, drop_code, code, code_h}
 use Rattle.py_control.specs.Fit.{Loops}
 use Rattle.py_control_proof.specs.Walks.{LoopSort, ExceptSort, FinallySort, ExitSort, HandlerSort, LastSort, OpenSort, Joins, mark, Mark, Shape, shape, floor, of_closure}
-use Rattle.py_control_proof.proofs.Fits.{FitsV, FitsVs, FitsSs, FitsLs, FitsT, FitsTs, FitsG, FitsGs, FitsBs, FitsC, Fits, FitsH}
+use Rattle.py_control_proof.proofs.Fits.{FitsV, FitsVs, FitsSs, FitsLs, FitsT, FitsTs, FitsG, FitsGs, FitsBs, FitsC, ControlFits, FitsH}
 use Rattle.py_control_proof.proofs.FormFlowLemmas.{WalksOn, walk_none, walk_then, walk_do, walk_label, level, operate_walks, choice_walks, test_walks, short_walks, link_walks, chain_walks, unpack_walks, if_walks, while_walks, for_walks, each_walks, try_walks, any_walks, typed_walks, tail_walks, last_walks, with_walks, augment_walks, append_walks}
 
 module _ (K : Type 0) (at : ℕ → Option Shape) where
@@ -22,7 +22,8 @@ module _ (K : Type 0) (at : ℕ → Option Shape) where
   closure_walk [] h ms low = move h h h (of_closure false + h) ms refl (omega arith) (walk_none K at (shape h ms))
   closure_walk (c ∷ cs) h ms low = walk_then K at (cells_walk (c ∷ cs) h ms) (walk_do K at (shape (of_closure true + h) ms) (omega (arith, low)) (level K at _ _ ms (omega arith)) (walk_none K at _))
 
-  make_walk : (flags n : ℕ) (name : List ℕ) (cs : List Cell) (child : Value K) (h : ℕ) (ms : List Mark) → floor ms ≤ h → WalksOn K at (make_code flags cs n child name) (shape (n + h) ms) (shape (1 + h) ms)
+  make_walk : (flags n : ℕ) (name : List ℕ) (cs : List Cell) (child : Value K) (h : ℕ) (ms : List Mark) → floor ms ≤ h
+      → WalksOn K at (make_code flags cs n child name) (shape (n + h) ms) (shape (1 + h) ms)
   make_walk flags n name cs child h ms low =
       let k : ℕ = of_closure (has_cells cs) in
       walk_then K at (closure_walk cs (n + h) ms (omega (arith, low)))
@@ -60,11 +61,13 @@ module _ (K : Type 0) (at : ℕ → Option Shape) where
       values_walk (VMethod o f fs) n h ms low e =
           walk_then K at (value_walks f n h ms low e.0) (walk_do K at (shape (3 + h) ms) (omega (arith, low)) (level K at _ _ ms (omega arith)) (move (3 + h) (count fs + (3 + h)) (3 + h) (count (VMethod o f fs) + h) ms refl (omega arith) (values_walk fs (n + labels_v f) (3 + h) ms (omega (arith, low)) e.1)))
 
-      shorts_walk : (ss : Shorts) (d : Bool) (end n h : ℕ) (ms : List Mark) → floor ms ≤ h → at end ≡ Some (shape (1 + h) ms) → FitsSs at ss end n h ms → WalksOn K at (code_ss i ss d end n) (shape h ms) (shape (1 + h) ms)
+      shorts_walk : (ss : Shorts) (d : Bool) (end n h : ℕ) (ms : List Mark) → floor ms ≤ h → at end ≡ Some (shape (1 + h) ms) → FitsSs at ss end n h ms
+          → WalksOn K at (code_ss i ss d end n) (shape h ms) (shape (1 + h) ms)
       shorts_walk (OneShort f) d end n h ms low q e = value_walks f n h ms low e
       shorts_walk (MoreShort f ss) d end n h ms low q e = short_walks K at h ms low d _ _ end q (value_walks f n h ms low e.0) (shorts_walk ss d end (n + labels_v f) h ms low q e.1)
 
-      links_walk : (ls : Links) (out n h : ℕ) (ms : List Mark) → floor ms ≤ h → at out ≡ Some (shape (2 + h) ms) → FitsLs at ls out n h ms → WalksOn K at (code_ls i ls out n) (shape (1 + h) ms) (shape (1 + h) ms)
+      links_walk : (ls : Links) (out n h : ℕ) (ms : List Mark) → floor ms ≤ h → at out ≡ Some (shape (2 + h) ms) → FitsLs at ls out n h ms
+          → WalksOn K at (code_ls i ls out n) (shape (1 + h) ms) (shape (1 + h) ms)
       links_walk (LastLink o f) out n h ms low q e =
           walk_then K at (move (1 + h) (1 + (1 + h)) (1 + h) (2 + h) ms refl (omega arith) (value_walks f n (1 + h) ms (omega (arith, low)) e)) (operate_walks K at h ms low o 2 1)
       links_walk (MoreLink o f ls) out n h ms low q e =
@@ -98,19 +101,20 @@ module _ (K : Type 0) (at : ℕ → Option Shape) where
     filters_walk NoFilter to n h ms low e = walk_none K at _
     filters_walk (MoreFilter t bs) to n h ms low e = walk_then K at (test_walk t false to n h ms low e.0) (filters_walk bs to (n + labels_t t false) h ms low e.1)
 
-    returned : (a : List (Item K)) (h : ℕ) (ms : List Mark) → floor ms ≤ h → WalksOn K at a (shape h ms) (shape (1 + h) ms) → WalksOn K at (a ++ Do ReturnValue ∷ []) (shape h ms) (shape h ms)
-    returned a h ms low w = walk_then K at w (walk_do K at (shape h ms) (omega (arith, low)) tt (walk_none K at _))
+    soundness_returned : (a : List (Item K)) (h : ℕ) (ms : List Mark) → floor ms ≤ h → WalksOn K at a (shape h ms) (shape (1 + h) ms)
+        → WalksOn K at (a ++ Do ReturnValue ∷ []) (shape h ms) (shape h ms)
+    soundness_returned a h ms low w = walk_then K at w (walk_do K at (shape h ms) (omega (arith, low)) tt (walk_none K at _))
 
     return_walk : (f : VForm) (n h : ℕ) (ms : List Mark) → floor ms ≤ h → FitsV at f n h ms → WalksOn K at (return_code i f n) (shape h ms) (shape h ms)
     return_walk (VConst c) n h ms low e = walk_do K at (shape h ms) tt tt (walk_none K at _)
-    return_walk (VLoad x m) n h ms low e = returned _ h ms low (value_walks (VLoad x m) n h ms low e)
-    return_walk (VOp o fs) n h ms low e = returned _ h ms low (value_walks (VOp o fs) n h ms low e)
-    return_walk (VMake flags a s m b) n h ms low e = returned _ h ms low (value_walks (VMake flags a s m b) n h ms low e)
-    return_walk (VShort d ss) n h ms low e = returned _ h ms low (value_walks (VShort d ss) n h ms low e)
-    return_walk (VChain f o g ls) n h ms low e = returned _ h ms low (value_walks (VChain f o g ls) n h ms low e)
-    return_walk (VChoice t a b) n h ms low e = returned _ h ms low (value_walks (VChoice t a b) n h ms low e)
-    return_walk (VKeep f how t) n h ms low e = returned _ h ms low (value_walks (VKeep f how t) n h ms low e)
-    return_walk (VSwap o a b fs) n h ms low e = returned _ h ms low (value_walks (VSwap o a b fs) n h ms low e)
+    return_walk (VLoad x m) n h ms low e = soundness_returned _ h ms low (value_walks (VLoad x m) n h ms low e)
+    return_walk (VOp o fs) n h ms low e = soundness_returned _ h ms low (value_walks (VOp o fs) n h ms low e)
+    return_walk (VMake flags a s m b) n h ms low e = soundness_returned _ h ms low (value_walks (VMake flags a s m b) n h ms low e)
+    return_walk (VShort d ss) n h ms low e = soundness_returned _ h ms low (value_walks (VShort d ss) n h ms low e)
+    return_walk (VChain f o g ls) n h ms low e = soundness_returned _ h ms low (value_walks (VChain f o g ls) n h ms low e)
+    return_walk (VChoice t a b) n h ms low e = soundness_returned _ h ms low (value_walks (VChoice t a b) n h ms low e)
+    return_walk (VKeep f how t) n h ms low e = soundness_returned _ h ms low (value_walks (VKeep f how t) n h ms low e)
+    return_walk (VSwap o a b fs) n h ms low e = soundness_returned _ h ms low (value_walks (VSwap o a b fs) n h ms low e)
     return_walk (VAt p f) n h ms low e = return_walk f n h ms low e
 
     class_walk : (cs : List Cell) (h : ℕ) (ms : List Mark) → floor ms ≤ h → WalksOn K at (class_code cs) (shape h ms) (shape h ms)
@@ -119,17 +123,20 @@ module _ (K : Type 0) (at : ℕ → Option Shape) where
         walk_do K at (shape (1 + h) ms) tt (level K at _ _ ms (omega arith)) (walk_do K at (shape (2 + h) ms) (omega (arith, low)) (level K at _ _ ms (omega arith)) (walk_do K at (shape (1 + h) ms) (omega (arith, low)) (level K at _ _ ms (omega arith)) (walk_do K at (shape h ms) (omega (arith, low)) tt (walk_none K at _))))
 
     -- near says where the collection lies
-    clauses_walk : (cs : Clauses) (leaf : ℕ → ℕ → List (Item K)) (near : ℕ → ℕ → Type 0) (fits : ℕ → ℕ → Type 0) (ms : List Mark) → ((d h : ℕ) → near d h → near (suc d) (1 + h)) → ((d n h : ℕ) → floor ms ≤ h → near d h → fits n h → WalksOn K at (leaf d n) (shape h ms) (shape h ms)) → (d n h : ℕ) → floor ms ≤ h → near d h → FitsC at cs fits n h ms → WalksOn K at (code_c i cs leaf d n) (shape h ms) (shape h ms)
+    clauses_walk : (cs : Clauses) (leaf : ℕ → ℕ → List (Item K)) (near : ℕ → ℕ → Type 0) (fits : ℕ → ℕ → Type 0) (ms : List Mark)
+        → ((d h : ℕ) → near d h → near (suc d) (1 + h)) → ((d n h : ℕ) → floor ms ≤ h → near d h → fits n h → WalksOn K at (leaf d n) (shape h ms) (shape h ms))
+        → (d n h : ℕ) → floor ms ≤ h → near d h → FitsC at cs fits n h ms → WalksOn K at (code_c i cs leaf d n) (shape h ms) (shape h ms)
     clauses_walk CLast leaf near fits ms up lw d n h low nr e = lw d n h low nr e
     clauses_walk (CEach f t bs cs) leaf near fits ms up lw d n h low nr e =
         each_walks K at h ms low n (1 + n) _ _ _ _ e.0 e.1 (value_walks f (2 + n) h ms low e.2) (move (1 + (1 + h)) (1 + h) (2 + h) (1 + h) ms (omega arith) refl (target_walks t (2 + n + labels_v f) (1 + h) ms (omega (arith, low)) e.3)) (filters_walk bs n (2 + n + labels_v f + labels_g t) (1 + h) ms (omega (arith, low)) e.4) (clauses_walk cs leaf near fits ms up lw (suc d) (2 + n + labels_v f + labels_g t + labels_bs bs) (1 + h) (omega (arith, low)) (up d h nr) e.5)
 
-    done_walk : (o : Operation) (n : ℕ) (r : Bool) (h : ℕ) (ms : List Mark) → floor ms ≤ h → WalksOn K at (Do (Operate o n (Rattle.py_bytecode.specs.Values.gives_of r)) ∷ []) (shape (n + h) ms) (shape h ms)
+    done_walk : (o : Operation) (n : ℕ) (r : Bool) (h : ℕ) (ms : List Mark) → floor ms ≤ h
+        → WalksOn K at (Do (Operate o n (Rattle.py_bytecode.specs.Values.gives_of r)) ∷ []) (shape (n + h) ms) (shape h ms)
     done_walk o n true h ms low = walk_do K at (shape h ms) (omega (arith, low)) tt (walk_none K at _)
     done_walk o n false h ms low = walk_do K at (shape h ms) (omega (arith, low)) (level K at _ _ ms (omega arith)) (walk_none K at _)
 
     mutual
-      pub form_walks : (f : SForm) (l : Loops) (n h : ℕ) (ms : List Mark) → floor ms ≤ h → Fits at f l n h ms → WalksOn K at (code i f l n) (shape h ms) (shape h ms)
+      pub form_walks : (f : SForm) (l : Loops) (n h : ℕ) (ms : List Mark) → floor ms ≤ h → ControlFits at f l n h ms → WalksOn K at (code i f l n) (shape h ms) (shape h ms)
       form_walks SSkip l n h ms low e = walk_none K at _
       form_walks (SThen a b) l n h ms low e = walk_then K at (form_walks a l n h ms low e.0) (form_walks b l (n + labels a) h ms low e.1)
       form_walks (SDo o r fs) l n h ms low e = walk_then K at (values_walk fs n h ms low e) (done_walk o (count fs) r h ms low)
@@ -165,7 +172,9 @@ module _ (K : Type 0) (at : ℕ → Option Shape) where
           clauses_walk cs (drop_code i f) (λ d k. Unit {0}) (λ m k. FitsV at f m k ms) ms (λ d k q. tt) (λ d m k lo nr q. walk_then K at (value_walks f m k ms lo q) (walk_do K at (shape k ms) (omega (arith, lo)) (level K at _ _ ms (omega arith)) (walk_none K at _))) 0 n h low tt e
       form_walks (SAt p f) l n h ms low e = form_walks f l n h ms low e
 
-      handlers_walk : (hs : Handlers) (final : Bool) (l : Loops) (end n h : ℕ) (ms : List Mark) → floor ms ≤ h → (u w : Shape) → at end ≡ Some w → Joins u w → WalksOn K at (tail_code final) (shape h ms) u → FitsH at hs l n h ms → WalksOn K at (code_h i hs final l end n) (shape (1 + h) (mark HandlerSort h ∷ ms)) (shape h ms)
+      handlers_walk : (hs : Handlers) (final : Bool) (l : Loops) (end n h : ℕ) (ms : List Mark) → floor ms ≤ h → (u w : Shape) → at end ≡ Some w → Joins u w
+          → WalksOn K at (tail_code final) (shape h ms) u → FitsH at hs l n h ms
+          → WalksOn K at (code_h i hs final l end n) (shape (1 + h) (mark HandlerSort h ∷ ms)) (shape h ms)
       handlers_walk HNone final l end n h ms low u w q j tw e = walk_do K at (shape h ms) tt tt (walk_none K at _)
       handlers_walk (HAny t b hs) final l end n h ms low u w q j tw e =
           any_walks K at h ms low final n end _ _ u w e.0 q j (walk_then K at (target_walks t (1 + n) h (mark HandlerSort h ∷ ms) (omega arith) e.1) (form_walks b l (1 + n + labels_g t) h (mark HandlerSort h ∷ ms) (omega arith) e.2)) tw (handlers_walk hs final l end (1 + n + labels_g t + labels b) h ms low u w q j tw e.3)

@@ -9,11 +9,11 @@ use Rattle.py_control.specs.Code.{Item, Do, Label, body_code}
 use Rattle.py_control.specs.View.{View, value_to, values_to, events_to, outcome_to, ran_to}
 use Rattle.py_control.specs.Places.{exact, instr_over, items_over}
 use Rattle.py_control.specs.Agree.{form_of, exactly, meaning_by, SameValue, SameValues, SameEvents, SameEntry, SameOutcome, SameRan, AllOf}
-use Rattle.py_control.specs.CodeRuns.{runs_code, child_of, child_in, loaded, children}
+use Rattle.py_control.specs.CodeRuns.{runs_code, child_of, child_in, loaded_children, children}
 use Rattle.py_control_proof.proofs.Carry.{Carries}
 use Rattle.py_control_proof.proofs.Assembly.{simulated}
 use Rattle.py_control_proof.proofs.Agreement.{meaning_is}
-use Rattle.py_control_proof.proofs.Labels.{once}
+use Rattle.py_control_proof.proofs.Labels.{label_once}
 use Rattle.py_control_proof.proofs.OtherChildren.{runs_over}
 
 -- what is known of all of a list is known of each part
@@ -32,19 +32,19 @@ all_as S T h (x ∷ xs) p = (h x p.0, all_as S T h xs p.1)
 
 -- items whose children come with what is known of them
 module _ {P : Type 0} (S : P → Type 0) where
-  abbrev pub Known : Type 0
-  Known = (p : P) × S p
+  abbrev pub SpanKnown : Type 0
+  SpanKnown = (p : P) × S p
 
-  abbrev with_value : (x : Value P) → AllOf S (child_of x) → Value Known
+  abbrev with_value : (x : Value P) → AllOf S (child_of x) → Value SpanKnown
   with_value (Constant n) h = Constant n
   with_value (Given n k) h = Given n k
   with_value (Child p) h = Child (p, h.0)
 
-  abbrev with_entry : (e : Entry P) → AllOf S (child_in e) → Entry Known
+  abbrev with_entry : (e : Entry P) → AllOf S (child_in e) → Entry SpanKnown
   with_entry (It x) h = It (with_value x h)
   with_entry (Cells cs) h = Cells cs
 
-  abbrev with_instr : (i : Instr P ℕ) → AllOf S (loaded i) → Instr Known ℕ
+  abbrev with_instr : (i : Instr P ℕ) → AllOf S (loaded_children i) → Instr SpanKnown ℕ
   with_instr (Push e) h = Push (with_entry e h)
   with_instr (ReturnConst x) h = ReturnConst (with_value x h)
   with_instr (Access k u n p) h = Access k u n p
@@ -78,16 +78,16 @@ module _ {P : Type 0} (S : P → Type 0) where
   with_instr WithCleanupStart h = WithCleanupStart
   with_instr WithCleanupFinish h = WithCleanupFinish
 
-  abbrev pub with_items : (is : List (Item P)) → AllOf S (children is) → List (Item Known)
+  abbrev pub with_items : (is : List (Item P)) → AllOf S (children is) → List (Item SpanKnown)
   with_items [] h = []
-  with_items (Do i ∷ is) h = Do (with_instr i (all_first S (loaded i) (children is) h)) ∷ with_items is (all_second S (loaded i) (children is) h)
+  with_items (Do i ∷ is) h = Do (with_instr i (all_first S (loaded_children i) (children is) h)) ∷ with_items is (all_second S (loaded_children i) (children is) h)
   with_items (Label l ∷ is) h = Label l ∷ with_items is h
 
   module _ {K : Type 0} (c : P → K) where
-    abbrev of : Known → K
+    abbrev of : SpanKnown → K
     of x = c x.0
 
-    same_instr : (i : Instr P ℕ) (h : AllOf S (loaded i)) → instr_over of (λ p. p) (with_instr i h) ≡ instr_over c (λ p. p) i
+    same_instr : (i : Instr P ℕ) (h : AllOf S (loaded_children i)) → instr_over of (λ p. p) (with_instr i h) ≡ instr_over c (λ p. p) i
     same_instr (Push (It (Constant n))) h = refl
     same_instr (Push (It (Given n k))) h = refl
     same_instr (Push (It (Child p))) h = refl
@@ -100,8 +100,8 @@ module _ {P : Type 0} (S : P → Type 0) where
     pub same_items : (is : List (Item P)) (h : AllOf S (children is)) → items_over of (with_items is h) ≡ items_over c is
     same_items [] h = refl
     same_items (Do i ∷ is) h =
-        ap (λ x. Do x ∷ items_over of (with_items is (all_second S (loaded i) (children is) h))) (same_instr i (all_first S (loaded i) (children is) h))
-        ∙ ap (λ l. Do (instr_over c (λ p. p) i) ∷ l) (same_items is (all_second S (loaded i) (children is) h))
+        ap (λ x. Do x ∷ items_over of (with_items is (all_second S (loaded_children i) (children is) h))) (same_instr i (all_first S (loaded_children i) (children is) h))
+        ∙ ap (λ l. Do (instr_over c (λ p. p) i) ∷ l) (same_items is (all_second S (loaded_children i) (children is) h))
     same_items (Label l ∷ is) h = ap (λ z. Label l ∷ z) (same_items is h)
 
 -- two images of a run
@@ -152,13 +152,16 @@ module _ {P K L : Type 0} (R : K → L → Type 0) (c : P → K) (d : P → L) (
 
 -- the run of a scope's code over scopes is its exact meaning
 pub scope_runs : (s : Scope) → Looped false (form_of s) → (answers : List Answer) → runs_code (body_code (exactly (λ t. t) s) (form_of s)) answers ≡ meaning_by (exactly (λ t. t)) s answers
-scope_runs s ok answers = simulated (exactly (λ t. t) s) (form_of s) ok (once (exactly (λ t. t) s) (form_of s)) answers
+scope_runs s ok answers = simulated (exactly (λ t. t) s) (form_of s) ok (label_once (exactly (λ t. t) s) (form_of s)) answers
 
 -- what runs the items does what the scope means, where the items are the scope's code and children are related
-pub items_agree : {K P : Type 0} (v : View) (view : Scope → Interp Scope) → ((s : Scope) → Carries (λ t. t) v (exactly (λ t. t) s) (view s)) → (R : K → Scope → Type 0) (c : P → K) (d : P → Scope) (ps : List (Item P)) (s : Scope) → items_over d ps ≡ body_code (exactly (λ t. t) s) (form_of s) → Looped false (form_of s) → AllOf (λ p. R (c p) (d p)) (children ps) → (answers : List Answer) → SameRan R (ran_to (λ k. k) v (runs_code (items_over c ps) answers)) (meaning_by view s answers)
+pub items_agree : {K P : Type 0} (v : View) (view : Scope → Interp Scope) → ((s : Scope) → Carries (λ t. t) v (exactly (λ t. t) s) (view s))
+    → (R : K → Scope → Type 0) (c : P → K) (d : P → Scope) (ps : List (Item P)) (s : Scope) → items_over d ps ≡ body_code (exactly (λ t. t) s) (form_of s)
+    → Looped false (form_of s) → AllOf (λ p. R (c p) (d p)) (children ps) → (answers : List Answer)
+    → SameRan R (ran_to (λ k. k) v (runs_code (items_over c ps) answers)) (meaning_by view s answers)
 items_agree {K} {P} v view h R c d ps s code ok related answers =
     let S : P → Type 0 = λ p. R (c p) (d p) in
-    let qs : List (Item (Known S)) = with_items S ps related in
+    let qs : List (Item (SpanKnown S)) = with_items S ps related in
     let left : runs_code (items_over c ps) answers ≡ ran_to (λ x. c x.0) exact (runs_code qs answers) = ap (λ l. runs_code l answers) (sym (same_items S c ps related)) ∙ runs_over (λ x. c x.0) qs answers in
     let right : meaning_by (exactly (λ t. t)) s answers ≡ ran_to (λ x. d x.0) exact (runs_code qs answers) = sym (scope_runs s ok answers) ∙ ap (λ l. runs_code l answers) (sym code ∙ sym (same_items S d ps related)) ∙ runs_over (λ x. d x.0) qs answers in
     subst (λ x. SameRan R (ran_to (λ k. k) v x) (meaning_by view s answers)) (sym left)

@@ -9,7 +9,7 @@ use Rattle.py_bytecode.specs.Table.{range_of, row_of}
 use Rattle.py_bytecode.specs.Objects.{Object}
 use Rattle.py_bytecode.specs.Values.{flip}
 use Rattle.py_bytecode.specs.Machine.{Instr}
-use Rattle.py_bytecode.specs.Decode.{Tables, for_some, below, within, raising, instr_of}
+use Rattle.py_bytecode.specs.Decode.{Tables, for_some, below, within, raise_instr, instr_of}
 use Rattle.py_control_proof.specs.Live.{stays}
 
 module _ {P : Type 0} where
@@ -22,13 +22,13 @@ module _ {P : Type 0} where
   some_so None k h = tt
   some_so (Some x) k h = h x
 
-  if_so : {b : Bool} (c : Bool) (i : Instr Object P) → stays i ≡ b → StaysSo b (if c then Some i else None)
-  if_so true i h = h
-  if_so false i h = tt
+  stay_if_so : {b : Bool} (c : Bool) (i : Instr Object P) → stays i ≡ b → StaysSo b (if c then Some i else None)
+  stay_if_so true i h = h
+  stay_if_so false i h = tt
 
   below_so : {b : Bool} (m : Option ℕ) (n : ℕ) (i : Instr Object P) → stays i ≡ b → StaysSo b (below m n i)
   below_so None n i h = h
-  below_so (Some m) n i h = if_so (nat_lt n m) i h
+  below_so (Some m) n i h = stay_if_so (nat_lt n m) i h
 
   within_so : {b : Bool} (k : OperandKind) (n : ℕ) (i : Instr Object P) → stays i ≡ b → StaysSo b (within k n i)
   within_so k n i h = below_so (range_of k) n i h
@@ -37,7 +37,7 @@ module _ {P : Type 0} where
   pick_so true i j h g = h
   pick_so false i j h g = g
 
-raising_so : (P : Type 0) (n : ℕ) → stays {K = Object} {P = P} (raising n) ≡ false
+raising_so : (P : Type 0) (n : ℕ) → stays {K = Object} {P = P} (raise_instr n) ≡ false
 raising_so P n = pick_so (nat_eq n 0) _ _ refl (pick_so (nat_eq n 1) _ _ refl refl)
 
 module _ {P : Type 0} where

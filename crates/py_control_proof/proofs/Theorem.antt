@@ -8,7 +8,7 @@ use Rattle.py_control.specs.CodeRuns.{runs_code, children}
 use Rattle.py_control_proof.specs.Compiling.{compile, ItemsAgree, AllLooped, CompiledAgrees}
 use Rattle.py_control_proof.proofs.Carry.{Carries}
 use Rattle.py_control_proof.proofs.Agreement.{each_to, full_carries, plain_carries}
-use Rattle.py_control_proof.proofs.Kids.{children_are}
+use Rattle.py_control_proof.proofs.Kids.{kid_children_are}
 use Rattle.py_control_proof.proofs.CodeOver.{code_over}
 use Rattle.py_control_proof.proofs.Spans.{all_as, items_agree}
 use Rattle.py_control_proof.proofs.CodeObjects.{each_itself}
@@ -34,8 +34,8 @@ code_agrees v view h (suc n) s ok =
     let ts : List Scope = kids (form_of s) in
     let ps : List (Item Scope) = body_code (exactly (λ t. t) s) (form_of s) in
     let related : AllOf (λ t. R (compile n t) t) ts = all_as (AllLooped n) (λ t. R (compile n t) t) (code_agrees v view h n) ts ok.1 in
-    let kids_are : children ps ≡ ts = children_are (exactly (λ t. t) s) (form_of s) ∙ each_itself ts in
-    let codes_are : children (compile (suc n) s) ≡ each_to (compile n) ts = children_are (exactly (compile n) s) (form_of s) in (
+    let kids_are : children ps ≡ ts = kid_children_are (exactly (λ t. t) s) (form_of s) ∙ each_itself ts in
+    let codes_are : children (compile (suc n) s) ≡ each_to (compile n) ts = kid_children_are (exactly (compile n) s) (form_of s) in (
       λ answers. subst (λ x. SameRan R (ran_to (λ k. k) v (runs_code x answers)) (meaning_by view s answers)) (code_over (compile n) (exactly (λ t. t) s) (form_of s))
           (items_agree v view h R (compile n) (λ t. t) ps s (code_over (λ t. t) (exactly (λ t. t) s) (form_of s)) ok.0 (subst (AllOf (λ t. R (compile n t) t)) (sym kids_are) related) answers),
       subst (AllOf (λ k. OneOf R k ts)) (sym codes_are) (codes_have R (compile n) ts related),

@@ -5,14 +5,14 @@ use Rattle.py_bytecode.specs.Objects as obj
 use Rattle.py_bytecode.specs.Objects.{Object}
 use Rattle.py_bytecode.specs.Values.{operation, Bare, Number, Constant, Given, It, Operates, Accesses, AsksTruth, AsksNext, Gives, Truth, End, Raised, Load, Store, ByName, Global, Returned, RaisedOut, Stopped, Ran, ran}
 use Rattle.py_control.specs.Form.{Scope, MkScope, Resolved, VConst, VLoad, VOp, VAt, VNone, VMore, GStore, GDrop, SSkip, SThen, SInto, SFor, SContinue, SReturn, SReraise, STry, SWith, SAt, HNone, HAny}
-use Rattle.py_control_proof.proofs.SampleTools.{unit, coded, at, program_head, function_head, Does}
+use Rattle.py_control_proof.proofs.SampleTools.{sample_tool_unit, sample_tool_coded, sample_tool_at, program_head, function_head, Does}
 
 -- `with a: return b` in a function
 abbrev with_return_code : Object
-with_return_code = coded (codes "f") 33 2 (unit op.LoadGlobal 0 ∷ unit op.SetupWith 7 ∷ unit op.Pop 0 ∷ unit op.LoadGlobal 1 ∷ unit op.ReturnValue 0 ∷ unit op.PopBlock 0 ∷ unit op.EnterFinally 0 ∷ unit op.WithCleanupStart 0 ∷ unit op.WithCleanupFinish 0 ∷ unit op.ReturnConst 0 ∷ []) (codes "a" ∷ codes "b" ∷ []) ([]) (obj.none ∷ [])
+with_return_code = sample_tool_coded (codes "f") 33 2 (sample_tool_unit op.LoadGlobal 0 ∷ sample_tool_unit op.SetupWith 7 ∷ sample_tool_unit op.Pop 0 ∷ sample_tool_unit op.LoadGlobal 1 ∷ sample_tool_unit op.ReturnValue 0 ∷ sample_tool_unit op.PopBlock 0 ∷ sample_tool_unit op.EnterFinally 0 ∷ sample_tool_unit op.WithCleanupStart 0 ∷ sample_tool_unit op.WithCleanupFinish 0 ∷ sample_tool_unit op.ReturnConst 0 ∷ []) (codes "a" ∷ codes "b" ∷ []) ([]) (obj.none ∷ [])
 
 abbrev with_return : Scope
-with_return = MkScope function_head (SThen (SAt (at 2 5) (SWith (VAt (at 2 10) (VLoad Resolved (codes "a"))) GDrop (SAt (at 2 13) (SReturn (VAt (at 2 20) (VLoad Resolved (codes "b"))))))) (SReturn (VConst obj.none)))
+with_return = MkScope function_head (SThen (SAt (sample_tool_at 2 5) (SWith (VAt (sample_tool_at 2 10) (VLoad Resolved (codes "a"))) GDrop (SAt (sample_tool_at 2 13) (SReturn (VAt (sample_tool_at 2 20) (VLoad Resolved (codes "b"))))))) (SReturn (VConst obj.none)))
 
 -- the value is returned though the exit answers true
 abbrev with_return_returned_run : {K : Type 0} → Ran K
@@ -23,10 +23,10 @@ with_return_returned = (refl, refl, refl, refl)
 
 -- `try: a`, `except:` with `try: b` and `except: raise`, and then `raise`
 abbrev nested_raises_code : Object
-nested_raises_code = coded (codes "<module>") 1 1 (unit op.SetupExcept 5 ∷ unit op.LoadNameAny 0 ∷ unit op.Pop 0 ∷ unit op.PopBlock 0 ∷ unit op.Jump 20 ∷ unit op.Pop 0 ∷ unit op.SetupExcept 11 ∷ unit op.LoadNameAny 1 ∷ unit op.Pop 0 ∷ unit op.PopBlock 0 ∷ unit op.Jump 16 ∷ unit op.Pop 0 ∷ unit op.Raise 2 ∷ unit op.PopException 0 ∷ unit op.Jump 16 ∷ unit op.Raise 2 ∷ unit op.Raise 2 ∷ unit op.PopException 0 ∷ unit op.Jump 20 ∷ unit op.Raise 2 ∷ unit op.ReturnConst 0 ∷ []) (codes "a" ∷ codes "b" ∷ []) ([]) (obj.none ∷ [])
+nested_raises_code = sample_tool_coded (codes "<module>") 1 1 (sample_tool_unit op.SetupExcept 5 ∷ sample_tool_unit op.LoadNameAny 0 ∷ sample_tool_unit op.Pop 0 ∷ sample_tool_unit op.PopBlock 0 ∷ sample_tool_unit op.Jump 20 ∷ sample_tool_unit op.Pop 0 ∷ sample_tool_unit op.SetupExcept 11 ∷ sample_tool_unit op.LoadNameAny 1 ∷ sample_tool_unit op.Pop 0 ∷ sample_tool_unit op.PopBlock 0 ∷ sample_tool_unit op.Jump 16 ∷ sample_tool_unit op.Pop 0 ∷ sample_tool_unit op.Raise 2 ∷ sample_tool_unit op.PopException 0 ∷ sample_tool_unit op.Jump 16 ∷ sample_tool_unit op.Raise 2 ∷ sample_tool_unit op.Raise 2 ∷ sample_tool_unit op.PopException 0 ∷ sample_tool_unit op.Jump 20 ∷ sample_tool_unit op.Raise 2 ∷ sample_tool_unit op.ReturnConst 0 ∷ []) (codes "a" ∷ codes "b" ∷ []) ([]) (obj.none ∷ [])
 
 abbrev nested_raises : Scope
-nested_raises = MkScope program_head (SThen (SAt (at 1 1) (STry (SAt (at 1 6) (SInto (VAt (at 1 6) (VLoad Resolved (codes "a"))) GDrop)) (HAny GDrop (SThen (SAt (at 3 5) (STry (SAt (at 3 10) (SInto (VAt (at 3 10) (VLoad Resolved (codes "b"))) GDrop)) (HAny GDrop (SAt (at 4 13) SReraise) HNone) SSkip)) (SAt (at 5 5) SReraise)) HNone) SSkip)) (SReturn (VConst obj.none)))
+nested_raises = MkScope program_head (SThen (SAt (sample_tool_at 1 1) (STry (SAt (sample_tool_at 1 6) (SInto (VAt (sample_tool_at 1 6) (VLoad Resolved (codes "a"))) GDrop)) (HAny GDrop (SThen (SAt (sample_tool_at 3 5) (STry (SAt (sample_tool_at 3 10) (SInto (VAt (sample_tool_at 3 10) (VLoad Resolved (codes "b"))) GDrop)) (HAny GDrop (SAt (sample_tool_at 4 13) SReraise) HNone) SSkip)) (SAt (sample_tool_at 5 5) SReraise)) HNone) SSkip)) (SReturn (VConst obj.none)))
 
 -- b raises, and the inner bare raise raises that again
 abbrev nested_raises_inner_run : {K : Type 0} → Ran K
@@ -44,10 +44,10 @@ nested_raises_outer = (refl, refl, refl, refl)
 
 -- `raise` where nothing is handled
 abbrev no_exception_code : Object
-no_exception_code = coded (codes "<module>") 1 0 (unit op.Raise 2 ∷ unit op.ReturnConst 0 ∷ []) ([]) ([]) (obj.none ∷ [])
+no_exception_code = sample_tool_coded (codes "<module>") 1 0 (sample_tool_unit op.Raise 2 ∷ sample_tool_unit op.ReturnConst 0 ∷ []) ([]) ([]) (obj.none ∷ [])
 
 abbrev no_exception : Scope
-no_exception = MkScope program_head (SThen (SAt (at 1 1) SReraise) (SReturn (VConst obj.none)))
+no_exception = MkScope program_head (SThen (SAt (sample_tool_at 1 1) SReraise) (SReturn (VConst obj.none)))
 
 -- it is an operation that only raises
 abbrev no_exception_asked_run : {K : Type 0} → Ran K
@@ -65,10 +65,10 @@ no_exception_unfit = (refl, refl, refl, refl)
 
 -- `for x in y:` with `with m: continue`
 abbrev for_continue_code : Object
-for_continue_code = coded (codes "<module>") 1 3 (unit op.SetupLoop 0 ∷ unit op.LoadNameAny 0 ∷ unit op.GetIter 0 ∷ unit op.ForIter 14 ∷ unit op.StoreLocal 1 ∷ unit op.LoadNameAny 2 ∷ unit op.SetupWith 11 ∷ unit op.Pop 0 ∷ unit op.Continue 3 ∷ unit op.PopBlock 0 ∷ unit op.EnterFinally 0 ∷ unit op.WithCleanupStart 0 ∷ unit op.WithCleanupFinish 0 ∷ unit op.Jump 3 ∷ unit op.PopBlock 0 ∷ unit op.ReturnConst 0 ∷ []) (codes "y" ∷ codes "x" ∷ codes "m" ∷ []) ([]) (obj.none ∷ [])
+for_continue_code = sample_tool_coded (codes "<module>") 1 3 (sample_tool_unit op.SetupLoop 0 ∷ sample_tool_unit op.LoadNameAny 0 ∷ sample_tool_unit op.GetIter 0 ∷ sample_tool_unit op.ForIter 14 ∷ sample_tool_unit op.StoreLocal 1 ∷ sample_tool_unit op.LoadNameAny 2 ∷ sample_tool_unit op.SetupWith 11 ∷ sample_tool_unit op.Pop 0 ∷ sample_tool_unit op.Continue 3 ∷ sample_tool_unit op.PopBlock 0 ∷ sample_tool_unit op.EnterFinally 0 ∷ sample_tool_unit op.WithCleanupStart 0 ∷ sample_tool_unit op.WithCleanupFinish 0 ∷ sample_tool_unit op.Jump 3 ∷ sample_tool_unit op.PopBlock 0 ∷ sample_tool_unit op.ReturnConst 0 ∷ []) (codes "y" ∷ codes "x" ∷ codes "m" ∷ []) ([]) (obj.none ∷ [])
 
 abbrev for_continue : Scope
-for_continue = MkScope program_head (SThen (SAt (at 1 1) (SFor (VOp (operation op.GetIter Bare) (VMore (VAt (at 1 10) (VLoad Resolved (codes "y"))) VNone)) (GStore Resolved (codes "x")) (SAt (at 2 5) (SWith (VAt (at 2 10) (VLoad Resolved (codes "m"))) GDrop (SAt (at 2 13) SContinue))) SSkip)) (SReturn (VConst obj.none)))
+for_continue = MkScope program_head (SThen (SAt (sample_tool_at 1 1) (SFor (VOp (operation op.GetIter Bare) (VMore (VAt (sample_tool_at 1 10) (VLoad Resolved (codes "y"))) VNone)) (GStore Resolved (codes "x")) (SAt (sample_tool_at 2 5) (SWith (VAt (sample_tool_at 2 10) (VLoad Resolved (codes "m"))) GDrop (SAt (sample_tool_at 2 13) SContinue))) SSkip)) (SReturn (VConst obj.none)))
 
 -- the exit is called without an exception, and the loop goes on
 abbrev for_continue_turned_run : {K : Type 0} → Ran K

@@ -10,115 +10,115 @@ use Rattle.py_control_proof.proofs.Moves.{size-append}
 
 module _ {K : Type 0} where
   -- all of it can be come to, and what follows too
-  pub record Whole (is : List (Item K)) : Type 0 where
+  pub record WholeWhole (is : List (Item K)) : Type 0 where
     pub lives : live true is ≡ size is
     pub goes : falls true is ≡ true
 
-  pub live_whole : (a c : List (Item K)) → Whole a → live true (a ++ c) ≡ size a + live true c
+  pub live_whole : (a c : List (Item K)) → WholeWhole a → live true (a ++ c) ≡ size a + live true c
   live_whole a c x = omega (arith, live-append true a c, live_if (falls true a) c x.goes, x.lives)
 
-  pub falls_whole : (a c : List (Item K)) → Whole a → falls true (a ++ c) ≡ falls true c
+  pub falls_whole : (a c : List (Item K)) → WholeWhole a → falls true (a ++ c) ≡ falls true c
   falls_whole a c x = falls-append true a c ∙ ap (λ b. falls b c) x.goes
 
-  pub nothing : Whole []
-  nothing = record { lives = refl; goes = refl }
+  pub whole_nothing : WholeWhole []
+  whole_nothing = record { lives = refl; goes = refl }
 
-  pub joined : {a c : List (Item K)} → Whole a → Whole c → Whole (a ++ c)
-  joined {a} {c} x y = record { lives = omega (arith, live_whole a c x, y.lives, size-append a c); goes = falls_whole a c x ∙ y.goes }
+  pub whole_joined : {a c : List (Item K)} → WholeWhole a → WholeWhole c → WholeWhole (a ++ c)
+  whole_joined {a} {c} x y = record { lives = omega (arith, live_whole a c x, y.lives, size-append a c); goes = falls_whole a c x ∙ y.goes }
 
-  pub moved : {i : Instr K ℕ} {a : List (Item K)} → stays i ≡ true → Whole a → Whole (Do i ∷ a)
-  moved {i} {a} e x = record { lives = ap suc (live_if (stays i) a e ∙ x.lives); goes = ap (λ b. falls b a) e ∙ x.goes }
+  pub whole_moved : {i : Instr K ℕ} {a : List (Item K)} → stays i ≡ true → WholeWhole a → WholeWhole (Do i ∷ a)
+  whole_moved {i} {a} e x = record { lives = ap suc (live_if (stays i) a e ∙ x.lives); goes = ap (λ b. falls b a) e ∙ x.goes }
 
-  pub marked : {l : ℕ} {a : List (Item K)} → Whole a → Whole (Label l ∷ a)
-  marked x = record { lives = x.lives; goes = x.goes }
+  pub whole_marked : {l : ℕ} {a : List (Item K)} → WholeWhole a → WholeWhole (Label l ∷ a)
+  whole_marked x = record { lives = x.lives; goes = x.goes }
 
   -- an instruction just before a label
-  pub jumped : {i : Instr K ℕ} {l : ℕ} {a : List (Item K)} → Whole a → Whole (Do i ∷ Label l ∷ a)
+  pub jumped : {i : Instr K ℕ} {l : ℕ} {a : List (Item K)} → WholeWhole a → WholeWhole (Do i ∷ Label l ∷ a)
   jumped x = record { lives = ap suc x.lives; goes = x.goes }
 
-  cells_whole : (cs : List Cell) → Whole (cell_codes cs)
-  cells_whole [] = nothing
-  cells_whole (c ∷ cs) = moved refl (cells_whole cs)
+  cells_whole : (cs : List Cell) → WholeWhole (cell_codes cs)
+  cells_whole [] = whole_nothing
+  cells_whole (c ∷ cs) = whole_moved refl (cells_whole cs)
 
-  closure_whole : (cs : List Cell) → Whole (closure_code cs)
-  closure_whole [] = nothing
-  closure_whole (c ∷ cs) = moved refl (joined (cells_whole cs) (moved refl nothing))
+  closure_whole : (cs : List Cell) → WholeWhole (closure_code cs)
+  closure_whole [] = whole_nothing
+  closure_whole (c ∷ cs) = whole_moved refl (whole_joined (cells_whole cs) (whole_moved refl whole_nothing))
 
-  pub tail_whole : (final : Bool) → Whole (tail_code final)
-  tail_whole false = nothing
-  tail_whole true = moved refl (moved refl nothing)
+  pub tail_whole : (final : Bool) → WholeWhole (tail_code final)
+  tail_whole false = whole_nothing
+  tail_whole true = whole_moved refl (whole_moved refl whole_nothing)
 
-  pub augment_whole : {a b : List (Item K)} (get op put : Operation) → Whole a → Whole b → Whole (augment_code a get b op put)
-  augment_whole get op put x y = joined x (moved refl (moved refl (joined y (moved refl (moved refl (moved refl nothing))))))
+  pub augment_whole : {a b : List (Item K)} (get op put : Operation) → WholeWhole a → WholeWhole b → WholeWhole (augment_code a get b op put)
+  augment_whole get op put x y = whole_joined x (whole_moved refl (whole_moved refl (whole_joined y (whole_moved refl (whole_moved refl (whole_moved refl whole_nothing))))))
 
-  pub augment_two_whole : {a b c : List (Item K)} (get op put : Operation) → Whole a → Whole b → Whole c → Whole (augment_two_code a b get c op put)
-  augment_two_whole get op put x y z = joined x (joined y (moved refl (moved refl (joined z (moved refl (moved refl (moved refl nothing)))))))
+  pub augment_two_whole : {a b c : List (Item K)} (get op put : Operation) → WholeWhole a → WholeWhole b → WholeWhole c → WholeWhole (augment_two_code a b get c op put)
+  augment_two_whole get op put x y z = whole_joined x (whole_joined y (whole_moved refl (whole_moved refl (whole_joined z (whole_moved refl (whole_moved refl (whole_moved refl whole_nothing)))))))
 
 module _ {K : Type 0} (i : Interp K) where
   mutual
-    pub value_whole : (f : VForm) (n : ℕ) → Whole (code_v i f n)
-    value_whole (VConst c) n = moved refl nothing
-    value_whole (VLoad x m) n = moved refl nothing
-    value_whole (VOp o fs) n = joined (values_whole fs n) (moved refl nothing)
+    pub value_whole : (f : VForm) (n : ℕ) → WholeWhole (code_v i f n)
+    value_whole (VConst c) n = whole_moved refl whole_nothing
+    value_whole (VLoad x m) n = whole_moved refl whole_nothing
+    value_whole (VOp o fs) n = whole_joined (values_whole fs n) (whole_moved refl whole_nothing)
     value_whole (VMake flags a s name b) n =
-        joined (values_whole a n) (joined (values_whole b (n + labels_vs a)) (joined (closure_whole (i.closure s)) (moved refl (moved refl (moved refl nothing)))))
-    value_whole (VShort d ss) n = joined (shorts_whole ss d n (1 + n)) (marked nothing)
+        whole_joined (values_whole a n) (whole_joined (values_whole b (n + labels_vs a)) (whole_joined (closure_whole (i.closure s)) (whole_moved refl (whole_moved refl (whole_moved refl whole_nothing)))))
+    value_whole (VShort d ss) n = whole_joined (shorts_whole ss d n (1 + n)) (whole_marked whole_nothing)
     value_whole (VChain f o g ls) n =
-        joined (value_whole f (2 + n)) (joined (joined (value_whole g (2 + n + labels_v f)) (moved refl (moved refl (moved refl (moved refl (links_whole ls n (2 + n + labels_v f + labels_v g))))))) (jumped (moved refl (moved refl (marked nothing)))))
+        whole_joined (value_whole f (2 + n)) (whole_joined (whole_joined (value_whole g (2 + n + labels_v f)) (whole_moved refl (whole_moved refl (whole_moved refl (whole_moved refl (links_whole ls n (2 + n + labels_v f + labels_v g))))))) (jumped (whole_moved refl (whole_moved refl (whole_marked whole_nothing)))))
     value_whole (VChoice t a b) n =
-        joined (test_whole t false n (2 + n)) (joined (value_whole a (2 + n + labels_t t false)) (jumped (joined (value_whole b (2 + n + labels_t t false + labels_v a)) (marked nothing))))
-    value_whole (VKeep f None t) n = joined (value_whole f n) (moved refl (target_whole t (n + labels_v f)))
-    value_whole (VKeep f (Some o) t) n = joined (value_whole f n) (moved refl (target_whole t (n + labels_v f)))
+        whole_joined (test_whole t false n (2 + n)) (whole_joined (value_whole a (2 + n + labels_t t false)) (jumped (whole_joined (value_whole b (2 + n + labels_t t false + labels_v a)) (whole_marked whole_nothing))))
+    value_whole (VKeep f None t) n = whole_joined (value_whole f n) (whole_moved refl (target_whole t (n + labels_v f)))
+    value_whole (VKeep f (Some o) t) n = whole_joined (value_whole f n) (whole_moved refl (target_whole t (n + labels_v f)))
     value_whole (VSwap o a b fs) n =
-        joined (value_whole a n) (joined (value_whole b (n + labels_v a)) (moved refl (joined (values_whole fs (n + labels_v a + labels_v b)) (moved refl nothing))))
+        whole_joined (value_whole a n) (whole_joined (value_whole b (n + labels_v a)) (whole_moved refl (whole_joined (values_whole fs (n + labels_v a + labels_v b)) (whole_moved refl whole_nothing))))
     value_whole (VAt p f) n = value_whole f n
 
-    pub values_whole : (fs : VForms) (n : ℕ) → Whole (code_vs i fs n)
-    values_whole VNone n = nothing
-    values_whole (VMore f fs) n = joined (value_whole f n) (values_whole fs (n + labels_v f))
-    values_whole (VMethod o f fs) n = joined (value_whole f n) (moved refl (values_whole fs (n + labels_v f)))
+    pub values_whole : (fs : VForms) (n : ℕ) → WholeWhole (code_vs i fs n)
+    values_whole VNone n = whole_nothing
+    values_whole (VMore f fs) n = whole_joined (value_whole f n) (values_whole fs (n + labels_v f))
+    values_whole (VMethod o f fs) n = whole_joined (value_whole f n) (whole_moved refl (values_whole fs (n + labels_v f)))
 
-    shorts_whole : (ss : Shorts) (d : Bool) (end n : ℕ) → Whole (code_ss i ss d end n)
+    shorts_whole : (ss : Shorts) (d : Bool) (end n : ℕ) → WholeWhole (code_ss i ss d end n)
     shorts_whole (OneShort f) d end n = value_whole f n
-    shorts_whole (MoreShort f ss) d end n = joined (value_whole f n) (moved refl (shorts_whole ss d end (n + labels_v f)))
+    shorts_whole (MoreShort f ss) d end n = whole_joined (value_whole f n) (whole_moved refl (shorts_whole ss d end (n + labels_v f)))
 
-    links_whole : (ls : Links) (out n : ℕ) → Whole (code_ls i ls out n)
-    links_whole (LastLink o f) out n = joined (value_whole f n) (moved refl nothing)
-    links_whole (MoreLink o f ls) out n = joined (value_whole f n) (moved refl (moved refl (moved refl (moved refl (links_whole ls out (n + labels_v f))))))
+    links_whole : (ls : Links) (out n : ℕ) → WholeWhole (code_ls i ls out n)
+    links_whole (LastLink o f) out n = whole_joined (value_whole f n) (whole_moved refl whole_nothing)
+    links_whole (MoreLink o f ls) out n = whole_joined (value_whole f n) (whole_moved refl (whole_moved refl (whole_moved refl (whole_moved refl (links_whole ls out (n + labels_v f))))))
 
-    pub test_whole : (t : TForm) (c : Bool) (to n : ℕ) → Whole (code_t i t c to n)
-    test_whole (TTruth f) c to n = joined (value_whole f n) (moved refl nothing)
+    pub test_whole : (t : TForm) (c : Bool) (to n : ℕ) → WholeWhole (code_t i t c to n)
+    test_whole (TTruth f) c to n = whole_joined (value_whole f n) (whole_moved refl whole_nothing)
     test_whole (TNot t) c to n = test_whole t (flip c) to n
     test_whole (TAll ts) false to n = tests_whole ts false to to n
-    test_whole (TAll ts) true to n = joined (tests_whole ts true to n (1 + n)) (marked nothing)
+    test_whole (TAll ts) true to n = whole_joined (tests_whole ts true to n (1 + n)) (whole_marked whole_nothing)
 
-    tests_whole : (ts : Tests) (c : Bool) (to out n : ℕ) → Whole (code_ts i ts c to out n)
+    tests_whole : (ts : Tests) (c : Bool) (to out n : ℕ) → WholeWhole (code_ts i ts c to out n)
     tests_whole (OneTest t) c to out n = test_whole t c to n
-    tests_whole (MoreTest t ts) c to out n = joined (test_whole t false out n) (tests_whole ts c to out (n + labels_t t false))
+    tests_whole (MoreTest t ts) c to out n = whole_joined (test_whole t false out n) (tests_whole ts c to out (n + labels_t t false))
 
-    pub target_whole : (t : Target) (n : ℕ) → Whole (code_g i t n)
-    target_whole (GStore x m) n = moved refl nothing
-    target_whole (GPut o fs) n = joined (values_whole fs n) (moved refl nothing)
-    target_whole (GUnder o f) n = joined (value_whole f n) (moved refl (moved refl nothing))
-    target_whole (GUnpack o ts) n = moved refl (targets_whole ts n)
-    target_whole GDrop n = moved refl nothing
+    pub target_whole : (t : Target) (n : ℕ) → WholeWhole (code_g i t n)
+    target_whole (GStore x m) n = whole_moved refl whole_nothing
+    target_whole (GPut o fs) n = whole_joined (values_whole fs n) (whole_moved refl whole_nothing)
+    target_whole (GUnder o f) n = whole_joined (value_whole f n) (whole_moved refl (whole_moved refl whole_nothing))
+    target_whole (GUnpack o ts) n = whole_moved refl (targets_whole ts n)
+    target_whole GDrop n = whole_moved refl whole_nothing
 
-    targets_whole : (ts : Targets) (n : ℕ) → Whole (code_gs i ts n)
-    targets_whole NoTarget n = nothing
-    targets_whole (MoreTarget t ts) n = joined (target_whole t n) (targets_whole ts (n + labels_g t))
+    targets_whole : (ts : Targets) (n : ℕ) → WholeWhole (code_gs i ts n)
+    targets_whole NoTarget n = whole_nothing
+    targets_whole (MoreTarget t ts) n = whole_joined (target_whole t n) (targets_whole ts (n + labels_g t))
 
-  filters_whole : (bs : Filters) (to n : ℕ) → Whole (code_bs i bs to n)
-  filters_whole NoFilter to n = nothing
-  filters_whole (MoreFilter t bs) to n = joined (test_whole t false to n) (filters_whole bs to (n + labels_t t false))
+  filters_whole : (bs : Filters) (to n : ℕ) → WholeWhole (code_bs i bs to n)
+  filters_whole NoFilter to n = whole_nothing
+  filters_whole (MoreFilter t bs) to n = whole_joined (test_whole t false to n) (filters_whole bs to (n + labels_t t false))
 
   -- clauses, over what stands within them
-  clauses_whole : (cs : Clauses) (leaf : ℕ → ℕ → List (Item K)) → ((d n : ℕ) → Whole (leaf d n)) → (d n : ℕ) → Whole (code_c i cs leaf d n)
+  clauses_whole : (cs : Clauses) (leaf : ℕ → ℕ → List (Item K)) → ((d n : ℕ) → WholeWhole (leaf d n)) → (d n : ℕ) → WholeWhole (code_c i cs leaf d n)
   clauses_whole CLast leaf h d n = h d n
   clauses_whole (CEach f t bs cs) leaf h d n =
-      joined (value_whole f (2 + n)) (marked (moved refl (joined (target_whole t (2 + n + labels_v f)) (joined (filters_whole bs n (2 + n + labels_v f + labels_g t)) (joined (clauses_whole cs leaf h (suc d) (2 + n + labels_v f + labels_g t + labels_bs bs)) (jumped nothing))))))
+      whole_joined (value_whole f (2 + n)) (whole_marked (whole_moved refl (whole_joined (target_whole t (2 + n + labels_v f)) (whole_joined (filters_whole bs n (2 + n + labels_v f + labels_g t)) (whole_joined (clauses_whole cs leaf h (suc d) (2 + n + labels_v f + labels_g t + labels_bs bs)) (jumped whole_nothing))))))
 
-  pub gathers_whole : (cs : Clauses) (o : Operation) (fs : VForms) (n : ℕ) → Whole (code_c i cs (append_code i o fs) 0 n)
-  gathers_whole cs o fs n = clauses_whole cs (append_code i o fs) (λ d m. joined (values_whole fs m) (moved refl nothing)) 0 n
+  pub gathers_whole : (cs : Clauses) (o : Operation) (fs : VForms) (n : ℕ) → WholeWhole (code_c i cs (append_code i o fs) 0 n)
+  gathers_whole cs o fs n = clauses_whole cs (append_code i o fs) (λ d m. whole_joined (values_whole fs m) (whole_moved refl whole_nothing)) 0 n
 
-  pub yields_whole : (cs : Clauses) (f : VForm) (n : ℕ) → Whole (code_c i cs (drop_code i f) 0 n)
-  yields_whole cs f n = clauses_whole cs (drop_code i f) (λ d m. joined (value_whole f m) (moved refl nothing)) 0 n
+  pub yields_whole : (cs : Clauses) (f : VForm) (n : ℕ) → WholeWhole (code_c i cs (drop_code i f) 0 n)
+  yields_whole cs f n = clauses_whole cs (drop_code i f) (λ d m. whole_joined (value_whole f m) (whole_moved refl whole_nothing)) 0 n

@@ -2,15 +2,15 @@
 use Rattle.std.specs.Prelude.{◌≡◌, ℕ, zero, suc, ◌+◌, ◌*◌, ◌≤◌, ◌<◌, List, [], ◌∷◌, length, true, false, Option, Some, None, slice_get}
 use Rattle.py_bytecode.specs.Objects.{Object}
 use Rattle.py_bytecode.specs.Values.{Value, Entry, World, Answer, Ended, on_ended}
-use Rattle.py_bytecode.specs.Machine.{Instr, Block, Config, At, stopped, steps, fuel}
+use Rattle.py_bytecode.specs.Machine.{Instr, Block, Config, At, stopped_config, steps, fuel}
 use Rattle.py_bytecode.specs.Decode.{Tables, instr_of}
 use Rattle.py_bytecode.specs.Blocks as blocks
-use Rattle.py_bytecode.specs.Blocks.{Place, Of, block_at, settle, settled, fetch_block, block_machine}
+use Rattle.py_bytecode.specs.Blocks.{Place, Of, block_at, settle, settled_place, fetch_block, block_machine}
 use Rattle.py_control.specs.Form.{SForm, Scope, Interp, run}
 use Rattle.py_control.specs.Looped.{Looped}
 use Rattle.py_control.specs.Agree.{exactly, form_of}
 use Rattle.py_control.specs.CodeRuns.{runs_code}
-use Rattle.py_control.specs.Fit.{IsFit, IsWithin, Loops, leave, left}
+use Rattle.py_control.specs.Fit.{IsFit, IsWithin, Loops, leave, answers_left}
 use Rattle.py_control.specs.Code.{Item, Do, Label, size, code, body_code}
 use Rattle.py_control_proof.specs.Live.{live}
 
@@ -70,17 +70,17 @@ placed_labels (Label l ∷ is) = suc (placed_labels is)
 
 -- the state after a form: the place after its code with the stack, the blocks and the slot as they were, or the machine's own leaving from there
 abbrev pub ended_at : List blocks.Block → Loops → Place → List (Entry Object) → List (Block Object Place) → Option (Value Object) → Ended Object → Config Object Place
-ended_at bs l q s entered slot r = on_ended r (λ w. At q s entered slot w) (leave (λ k. settled bs (Of k 0)) l s entered slot) stopped
+ended_at bs l q s entered slot r = on_ended r (λ w. At q s entered slot w) (leave (λ k. settled_place bs (Of k 0)) l s entered slot) stopped_config
 
 -- the machine on blocks comes from a to b, in at most n steps and as many again as the answers taken pay for
 abbrev pub Comes : Tables → List blocks.Block → (pay n : ℕ) → Config Object Place → Config Object Place → Type 0
-Comes t bs pay n a b = (cost : ℕ) × (cost + pay * left b ≤ pay * left a + n) × (steps (fetch_block t bs) cost a ≡ b)
+Comes t bs pay n a b = (cost : ℕ) × (cost + pay * answers_left b ≤ pay * answers_left a + n) × (steps (fetch_block t bs) cost a ≡ b)
 
 -- A form's code that lies in blocks, run from any fit state, comes to the state that the form's run says. Breaks and continues of
 -- the form stand in loops, of the form or around it.
 abbrev pub BlocksSimulate : Type 0
 BlocksSimulate =
-    (i : Interp Object) (t : Tables) (bs : List blocks.Block) (hops : ℕ) (f : SForm) (l : Loops) (n : ℕ) (p q : Place) → Lies t bs hops (code i f l n) p q → hops ≤ length bs → (s : List (Entry Object)) (entered : List (Block Object Place)) (slot : Option (Value Object)) (w : World Object) → IsFit s entered → IsWithin l entered → Looped l.inside f → Comes t bs (size (code i f l n)) (size (code i f l n)) (At (settled bs p) s entered slot w) (ended_at bs l (settled bs q) s entered slot (run i f slot w))
+    (i : Interp Object) (t : Tables) (bs : List blocks.Block) (hops : ℕ) (f : SForm) (l : Loops) (n : ℕ) (p q : Place) → Lies t bs hops (code i f l n) p q → hops ≤ length bs → (s : List (Entry Object)) (entered : List (Block Object Place)) (slot : Option (Value Object)) (w : World Object) → IsFit s entered → IsWithin l entered → Looped l.inside f → Comes t bs (size (code i f l n)) (size (code i f l n)) (At (settled_place bs p) s entered slot w) (ended_at bs l (settled_place bs q) s entered slot (run i f slot w))
 
 -- blocks in which the whole code of a scope lies run like the code, within the steps that what can be come to pays for, where breaks and
 -- continues stand in loops

@@ -63,19 +63,19 @@ cut_sort CleanupSort h rest = rest
 cut_sort OpenSort h rest = rest
 
 -- the height that is left of a block: an exit is gone by then
-abbrev pub resting : Sort → ℕ → ℕ
-resting LoopSort h = h
-resting ExceptSort h = h
-resting FinallySort h = h
-resting ExitSort h = h - 1
-resting HandlerSort h = h
-resting LastSort h = h
-resting CleanupSort h = h
-resting OpenSort h = h
+abbrev pub resting_height : Sort → ℕ → ℕ
+resting_height LoopSort h = h
+resting_height ExceptSort h = h
+resting_height FinallySort h = h
+resting_height ExitSort h = h - 1
+resting_height HandlerSort h = h
+resting_height LastSort h = h
+resting_height CleanupSort h = h
+resting_height OpenSort h = h
 
 abbrev pub cut_height : List Mark → ℕ → ℕ
 cut_height [] h = h
-cut_height (m ∷ ms) h = cut_sort m.sort h (cut_height ms (resting m.sort m.height))
+cut_height (m ∷ ms) h = cut_sort m.sort h (cut_height ms (resting_height m.sort m.height))
 
 abbrev pub BreaksTo : Option (Mark × List Mark) → Option Shape → Type 0
 BreaksTo None to = ⊥
@@ -188,14 +188,14 @@ of_closure false = 0
 abbrev pub fall : ℕ → ℕ → Shape → Then
 fall taken given t = Falls (shape (given + (t.height - taken)) t.marks)
 
-abbrev pub operated : ℕ → Option ℕ → Shape → Then
-operated n None t = Never
-operated n (Some k) t = fall n k t
+abbrev pub operation_flow : ℕ → Option ℕ → Shape → Then
+operation_flow n None t = Never
+operation_flow n (Some k) t = fall n k t
 
 abbrev pub after : {K : Type 0} → Instr K ℕ → Shape → Then
 after (Push e) t = fall 0 1 t
 after (Access k u n p) t = fall (usage_takes u) (usage_gives u) t
-after (Operate o n k) t = operated n k t
+after (Operate o n k) t = operation_flow n k t
 after (MakeFunction fl c n) t = fall (2 + of_closure c + n) 1 t
 after (Import o) t = fall 0 1 t
 after (Append o n d) t = fall n 0 t

@@ -6,12 +6,12 @@ use Rattle.py_dataflow.specs.declared.known.KnownState.{KnownState}
 use Rattle.py_dataflow.specs.declared.known.Change.{Change}
 use Rattle.py_dataflow.specs.declared.known.Refused.{Refused}
 use Rattle.py_dataflow.specs.Walks.{State, state, Seen, UnevenHeights, BlockMismatch}
-use Rattle.py_dataflow.specs.Known.{Torn, join, state_at, arrival, Fits, IsUneven, Unfit, Arrives, Moves, combined, unknown}
+use Rattle.py_dataflow.specs.Known.{Torn, join, state_at, arrival, Fits, IsUneven, Unfit, Arrives, Moves, combined_change, unknown}
 use Rattle.py_dataflow.specs.Shown.{Shown, Both, Covers, Covered, AllShown, Grows, RefusalAt}
 use Rattle.py_dataflow.proofs.RefusedStateLemmas.{uneven, unlike, torn}
 use Rattle.py_dataflow.proofs.ClosedStateLemmas.{covers_self, covers_trans, covers_old, covers_new}
 
-pub moves_combine : (a b : Change) (old mid new : List (Option KnownState)) → Moves a old mid → Moves b mid new → Moves (combined a b) old new
+pub moves_combine : (a b : Change) (old mid new : List (Option KnownState)) → Moves a old mid → Moves b mid new → Moves (combined_change a b) old new
 moves_combine Change.Nothing b old mid new h k = subst (λ z. Moves b z new) h k
 moves_combine Change.Marks Change.Nothing old mid new h k = subst (λ z. Moves Change.Marks old z) (sym k) h
 moves_combine Change.Marks Change.Marks old mid new h k = (k.0 ∙ h.0, omega (arith, h.1, k.1))
@@ -76,7 +76,9 @@ module _ (look : ℕ → Option (Seen ℕ)) (count : ℕ) where
     | inr c ↦ inr (torn look k (state s.height (join s.shape t.shape)) (Both (state s.height (join s.shape t.shape)) s t (h s refl) ht u.0 c.0 refl) c.1)
   ]
 
-  pub refused_at : (ks : List (Option KnownState)) (place : ℕ) (t : State) (e : Refused) → AllShown look count ks → Shown look place t → (e ≡ Refused.UnevenHeights → IsUneven (state_at ks place) t) → (e ≡ Refused.BlockMismatch → Unfit (state_at ks place) t) → (e ≢ Refused.NoEnd) × (e ≢ Refused.HeightOutOfRange) → RefusalAt look e place
+  pub refused_at : (ks : List (Option KnownState)) (place : ℕ) (t : State) (e : Refused) → AllShown look count ks → Shown look place t
+      → (e ≡ Refused.UnevenHeights → IsUneven (state_at ks place) t) → (e ≡ Refused.BlockMismatch → Unfit (state_at ks place) t)
+      → (e ≢ Refused.NoEnd) × (e ≢ Refused.HeightOutOfRange) → RefusalAt look e place
   refused_at ks place t Refused.NoEnd h ht u m o = absurd (o.0 refl)
   refused_at ks place t Refused.UnevenHeights h ht u m o = uneven_at place (state_at ks place) t (h.shown place) ht (u refl)
   refused_at ks place t Refused.HeightOutOfRange h ht u m o = absurd (o.1 refl)

@@ -10,7 +10,7 @@ use Rattle.py_dataflow.specs.declared.flow.Flow.{Flow}
 use Rattle.py_dataflow.specs.declared.flow.Branch.{Branch}
 use Rattle.py_dataflow.specs.declared.flow.NeededBlock.{NeededBlock}
 use Rattle.py_dataflow.specs.Flow.{flow_of, target_of, goes_on, jumps, leaves, jumps_away, closes, calls_exit, straight, one_if}
-use Rattle.py_dataflow.specs.Walks.{Shape, State, rest_of, height_of, is_loop, is_with, from_loop, left_by, cut_to, kept, enough, falls_enough, jumps_enough, falls_to, jumps_to, Seen, seen, Edge, Falls, Jumps, Walk, Reached, Sound}
+use Rattle.py_dataflow.specs.Walks.{Shape, State, rest_of, height_of, is_loop, is_with, from_loop, left_by, cut_to, kept_shape, enough, falls_enough, jumps_enough, falls_to, jumps_to, Seen, seen_instr, Edge, Falls, Jumps, Walk, Reached, Sound}
 use Rattle.py_dataflow.proofs.UnwindLemmas.{Stacked}
 
 pub stacked_up : (g h : ℕ) (s : Shape) → g ≤ h → Stacked g s → Stacked h s
@@ -33,23 +33,24 @@ stacked_if : (b : Bool) (h : ℕ) (s t : Shape) → Stacked h s → Stacked h t 
 stacked_if true h s t a c = a
 stacked_if false h s t a c = c
 
-stacked_kept : (f : Flow) (h : ℕ) (s : Shape) → Stacked h s → Stacked h (kept f s)
+stacked_kept : (f : Flow) (h : ℕ) (s : Shape) → Stacked h s → Stacked h (kept_shape f s)
 stacked_kept f h s st = stacked_if f.pops h (rest_of s) s (stacked_rest h s st) st
 
 pub enough_true : (f t l h : ℕ) → enough f t l h ≡ true → (t + l ≤ h) × (f ≤ h - t)
 enough_true f t l h e = (grind (arith, nat_tests), grind (arith, nat_tests))
 
 -- at the height that an instruction leaves, what it keeps still stands
-kept_after : (f : Flow) (h : ℕ) (s : Shape) → Stacked h s → falls_enough f h s ≡ true → Stacked (h - f.takes + f.gives) (kept f s)
+kept_after : (f : Flow) (h : ℕ) (s : Shape) → Stacked h s → falls_enough f h s ≡ true → Stacked (h - f.takes + f.gives) (kept_shape f s)
 kept_after f h s st e =
-    let r = enough_true (height_of (kept f s)) f.takes f.looks_at h e in
-    stacked_up (h - f.takes) (h - f.takes + f.gives) (kept f s) (omega arith) (stacked_at (h - f.takes) h (kept f s) r.1 (stacked_kept f h s st))
+    let r = enough_true (height_of (kept_shape f s)) f.takes f.looks_at h e in
+    stacked_up (h - f.takes) (h - f.takes + f.gives) (kept_shape f s) (omega arith) (stacked_at (h - f.takes) h (kept_shape f s) r.1 (stacked_kept f h s st))
 
 loop_rest : (h : ℕ) (s : Shape) → Stacked h s → Stacked (height_of (from_loop s)) (rest_of (from_loop s))
 loop_rest h [] st = tt
 loop_rest h (m ∷ ms) st = go (is_loop m.kind) refl (loop_rest (left_by m) ms st.1)
   where
-    go : (b : Bool) → is_loop m.kind ≡ b → Stacked (height_of (from_loop ms)) (rest_of (from_loop ms)) → Stacked (height_of (if b then m ∷ ms else from_loop ms)) (rest_of (if b then m ∷ ms else from_loop ms))
+    go : (b : Bool) → is_loop m.kind ≡ b → Stacked (height_of (from_loop ms)) (rest_of (from_loop ms))
+        → Stacked (height_of (if b then m ∷ ms else from_loop ms)) (rest_of (if b then m ∷ ms else from_loop ms))
     go true e i = stacked_up (left_by m) m.height ms (below_le (is_with m.kind) m.height) st.1
     go false e i = i
 
@@ -125,37 +126,40 @@ module _ {K P : Type 0} where
   jumps_stacked (M.SetupWith p) q t = λ h s st e. (let r = enough_true (height_of s) 1 0 h e in (omega (arith, r.0), st))
   jumps_stacked i q t = absurd (cc)
 
-pub not_false : (b : Bool) → (b ≡ false → ⊥) → b ≡ true
-not_false true h = refl
-not_false false h = absurd (h refl)
+pub block_height_not_false : (b : Bool) → (b ≡ false → ⊥) → b ≡ true
+block_height_not_false true h = refl
+block_height_not_false false h = absurd (h refl)
 
-module _ {K P : Type 0} (fetch : P → Fetched K P) (start : P) (limit : ℕ) (ok : Sound (λ p. seen (fetch p)) start limit) where
-  abbrev look : P → Option (Seen P)
-  look p = seen (fetch p)
+module _ {K P : Type 0} (fetch : P → Fetched K P) (start : P) (limit : ℕ) (ok : Sound (λ p. seen_instr (fetch p)) start limit) where
+  abbrev block_height_look : P → Option (Seen P)
+  block_height_look p = seen_instr (fetch p)
 
-  pub falls_fine : (p : P) (x : Seen P) (t : State) → Reached look start p t → look p ≡ Some x → falls_enough x.flow t.height t.shape ≡ true
-  falls_fine p x t r e = not_false (falls_enough x.flow t.height t.shape) (λ f. ok.within p (record { sees = x; at = t; reached = r; sees_is = e; outside = inl f }))
+  pub falls_fine : (p : P) (x : Seen P) (t : State) → Reached block_height_look start p t → block_height_look p ≡ Some x → falls_enough x.flow t.height t.shape ≡ true
+  falls_fine p x t r e = block_height_not_false (falls_enough x.flow t.height t.shape) (λ f. ok.within p (record { sees = x; at = t; reached = r; sees_is = e; outside = inl f }))
 
-  pub jumps_fine : (p : P) (x : Seen P) (t : State) → Reached look start p t → look p ≡ Some x → x.target ≢ None → jumps_enough x.flow.branch t.height t.shape ≡ true
-  jumps_fine p x t r e n = not_false (jumps_enough x.flow.branch t.height t.shape) (λ f. ok.within p (record { sees = x; at = t; reached = r; sees_is = e; outside = inr (inl (n, f)) }))
+  pub jumps_fine : (p : P) (x : Seen P) (t : State) → Reached block_height_look start p t → block_height_look p ≡ Some x → x.target ≢ None → jumps_enough x.flow.branch t.height t.shape ≡ true
+  jumps_fine p x t r e n = block_height_not_false (jumps_enough x.flow.branch t.height t.shape) (λ f. ok.within p (record { sees = x; at = t; reached = r; sees_is = e; outside = inr (inl (n, f)) }))
 
-  abbrev here : Instr K P → P → Seen P
-  here i n = record { flow = flow_of i; next = n; target = target_of i }
+  abbrev block_height_here : Instr K P → P → Seen P
+  block_height_here i n = record { flow = flow_of i; next = n; target = target_of i }
 
-  edge_stacked : (i : Instr K P) (n : P) (s : State) (k1 : P) (t : State) → Stacked s.height s.shape → falls_enough (flow_of i) s.height s.shape ≡ true → (target_of i ≢ None → jumps_enough (flow_of i).branch s.height s.shape ≡ true) → Edge (here i n) s k1 t → Stacked t.height t.shape
+  edge_stacked : (i : Instr K P) (n : P) (s : State) (k1 : P) (t : State) → Stacked s.height s.shape → falls_enough (flow_of i) s.height s.shape ≡ true
+      → (target_of i ≢ None → jumps_enough (flow_of i).branch s.height s.shape ≡ true) → Edge (block_height_here i n) s k1 t → Stacked t.height t.shape
   edge_stacked i n s k1 t st ef ej (Falls l) = falls_stacked i s.height s.shape st ef
   edge_stacked i n s k1 t st ef ej (Jumps q l) = jumps_stacked i q l s.height s.shape st (ej (λ e. absurd (let z : None ≡ Some q = sym e ∙ l in cc)))
 
-  seen_stacked : (y : Fetched K P) (x : Seen P) (s : State) (k1 : P) (t : State) → seen y ≡ Some x → Stacked s.height s.shape → falls_enough x.flow s.height s.shape ≡ true → (x.target ≢ None → jumps_enough x.flow.branch s.height s.shape ≡ true) → Edge x s k1 t → Stacked t.height t.shape
+  seen_stacked : (y : Fetched K P) (x : Seen P) (s : State) (k1 : P) (t : State) → seen_instr y ≡ Some x → Stacked s.height s.shape
+      → falls_enough x.flow s.height s.shape ≡ true → (x.target ≢ None → jumps_enough x.flow.branch s.height s.shape ≡ true) → Edge x s k1 t
+      → Stacked t.height t.shape
   seen_stacked Nothing x s k1 t e st ef ej d = absurd (cc)
   seen_stacked (Found i n) x s k1 t e st ef ej d =
-      let q : here i n ≡ x = same_Some (here i n) x e in
-      let go : (z : Seen P) → here i n ≡ z → falls_enough z.flow s.height s.shape ≡ true → (z.target ≢ None → jumps_enough z.flow.branch s.height s.shape ≡ true) → Edge z s k1 t → Stacked t.height t.shape = λ z r. subst (λ (y : Seen P). falls_enough y.flow s.height s.shape ≡ true → (y.target ≢ None → jumps_enough y.flow.branch s.height s.shape ≡ true) → Edge y s k1 t → Stacked t.height t.shape) r (edge_stacked i n s k1 t st) in
+      let q : block_height_here i n ≡ x = same_Some (block_height_here i n) x e in
+      let go : (z : Seen P) → block_height_here i n ≡ z → falls_enough z.flow s.height s.shape ≡ true → (z.target ≢ None → jumps_enough z.flow.branch s.height s.shape ≡ true) → Edge z s k1 t → Stacked t.height t.shape = λ z r. subst (λ (y : Seen P). falls_enough y.flow s.height s.shape ≡ true → (y.target ≢ None → jumps_enough y.flow.branch s.height s.shape ≡ true) → Edge y s k1 t → Stacked t.height t.shape) r (edge_stacked i n s k1 t st) in
       go x q ef ej d
 
-  walk_stacked : (n : ℕ) (p : P) (t : State) → Walk look start n p t → Stacked t.height t.shape
+  walk_stacked : (n : ℕ) (p : P) (t : State) → Walk block_height_look start n p t → Stacked t.height t.shape
   walk_stacked zero p t w = subst (λ (z : State). Stacked z.height z.shape) (sym w.1) tt
   walk_stacked (suc n) p t w = seen_stacked (fetch w.0) w.1 w.2 p t w.4 (walk_stacked n w.0 w.2 w.3) (falls_fine w.0 w.1 w.2 (n, w.3) w.4) (jumps_fine w.0 w.1 w.2 (n, w.3) w.4) w.5
 
-  pub stacked : (p : P) (t : State) → Reached look start p t → Stacked t.height t.shape
+  pub stacked : (p : P) (t : State) → Reached block_height_look start p t → Stacked t.height t.shape
   stacked p t r = walk_stacked r.0 p t r.1

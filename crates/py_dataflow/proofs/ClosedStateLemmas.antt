@@ -4,14 +4,14 @@ use Rattle.std.specs.Prelude.{◌||◌}
 use Rattle.py_dataflow.specs.declared.flow.Mark.{Mark}
 use Rattle.py_dataflow.specs.declared.flow.Branch.{Branch}
 use Rattle.py_dataflow.specs.declared.flow.Flow.{Flow}
-use Rattle.py_dataflow.specs.Walks.{Shape, State, state, kept, opened, falls_to, jumps_to, Alike, Seen, Edge, Falls, Jumps, Walk, Reached}
-use Rattle.py_dataflow.specs.Known.{joined, join}
+use Rattle.py_dataflow.specs.Walks.{Shape, State, state, kept_shape, with_opening, falls_to, jumps_to, Alike, Seen, Edge, Falls, Jumps, Walk, Reached}
+use Rattle.py_dataflow.specs.Known.{joined_mark, join}
 use Rattle.py_dataflow.specs.Shown.{Covers, Covered, Closed, Closed_at}
 use Rattle.py_dataflow.proofs.Joins.{alike_refl, alike_sym, alike_trans, join_alike, kept_alike, kept_join, opened_alike, opened_join, jump_alike, jump_join, jump_height_alike}
 
-or_assoc : (a b c : Bool) → ((a || b) || c) ≡ (a || (b || c))
-or_assoc true b c = refl
-or_assoc false b c = refl
+closed_state_or_assoc : (a b c : Bool) → ((a || b) || c) ≡ (a || (b || c))
+closed_state_or_assoc true b c = refl
+closed_state_or_assoc false b c = refl
 
 or_self : (a : Bool) → (a || a) ≡ a
 or_self true = refl
@@ -33,22 +33,22 @@ same_cons m n s t h k = ap (λ x. x ∷ s) h ∙ ap (λ x. n ∷ x) k
 
 pub join_self : (s : Shape) → join s s ≡ s
 join_self [] = refl
-join_self (m ∷ s) = same_cons (joined m m) m (join s s) s (same_marks m (m.plain || m.plain) m.plain (m.exit || m.exit) m.exit (or_self m.plain) (or_self m.exit)) (join_self s)
+join_self (m ∷ s) = same_cons (joined_mark m m) m (join s s) s (same_marks m (m.plain || m.plain) m.plain (m.exit || m.exit) m.exit (or_self m.plain) (or_self m.exit)) (join_self s)
 
 pub join_assoc : (u s t : Shape) → Alike u s → Alike s t → join (join u s) t ≡ join u (join s t)
 join_assoc [] s t a b = refl
 join_assoc (m ∷ u) [] t a b = absurd a
 join_assoc (m ∷ u) (n ∷ s) [] a b = absurd b
 join_assoc (m ∷ u) (n ∷ s) (o ∷ t) a b =
-    same_cons (joined (joined m n) o) (joined m (joined n o)) (join (join u s) t) (join u (join s t))
-    (same_marks m ((m.plain || n.plain) || o.plain) (m.plain || (n.plain || o.plain)) ((m.exit || n.exit) || o.exit) (m.exit || (n.exit || o.exit)) (or_assoc m.plain n.plain o.plain) (or_assoc m.exit n.exit o.exit))
+    same_cons (joined_mark (joined_mark m n) o) (joined_mark m (joined_mark n o)) (join (join u s) t) (join u (join s t))
+    (same_marks m ((m.plain || n.plain) || o.plain) (m.plain || (n.plain || o.plain)) ((m.exit || n.exit) || o.exit) (m.exit || (n.exit || o.exit)) (closed_state_or_assoc m.plain n.plain o.plain) (closed_state_or_assoc m.exit n.exit o.exit))
     (join_assoc u s t a.1 b.1)
 
 pub join_absorb : (s t : Shape) → Alike s t → join (join s t) s ≡ join s t
 join_absorb [] t a = refl
 join_absorb (m ∷ s) [] a = absurd a
 join_absorb (m ∷ s) (n ∷ t) a =
-    same_cons (joined (joined m n) m) (joined m n) (join (join s t) s) (join s t)
+    same_cons (joined_mark (joined_mark m n) m) (joined_mark m n) (join (join s t) s) (join s t)
     (same_marks m ((m.plain || n.plain) || m.plain) (m.plain || n.plain) ((m.exit || n.exit) || m.exit) (m.exit || n.exit) (or_absorb m.plain n.plain) (or_absorb m.exit n.exit))
     (join_absorb s t a.1)
 
@@ -75,8 +75,8 @@ covers_new s t e a = record {
 
 covers_falls : (f : Flow) (s t : State) → Covers s t → Covers (falls_to f s) (falls_to f t)
 covers_falls f s t c =
-    let at : Alike (opened f.opens s.height (kept f s.shape)) (opened f.opens s.height (kept f t.shape)) = opened_alike f.opens s.height (kept f s.shape) (kept f t.shape) (kept_alike f s.shape t.shape c.alike) in
-    let j : join (opened f.opens s.height (kept f s.shape)) (opened f.opens s.height (kept f t.shape)) ≡ opened f.opens s.height (kept f s.shape) = sym (opened_join f.opens s.height (kept f s.shape) (kept f t.shape)) ∙ ap (opened f.opens s.height) (sym (kept_join f s.shape t.shape c.alike) ∙ ap (kept f) c.marks) in
+    let at : Alike (with_opening f.opens s.height (kept_shape f s.shape)) (with_opening f.opens s.height (kept_shape f t.shape)) = opened_alike f.opens s.height (kept_shape f s.shape) (kept_shape f t.shape) (kept_alike f s.shape t.shape c.alike) in
+    let j : join (with_opening f.opens s.height (kept_shape f s.shape)) (with_opening f.opens s.height (kept_shape f t.shape)) ≡ with_opening f.opens s.height (kept_shape f s.shape) = sym (opened_join f.opens s.height (kept_shape f s.shape) (kept_shape f t.shape)) ∙ ap (with_opening f.opens s.height) (sym (kept_join f s.shape t.shape c.alike) ∙ ap (kept_shape f) c.marks) in
     subst (λ h. Covers (falls_to f s) (falls_to f (state h t.shape))) c.level (record { level = refl; alike = at; marks = j })
 
 covers_jumps : (b : Branch) (s t : State) → Covers s t → Covers (jumps_to b s) (jumps_to b t)

@@ -6,20 +6,20 @@ use Rattle.py_bytecode.specs.Objects.{Object, head}
 use Rattle.py_bytecode.specs.Values.{Ran}
 use Rattle.py_bytecode.specs.Machine.{Instr, Found, start, fuel}
 use Rattle.py_bytecode.specs.Decode.{Tables, tables, instr_of}
-use Rattle.py_bytecode.specs.Units.{Read, place_in, read_from, found, fetched, fetch_unit}
+use Rattle.py_bytecode.specs.Units.{Read, place_in, read_from, fetch_of_instr, fetch_of_read, fetch_unit}
 use Rattle.std.proofs.Common.{drop}
 use Rattle.py_dataflow.specs.Sound.{NeverWrong, LimitIsNoMatter}
 use Rattle.py_dataflow.proofs.Rows.{Proper, row_is}
 use Rattle.py_dataflow.proofs.NeverWrong.{never_wrong, unlimited}
 
-found_some : {P : Type 0} (o : Option (Instr Object P)) (n : P) (i : Instr Object P) (m : P) → found o n ≡ Found i m → o ≡ Some i
+found_some : {P : Type 0} (o : Option (Instr Object P)) (n : P) (i : Instr Object P) (m : P) → fetch_of_instr o n ≡ Found i m → o ≡ Some i
 found_some None n i m e = absurd (cc)
 found_some (Some j) n i m e = ap Some (cc)
 
-pub decoded_proper : {P : Type 0} (t : Tables) (to : Option P) (op : Instruction) (a : ℕ) (n : P) (i : Instr Object P) (m : P) → found (instr_of t to op a) n ≡ Found i m → Proper i
+pub decoded_proper : {P : Type 0} (t : Tables) (to : Option P) (op : Instruction) (a : ℕ) (n : P) (i : Instr Object P) (m : P) → fetch_of_instr (instr_of t to op a) n ≡ Found i m → Proper i
 decoded_proper {P = P} t to op a n i m e = (row_is P t to op a i (found_some (instr_of t to op a) n i m e)).proper
 
-read_proper : (t : Tables) (count : ℕ) (r : Option Read) (i : Instr Object ℕ) (m : ℕ) → fetched t count r ≡ Found i m → Proper i
+read_proper : (t : Tables) (count : ℕ) (r : Option Read) (i : Instr Object ℕ) (m : ℕ) → fetch_of_read t count r ≡ Found i m → Proper i
 read_proper t count None i m e = absurd (cc)
 read_proper t count (Some r) i m e = decoded_proper t (place_in count r.operand) r.op r.operand r.next i m e
 

@@ -66,8 +66,8 @@ module _ (look : ℕ → Option (Seen ℕ)) (st : ℕ → Option State) (c : Clo
         | inr k1 ↦ c.whole k v.by v.there (clash_self v.by.shape (subst (λ z. Clash z v.by.shape) v.covers.marks (subst (λ z. Clash (join v.by.shape e.one.shape) z) wm (clash_up v.by.shape e.one.shape e.other.shape v.covers.alike wa k1))))
       ]
 
-  pub depth : (d : ℕ) → ((k : ℕ) (s : State) → st k ≡ Some s → s.height ≤ d) → (k : ℕ) (s : State) → st k ≡ Some s → s.height ≡ d → Shown look k s → IsDepth look 0 d
-  depth d h k s e ed hs =
+  pub depth_law : (d : ℕ) → ((k : ℕ) (s : State) → st k ≡ Some s → s.height ≤ d) → (k : ℕ) (s : State) → st k ≡ Some s → s.height ≡ d → Shown look k s → IsDepth look 0 d
+  depth_law d h k s e ed hs =
       let w = some_walk look k s hs in
       record {
         above = λ k1 t r. (let v = cov k1 t r in let l = h k1 v.by v.there in let q = v.covers.level in omega (arith, l, q));
@@ -90,5 +90,5 @@ module _ (look : ℕ → Option (Seen ℕ)) (st : ℕ → Option State) (c : Clo
         ]
       ]
 
-  pub sound : (d limit : ℕ) → IsDepth look 0 d → d < limit → Sound look 0 limit
-  sound d limit h l = record { ends = ends_not; even = even_not; within = within_not d limit h l; matched = λ k e. elim e [ inl a ↦ lacks_not k a | inr a ↦ differ_not k a ] }
+  pub depth_sound : (d limit : ℕ) → IsDepth look 0 d → d < limit → Sound look 0 limit
+  depth_sound d limit h l = record { ends = ends_not; even = even_not; within = within_not d limit h l; matched = λ k e. elim e [ inl a ↦ lacks_not k a | inr a ↦ differ_not k a ] }

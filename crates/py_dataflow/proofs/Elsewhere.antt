@@ -8,21 +8,22 @@ use Rattle.py_bytecode.specs.Table.{bits_of}
 use Rattle.py_bytecode.specs.Objects.{Object}
 use Rattle.py_bytecode.specs.Values.{Bare, Number, Named, operation, It, Cells, Load, Store, Delete, Fast, ByName, Global, Deref, ClassDeref}
 use Rattle.py_bytecode.specs.Machine.{Instr, Push, Access, Operate, MakeFunction, Import, Append, Unpack, Nop, Pop, Rotate2, Rotate3, Duplicate, Duplicate2, JumpIf, JumpIfOrPop, Jump, SetupLoop, PopBlock, Break, Continue, ReturnValue, ReturnConst, SetupExcept, SetupFinally, PopException, EnterFinally, EndFinally, Reraise, ForIter, SetupWith, WithCleanupStart, WithCleanupFinish, at_places}
-use Rattle.py_bytecode.specs.Decode.{Tables, value_of, for_some, raising, instr_of}
-use Rattle.py_bytecode.specs.Units.{found}
+use Rattle.py_bytecode.specs.Decode.{Tables, value_of, for_some, raise_instr, instr_of}
+use Rattle.py_bytecode.specs.Units.{fetch_of_instr}
 use Rattle.py_dataflow.specs.Flat.{is_jump}
 use Rattle.py_dataflow.proofs.SameRuns.{fetched_at}
 
 module _ {P Q : Type 0} (f : P → Q) where
-  some_at : {A : Type 0} (x : Option A) (k : A → Instr Object P) (k1 : A → Instr Object Q) → ((a : A) → k1 a ≡ at_places f (k a)) → for_some x k1 ≡ option_map (at_places f) (for_some x k)
-  some_at None k k1 h = refl
-  some_at (Some a) k k1 h = ap Some (h a)
+  elsewhere_some_at : {A : Type 0} (x : Option A) (k : A → Instr Object P) (k1 : A → Instr Object Q) → ((a : A) → k1 a ≡ at_places f (k a)) → for_some x k1 ≡ option_map (at_places f) (for_some x k)
+  elsewhere_some_at None k k1 h = refl
+  elsewhere_some_at (Some a) k k1 h = ap Some (h a)
 
   if_at : (b : Bool) (i : Instr Object P) (i1 : Instr Object Q) → i1 ≡ at_places f i → (if b then Some i1 else None) ≡ option_map (at_places f) (if b then Some i else None)
   if_at true i i1 h = ap Some h
   if_at false i i1 h = refl
 
-  jump_at : (to : Option P) (to1 : Option Q) (k : P → Instr Object P) (k1 : Q → Instr Object Q) → to1 ≡ option_map f to → ((p : P) → k1 (f p) ≡ at_places f (k p)) → for_some to1 k1 ≡ option_map (at_places f) (for_some to k)
+  jump_at : (to : Option P) (to1 : Option Q) (k : P → Instr Object P) (k1 : Q → Instr Object Q) → to1 ≡ option_map f to
+      → ((p : P) → k1 (f p) ≡ at_places f (k p)) → for_some to1 k1 ≡ option_map (at_places f) (for_some to k)
   jump_at None to1 k k1 e h = ap (λ o. for_some o k1) e
   jump_at (Some p) to1 k k1 e h = ap (λ o. for_some o k1) e ∙ ap Some (h p)
 
@@ -32,33 +33,33 @@ module _ {P Q : Type 0} (f : P → Q) where
   raise_at false false = refl
 
   same_at : (t : Tables) (to : Option P) (to1 : Option Q) (o : Instruction) (n m : ℕ) → (is_jump o ≡ true → to1 ≡ option_map f to) → instr_of t to1 o n ≡ option_map (at_places f) (instr_of t to o n)
-  same_at t to to1 op.ImportName n m h = some_at (slice_get t.names n) (λ x. Operate (operation op.ImportName (Named x)) 2 (Some 1)) (λ x. Operate (operation op.ImportName (Named x)) 2 (Some 1)) (λ x. refl)
+  same_at t to to1 op.ImportName n m h = elsewhere_some_at (slice_get t.names n) (λ x. Operate (operation op.ImportName (Named x)) 2 (Some 1)) (λ x. Operate (operation op.ImportName (Named x)) 2 (Some 1)) (λ x. refl)
   same_at t to to1 op.ImportNameless n m h = if_at (nat_lt n 1) (Operate (operation op.ImportNameless Bare) 2 (Some 1)) (Operate (operation op.ImportNameless Bare) 2 (Some 1)) refl
   same_at t to to1 op.ImportStar n m h = if_at (nat_lt n 1) (Operate (operation op.ImportStar Bare) 1 (Some 0)) (Operate (operation op.ImportStar Bare) 1 (Some 0)) refl
-  same_at t to to1 op.ImportFrom n m h = some_at (slice_get t.names n) (λ x. Import (operation op.ImportFrom (Named x))) (λ x. Import (operation op.ImportFrom (Named x))) (λ x. refl)
-  same_at t to to1 op.LoadFast n m h = some_at (slice_get t.varnames n) (λ x. Access Fast Load x 0) (λ x. Access Fast Load x 0) (λ x. refl)
-  same_at t to to1 op.LoadNameAny n m h = some_at (slice_get t.names n) (λ x. Access ByName Load x 0) (λ x. Access ByName Load x 0) (λ x. refl)
-  same_at t to to1 op.LoadGlobal n m h = some_at (slice_get t.names n) (λ x. Access Global Load x 0) (λ x. Access Global Load x 0) (λ x. refl)
-  same_at t to to1 op.LoadDeref n m h = some_at (slice_get t.cells n) (λ x. Access Deref Load x n) (λ x. Access Deref Load x n) (λ x. refl)
-  same_at t to to1 op.LoadClassDeref n m h = some_at (slice_get t.cells n) (λ x. Access ClassDeref Load x n) (λ x. Access ClassDeref Load x n) (λ x. refl)
-  same_at t to to1 op.LoadClosure n m h = some_at (slice_get t.cells n) (λ x. Push (Cells (record { name = x; place = n } ∷ []))) (λ x. Push (Cells (record { name = x; place = n } ∷ []))) (λ x. refl)
-  same_at t to to1 op.StoreFast n m h = some_at (slice_get t.varnames n) (λ x. Access Fast Store x 0) (λ x. Access Fast Store x 0) (λ x. refl)
-  same_at t to to1 op.StoreLocal n m h = some_at (slice_get t.names n) (λ x. Access ByName Store x 0) (λ x. Access ByName Store x 0) (λ x. refl)
-  same_at t to to1 op.StoreGlobal n m h = some_at (slice_get t.names n) (λ x. Access Global Store x 0) (λ x. Access Global Store x 0) (λ x. refl)
-  same_at t to to1 op.StoreDeref n m h = some_at (slice_get t.cells n) (λ x. Access Deref Store x n) (λ x. Access Deref Store x n) (λ x. refl)
-  same_at t to to1 op.DeleteFast n m h = some_at (slice_get t.varnames n) (λ x. Access Fast Delete x 0) (λ x. Access Fast Delete x 0) (λ x. refl)
-  same_at t to to1 op.DeleteLocal n m h = some_at (slice_get t.names n) (λ x. Access ByName Delete x 0) (λ x. Access ByName Delete x 0) (λ x. refl)
-  same_at t to to1 op.DeleteGlobal n m h = some_at (slice_get t.names n) (λ x. Access Global Delete x 0) (λ x. Access Global Delete x 0) (λ x. refl)
-  same_at t to to1 op.DeleteDeref n m h = some_at (slice_get t.cells n) (λ x. Access Deref Delete x n) (λ x. Access Deref Delete x n) (λ x. refl)
+  same_at t to to1 op.ImportFrom n m h = elsewhere_some_at (slice_get t.names n) (λ x. Import (operation op.ImportFrom (Named x))) (λ x. Import (operation op.ImportFrom (Named x))) (λ x. refl)
+  same_at t to to1 op.LoadFast n m h = elsewhere_some_at (slice_get t.varnames n) (λ x. Access Fast Load x 0) (λ x. Access Fast Load x 0) (λ x. refl)
+  same_at t to to1 op.LoadNameAny n m h = elsewhere_some_at (slice_get t.names n) (λ x. Access ByName Load x 0) (λ x. Access ByName Load x 0) (λ x. refl)
+  same_at t to to1 op.LoadGlobal n m h = elsewhere_some_at (slice_get t.names n) (λ x. Access Global Load x 0) (λ x. Access Global Load x 0) (λ x. refl)
+  same_at t to to1 op.LoadDeref n m h = elsewhere_some_at (slice_get t.cells n) (λ x. Access Deref Load x n) (λ x. Access Deref Load x n) (λ x. refl)
+  same_at t to to1 op.LoadClassDeref n m h = elsewhere_some_at (slice_get t.cells n) (λ x. Access ClassDeref Load x n) (λ x. Access ClassDeref Load x n) (λ x. refl)
+  same_at t to to1 op.LoadClosure n m h = elsewhere_some_at (slice_get t.cells n) (λ x. Push (Cells (record { name = x; place = n } ∷ []))) (λ x. Push (Cells (record { name = x; place = n } ∷ []))) (λ x. refl)
+  same_at t to to1 op.StoreFast n m h = elsewhere_some_at (slice_get t.varnames n) (λ x. Access Fast Store x 0) (λ x. Access Fast Store x 0) (λ x. refl)
+  same_at t to to1 op.StoreLocal n m h = elsewhere_some_at (slice_get t.names n) (λ x. Access ByName Store x 0) (λ x. Access ByName Store x 0) (λ x. refl)
+  same_at t to to1 op.StoreGlobal n m h = elsewhere_some_at (slice_get t.names n) (λ x. Access Global Store x 0) (λ x. Access Global Store x 0) (λ x. refl)
+  same_at t to to1 op.StoreDeref n m h = elsewhere_some_at (slice_get t.cells n) (λ x. Access Deref Store x n) (λ x. Access Deref Store x n) (λ x. refl)
+  same_at t to to1 op.DeleteFast n m h = elsewhere_some_at (slice_get t.varnames n) (λ x. Access Fast Delete x 0) (λ x. Access Fast Delete x 0) (λ x. refl)
+  same_at t to to1 op.DeleteLocal n m h = elsewhere_some_at (slice_get t.names n) (λ x. Access ByName Delete x 0) (λ x. Access ByName Delete x 0) (λ x. refl)
+  same_at t to to1 op.DeleteGlobal n m h = elsewhere_some_at (slice_get t.names n) (λ x. Access Global Delete x 0) (λ x. Access Global Delete x 0) (λ x. refl)
+  same_at t to to1 op.DeleteDeref n m h = elsewhere_some_at (slice_get t.cells n) (λ x. Access Deref Delete x n) (λ x. Access Deref Delete x n) (λ x. refl)
   same_at t to to1 op.Subscript n m h = if_at (nat_lt n 1) (Operate (operation op.Subscript Bare) 2 (Some 1)) (Operate (operation op.Subscript Bare) 2 (Some 1)) refl
   same_at t to to1 op.StoreSubscript n m h = if_at (nat_lt n 1) (Operate (operation op.StoreSubscript Bare) 3 (Some 0)) (Operate (operation op.StoreSubscript Bare) 3 (Some 0)) refl
   same_at t to to1 op.DeleteSubscript n m h = if_at (nat_lt n 1) (Operate (operation op.DeleteSubscript Bare) 2 (Some 0)) (Operate (operation op.DeleteSubscript Bare) 2 (Some 0)) refl
-  same_at t to to1 op.LoadAttr n m h = some_at (slice_get t.names n) (λ x. Operate (operation op.LoadAttr (Named x)) 1 (Some 1)) (λ x. Operate (operation op.LoadAttr (Named x)) 1 (Some 1)) (λ x. refl)
-  same_at t to to1 op.StoreAttr n m h = some_at (slice_get t.names n) (λ x. Operate (operation op.StoreAttr (Named x)) 2 (Some 0)) (λ x. Operate (operation op.StoreAttr (Named x)) 2 (Some 0)) (λ x. refl)
-  same_at t to to1 op.DeleteAttr n m h = some_at (slice_get t.names n) (λ x. Operate (operation op.DeleteAttr (Named x)) 1 (Some 0)) (λ x. Operate (operation op.DeleteAttr (Named x)) 1 (Some 0)) (λ x. refl)
-  same_at t to to1 op.LoadMethod n m h = some_at (slice_get t.names n) (λ x. Operate (operation op.LoadMethod (Named x)) 1 (Some 3)) (λ x. Operate (operation op.LoadMethod (Named x)) 1 (Some 3)) (λ x. refl)
-  same_at t to to1 op.LoadConst n m h = some_at (slice_get t.constants n) (λ c. Push (It (value_of c))) (λ c. Push (It (value_of c))) (λ x. refl)
-  same_at t to to1 op.ReturnConst n m h = some_at (slice_get t.constants n) (λ c. ReturnConst (value_of c)) (λ c. ReturnConst (value_of c)) (λ x. refl)
+  same_at t to to1 op.LoadAttr n m h = elsewhere_some_at (slice_get t.names n) (λ x. Operate (operation op.LoadAttr (Named x)) 1 (Some 1)) (λ x. Operate (operation op.LoadAttr (Named x)) 1 (Some 1)) (λ x. refl)
+  same_at t to to1 op.StoreAttr n m h = elsewhere_some_at (slice_get t.names n) (λ x. Operate (operation op.StoreAttr (Named x)) 2 (Some 0)) (λ x. Operate (operation op.StoreAttr (Named x)) 2 (Some 0)) (λ x. refl)
+  same_at t to to1 op.DeleteAttr n m h = elsewhere_some_at (slice_get t.names n) (λ x. Operate (operation op.DeleteAttr (Named x)) 1 (Some 0)) (λ x. Operate (operation op.DeleteAttr (Named x)) 1 (Some 0)) (λ x. refl)
+  same_at t to to1 op.LoadMethod n m h = elsewhere_some_at (slice_get t.names n) (λ x. Operate (operation op.LoadMethod (Named x)) 1 (Some 3)) (λ x. Operate (operation op.LoadMethod (Named x)) 1 (Some 3)) (λ x. refl)
+  same_at t to to1 op.LoadConst n m h = elsewhere_some_at (slice_get t.constants n) (λ c. Push (It (value_of c))) (λ c. Push (It (value_of c))) (λ x. refl)
+  same_at t to to1 op.ReturnConst n m h = elsewhere_some_at (slice_get t.constants n) (λ c. ReturnConst (value_of c)) (λ c. ReturnConst (value_of c)) (λ x. refl)
   same_at t to to1 op.UnaryOperation n m h = if_at (nat_lt n 4) (Operate (operation op.UnaryOperation (Number n)) 1 (Some 1)) (Operate (operation op.UnaryOperation (Number n)) 1 (Some 1)) refl
   same_at t to to1 op.BinaryOperation n m h = if_at (nat_lt n 13) (Operate (operation op.BinaryOperation (Number n)) 2 (Some 1)) (Operate (operation op.BinaryOperation (Number n)) 2 (Some 1)) refl
   same_at t to to1 op.BinaryOperationInplace n m h = if_at (nat_lt n 13) (Operate (operation op.BinaryOperationInplace (Number n)) 2 (Some 1)) (Operate (operation op.BinaryOperationInplace (Number n)) 2 (Some 1)) refl
@@ -108,7 +109,7 @@ module _ {P Q : Type 0} (f : P → Q) where
   same_at t to to1 op.EndFinally n m h = if_at (nat_lt n 1) EndFinally EndFinally refl
   same_at t to to1 op.WithCleanupStart n m h = if_at (nat_lt n 1) WithCleanupStart WithCleanupStart refl
   same_at t to to1 op.WithCleanupFinish n m h = if_at (nat_lt n 1) WithCleanupFinish WithCleanupFinish refl
-  same_at t to to1 op.Raise n m h = if_at (nat_lt n 3) (raising n) (raising n) (raise_at (nat_eq n 0) (nat_eq n 1))
+  same_at t to to1 op.Raise n m h = if_at (nat_lt n 3) (raise_instr n) (raise_instr n) (raise_at (nat_eq n 0) (nat_eq n 1))
   same_at t to to1 op.ReturnValue n m h = if_at (nat_lt n 1) ReturnValue ReturnValue refl
   same_at t to to1 op.ExtendedArg n m h = refl
   same_at t to to1 op.JumpIfTrue n m h = jump_at to to1 (λ p. JumpIf true p) (λ p. JumpIf true p) (h refl) (λ p. refl)
@@ -145,12 +146,13 @@ module _ {P Q : Type 0} (f : P → Q) where
   by_kind t to o false n m e h = ap (instr_of t to o) (h e)
 
   -- the instruction at other places, where a jump has the other place and any other instruction the same operand
-  pub instr_at : (t : Tables) (to : Option P) (to1 : Option Q) (o : Instruction) (n m : ℕ) → (is_jump o ≡ true → to1 ≡ option_map f to) → (is_jump o ≡ false → m ≡ n) → instr_of t to1 o m ≡ option_map (at_places f) (instr_of t to o n)
+  pub instr_at : (t : Tables) (to : Option P) (to1 : Option Q) (o : Instruction) (n m : ℕ) → (is_jump o ≡ true → to1 ≡ option_map f to)
+      → (is_jump o ≡ false → m ≡ n) → instr_of t to1 o m ≡ option_map (at_places f) (instr_of t to o n)
   instr_at t to to1 o n m h g = by_kind t to1 o (is_jump o) n m refl g ∙ same_at t to to1 o n m h
 
-  found_map : (o : Option (Instr Object P)) (n : P) → found (option_map (at_places f) o) (f n) ≡ fetched_at f (found o n)
+  found_map : (o : Option (Instr Object P)) (n : P) → fetch_of_instr (option_map (at_places f) o) (f n) ≡ fetched_at f (fetch_of_instr o n)
   found_map None n = refl
   found_map (Some i) n = refl
 
-  pub found_at : (o1 : Option (Instr Object Q)) (o : Option (Instr Object P)) (n1 : Q) (n : P) → o1 ≡ option_map (at_places f) o → n1 ≡ f n → found o1 n1 ≡ fetched_at f (found o n)
-  found_at o1 o n1 n e en = ap (λ z. found z n1) e ∙ ap (found (option_map (at_places f) o)) en ∙ found_map o n
+  pub found_at : (o1 : Option (Instr Object Q)) (o : Option (Instr Object P)) (n1 : Q) (n : P) → o1 ≡ option_map (at_places f) o → n1 ≡ f n → fetch_of_instr o1 n1 ≡ fetched_at f (fetch_of_instr o n)
+  found_at o1 o n1 n e en = ap (λ z. fetch_of_instr z n1) e ∙ ap (fetch_of_instr (option_map (at_places f) o)) en ∙ found_map o n

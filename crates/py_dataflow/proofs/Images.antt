@@ -74,14 +74,14 @@ module _ {P Q : Type 0} (look : P → Option (Seen P)) (look1 : Q → Option (Se
 
   -- at a place that is the image of a good one
   module _ (inj : Injective) (p : P) (g : Good p) where
-    at_place : (t : State) → Reached look1 (f start) (f p) t → Reached look start p t
-    at_place t r = let b = reached_back (f p) t r in subst (λ z. Reached look start z t) (inj b.0 p b.1 g b.2) b.3
+    image_at_place : (t : State) → Reached look1 (f start) (f p) t → Reached look start p t
+    image_at_place t r = let b = reached_back (f p) t r in subst (λ z. Reached look start z t) (inj b.0 p b.1 g b.2) b.3
 
     pub ends_back : LeavesEnd look1 (f start) (f p) → LeavesEnd look start p
-    ends_back e = record { at = e.at; reached = at_place e.at e.reached; nothing = none_mapped (seen_at f) (look p) (sym (im.same p g) ∙ e.nothing) }
+    ends_back e = record { at = e.at; reached = image_at_place e.at e.reached; nothing = none_mapped (seen_at f) (look p) (sym (im.same p g) ∙ e.nothing) }
 
     pub uneven_back : UnevenHeights look1 (f start) (f p) → UnevenHeights look start p
-    uneven_back e = record { one = e.one; other = e.other; one_reached = at_place e.one e.one_reached; other_reached = at_place e.other e.other_reached; uneven = e.uneven }
+    uneven_back e = record { one = e.one; other = e.other; one_reached = image_at_place e.one e.one_reached; other_reached = image_at_place e.other e.other_reached; uneven = e.uneven }
 
     too_high_back : (limit : ℕ) (x : Seen P) (t : State) → TooHigh look1 (f start) limit (seen_at f x) t → TooHigh look start limit x t
     too_high_back limit x t h = let b = edge_back x t h.place h.to h.edge in record { place = b.0; to = h.to; edge = b.2; high = h.high }
@@ -94,13 +94,13 @@ module _ {P Q : Type 0} (look : P → Option (Seen P)) (look1 : Q → Option (Se
     pub range_back : (limit : ℕ) → HeightOutOfRange look1 (f start) limit (f p) → HeightOutOfRange look start limit p
     range_back limit e =
         let s = sees_back p e.sees g e.sees_is in
-        record { sees = s.0; at = e.at; reached = at_place e.at e.reached; sees_is = s.1; outside = outside_back limit s.0 e.at (subst (λ z. OutOfRange look1 (f start) limit z e.at) (sym s.2) e.outside) }
+        record { sees = s.0; at = e.at; reached = image_at_place e.at e.reached; sees_is = s.1; outside = outside_back limit s.0 e.at (subst (λ z. OutOfRange look1 (f start) limit z e.at) (sym s.2) e.outside) }
 
     pub mismatch_back : BlockMismatch look1 (f start) (f p) → BlockMismatch look start p
     mismatch_back (inl e) =
         let s = sees_back p e.sees g e.sees_is in
-        inl (record { sees = s.0; at = e.at; reached = at_place e.at e.reached; sees_is = s.1; lacks = subst (λ (z : Seen Q). has_block z.flow.needs e.at.height e.at.shape ≡ false) (sym s.2) e.lacks })
-    mismatch_back (inr e) = inr (record { one = e.one; other = e.other; one_reached = at_place e.one e.one_reached; other_reached = at_place e.other e.other_reached; differ = e.differ })
+        inl (record { sees = s.0; at = e.at; reached = image_at_place e.at e.reached; sees_is = s.1; lacks = subst (λ (z : Seen Q). has_block z.flow.needs e.at.height e.at.shape ≡ false) (sym s.2) e.lacks })
+    mismatch_back (inr e) = inr (record { one = e.one; other = e.other; one_reached = image_at_place e.one e.one_reached; other_reached = image_at_place e.other e.other_reached; differ = e.differ })
 
   pub sound_there : Injective → (limit : ℕ) → Sound look start limit → Sound look1 (f start) limit
   sound_there inj limit ok = record {

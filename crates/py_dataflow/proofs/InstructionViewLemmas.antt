@@ -7,11 +7,11 @@ use Rattle.py_bytecode.specs.Objects.{Object}
 use Rattle.py_bytecode.specs.Machine as M
 use Rattle.py_bytecode.specs.Machine.{Instr, at_places, Fetched, Found, Nothing}
 use Rattle.py_bytecode.specs.Decode.{Tables, instr_of}
-use Rattle.py_bytecode.specs.Units.{found}
+use Rattle.py_bytecode.specs.Units.{fetch_of_instr}
 use Rattle.py_dataflow.specs.declared.info.InstructionInfo.{InstructionInfo}
 use Rattle.py_dataflow.specs.Flow.{flow_of, target_of}
-use Rattle.py_dataflow.specs.Walks.{Seen, seen}
-use Rattle.py_dataflow.specs.Flat.{named_place, sees, look_at, decoded, fetch_at}
+use Rattle.py_dataflow.specs.Walks.{Seen, seen_instr}
+use Rattle.py_dataflow.specs.Flat.{named_place, sees, look_at, decoded_item, fetch_at}
 use Rattle.py_dataflow.proofs.Rows.{RowIs, row_is}
 use Rattle.py_dataflow.proofs.SameRuns.{fetched_at}
 use Rattle.py_dataflow.proofs.Images.{seen_at}
@@ -85,7 +85,7 @@ module _ {K P Q : Type 0} (f : P → Q) where
   target_same M.WithCleanupStart = refl
   target_same M.WithCleanupFinish = refl
 
-  pub seen_same : (y : Fetched K P) → seen (fetched_at f y) ≡ option_map (seen_at f) (seen y)
+  pub seen_same : (y : Fetched K P) → seen_instr (fetched_at f y) ≡ option_map (seen_at f) (seen_instr y)
   seen_same (Found i n) = ap (λ w. let s : Seen Q = record { flow = w; next = f n; target = target_of (at_places f i) } in Some s) (flow_same i) ∙ ap (λ z. let s : Seen Q = record { flow = flow_of i; next = f n; target = z } in Some s) (target_same i)
   seen_same Nothing = refl
 
@@ -94,22 +94,23 @@ module _ (t : Tables) (starts : List ℕ) (items : List InstructionInfo) where
   abbrev pub Decodes : Type 0
   Decodes = (k : ℕ) (x : InstructionInfo) → slice_get items k ≡ Some x → instr_of t (Some (named_place starts x)) x.instr x.arg.0 ≢ None
 
-  decoded_sees : (k : ℕ) (x : InstructionInfo) (o : Option (Instr Object ℕ)) → instr_of t (Some (named_place starts x)) x.instr x.arg.0 ≡ o → o ≢ None → seen (found o (suc k)) ≡ Some (sees starts k x)
+  decoded_sees : (k : ℕ) (x : InstructionInfo) (o : Option (Instr Object ℕ)) → instr_of t (Some (named_place starts x)) x.instr x.arg.0 ≡ o → o ≢ None
+      → seen_instr (fetch_of_instr o (suc k)) ≡ Some (sees starts k x)
   decoded_sees k x None e n = absurd (n refl)
   decoded_sees k x (Some i) e n =
       let r : RowIs (Some (named_place starts x)) x.instr x.arg.0 i = row_is ℕ t (Some (named_place starts x)) x.instr x.arg.0 i e in
       ap (λ w. let s : Seen ℕ = record { flow = w; next = suc k; target = target_of i } in Some s) r.flow ∙ ap (λ z. let s : Seen ℕ = record { flow = (sees starts k x).flow; next = suc k; target = z } in Some s) r.target
 
-  look_by : Decodes → (k : ℕ) (o : Option InstructionInfo) → slice_get items k ≡ o → seen (decoded t starts k o) ≡ option_map (sees starts k) o
+  look_by : Decodes → (k : ℕ) (o : Option InstructionInfo) → slice_get items k ≡ o → seen_instr (decoded_item t starts k o) ≡ option_map (sees starts k) o
   look_by d k None e = refl
   look_by d k (Some x) e = decoded_sees k x (instr_of t (Some (named_place starts x)) x.instr x.arg.0) refl (d k x e)
 
   -- a walk sees what the machine finds
-  pub look_same : Decodes → (k : ℕ) → seen (fetch_at t starts items k) ≡ look_at starts items k
+  pub look_same : Decodes → (k : ℕ) → seen_instr (fetch_at t starts items k) ≡ look_at starts items k
   look_same d k = look_by d k (slice_get items k) refl
 
   abbrev pub found_look : ℕ → Option (Seen ℕ)
-  found_look k = seen (fetch_at t starts items k)
+  found_look k = seen_instr (fetch_at t starts items k)
 
   pub looks_same : Decodes → found_look ≡ look_at starts items
   looks_same d = fun_ext (look_same d)

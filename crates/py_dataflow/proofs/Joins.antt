@@ -7,8 +7,8 @@ use Rattle.py_dataflow.specs.declared.flow.NeededBlock.{NeededBlock}
 use Rattle.py_dataflow.specs.declared.flow.Opening.{Opening}
 use Rattle.py_dataflow.specs.declared.flow.Branch.{Branch}
 use Rattle.py_dataflow.specs.declared.flow.Flow.{Flow}
-use Rattle.py_dataflow.specs.Walks.{Shape, state, rest_of, height_of, kept, opened, is_entered, is_handler, is_final, is_loop, is_with, left_by, tops, from_loop, cut_to, has_block, enough, falls_enough, jumps_enough, jumps_to, Alike, Clash}
-use Rattle.py_dataflow.specs.Known.{joined, join, Torn}
+use Rattle.py_dataflow.specs.Walks.{Shape, state, rest_of, height_of, kept_shape, with_opening, is_entered, is_handler, is_final, is_loop, is_with, left_by, tops, from_loop, cut_to, has_block, enough, falls_enough, jumps_enough, jumps_to, Alike, Clash}
+use Rattle.py_dataflow.specs.Known.{joined_mark, join, Torn}
 
 pub alike_refl : (s : Shape) → Alike s s
 alike_refl [] = tt
@@ -58,10 +58,10 @@ if_join : (b : Bool) (s t s1 t1 u u1 : Shape) → u ≡ join s t → u1 ≡ join
 if_join true s t s1 t1 u u1 h k = h
 if_join false s t s1 t1 u u1 h k = k
 
-pub kept_alike : (f : Flow) (s t : Shape) → Alike s t → Alike (kept f s) (kept f t)
+pub kept_alike : (f : Flow) (s t : Shape) → Alike s t → Alike (kept_shape f s) (kept_shape f t)
 kept_alike f s t h = if_alike f.pops (rest_of s) (rest_of t) s t (rest_alike s t h) h
 
-pub kept_join : (f : Flow) (s t : Shape) → Alike s t → kept f (join s t) ≡ join (kept f s) (kept f t)
+pub kept_join : (f : Flow) (s t : Shape) → Alike s t → kept_shape f (join s t) ≡ join (kept_shape f s) (kept_shape f t)
 kept_join f s t h = if_join f.pops (rest_of s) (rest_of t) s t (rest_of (join s t)) (join s t) (rest_join s t h) refl
 
 from_loop_alike : (s t : Shape) → Alike s t → Alike (from_loop s) (from_loop t)
@@ -74,7 +74,7 @@ from_loop_join : (s t : Shape) → Alike s t → from_loop (join s t) ≡ join (
 from_loop_join [] [] h = refl
 from_loop_join [] (n ∷ t) h = absurd h
 from_loop_join (m ∷ s) [] h = absurd h
-from_loop_join (m ∷ s) (n ∷ t) h = subst (λ k. (if is_loop m.kind then joined m n ∷ join s t else from_loop (join s t)) ≡ join (if is_loop m.kind then m ∷ s else from_loop s) (if is_loop k then n ∷ t else from_loop t)) h.0.0 (if_join (is_loop m.kind) (m ∷ s) (n ∷ t) (from_loop s) (from_loop t) (joined m n ∷ join s t) (from_loop (join s t)) refl (from_loop_join s t h.1))
+from_loop_join (m ∷ s) (n ∷ t) h = subst (λ k. (if is_loop m.kind then joined_mark m n ∷ join s t else from_loop (join s t)) ≡ join (if is_loop m.kind then m ∷ s else from_loop s) (if is_loop k then n ∷ t else from_loop t)) h.0.0 (if_join (is_loop m.kind) (m ∷ s) (n ∷ t) (from_loop s) (from_loop t) (joined_mark m n ∷ join s t) (from_loop (join s t)) refl (from_loop_join s t h.1))
 
 abbrev cut_from : Kind → ℕ → ℕ → Shape → ℕ
 cut_from k h g s = if is_loop k then h else cut_to (if is_with k then g - 1 else g) s
@@ -87,7 +87,7 @@ cut_alike h (m ∷ s) (n ∷ t) a =
     ap (λ c. if is_loop m.kind then h else c) (cut_alike (left_by m) s t a.1)
     ∙ ap (λ k. cut_from k h m.height t) a.0.0 ∙ ap (λ g. cut_from n.kind h g t) a.0.1
 
-pub opened_alike : (o : Option Opening) (h : ℕ) (s t : Shape) → Alike s t → Alike (opened o h s) (opened o h t)
+pub opened_alike : (o : Option Opening) (h : ℕ) (s t : Shape) → Alike s t → Alike (with_opening o h s) (with_opening o h t)
 opened_alike None h s t a = a
 opened_alike (Some o) h s t a = ((refl, refl), a)
 
@@ -98,10 +98,10 @@ or_same false = refl
 abbrev with_marks : Mark → Bool → Bool → Mark
 with_marks m p e = record { kind = m.kind; height = m.height; plain = p; exit = e }
 
-pub joined_self : (m : Mark) → joined m m ≡ m
+pub joined_self : (m : Mark) → joined_mark m m ≡ m
 joined_self m = ap (λ p. with_marks m p (m.exit || m.exit)) (or_same m.plain) ∙ ap (λ e. with_marks m m.plain e) (or_same m.exit)
 
-pub opened_join : (o : Option Opening) (h : ℕ) (s t : Shape) → opened o h (join s t) ≡ join (opened o h s) (opened o h t)
+pub opened_join : (o : Option Opening) (h : ℕ) (s t : Shape) → with_opening o h (join s t) ≡ join (with_opening o h s) (with_opening o h t)
 opened_join None h s t = refl
 opened_join (Some o) h s t = ap (λ m. m ∷ join s t) (sym (joined_self (record { kind = o.kind; height = h; plain = o.plain; exit = o.exit })))
 
@@ -132,17 +132,18 @@ tops_kind q [] (n ∷ t) a = absurd a
 tops_kind q (m ∷ s) [] a = absurd a
 tops_kind q (m ∷ s) (n ∷ t) a = both_same (q m.kind) (q n.kind) (ap q a.0.0)
 
-marked : (b x y : Bool) → (b && not (x || y)) ≡ ((b && not x) && (b && not y))
-marked true true y = refl
-marked true false true = refl
-marked true false false = refl
-marked false x y = refl
+join_marked : (b x y : Bool) → (b && not (x || y)) ≡ ((b && not x) && (b && not y))
+join_marked true true y = refl
+join_marked true false true = refl
+join_marked true false false = refl
+join_marked false x y = refl
 
 abbrev closes : (Mark → Bool) → ℕ → Mark → Bool
 closes q h m = is_final m.kind && nat_eq m.height h && not (q m)
 
-closes_join : (h : ℕ) (m n : Mark) (x y : Bool) → m.kind ≡ n.kind → m.height ≡ n.height → (is_final m.kind && nat_eq m.height h && not (x || y)) ≡ ((is_final m.kind && nat_eq m.height h && not x) && (is_final n.kind && nat_eq n.height h && not y))
-closes_join h m n x y ek eh = marked (is_final m.kind && nat_eq m.height h) x y ∙ ap (λ c. (is_final m.kind && nat_eq m.height h && not x) && (c && not y)) (ap (λ k. is_final k && nat_eq m.height h) ek ∙ ap (λ g. is_final n.kind && nat_eq g h) eh)
+closes_join : (h : ℕ) (m n : Mark) (x y : Bool) → m.kind ≡ n.kind → m.height ≡ n.height
+    → (is_final m.kind && nat_eq m.height h && not (x || y)) ≡ ((is_final m.kind && nat_eq m.height h && not x) && (is_final n.kind && nat_eq n.height h && not y))
+closes_join h m n x y ek eh = join_marked (is_final m.kind && nat_eq m.height h) x y ∙ ap (λ c. (is_final m.kind && nat_eq m.height h && not x) && (c && not y)) (ap (λ k. is_final k && nat_eq m.height h) ek ∙ ap (λ g. is_final n.kind && nat_eq g h) eh)
 
 tops_exit : (h : ℕ) (s t : Shape) → Alike s t → tops (closes (λ m. m.exit) h) (join s t) ≡ (tops (closes (λ m. m.exit) h) s && tops (closes (λ m. m.exit) h) t)
 tops_exit h [] [] a = refl
@@ -169,16 +170,16 @@ block_join NeededBlock.NotPlain h s t a = tops_plain h s t a
 block_join NeededBlock.Loop h s t a = any_join s t a
 
 pub falls_enough_alike : (f : Flow) (h : ℕ) (s t : Shape) → Alike s t → falls_enough f h s ≡ falls_enough f h t
-falls_enough_alike f h s t e = ap (λ x. enough x f.takes f.looks_at h) (height_alike (kept f s) (kept f t) (kept_alike f s t e))
+falls_enough_alike f h s t e = ap (λ x. enough x f.takes f.looks_at h) (height_alike (kept_shape f s) (kept_shape f t) (kept_alike f s t e))
 
 pub jumps_enough_alike : (b : Branch) (h : ℕ) (s t : Shape) → Alike s t → jumps_enough b h s ≡ jumps_enough b h t
 jumps_enough_alike (Branch.Goes x g o) h s t e = ap (λ z. enough z x 0 h) (height_alike s t e)
 jumps_enough_alike Branch.Breaks h s t e = refl
 jumps_enough_alike Branch.Continues h s t e = refl
 
-or_true : (a b : Bool) → (a || b) ≡ true → (a ≡ true) ⊎ (b ≡ true)
-or_true true b h = inl refl
-or_true false b h = inr h
+join_or_true : (a b : Bool) → (a || b) ≡ true → (a ≡ true) ⊎ (b ≡ true)
+join_or_true true b h = inl refl
+join_or_true false b h = inr h
 
 pub or_left : (a b : Bool) → a ≡ true → (a || b) ≡ true
 or_left true b h = refl
@@ -193,8 +194,8 @@ pub clash_left : (s t u : Shape) → Alike s t → Clash (join s t) u → Clash 
 clash_left [] t u a c = absurd c
 clash_left (m ∷ s) [] u a c = absurd a
 clash_left (m ∷ s) (n ∷ t) [] a c = absurd c
-clash_left (m ∷ s) (n ∷ t) (o ∷ u) a (inl c) = elim (or_true m.plain n.plain c.0) [ inl p ↦ inl (inl (p, c.1)) | inr p ↦ inr (inl (p, c.1)) ]
-clash_left (m ∷ s) (n ∷ t) (o ∷ u) a (inr (inl c)) = elim (or_true m.exit n.exit c.0) [ inl p ↦ inl (inr (inl (p, c.1))) | inr p ↦ inr (inr (inl (p, c.1))) ]
+clash_left (m ∷ s) (n ∷ t) (o ∷ u) a (inl c) = elim (join_or_true m.plain n.plain c.0) [ inl p ↦ inl (inl (p, c.1)) | inr p ↦ inr (inl (p, c.1)) ]
+clash_left (m ∷ s) (n ∷ t) (o ∷ u) a (inr (inl c)) = elim (join_or_true m.exit n.exit c.0) [ inl p ↦ inl (inr (inl (p, c.1))) | inr p ↦ inr (inr (inl (p, c.1))) ]
 clash_left (m ∷ s) (n ∷ t) (o ∷ u) a (inr (inr c)) = elim (clash_left s t u a.1 c) [ inl p ↦ inl (inr (inr p)) | inr p ↦ inr (inr (inr p)) ]
 
 pub clash_sym : (s t : Shape) → Clash s t → Clash t s

@@ -2,7 +2,7 @@
 use Rattle.std.proofs.Common.{◌≡◌, ℕ, suc, true, Option, Some, refl, sym, ap, ◌∙◌, subst}
 use Rattle.py_dataflow.specs.declared.flow.Branch.{Branch}
 use Rattle.py_dataflow.specs.declared.flow.Flow.{Flow}
-use Rattle.py_dataflow.specs.Walks.{State, state, kept, opened, falls_to, jumps_to, Alike, Seen, Edge, Falls, Jumps, Reached}
+use Rattle.py_dataflow.specs.Walks.{State, state, kept_shape, with_opening, falls_to, jumps_to, Alike, Seen, Edge, Falls, Jumps, Reached}
 use Rattle.py_dataflow.specs.Shown.{Shown, One, Both}
 use Rattle.py_dataflow.specs.Known.{join}
 use Rattle.py_dataflow.proofs.Joins.{alike_refl, alike_sym, alike_trans, join_alike, kept_alike, kept_join, opened_alike, opened_join, jump_alike, jump_join, jump_height_alike}
@@ -32,10 +32,10 @@ module _ (look : ℕ → Option (Seen ℕ)) where
       let fs = falls_to f s in
       let ft = falls_to f t in
       let q : falls_to f r ≡ falls_to f (state s.height (join s.shape t.shape)) = ap (falls_to f) er in
-      let j : opened f.opens s.height (kept f (join s.shape t.shape)) ≡ join (opened f.opens s.height (kept f s.shape)) (opened f.opens s.height (kept f t.shape)) = ap (opened f.opens s.height) (kept_join f s.shape t.shape a) ∙ opened_join f.opens s.height (kept f s.shape) (kept f t.shape) in
-      let j1 : join (opened f.opens s.height (kept f s.shape)) (opened f.opens s.height (kept f t.shape)) ≡ join fs.shape ft.shape = ap (λ h. join (opened f.opens s.height (kept f s.shape)) (opened f.opens h (kept f t.shape))) eh in
+      let j : with_opening f.opens s.height (kept_shape f (join s.shape t.shape)) ≡ join (with_opening f.opens s.height (kept_shape f s.shape)) (with_opening f.opens s.height (kept_shape f t.shape)) = ap (with_opening f.opens s.height) (kept_join f s.shape t.shape a) ∙ opened_join f.opens s.height (kept_shape f s.shape) (kept_shape f t.shape) in
+      let j1 : join (with_opening f.opens s.height (kept_shape f s.shape)) (with_opening f.opens s.height (kept_shape f t.shape)) ≡ join fs.shape ft.shape = ap (λ h. join (with_opening f.opens s.height (kept_shape f s.shape)) (with_opening f.opens h (kept_shape f t.shape))) eh in
       Both (falls_to f r) fs ft (shown_falls k x s hs e l) (shown_falls k x t ht e l) (ap (λ h. (falls_to f (state h s.shape)).height) eh)
-      (subst (λ h. Alike (opened f.opens s.height (kept f s.shape)) (opened f.opens h (kept f t.shape))) eh (opened_alike f.opens s.height (kept f s.shape) (kept f t.shape) (kept_alike f s.shape t.shape a)))
+      (subst (λ h. Alike (with_opening f.opens s.height (kept_shape f s.shape)) (with_opening f.opens h (kept_shape f t.shape))) eh (opened_alike f.opens s.height (kept_shape f s.shape) (kept_shape f t.shape) (kept_alike f s.shape t.shape a)))
       (q ∙ ap (λ z. state fs.height z) (j ∙ j1))
 
   shown_jumps : (k : ℕ) (x : Seen ℕ) (q1 : ℕ) (r : State) → Shown look k r → look k ≡ Some x → x.target ≡ Some q1 → Shown look q1 (jumps_to x.flow.branch r)

@@ -9,16 +9,16 @@ use Rattle.py_dataflow.specs.Shown.{Shown, One, Both}
 use Rattle.py_dataflow.proofs.Joins.{alike_sym, alike_trans, block_join, falls_enough_alike, jumps_enough_alike, jump_height_alike, clash_left, clash_sym, torn_clash}
 use Rattle.py_dataflow.proofs.ReachedPlaceLemmas.{some_walk}
 
-and_false : (a b : Bool) → (a && b) ≡ false → (a ≡ false) ⊎ (b ≡ false)
-and_false true b h = inr h
-and_false false b h = inl refl
+refused_state_and_false : (a b : Bool) → (a && b) ≡ false → (a ≡ false) ⊎ (b ≡ false)
+refused_state_and_false true b h = inr h
+refused_state_and_false false b h = inl refl
 
 module _ (look : ℕ → Option (Seen ℕ)) (k : ℕ) where
   pub lacks : (x : Seen ℕ) (r : State) → Shown look k r → look k ≡ Some x → has_block x.flow.needs r.height r.shape ≡ false → LacksBlock look 0 k
   lacks x r (One t w) e h = record { sees = x; at = t; reached = w; sees_is = e; lacks = h }
   lacks x r (Both r1 s t hs ht eh a er) e h =
       let q : has_block x.flow.needs r.height r.shape ≡ (has_block x.flow.needs s.height s.shape && has_block x.flow.needs s.height t.shape) = ap (λ (z : State). has_block x.flow.needs z.height z.shape) er ∙ block_join x.flow.needs s.height s.shape t.shape a in
-      elim (and_false (has_block x.flow.needs s.height s.shape) (has_block x.flow.needs s.height t.shape) (sym q ∙ h)) [
+      elim (refused_state_and_false (has_block x.flow.needs s.height s.shape) (has_block x.flow.needs s.height t.shape) (sym q ∙ h)) [
         | inl l ↦ lacks x s hs e l
         | inr l ↦ lacks x t ht e (subst (λ g. has_block x.flow.needs g t.shape ≡ false) eh l)
       ]
@@ -35,8 +35,8 @@ module _ (look : ℕ → Option (Seen ℕ)) (k : ℕ) where
   out_alike x r t e a (inr (inl o)) = inr (inl (o.0, ap (λ g. jumps_enough x.flow.branch g t.shape) e ∙ sym (jumps_enough_alike x.flow.branch r.height r.shape t.shape a) ∙ o.1))
   out_alike x r t e a (inr (inr o)) = inr (inr (too_high_alike x r t e a o))
 
-  pub outside : (x : Seen ℕ) (r : State) → Shown look k r → look k ≡ Some x → OutOfRange look 0 (2 ^ 32) x r → HeightOutOfRange look 0 (2 ^ 32) k
-  outside x r h e o =
+  pub refused_state_outside : (x : Seen ℕ) (r : State) → Shown look k r → look k ≡ Some x → OutOfRange look 0 (2 ^ 32) x r → HeightOutOfRange look 0 (2 ^ 32) k
+  refused_state_outside x r h e o =
       let w = some_walk look k r h in
       record { sees = x; at = w.at; reached = w.reached; sees_is = e; outside = out_alike x r w.at w.level w.alike o }
 
@@ -66,8 +66,8 @@ module _ (look : ℕ → Option (Seen ℕ)) (k : ℕ) where
   pub torn : (r : State) → Shown look k r → Torn r.shape → ShapesDiffer look 0 k
   torn r h c = clash r r h h (torn_clash r.shape c)
 
-  pub ends : (r : State) → Shown look k r → look k ≡ None → LeavesEnd look 0 k
-  ends r h l = let w = some_walk look k r h in record { at = w.at; reached = w.reached; nothing = l }
+  pub refused_state_ends : (r : State) → Shown look k r → look k ≡ None → LeavesEnd look 0 k
+  refused_state_ends r h l = let w = some_walk look k r h in record { at = w.at; reached = w.reached; nothing = l }
 
 -- the tests that are computed say that a next height is out of range
 falls_outside_by : (a b c : Bool) → (a && (not b || c)) ≡ false → (a ≡ false) ⊎ ((b ≡ true) × (c ≡ false))
@@ -84,8 +84,9 @@ falls_outside look x s h = elim (falls_outside_by (falls_enough x.flow s.height 
   | inr e ↦ inr (inr (record { place = x.next; to = falls_to x.flow s; edge = Falls e.0; high = not_lower (s.height - x.flow.takes + x.flow.gives) (2 ^ 32) e.1 }))
 ]
 
-jumps_outside_by : (look : ℕ → Option (Seen ℕ)) (x : Seen ℕ) (s : State) (q : ℕ) (b : Branch) → x.target ≡ Some q → x.flow.branch ≡ b → jumps_within b s.height s.shape ≡ false → OutOfRange look 0 (2 ^ 32) x s
-jumps_outside_by look x s q (Branch.Goes t g o) e eb h = elim (and_false (enough (height_of s.shape) t 0 s.height) (nat_lt (s.height - t + g) (2 ^ 32)) h) [
+jumps_outside_by : (look : ℕ → Option (Seen ℕ)) (x : Seen ℕ) (s : State) (q : ℕ) (b : Branch) → x.target ≡ Some q → x.flow.branch ≡ b
+    → jumps_within b s.height s.shape ≡ false → OutOfRange look 0 (2 ^ 32) x s
+jumps_outside_by look x s q (Branch.Goes t g o) e eb h = elim (refused_state_and_false (enough (height_of s.shape) t 0 s.height) (nat_lt (s.height - t + g) (2 ^ 32)) h) [
   | inl l ↦ inr (inl ((λ n. absurd (let z : None ≡ Some q = sym n ∙ e in cc)), ap (λ b. jumps_enough b s.height s.shape) eb ∙ l))
   | inr l ↦ inr (inr (record { place = q; to = jumps_to x.flow.branch s; edge = Jumps q e; high = subst (λ b. 2 ^ 32 ≤ (jumps_to b s).height) (sym eb) (not_lower (s.height - t + g) (2 ^ 32) l) }))
 ]

@@ -8,7 +8,7 @@ use Rattle.py_bytecode.specs.Table.{row_of, is_label, bits_of}
 use Rattle.py_bytecode.specs.Objects.{Object}
 use Rattle.py_bytecode.specs.Values.{Bare, Number, Named, operation, It, Cells, Load, Store, Delete, Fast, ByName, Global, Deref, ClassDeref}
 use Rattle.py_bytecode.specs.Machine.{Instr, Push, Access, Operate, MakeFunction, Import, Append, Unpack, Nop, Pop, Rotate2, Rotate3, Duplicate, Duplicate2, JumpIf, JumpIfOrPop, Jump, SetupLoop, PopBlock, Break, Continue, ReturnValue, ReturnConst, SetupExcept, SetupFinally, PopException, EnterFinally, EndFinally, Reraise, ForIter, SetupWith, WithCleanupStart, WithCleanupFinish, is_tuple}
-use Rattle.py_bytecode.specs.Decode.{Tables, value_of, for_some, raising, instr_of}
+use Rattle.py_bytecode.specs.Decode.{Tables, value_of, for_some, raise_instr, instr_of}
 use Rattle.py_dataflow.specs.Flow.{flow_of, target_of, flow_at, leaves}
 
 -- what builds a tuple gives one value
@@ -130,7 +130,7 @@ module _ (P : Type 0) where
   row_is t to op.EndFinally n i e = if_row (RowIs to op.EndFinally n) (nat_lt n 1) EndFinally i (record { flow = refl; target = refl; proper = tt }) e
   row_is t to op.WithCleanupStart n i e = if_row (RowIs to op.WithCleanupStart n) (nat_lt n 1) WithCleanupStart i (record { flow = refl; target = refl; proper = tt }) e
   row_is t to op.WithCleanupFinish n i e = if_row (RowIs to op.WithCleanupFinish n) (nat_lt n 1) WithCleanupFinish i (record { flow = refl; target = refl; proper = tt }) e
-  row_is t to op.Raise n i e = if_row (RowIs to op.Raise n) (nat_lt n 3) (raising n) i (record { flow = raise_flow (nat_eq n 0) (nat_eq n 1); target = raise_target (nat_eq n 0) (nat_eq n 1); proper = raise_proper (nat_eq n 0) (nat_eq n 1) }) e
+  row_is t to op.Raise n i e = if_row (RowIs to op.Raise n) (nat_lt n 3) (raise_instr n) i (record { flow = raise_flow (nat_eq n 0) (nat_eq n 1); target = raise_target (nat_eq n 0) (nat_eq n 1); proper = raise_proper (nat_eq n 0) (nat_eq n 1) }) e
   row_is t to op.ReturnValue n i e = if_row (RowIs to op.ReturnValue n) (nat_lt n 1) ReturnValue i (record { flow = refl; target = refl; proper = tt }) e
   row_is t to op.ExtendedArg n i e = absurd (cc)
   row_is t to op.JumpIfTrue n i e = jump_row op.JumpIfTrue n to (λ p. JumpIf true p) i (λ p. record { flow = refl; target = refl; proper = tt }) e

@@ -6,7 +6,7 @@ use Rattle.py_dataflow.specs.declared.known.KnownState.{KnownState}
 use Rattle.py_dataflow.specs.Walks.{State, state, Seen, IsDepth}
 use Rattle.py_dataflow.specs.Known.{state_of, known_at, state_at, height_known}
 use Rattle.py_dataflow.specs.Shown.{Covered, Closed, AllShown}
-use Rattle.py_dataflow.proofs.DepthLemmas.{depth}
+use Rattle.py_dataflow.proofs.DepthLemmas.{depth_law}
 
 module _ (look : ℕ → Option (Seen ℕ)) (count : ℕ) (ks : List (Option KnownState)) (d : ℕ) where
   height_is : (o : Option (Option KnownState)) (s : State) (k : Option KnownState) → o ≡ Some k → known_at o ≡ Some s → height_known k ≡ s.height
@@ -36,7 +36,8 @@ module _ (look : ℕ → Option (Seen ℕ)) (count : ℕ) (ks : List (Option Kno
   attained c (inl e) = (0, c.by, c.there, c.covers.level ∙ sym e)
   attained c (inr f) = found_at f.0 (get_or ks f.0 None) (slice_get-get_or ks f.0 None f.1) f.2 (λ e. (0, c.by, c.there, c.covers.level ∙ sym e))
 
-  pub is_depth : AllShown look count ks → Closed look (state_at ks) → All (λ z. height_known z ≤ d) ks → (d ≡ 0) ⊎ ((k : ℕ) × (k < length ks) × (height_known (get_or ks k None) ≡ d)) → IsDepth look 0 d
+  pub is_depth : AllShown look count ks → Closed look (state_at ks) → All (λ z. height_known z ≤ d) ks
+      → (d ≡ 0) ⊎ ((k : ℕ) × (k < length ks) × (height_known (get_or ks k None) ≡ d)) → IsDepth look 0 d
   is_depth h c a f =
       let g = attained c.start f in
-      depth look (state_at ks) c d (above a) g.0 g.1 g.2 g.3 (h.shown g.0 g.1 g.2)
+      depth_law look (state_at ks) c d (above a) g.0 g.1 g.2 g.3 (h.shown g.0 g.1 g.2)

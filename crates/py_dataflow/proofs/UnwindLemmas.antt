@@ -7,16 +7,16 @@ use Rattle.py_bytecode.specs.Machine.{Reason, BreakTo, ContinueTo, ReturnOf, Rai
 use Rattle.py_dataflow.specs.declared.flow.Kind.{Kind}
 use Rattle.py_dataflow.specs.declared.flow.Mark.{Mark}
 use Rattle.py_dataflow.specs.Flow.{opening, plain_handler, exit_handler}
-use Rattle.py_dataflow.specs.Walks.{Shape, State, state, marked, rest_of, height_of, is_loop, is_with, from_loop, left_by, cut_to, tops, Seen, Reached}
+use Rattle.py_dataflow.specs.Walks.{Shape, State, state, opened_mark, rest_of, height_of, is_loop, is_with, from_loop, left_by, cut_to, tops, Seen, Reached}
 
-abbrev pub mark : Kind → ℕ → Mark
-mark k h = marked (opening k) h
+abbrev pub unwind_mark : Kind → ℕ → Mark
+unwind_mark k h = opened_mark (opening k) h
 
 abbrev pub plain_mark : ℕ → Mark
-plain_mark h = marked plain_handler h
+plain_mark h = opened_mark plain_handler h
 
 abbrev pub exit_mark : ℕ → Mark
-exit_mark h = marked exit_handler h
+exit_mark h = opened_mark exit_handler h
 
 -- no block is higher than the stack or than a block above it, and the exit of a `with` stands above what is below
 abbrev pub Stacked : ℕ → Shape → Type 0
@@ -32,16 +32,16 @@ module _ (K P : Type 0) (look : P → Option (Seen P)) (start : P) where
   Arrives_for (RaiseOf e) h ms = Unit {0}
 
   -- the reason that a handler keeps, by the mark that its walk has
-  abbrev pub Keeps : Option (Reason K P) → Mark → Shape → Type 0
-  Keeps None m ms = Unit {0}
-  Keeps (Some r) m ms = ((m.plain ≡ true) × Arrives_for r m.height ms) ⊎ ((m.exit ≡ true) × Arrives_for r (m.height - 1) ms × Stacked (m.height - 1) ms)
+  abbrev pub UnwindKeeps : Option (Reason K P) → Mark → Shape → Type 0
+  UnwindKeeps None m ms = Unit {0}
+  UnwindKeeps (Some r) m ms = ((m.plain ≡ true) × Arrives_for r m.height ms) ⊎ ((m.exit ≡ true) × Arrives_for r (m.height - 1) ms × Stacked (m.height - 1) ms)
 
   abbrev pub Matches_one : Block K P → Mark → Shape → Type 0
   Matches_one (Loop h) m ms = (m.kind ≡ Kind.Loop) × (m.height ≡ h)
-  Matches_one (Except h q) m ms = (m.kind ≡ Kind.Except) × (m.height ≡ h) × Reached look start q (state (suc h) (mark Kind.ExceptHandler h ∷ ms))
+  Matches_one (Except h q) m ms = (m.kind ≡ Kind.Except) × (m.height ≡ h) × Reached look start q (state (suc h) (unwind_mark Kind.ExceptHandler h ∷ ms))
   Matches_one (Finally h q) m ms = (m.height ≡ h) × (((m.kind ≡ Kind.Finally) × Reached look start q (state h (plain_mark h ∷ ms))) ⊎ ((m.kind ≡ Kind.With) × Reached look start q (state h (exit_mark h ∷ ms))))
   Matches_one (ExceptHandler h old) m ms = (m.kind ≡ Kind.ExceptHandler) × (m.height ≡ h)
-  Matches_one (FinallyHandler h k old) m ms = (m.kind ≡ Kind.FinallyHandler) × (m.height ≡ h) × Keeps k m ms
+  Matches_one (FinallyHandler h k old) m ms = (m.kind ≡ Kind.FinallyHandler) × (m.height ≡ h) × UnwindKeeps k m ms
 
   -- the blocks of a run are those of a walk
   abbrev pub Matches : List (Block K P) → Shape → Type 0
@@ -92,8 +92,9 @@ module _ (K P : Type 0) (look : P → Option (Seen P)) (start : P) where
   has_loops (FinallyHandler h k old ∷ bs) (m ∷ ms) mt e = has_loops bs ms mt.1 (past_loop m ms (kind_loop m Kind.FinallyHandler mt.0.0 refl) e)
 
   -- what needs a loop among the blocks
-  pub in_loop : (bs : List (Block K P)) (ms : Shape) (c : Config K P) (w : World K) → Matches bs ms → tops (λ x. true) (from_loop ms) ≡ true → InStep c → InStep (choose (has_loop bs) c (wrong w))
-  in_loop bs ms c w mt e h = subst (λ b. InStep (choose b c (wrong w))) (sym (has_loops bs ms mt e)) h
+  pub unwind_in_loop : (bs : List (Block K P)) (ms : Shape) (c : Config K P) (w : World K) → Matches bs ms → tops (λ x. true) (from_loop ms) ≡ true → InStep c
+      → InStep (choose (has_loop bs) c (wrong w))
+  unwind_in_loop bs ms c w mt e h = subst (λ b. InStep (choose b c (wrong w))) (sym (has_loops bs ms mt e)) h
 
   kind_below : (m : Mark) (k : Kind) → m.kind ≡ k → is_with k ≡ false → left_by m ≡ m.height
   kind_below m k e f = ap (λ b. if b then m.height - 1 else m.height) (ap is_with e ∙ f)
@@ -105,13 +106,17 @@ module _ (K P : Type 0) (look : P → Option (Seen P)) (start : P) where
   Goal r bs = (s : List (Entry K)) (ms : Shape) (slot : Option (Value K)) (w : World K) → Stacked (length s) ms → Matches bs ms → Arrives_for r (length s) ms → InStep (unwind r s bs slot w)
 
   -- past a block, with what is left of the reason
-  past_with : (r : Reason K P) (bs : List (Block K P)) (s : List (Entry K)) (m : Mark) (ms : Shape) (slot : Option (Value K)) (w : World K) (h : ℕ) → Goal r bs → m.height ≡ h → left_by m ≡ m.height → Stacked (length s) (m ∷ ms) → Matches bs ms → Arrives_for r m.height ms → InStep (cut h s w (λ s1. unwind r s1 bs slot w))
+  past_with : (r : Reason K P) (bs : List (Block K P)) (s : List (Entry K)) (m : Mark) (ms : Shape) (slot : Option (Value K)) (w : World K) (h : ℕ) → Goal r bs
+      → m.height ≡ h → left_by m ≡ m.height → Stacked (length s) (m ∷ ms) → Matches bs ms → Arrives_for r m.height ms
+      → InStep (cut h s w (λ s1. unwind r s1 bs slot w))
   past_with r bs s m ms slot w h ih eh b st mt a =
       let st1 : Stacked m.height ms = subst (λ g. Stacked g ms) b st.1 in
       subst (λ g. InStep (cut g s w (λ s1. unwind r s1 bs slot w))) eh (cut_step m.height s w (λ s1. unwind r s1 bs slot w) st.0 (λ s1 q. ih s1 ms slot w (subst (λ g. Stacked g ms) (sym q) st1) mt (subst (λ g. Arrives_for r g ms) (sym q) a)))
 
   -- past a block that takes no reason of this kind
-  past_kind : (r : Reason K P) (bs : List (Block K P)) (s : List (Entry K)) (m : Mark) (ms : Shape) (slot : Option (Value K)) (w : World K) (h : ℕ) (k : Kind) → Goal r bs → m.kind ≡ k → is_loop k ≡ false → is_with k ≡ false → m.height ≡ h → Stacked (length s) (m ∷ ms) → Matches bs ms → Arrives_for r (length s) (m ∷ ms) → InStep (cut h s w (λ s1. unwind r s1 bs slot w))
+  past_kind : (r : Reason K P) (bs : List (Block K P)) (s : List (Entry K)) (m : Mark) (ms : Shape) (slot : Option (Value K)) (w : World K) (h : ℕ) (k : Kind)
+      → Goal r bs → m.kind ≡ k → is_loop k ≡ false → is_with k ≡ false → m.height ≡ h → Stacked (length s) (m ∷ ms) → Matches bs ms
+      → Arrives_for r (length s) (m ∷ ms) → InStep (cut h s w (λ s1. unwind r s1 bs slot w))
   past_kind r bs s m ms slot w h k ih e l f eh st mt a =
       let b : left_by m ≡ m.height = kind_below m k e f in
       past_with r bs s m ms slot w h ih eh b st mt (subst (λ g. Arrives_for r g ms) b (arrives_on r (length s) m ms (kind_loop m k e l) a))
@@ -123,16 +128,20 @@ module _ (K P : Type 0) (look : P → Option (Seen P)) (start : P) where
   at_continue p h m ms e a = subst (λ b. Reached look start p (state (if b then h else cut_to (left_by m) ms) (if b then m ∷ ms else from_loop ms))) (ap is_loop e) a.1
 
   -- a raise is taken by a try
-  taken : (s : List (Entry K)) (bs : List (Block K P)) (w : World K) (v : Value K) (old : Option (Value K)) (m : Mark) (ms : Shape) (h : ℕ) (q : P) → m.height ≡ h → Reached look start q (state (suc h) (mark Kind.ExceptHandler h ∷ ms)) → m.height ≤ length s → Matches bs ms → InStep (cut h s w (λ s1. At q (It v ∷ s1) (ExceptHandler h old ∷ bs) (Some v) w))
-  taken s bs w v old m ms h q eh r l mt = cut_step h s w (λ s1. At q (It v ∷ s1) (ExceptHandler h old ∷ bs) (Some v) w) (omega (arith, eh, l)) (λ s1 z. (state (suc h) (mark Kind.ExceptHandler h ∷ ms), r, ap suc (sym z), ((refl, refl), mt)))
+  unwind_taken : (s : List (Entry K)) (bs : List (Block K P)) (w : World K) (v : Value K) (old : Option (Value K)) (m : Mark) (ms : Shape) (h : ℕ) (q : P)
+      → m.height ≡ h → Reached look start q (state (suc h) (unwind_mark Kind.ExceptHandler h ∷ ms)) → m.height ≤ length s → Matches bs ms
+      → InStep (cut h s w (λ s1. At q (It v ∷ s1) (ExceptHandler h old ∷ bs) (Some v) w))
+  unwind_taken s bs w v old m ms h q eh r l mt = cut_step h s w (λ s1. At q (It v ∷ s1) (ExceptHandler h old ∷ bs) (Some v) w) (omega (arith, eh, l)) (λ s1 z. (state (suc h) (unwind_mark Kind.ExceptHandler h ∷ ms), r, ap suc (sym z), ((refl, refl), mt)))
 
   -- a finally's block takes everything
-  held : (r : Reason K P) (s : List (Entry K)) (bs : List (Block K P)) (slot : Option (Value K)) (w : World K) (old : Option (Value K)) (m : Mark) (ms : Shape) (h : ℕ) (q : P) → Matches_one (Finally h q) m ms → Stacked (length s) (m ∷ ms) → Matches bs ms → Arrives_for r (length s) (m ∷ ms) → InStep (cut h s w (λ s1. At q s1 (FinallyHandler h (Some r) old ∷ bs) slot w))
-  held r s bs slot w old m ms h q (eh, inl f) st mt a =
+  unwind_held : (r : Reason K P) (s : List (Entry K)) (bs : List (Block K P)) (slot : Option (Value K)) (w : World K) (old : Option (Value K)) (m : Mark) (ms : Shape) (h : ℕ) (q : P)
+      → Matches_one (Finally h q) m ms → Stacked (length s) (m ∷ ms) → Matches bs ms → Arrives_for r (length s) (m ∷ ms)
+      → InStep (cut h s w (λ s1. At q s1 (FinallyHandler h (Some r) old ∷ bs) slot w))
+  unwind_held r s bs slot w old m ms h q (eh, inl f) st mt a =
       let b : left_by m ≡ h = kind_below m Kind.Finally f.0 refl ∙ eh in
       let a1 : Arrives_for r h ms = subst (λ g. Arrives_for r g ms) b (arrives_on r (length s) m ms (kind_loop m Kind.Finally f.0 refl) a) in
       cut_step h s w (λ s1. At q s1 (FinallyHandler h (Some r) old ∷ bs) slot w) (omega (arith, eh, st.0)) (λ s1 z. (state h (plain_mark h ∷ ms), f.1, sym z, ((refl, refl, inl (refl, a1)), mt)))
-  held r s bs slot w old m ms h q (eh, inr f) st mt a =
+  unwind_held r s bs slot w old m ms h q (eh, inr f) st mt a =
       let b : left_by m ≡ h - 1 = kind_with m f.0 ∙ ap (λ g. g - 1) eh in
       let a1 : Arrives_for r (h - 1) ms = subst (λ g. Arrives_for r g ms) b (arrives_on r (length s) m ms (kind_loop m Kind.With f.0 refl) a) in
       let st1 : Stacked (h - 1) ms = subst (λ g. Stacked g ms) b st.1 in
@@ -153,7 +162,7 @@ module _ (K P : Type 0) (look : P → Option (Seen P)) (start : P) where
   unwinds (BreakTo p) (Except h q ∷ bs) s (m ∷ ms) slot w st mt a = past_kind (BreakTo p) bs s m ms slot w h Kind.Except (unwinds (BreakTo p) bs) mt.0.0 refl refl mt.0.1 st mt.1 a
   unwinds (ContinueTo p) (Except h q ∷ bs) s (m ∷ ms) slot w st mt a = past_kind (ContinueTo p) bs s m ms slot w h Kind.Except (unwinds (ContinueTo p) bs) mt.0.0 refl refl mt.0.1 st mt.1 a
   unwinds (ReturnOf v) (Except h q ∷ bs) s (m ∷ ms) slot w st mt a = past_kind (ReturnOf v) bs s m ms slot w h Kind.Except (unwinds (ReturnOf v) bs) mt.0.0 refl refl mt.0.1 st mt.1 a
-  unwinds (RaiseOf v) (Except h q ∷ bs) s (m ∷ ms) slot w st mt a = taken s bs w v slot m ms h q mt.0.1 mt.0.2 st.0 mt.1
-  unwinds r (Finally h q ∷ bs) s (m ∷ ms) slot w st mt a = held r s bs (slot_for r slot) w slot m ms h q mt.0 st mt.1 a
+  unwinds (RaiseOf v) (Except h q ∷ bs) s (m ∷ ms) slot w st mt a = unwind_taken s bs w v slot m ms h q mt.0.1 mt.0.2 st.0 mt.1
+  unwinds r (Finally h q ∷ bs) s (m ∷ ms) slot w st mt a = unwind_held r s bs (slot_for r slot) w slot m ms h q mt.0 st mt.1 a
   unwinds r (ExceptHandler h old ∷ bs) s (m ∷ ms) slot w st mt a = past_kind r bs s m ms old w h Kind.ExceptHandler (unwinds r bs) mt.0.0 refl refl mt.0.1 st mt.1 a
   unwinds r (FinallyHandler h k old ∷ bs) s (m ∷ ms) slot w st mt a = past_kind r bs s m ms old w h Kind.FinallyHandler (unwinds r bs) mt.0.0 refl refl mt.0.1 st mt.1 a

@@ -6,7 +6,7 @@ use Rattle.py_bytecode.specs.Table.{row_of, is_label}
 use Rattle.py_bytecode.specs.Objects.{Object}
 use Rattle.py_bytecode.specs.Machine.{Fetched, Nothing}
 use Rattle.py_bytecode.specs.Decode.{Tables, instr_of}
-use Rattle.py_bytecode.specs.Units.{found, is_prefix}
+use Rattle.py_bytecode.specs.Units.{fetch_of_instr, is_prefix}
 use Rattle.py_dataflow.specs.declared.info.InstructionInfo.{InstructionInfo}
 use Rattle.py_dataflow.specs.Flow.{flow_at}
 use Rattle.py_dataflow.specs.Walks.{Seen}
@@ -29,13 +29,13 @@ sees starts place x = record { flow = flow_at x.instr x.arg.0; next = suc place;
 abbrev pub look_at : List ℕ → List InstructionInfo → ℕ → Option (Seen ℕ)
 look_at starts items place = option_map (sees starts place) (slice_get items place)
 
-abbrev pub decoded : Tables → List ℕ → ℕ → Option InstructionInfo → Fetched Object ℕ
-decoded t starts place None = Nothing
-decoded t starts place (Some x) = found (instr_of t (Some (named_place starts x)) x.instr x.arg.0) (suc place)
+abbrev pub decoded_item : Tables → List ℕ → ℕ → Option InstructionInfo → Fetched Object ℕ
+decoded_item t starts place None = Nothing
+decoded_item t starts place (Some x) = fetch_of_instr (instr_of t (Some (named_place starts x)) x.instr x.arg.0) (suc place)
 
 -- what the machine finds at a place
 abbrev pub fetch_at : Tables → List ℕ → List InstructionInfo → ℕ → Fetched Object ℕ
-fetch_at t starts items place = decoded t starts place (slice_get items place)
+fetch_at t starts items place = decoded_item t starts place (slice_get items place)
 
 -- an instruction that is no prefix, with a target among so many blocks if it is a jump
 pub record IsLinked (blocks : ℕ) (x : InstructionInfo) : Type 0 where

@@ -5,33 +5,33 @@ use Rattle.std.specs.List.{flat_map}
 use Rattle.py_bytecode.specs.declared.operand.CodeUnit.{CodeUnit}
 use Rattle.py_bytecode.specs.Decode.{Tables}
 use Rattle.py_bytecode.specs.Units.{fetch_unit}
-use Rattle.py_dataflow.specs.Walks.{State, state, Seen, seen, falls_to, jumps_to}
+use Rattle.py_dataflow.specs.Walks.{State, state, Seen, seen_instr, falls_to, jumps_to}
 
 -- a place that a walk reaches, and in which state
 pub record Known : Type 0 where
   pub place : ℕ
   pub at : State
 
-abbrev pub known : ℕ → State → Known
-known p t = record { place = p; at = t }
+abbrev pub known_at : ℕ → State → Known
+known_at p t = record { place = p; at = t }
 
-abbrev pub jumped : Seen ℕ → State → Option ℕ → List Known
-jumped x t None = []
-jumped x t (Some q) = known q (jumps_to x.flow.branch t) ∷ []
+abbrev pub jump_targets : Seen ℕ → State → Option ℕ → List Known
+jump_targets x t None = []
+jump_targets x t (Some q) = known_at q (jumps_to x.flow.branch t) ∷ []
 
 -- where what is seen in a state leads
-abbrev pub led : State → Option (Seen ℕ) → List Known
-led t None = []
-led t (Some x) = (if x.flow.falls then known x.next (falls_to x.flow t) ∷ [] else []) ++ jumped x t x.target
+abbrev pub successors : State → Option (Seen ℕ) → List Known
+successors t None = []
+successors t (Some x) = (if x.flow.falls then known_at x.next (falls_to x.flow t) ∷ [] else []) ++ jump_targets x t x.target
 
 abbrev pub is_known : ℕ → List Known → Bool
 is_known p [] = false
 is_known p (k ∷ ks) = nat_eq p k.place || is_known p ks
 
 -- those whose place is not known yet are added
-abbrev pub added : List Known → List Known → List Known
-added ks [] = ks
-added ks (x ∷ xs) = added (if is_known x.place ks then ks else x ∷ ks) xs
+abbrev pub with_new_places : List Known → List Known → List Known
+with_new_places ks [] = ks
+with_new_places ks (x ∷ xs) = with_new_places (if is_known x.place ks then ks else x ∷ ks) xs
 
 abbrev pub greatest : List Known → ℕ
 greatest [] = 0
@@ -39,11 +39,11 @@ greatest (k ∷ ks) = max k.at.height (greatest ks)
 
 module _ (look : ℕ → Option (Seen ℕ)) where
   abbrev pub spread : List Known → List Known
-  spread ks = added ks (flat_map (λ k. led k.at (look k.place)) ks)
+  spread ks = with_new_places ks (flat_map (λ k. successors k.at (look k.place)) ks)
 
   -- the places that walks of at most so many edges reach
   abbrev pub known_after : (rounds : ℕ) → List Known
-  known_after rounds = iterate spread rounds (known 0 (state 0 []) ∷ [])
+  known_after rounds = iterate spread rounds (known_at 0 (state 0 []) ∷ [])
 
   -- the greatest height on walks over so many places
   abbrev pub highest : (places : ℕ) → ℕ
@@ -51,4 +51,4 @@ module _ (look : ℕ → Option (Seen ℕ)) where
 
 -- the greatest height on a walk over units
 abbrev pub height_of : Tables → List CodeUnit → ℕ
-height_of t units = highest (λ p. seen (fetch_unit t units p)) (length units)
+height_of t units = highest (λ p. seen_instr (fetch_unit t units p)) (length units)

@@ -30,13 +30,13 @@ branch_base (Branch.Goes t g o) s = s
 branch_base Branch.Breaks s = rest_of (from_loop s)
 branch_base Branch.Continues s = from_loop s
 
-abbrev pub joined : Mark → Mark → Mark
-joined m n = record { kind = m.kind; height = m.height; plain = m.plain || n.plain; exit = m.exit || n.exit }
+abbrev pub joined_mark : Mark → Mark → Mark
+joined_mark m n = record { kind = m.kind; height = m.height; plain = m.plain || n.plain; exit = m.exit || n.exit }
 
 abbrev pub join : Shape → Shape → Shape
 join [] t = []
 join (m ∷ s) [] = m ∷ s
-join (m ∷ s) (n ∷ t) = joined m n ∷ join s t
+join (m ∷ s) (n ∷ t) = joined_mark m n ∷ join s t
 
 -- a block that is marked both ways
 abbrev pub Torn : Shape → Type 0
@@ -44,12 +44,12 @@ Torn [] = ⊥
 Torn (m ∷ s) = ((m.plain ≡ true) × (m.exit ≡ true)) ⊎ Torn s
 
 -- how many marks a shape lacks
-abbrev pub lacking : Bool → ℕ
-lacking true = 0
-lacking false = 1
+abbrev pub lacked_marks : Bool → ℕ
+lacked_marks true = 0
+lacked_marks false = 1
 
 abbrev pub lacking_in : Mark → ℕ
-lacking_in m = lacking m.plain + lacking m.exit
+lacking_in m = lacked_marks m.plain + lacked_marks m.exit
 
 abbrev pub missing_in : Shape → ℕ
 missing_in [] = 0
@@ -60,8 +60,8 @@ missing_at None = 0
 missing_at (Some k) = missing_in k.shape.items
 
 -- how many marks the known shapes lack
-abbrev pub missing : List (Option KnownState) → ℕ
-missing ks = sum_by missing_at ks
+abbrev pub missing_marks : List (Option KnownState) → ℕ
+missing_marks ks = sum_by missing_at ks
 
 abbrev pub unknown_at : Option KnownState → ℕ
 unknown_at None = 1
@@ -105,15 +105,15 @@ IsWhole (Some s) = ¬ Torn s.shape
 -- what a change did
 abbrev pub Moves : Change → List (Option KnownState) → List (Option KnownState) → Type 0
 Moves Change.Nothing old new = new ≡ old
-Moves Change.Marks old new = (unknown new ≡ unknown old) × (missing new < missing old)
+Moves Change.Marks old new = (unknown new ≡ unknown old) × (missing_marks new < missing_marks old)
 Moves Change.Place old new = unknown new < unknown old
 
-abbrev pub combined : Change → Change → Change
-combined Change.Nothing c = c
-combined Change.Marks Change.Nothing = Change.Marks
-combined Change.Marks Change.Marks = Change.Marks
-combined Change.Marks Change.Place = Change.Place
-combined Change.Place c = Change.Place
+abbrev pub combined_change : Change → Change → Change
+combined_change Change.Nothing c = c
+combined_change Change.Marks Change.Nothing = Change.Marks
+combined_change Change.Marks Change.Marks = Change.Marks
+combined_change Change.Marks Change.Place = Change.Place
+combined_change Change.Place c = Change.Place
 
 -- there are enough values, and the next height is below 2 ^ 32
 abbrev pub falls_within : Flow → ℕ → Shape → Bool

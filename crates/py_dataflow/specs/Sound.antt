@@ -5,11 +5,11 @@ use Rattle.py_bytecode.specs.Values.{Answer, Wrong, World}
 use Rattle.py_bytecode.specs.Machine as M
 use Rattle.py_bytecode.specs.Decode.{tables}
 use Rattle.py_bytecode.specs.Units.{fetch_unit, machine}
-use Rattle.py_dataflow.specs.Walks.{Seen, seen, Sound}
+use Rattle.py_dataflow.specs.Walks.{Seen, seen_instr, Sound}
 
 -- what a walk sees at a unit; nothing where no instruction begins, or its operand is outside its table or range
 abbrev pub code_look : Object → ℕ → Option (Seen ℕ)
-code_look o p = seen (fetch_unit (tables o) (head o).instructions p)
+code_look o p = seen_instr (fetch_unit (tables o) (head o).instructions p)
 
 -- each walk stays within the code and its tables; no height is below a floor or above `max_stackdepth`; walks that meet have one height and shapes that do not differ; and each instruction has the block that it needs
 abbrev pub sound : Object → Type 0

@@ -22,8 +22,8 @@ pub record State : Type 0 where
 abbrev pub state : ℕ → Shape → State
 state h s = record { height = h; shape = s }
 
-abbrev pub marked : Opening → ℕ → Mark
-marked o h = record { kind = o.kind; height = h; plain = o.plain; exit = o.exit }
+abbrev pub opened_mark : Opening → ℕ → Mark
+opened_mark o h = record { kind = o.kind; height = h; plain = o.plain; exit = o.exit }
 
 abbrev pub rest_of : Shape → Shape
 rest_of [] = []
@@ -87,19 +87,19 @@ has_block NeededBlock.NotPlain h s = tops (λ m. is_final m.kind && nat_eq m.hei
 has_block NeededBlock.Loop h s = tops (λ m. true) (from_loop s)
 
 -- the blocks that stay in place
-abbrev pub kept : Flow → Shape → Shape
-kept f s = if f.pops then rest_of s else s
+abbrev pub kept_shape : Flow → Shape → Shape
+kept_shape f s = if f.pops then rest_of s else s
 
-abbrev pub opened : Option Opening → ℕ → Shape → Shape
-opened None h s = s
-opened (Some o) h s = marked o h ∷ s
+abbrev pub with_opening : Option Opening → ℕ → Shape → Shape
+with_opening None h s = s
+with_opening (Some o) h s = opened_mark o h ∷ s
 
 -- there are the values that are taken and looked at, and what is left is no lower than the innermost block that stays
 abbrev pub enough : (floor takes looks h : ℕ) → Bool
 enough floor t l h = nat_le (t + l) h && nat_le floor (h - t)
 
 abbrev pub falls_enough : Flow → ℕ → Shape → Bool
-falls_enough f h s = enough (height_of (kept f s)) f.takes f.looks_at h
+falls_enough f h s = enough (height_of (kept_shape f s)) f.takes f.looks_at h
 
 abbrev pub jumps_enough : Branch → ℕ → Shape → Bool
 jumps_enough (Branch.Goes t g o) h s = enough (height_of s) t 0 h
@@ -108,11 +108,11 @@ jumps_enough Branch.Continues h s = true
 
 -- the state where the next instruction follows
 abbrev pub falls_to : Flow → State → State
-falls_to f t = state (t.height - f.takes + f.gives) (opened f.opens t.height (kept f t.shape))
+falls_to f t = state (t.height - f.takes + f.gives) (with_opening f.opens t.height (kept_shape f t.shape))
 
 -- the state where it jumps
 abbrev pub jumps_to : Branch → State → State
-jumps_to (Branch.Goes t g o) s = state (s.height - t + g) (opened o s.height s.shape)
+jumps_to (Branch.Goes t g o) s = state (s.height - t + g) (with_opening o s.height s.shape)
 jumps_to Branch.Breaks s = state (height_of (from_loop s.shape)) (rest_of (from_loop s.shape))
 jumps_to Branch.Continues s = state (cut_to s.height s.shape) (from_loop s.shape)
 
@@ -122,9 +122,9 @@ pub record Seen (P : Type 0) : Type 0 where
   pub next : P
   pub target : Option P
 
-abbrev pub seen : {K P : Type 0} → Fetched K P → Option (Seen P)
-seen Nothing = None
-seen (Found i n) = Some (record { flow = flow_of i; next = n; target = target_of i })
+abbrev pub seen_instr : {K P : Type 0} → Fetched K P → Option (Seen P)
+seen_instr Nothing = None
+seen_instr (Found i n) = Some (record { flow = flow_of i; next = n; target = target_of i })
 
 -- an edge, from what is seen in a state
 pub data Edge {P : Type 0} (x : Seen P) (t : State) : P → State → Type 0 where

@@ -1,8 +1,8 @@
 //! What is known of a place on all walks that reach it, and how it grows when one more walk arrives.
 ghost use Rattle.std.specs.Prelude.{ℕ, ◌≡◌, ◌≢◌, ◌+◌, ◌-◌, ◌^◌, ◌<◌, ◌≤◌, [], true, false, nat_lt, None, Some, IfErr, IfOk, length, replicate};
 ghost use Rattle.std.specs.Option.{IfNone, IfSome};
-ghost use Rattle.py_dataflow.specs.Walks.{Shape, enough, falls_to, jumps_to, opened, state};
-ghost use Rattle.py_dataflow.specs.Known.{Arrives, FailsAs, FallIs, Fits, IsUneven, IsWhole, JumpIs, Moves, Passes, Torn, Unfit, branch_base, combined, falls_within, flow_in, join, jumps_within, missing_in, state_at, state_of};
+ghost use Rattle.py_dataflow.specs.Walks.{Shape, enough, falls_to, jumps_to, with_opening, state};
+ghost use Rattle.py_dataflow.specs.Known.{Arrives, FailsAs, FallIs, Fits, IsUneven, IsWhole, JumpIs, Moves, Passes, Torn, Unfit, branch_base, combined_change, falls_within, flow_in, join, jumps_within, missing_in, state_at, state_of};
 
 use crate::shape::{
     adds_mark, are_alike, block_present, cut, is_torn, join_shapes, kept_blocks, loop_index,
@@ -151,7 +151,7 @@ fn branch_blocks(branch: Branch, shape: &[Mark]) -> &[Mark]
 }
 
 fn branch_opens(branch: Branch) -> Option<Opening>
-    ensures { (h : ℕ) (s : Shape) → opened result h (branch_base branch s) ≡ (jumps_to branch (state h s)).shape }
+    ensures { (h : ℕ) (s : Shape) → with_opening result h (branch_base branch s) ≡ (jumps_to branch (state h s)).shape }
 {
     match branch {
         Branch::Goes { opens, .. } => opens,
@@ -251,7 +251,7 @@ pub fn arrive(
 
 /// The greater of two changes: a new place is more than new marks, and these are more than nothing.
 pub fn combine(one: Change, other: Change) -> Change
-    ensures { result ≡ combined one other }
+    ensures { result ≡ combined_change one other }
 {
     match one {
         Change::Nothing => other,

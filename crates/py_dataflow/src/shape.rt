@@ -1,7 +1,7 @@
 //! Shapes: the blocks that are open at a place, the innermost first.
 ghost use Rattle.std.specs.Prelude.{◌≡◌, ◌+◌, ◌<◌, ◌≤◌, ◌||◌, true, false, IfOk, drop, if◌then◌else◌, length};
-ghost use Rattle.py_dataflow.specs.Walks.{Alike, cut_to, from_loop, has_block, height_of, is_entered, is_final, is_handler, is_loop, is_with, opened, rest_of, tops};
-ghost use Rattle.py_dataflow.specs.Known.{Torn, join, joined, lacking, lacking_in, missing_in};
+ghost use Rattle.py_dataflow.specs.Walks.{Alike, cut_to, from_loop, has_block, height_of, is_entered, is_final, is_handler, is_loop, is_with, with_opening, rest_of, tops};
+ghost use Rattle.py_dataflow.specs.Known.{Torn, join, joined_mark, lacked_marks, lacking_in, missing_in};
 
 use crate::{Kind, Mark, NeededBlock, Opening};
 use std::alloc::{AllocError, Global};
@@ -143,7 +143,7 @@ pub fn with_top(
     height: u32,
     below: &[Mark],
 ) -> Result<Vec<Mark>, AllocError>
-    ensures { IfOk result (λ shape. shape.items ≡ opened top height below.now) }
+    ensures { IfOk result (λ shape. shape.items ≡ with_opening top height below.now) }
 {
     let mut shape = Vec::with_capacity(alloc, below.len() + top.is_some() as usize)?;
     if let Some(opening) = top {
@@ -165,7 +165,7 @@ fn either(one: bool, other: bool) -> bool
 }
 
 fn join_marks(mine: Mark, theirs: Mark) -> Mark
-    ensures { result ≡ joined mine theirs }
+    ensures { result ≡ joined_mark mine theirs }
 {
     Mark {
         kind: mine.kind,
@@ -176,15 +176,15 @@ fn join_marks(mine: Mark, theirs: Mark) -> Mark
 }
 
 fn is_new(mine: bool, theirs: bool) -> bool
-    ensures yes { result ≡ true → (lacking mine ≡ 1) × (lacking (mine || theirs) ≡ 0) }
+    ensures yes { result ≡ true → (lacked_marks mine ≡ 1) × (lacked_marks (mine || theirs) ≡ 0) }
     ensures no { result ≡ false → (mine || theirs) ≡ mine }
 {
     theirs && !mine
 }
 
 fn adds(mine: Mark, theirs: Mark) -> bool
-    ensures yes { result ≡ true → lacking_in (joined mine theirs) < lacking_in mine }
-    ensures no { result ≡ false → joined mine theirs ≡ mine }
+    ensures yes { result ≡ true → lacking_in (joined_mark mine theirs) < lacking_in mine }
+    ensures no { result ≡ false → joined_mark mine theirs ≡ mine }
 {
     let plain = is_new(mine.plain, theirs.plain);
     let exit = is_new(mine.exit, theirs.exit);

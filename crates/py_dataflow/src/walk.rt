@@ -3,7 +3,7 @@ ghost use Rattle.std.specs.Prelude.{ℕ, ◌≡◌, ◌≢◌, ◌+◌, ◌<◌,
 ghost use Rattle.std.specs.Option.{IfNone, IfSome};
 ghost use Rattle.py_dataflow.specs.Walks.{IsDepth, Sound, state};
 ghost use Rattle.py_dataflow.specs.Flat.{IsCode, IsLinked, is_jump, look_at, named_place};
-ghost use Rattle.py_dataflow.specs.Known.{combined, height_known, state_at, state_of, unknown};
+ghost use Rattle.py_dataflow.specs.Known.{combined_change, height_known, state_at, state_of, unknown};
 ghost use Rattle.py_dataflow.specs.Shown.{AllShown, Covered, Grows, RefusalAt, SameBut, SameTo, Settled, Shown, Steps};
 
 use crate::InstructionInfo;
@@ -105,7 +105,7 @@ impl Visited {
     }
 
     fn and(self, next: Visited) -> Visited
-        ensures { result ≡ record { change = combined self.change next.change; behind = self.behind || next.behind } }
+        ensures { result ≡ record { change = combined_change self.change next.change; behind = self.behind || next.behind } }
     {
         Visited {
             change: combine(self.change, next.change),
@@ -156,7 +156,7 @@ fn visit(
     })
 }
 
-// Goes on once from each place that is known, in order: where no place behind changes, all are settled.
+// Goes on once from each place that is known, in order: where no place after changes, all are settled.
 fn round(
     alloc: Global,
     starts: &[usize],
@@ -269,7 +269,7 @@ fn walk_all(
 ///
 /// # Errors
 /// Each of the four refusals is told only where a walk meets it, at the place of that instruction in the list: `NoEnd`
-/// where a walk goes on behind the last instruction, `UnevenHeights` where two walks reach a place with different heights,
+/// where a walk goes on after the last instruction, `UnevenHeights` where two walks reach a place with different heights,
 /// `HeightOutOfRange` and `BlockMismatch` as one instruction has them. There may be no memory.
 pub fn depth(alloc: Global, starts: &[usize], items: &[InstructionInfo]) -> Result<u32, Fault>
     requires { IsCode starts.now items.now }

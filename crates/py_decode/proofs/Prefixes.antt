@@ -11,7 +11,7 @@ use Rattle.std.proofs.lemmas.Option.{same_Some, slice_get_past}
 use Rattle.py_bytecode.specs.declared.operand.CodeUnit.{CodeUnit}
 use Rattle.py_bytecode.specs.Units.{Read, is_prefix, read_from}
 use Rattle.py_decode.specs.declared.reading.UnitRead.{UnitRead}
-use Rattle.py_decode.specs.Reading.{raised, read_ahead, read_known, reading_at}
+use Rattle.py_decode.specs.Reading.{with_high_bytes, read_ahead, read_known, reading_at}
 
 -- what stands in a list where something is put at a place
 get_set_same : {A : Type 0} (xs : List A) (i : ℕ) (y : A) → i < length xs → slice_get (set xs i y) i ≡ Some y
@@ -47,12 +47,12 @@ module _ (u : CodeUnit) (us : List CodeUnit) (at : ℕ) where
   later_if false operand r h e = let z = ap (λ (q : Read). q.next) (same_Some (record { op = u.op; operand = operand; next = suc at }) r e) in omega (arith, z)
 
 -- what is read ends after where it begins
-later : (us : List CodeUnit) (high at : ℕ) (r : Read) → read_from high at us ≡ Some r → at < r.next
-later [] high at r e = absurd (cc)
-later (u ∷ us) high at r e = later_if u us at (is_prefix u.op) ((high * 256 + u.arg) % 2 ^ 32) r (λ h d. later us h (suc at) r d) e
+prefix_later : (us : List CodeUnit) (high at : ℕ) (r : Read) → read_from high at us ≡ Some r → at < r.next
+prefix_later [] high at r e = absurd (cc)
+prefix_later (u ∷ us) high at r e = later_if u us at (is_prefix u.op) ((high * 256 + u.arg) % 2 ^ 32) r (λ h d. prefix_later us h (suc at) r d) e
 
 -- two prefixes are one
-raised_twice : (high b at : ℕ) (r : Read) → suc at < r.next → raised ((high * 256 + b) % 2 ^ 32) (suc at) r ≡ raised high at (raised ((0 * 256 + b) % 2 ^ 32) (suc at) r)
+raised_twice : (high b at : ℕ) (r : Read) → suc at < r.next → with_high_bytes ((high * 256 + b) % 2 ^ 32) (suc at) r ≡ with_high_bytes high at (with_high_bytes ((0 * 256 + b) % 2 ^ 32) (suc at) r)
 raised_twice high b at r l =
     let m : ℕ = 2 ^ 32 in
     let p : ℕ = 256 ^ (r.next - suc at) in
@@ -64,11 +64,12 @@ raised_twice high b at r l =
     ap (λ x. (high * x + ((0 * 256 + b) % m * p + r.operand) % m) % m) w ∙ ap (λ x. (high * (256 * p) + x) % m) (scaled (0 * 256 + b) p r.operand m) ∙ add-mod-mod (high * (256 * p)) ((0 * 256 + b) * p + r.operand) m in
     ap (λ n. let q : Read = record { op = r.op; operand = n; next = r.next } in q) (mine ∙ sym theirs)
 
-raised_map : (high b at : ℕ) (o : Option Read) → ((r : Read) → o ≡ Some r → suc at < r.next) → option_map (raised ((high * 256 + b) % 2 ^ 32) (suc at)) o ≡ option_map (raised high at) (option_map (raised ((0 * 256 + b) % 2 ^ 32) (suc at)) o)
+raised_map : (high b at : ℕ) (o : Option Read) → ((r : Read) → o ≡ Some r → suc at < r.next)
+    → option_map (with_high_bytes ((high * 256 + b) % 2 ^ 32) (suc at)) o ≡ option_map (with_high_bytes high at) (option_map (with_high_bytes ((0 * 256 + b) % 2 ^ 32) (suc at)) o)
 raised_map high b at None h = refl
 raised_map high b at (Some r) h = ap Some (raised_twice high b at r (h r refl))
 
-raised_here : (op : CodeUnit) (high b at : ℕ) → let r : Read = record { op = op.op; operand = (high * 256 + b) % 2 ^ 32; next = suc at } in r ≡ raised high at (record { op = op.op; operand = (0 * 256 + b) % 2 ^ 32; next = suc at })
+raised_here : (op : CodeUnit) (high b at : ℕ) → let r : Read = record { op = op.op; operand = (high * 256 + b) % 2 ^ 32; next = suc at } in r ≡ with_high_bytes high at (record { op = op.op; operand = (0 * 256 + b) % 2 ^ 32; next = suc at })
 raised_here op high b at =
     let m : ℕ = 2 ^ 32 in
     let e : suc at - at ≡ 1 = omega arith in
@@ -77,24 +78,24 @@ raised_here op high b at =
     ap (λ k. (high * 256 ^ k + (0 * 256 + b) % m) % m) e ∙ add-mod-mod (high * 256) (0 * 256 + b) m ∙ ap (λ x. x % m) whole in
     ap (λ n. let q : Read = record { op = op.op; operand = n; next = suc at } in q) (sym theirs)
 
-module _ (u : CodeUnit) (us : List CodeUnit) (high at : ℕ) (go : (h a : ℕ) → read_from h a us ≡ option_map (raised h a) (read_from 0 a us)) where
-  raises_by : (b : Bool) → (if b then read_from ((high * 256 + u.arg) % 2 ^ 32) (suc at) us else Some (record { op = u.op; operand = (high * 256 + u.arg) % 2 ^ 32; next = suc at })) ≡ option_map (raised high at) (if b then read_from ((0 * 256 + u.arg) % 2 ^ 32) (suc at) us else Some (record { op = u.op; operand = (0 * 256 + u.arg) % 2 ^ 32; next = suc at }))
+module _ (u : CodeUnit) (us : List CodeUnit) (high at : ℕ) (go : (h a : ℕ) → read_from h a us ≡ option_map (with_high_bytes h a) (read_from 0 a us)) where
+  raises_by : (b : Bool) → (if b then read_from ((high * 256 + u.arg) % 2 ^ 32) (suc at) us else Some (record { op = u.op; operand = (high * 256 + u.arg) % 2 ^ 32; next = suc at })) ≡ option_map (with_high_bytes high at) (if b then read_from ((0 * 256 + u.arg) % 2 ^ 32) (suc at) us else Some (record { op = u.op; operand = (0 * 256 + u.arg) % 2 ^ 32; next = suc at }))
   raises_by true =
       go ((high * 256 + u.arg) % 2 ^ 32) (suc at)
-      ∙ raised_map high u.arg at (read_from 0 (suc at) us) (λ r e. later us 0 (suc at) r e)
-      ∙ ap (option_map (raised high at)) (sym (go ((0 * 256 + u.arg) % 2 ^ 32) (suc at)))
+      ∙ raised_map high u.arg at (read_from 0 (suc at) us) (λ r e. prefix_later us 0 (suc at) r e)
+      ∙ ap (option_map (with_high_bytes high at)) (sym (go ((0 * 256 + u.arg) % 2 ^ 32) (suc at)))
   raises_by false = ap Some (raised_here u high u.arg at)
 
 -- higher bytes raise what is read without them
-pub raises : (us : List CodeUnit) (high at : ℕ) → read_from high at us ≡ option_map (raised high at) (read_from 0 at us)
-raises [] high at = refl
-raises (u ∷ us) high at = raises_by u us high at (λ h a. raises us h a) (is_prefix u.op)
+pub prefix_raises : (us : List CodeUnit) (high at : ℕ) → read_from high at us ≡ option_map (with_high_bytes high at) (read_from 0 at us)
+prefix_raises [] high at = refl
+prefix_raises (u ∷ us) high at = raises_by u us high at (λ h a. prefix_raises us h a) (is_prefix u.op)
 
 pub ahead_is : (u : CodeUnit) (us : List CodeUnit) (at : ℕ) → read_from 0 at (u ∷ us) ≡ read_ahead u at (read_from 0 (suc at) us)
 ahead_is u us at = by_prefix (is_prefix u.op)
   where
-    by_prefix : (b : Bool) → (if b then read_from ((0 * 256 + u.arg) % 2 ^ 32) (suc at) us else Some (record { op = u.op; operand = (0 * 256 + u.arg) % 2 ^ 32; next = suc at })) ≡ (if b then option_map (raised ((0 * 256 + u.arg) % 2 ^ 32) (suc at)) (read_from 0 (suc at) us) else Some (record { op = u.op; operand = (0 * 256 + u.arg) % 2 ^ 32; next = suc at }))
-    by_prefix true = raises us ((0 * 256 + u.arg) % 2 ^ 32) (suc at)
+    by_prefix : (b : Bool) → (if b then read_from ((0 * 256 + u.arg) % 2 ^ 32) (suc at) us else Some (record { op = u.op; operand = (0 * 256 + u.arg) % 2 ^ 32; next = suc at })) ≡ (if b then option_map (with_high_bytes ((0 * 256 + u.arg) % 2 ^ 32) (suc at)) (read_from 0 (suc at) us) else Some (record { op = u.op; operand = (0 * 256 + u.arg) % 2 ^ 32; next = suc at }))
+    by_prefix true = prefix_raises us ((0 * 256 + u.arg) % 2 ^ 32) (suc at)
     by_prefix false = refl
 
 -- the loop from the last unit to the first
@@ -106,15 +107,16 @@ module _ (units : List CodeUnit) where
   nothing_yet reads e k l = ap read_known (slice_get_past reads k (omega (arith, e, l))) ∙ sym (nothing_past k l)
 
   module _ (at : ℕ) (later now : Option UnitRead) (d : CodeUnit) (some : 0 < at) (within : at ≤ length units) (before : read_known (Some later) ≡ read_from 0 at (drop at units)) (ahead : read_known (Some now) ≡ read_ahead (get_or units (at - 1) d) (at - 1) (read_known (Some later))) where
-    here : drop (at - 1) units ≡ get_or units (at - 1) d ∷ drop at units
-    here = let e : suc (at - 1) ≡ at = omega (arith, some) in drop-cons units (at - 1) d (omega (arith, some, within)) ∙ ap (λ i. get_or units (at - 1) d ∷ drop i units) e
+    prefix_here : drop (at - 1) units ≡ get_or units (at - 1) d ∷ drop at units
+    prefix_here = let e : suc (at - 1) ≡ at = omega (arith, some) in drop-cons units (at - 1) d (omega (arith, some, within)) ∙ ap (λ i. get_or units (at - 1) d ∷ drop i units) e
 
     pub now_is : read_known (Some now) ≡ read_from 0 (at - 1) (drop (at - 1) units)
     now_is =
         let e : at ≡ suc (at - 1) = omega (arith, some) in
-        ahead ∙ ap (read_ahead (get_or units (at - 1) d) (at - 1)) (before ∙ ap (λ i. read_from 0 i (drop at units)) e) ∙ sym (ap (read_from 0 (at - 1)) here ∙ ahead_is (get_or units (at - 1) d) (drop at units) (at - 1))
+        ahead ∙ ap (read_ahead (get_or units (at - 1) d) (at - 1)) (before ∙ ap (λ i. read_from 0 i (drop at units)) e) ∙ sym (ap (read_from 0 (at - 1)) prefix_here ∙ ahead_is (get_or units (at - 1) d) (drop at units) (at - 1))
 
-    pub read_on : (reads : List (Option UnitRead)) → length reads ≡ length units → ((k : ℕ) → at ≤ k → reading_at reads k ≡ read_from 0 k (drop k units)) → (k : ℕ) → at - 1 ≤ k → reading_at (set reads (at - 1) now) k ≡ read_from 0 k (drop k units)
+    pub read_on : (reads : List (Option UnitRead)) → length reads ≡ length units → ((k : ℕ) → at ≤ k → reading_at reads k ≡ read_from 0 k (drop k units))
+        → (k : ℕ) → at - 1 ≤ k → reading_at (set reads (at - 1) now) k ≡ read_from 0 k (drop k units)
     read_on reads long h k l = elim (cases_eq k (at - 1)) [
       | inl e ↦ subst (λ j. reading_at (set reads (at - 1) now) j ≡ read_from 0 j (drop j units)) (sym e) (ap read_known (get_set_same reads (at - 1) now (omega (arith, long, some, within))) ∙ now_is)
       | inr n ↦ ap read_known (get_set_other reads (at - 1) k now n) ∙ h k (omega (arith, n, l))

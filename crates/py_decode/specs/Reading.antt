@@ -28,11 +28,11 @@ abbrev pub IsReading : Object → List (Option UnitRead) → Type 0
 IsReading o reads = (k : ℕ) → reading_at reads k ≡ read_at o k
 
 -- an instruction whose operand has higher bytes that end at a place
-abbrev pub raised : (high place : ℕ) → Read → Read
-raised high place r = record { op = r.op; operand = (high * 256 ^ (r.next - place) + r.operand) % 2 ^ 32; next = r.next }
+abbrev pub with_high_bytes : (high place : ℕ) → Read → Read
+with_high_bytes high place r = record { op = r.op; operand = (high * 256 ^ (r.next - place) + r.operand) % 2 ^ 32; next = r.next }
 
 -- what is read at a unit, from what is read after it
 abbrev pub read_ahead : CodeUnit → (place : ℕ) → Option Read → Option Read
 read_ahead u place later =
     let operand : ℕ = (0 * 256 + u.arg) % 2 ^ 32 in
-    if is_prefix u.op then option_map (raised operand (suc place)) later else Some (record { op = u.op; operand = operand; next = suc place })
+    if is_prefix u.op then option_map (with_high_bytes operand (suc place)) later else Some (record { op = u.op; operand = operand; next = suc place })

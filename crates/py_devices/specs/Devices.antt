@@ -56,13 +56,13 @@ abbrev pub WriteKeepsCount : Bool → ℕ → ℕ → WriteAnswer → List ℕ �
 WriteKeepsCount alone before now (write.Took n) bytes = IsTrue alone → min 1 (length bytes) ≤ n → now ≡ before
 WriteKeepsCount alone before now write.Failed bytes = Unit {0}
 
-abbrev pub taken : WriteAnswer → ℕ
-taken (write.Took n) = n
-taken write.Failed = 0
+abbrev pub bytes_taken : WriteAnswer → ℕ
+bytes_taken (write.Took n) = n
+bytes_taken write.Failed = 0
 
 -- a write that is handed all that is awaited is not partial, and what it did not take is awaited further
 abbrev pub WritesWhole : (awaited_before awaited_now : Option (List ℕ)) → (before now : ℕ) → WriteAnswer → List ℕ → Type 0
-WritesWhole awaited_before awaited_now before now answer bytes = awaited_before ≡ Some bytes → (now ≡ before) × (awaited_now ≡ Some (drop (taken answer) bytes))
+WritesWhole awaited_before awaited_now before now answer bytes = awaited_before ≡ Some bytes → (now ≡ before) × (awaited_now ≡ Some (drop (bytes_taken answer) bytes))
 
 -- a said room goes down by what was taken; where it holds the bytes, some of them are taken and no fault is counted
 abbrev pub HasRoomIn : ℕ → Option ℕ → ℕ → ℕ → WriteAnswer → List ℕ → Type 0

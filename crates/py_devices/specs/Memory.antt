@@ -17,16 +17,16 @@ pub record Feed : Type 0 where
 abbrev pub count_on : ℕ → ℕ
 count_on n = min (n + 1) (2 ^ 64 - 1)
 
-abbrev pub fed : Feed → ℕ → ℕ
-fed s room = min (min s.piece room) (length s.left)
+abbrev pub feed_size : Feed → ℕ → ℕ
+feed_size s room = min (min s.piece room) (length s.left)
 
 abbrev pub read_of : Feed → ℕ → ReadAnswer
-read_of s room = if list_any (λ x. x == count_on s.calls) s.fails then read.Failed else (if length s.left == 0 then read.End else read.Got (fed s room))
+read_of s room = if list_any (λ x. x == count_on s.calls) s.fails then read.Failed else (if length s.left == 0 then read.End else read.Got (feed_size s room))
 
 abbrev pub after_read : Feed → ℕ → Feed
 after_read s room = if list_any (λ x. x == count_on s.calls) s.fails
     then record { left = s.left; piece = s.piece; fails = s.fails; calls = count_on s.calls; faults = count_on s.faults }
-    else record { left = drop (fed s room) s.left; piece = s.piece; fails = s.fails; calls = count_on s.calls; faults = s.faults }
+    else record { left = drop (feed_size s room) s.left; piece = s.piece; fails = s.fails; calls = count_on s.calls; faults = s.faults }
 
 -- ---- sinks
 

@@ -13,73 +13,73 @@ use Rattle.py_emission.specs.Parameters.{function_shape, parameters}
 use Rattle.py_emission.specs.Texts.{texts_of}
 use Rattle.py_emission_parts.specs.TableParts.{binary_case, conversion_case, constant_of, is_debug, debug_constant}
 use Rattle.py_bytecode.specs.Values.{Load}
-use Rattle.py_emission_parts.specs.Accesses.{accessed, emission_of_deleted, emission_of_name, emission_of_stored}
-use Rattle.py_emission_parts.specs.Children.{DefaultEmissions, child, emission_of_defaults, flags_of_defaults, function_scope, made}
+use Rattle.py_emission_parts.specs.Accesses.{name_access, emission_of_deleted, emission_of_name, emission_of_stored}
+use Rattle.py_emission_parts.specs.Children.{DefaultEmissions, child, emission_of_defaults, flags_of_defaults, function_scope, made_function}
 use Rattle.py_emission_parts.specs.Within.{lambda_inside}
-use Rattle.py_emission_parts.specs.Comprehensions.{ClauseEmissions, as_element, comprehension, gathered, generated}
-use Rattle.py_emission_parts.specs.Emitting.{Emission, ◌▸◌, by_level, emit, emit_constant, emit_mangled, generating, keep, move, refuse}
-use Rattle.py_emission_parts.specs.EmissionParts.{Emissions, Keywords, Stores, bool_emissions, built, choice, constant_emissions, display, elements, emission_of_call, emission_of_compare, emission_of_dict, in_turn, joined_value, only_in_function, pass_scopes, plain_store, slice_value, tested, unary_emissions, unless_debug, unpack, value_or, values}
+use Rattle.py_emission_parts.specs.Comprehensions.{ClauseEmissions, as_element, comprehension, collection_scope, generator_body}
+use Rattle.py_emission_parts.specs.Emitting.{Emission, ◌▸◌, by_level, emit, emit_constant, emit_mangled, generator_mark, keep, move, refuse}
+use Rattle.py_emission_parts.specs.EmissionParts.{Emissions, Keywords, Stores, bool_emissions, counted_build, choice, constant_emissions, display, elements, emission_of_call, emission_of_compare, emission_of_dict, in_turn, joined_value, only_in_function, pass_scopes, plain_store, slice_value, tested_value, unary_emissions, unless_debug, unpack, value_or, values}
 use Rattle.py_emission_parts.specs.Refused.{lone_star, no_assignment, no_deletion}
 use Rattle.py_emission.specs.Predicates.{deletion_name}
 
 -- a node that is not compiled yet
-abbrev pub unsupported : SourceLocation → Emission
-unsupported at = move at ▸ refuse error.NotImplementedYet
+abbrev pub unsupported_node : SourceLocation → Emission
+unsupported_node at = move at ▸ refuse error.NotImplementedYet
 
 -- one text is returned by one instruction
 abbrev pub joined_return : Option (List ℕ) → List Emission → Emission
 joined_return (Some text) vs = emit_constant op.ReturnConst (const.str text)
-joined_return None vs = built op.BuildString vs ▸ emit op.ReturnValue 0
+joined_return None vs = counted_build op.BuildString vs ▸ emit op.ReturnValue 0
 
 -- the name `__debug__` is a constant too
 abbrev pub name_return : List ℕ → Emission
-name_return x = if is_debug x then by_level (λ l. emit_constant op.ReturnConst (debug_constant l)) else accessed Load x ▸ emit op.ReturnValue 0
+name_return x = if is_debug x then by_level (λ l. emit_constant op.ReturnConst (debug_constant l)) else name_access Load x ▸ emit op.ReturnValue 0
 
 -- a lambda of these parameters with their defaults, whose body is returned so
 unfoldable pub lambda_value : tree.Arguments → DefaultEmissions → (returned : Emission) → Emission
 lambda_value params d returned =
     emission_of_defaults d ▸ child lambda_inside (function_shape params (codes "<lambda>")) (function_scope (parameters params) returned)
-    (λ o. pass_scopes (λ postponed. scopes_in_annotations postponed params) ▸ made (flags_of_defaults d) (codes "<lambda>") o)
+    (λ o. pass_scopes (λ postponed. scopes_in_annotations postponed params) ▸ made_function (flags_of_defaults d) (codes "<lambda>") o)
 
 abbrev mutual
   pub emissions : tree.Expr → Emissions
   emissions (tree.BoolOp at o operands) = bool_emissions at o (all_emissions operands)
-  emissions (tree.NamedExpr at target value) = tested (move at ▸ (emissions value).value ▸ emit op.Duplicate 0 ▸ (stores target).alone)
-  emissions (tree.BinOp at left o right) = tested (move at ▸ (emissions left).value ▸ (emissions right).value ▸ emit op.BinaryOperation (binary_case o))
+  emissions (tree.NamedExpr at target value) = tested_value (move at ▸ (emissions value).value ▸ emit op.Duplicate 0 ▸ (stores target).alone)
+  emissions (tree.BinOp at left o right) = tested_value (move at ▸ (emissions left).value ▸ (emissions right).value ▸ emit op.BinaryOperation (binary_case o))
   emissions (tree.UnaryOp at o operand) = unary_emissions at o (emissions operand)
-  emissions (tree.Lambda at params body) = tested (move at ▸ lambda_value params (default_emissions params) (emissions body).returned)
-  emissions (tree.IfExp at t body orelse) = tested (move at ▸ choice (emissions t).test (emissions body).value (emissions orelse).value)
-  emissions (tree.Dict at keys others) = tested (move at ▸ emission_of_dict (opt_emissions keys) (values (all_emissions others)))
-  emissions (tree.Set at elts) = tested (move at ▸ display op.BuildSet op.BuildSetUnpack (elements (all_emissions elts)))
+  emissions (tree.Lambda at params body) = tested_value (move at ▸ lambda_value params (default_emissions params) (emissions body).returned)
+  emissions (tree.IfExp at t body orelse) = tested_value (move at ▸ choice (emissions t).test (emissions body).value (emissions orelse).value)
+  emissions (tree.Dict at keys others) = tested_value (move at ▸ emission_of_dict (opt_emissions keys) (values (all_emissions others)))
+  emissions (tree.Set at elts) = tested_value (move at ▸ display op.BuildSet op.BuildSetUnpack (elements (all_emissions elts)))
   emissions (tree.ListComp at elt gs) =
-      let cs = clause_emissions gs in tested (move at ▸ comprehension (some_async gs) (codes "<listcomp>") cs (gathered op.BuildList op.ListAppend cs (as_element (emissions elt).value)))
+      let cs = clause_emissions gs in tested_value (move at ▸ comprehension (some_async gs) (codes "<listcomp>") cs (collection_scope op.BuildList op.ListAppend cs (as_element (emissions elt).value)))
   emissions (tree.SetComp at elt gs) =
-      let cs = clause_emissions gs in tested (move at ▸ comprehension (some_async gs) (codes "<setcomp>") cs (gathered op.BuildSet op.SetAdd cs (as_element (emissions elt).value)))
+      let cs = clause_emissions gs in tested_value (move at ▸ comprehension (some_async gs) (codes "<setcomp>") cs (collection_scope op.BuildSet op.SetAdd cs (as_element (emissions elt).value)))
   emissions (tree.DictComp at key value gs) =
-      let cs = clause_emissions gs in tested (move at ▸ comprehension (some_async gs) (codes "<dictcomp>") cs (gathered op.BuildMap op.MapAdd cs ((emissions key).value ▸ (emissions value).value)))
+      let cs = clause_emissions gs in tested_value (move at ▸ comprehension (some_async gs) (codes "<dictcomp>") cs (collection_scope op.BuildMap op.MapAdd cs ((emissions key).value ▸ (emissions value).value)))
   emissions (tree.GeneratorExp at elt gs) =
-      let cs = clause_emissions gs in tested (move at ▸ comprehension (some_async gs || awaits elt) (codes "<genexpr>") cs (generated cs (as_element (emissions elt).value)))
-  emissions (tree.Await at value) = tested (move at ▸ refuse error.InvalidAwait)
-  emissions (tree.Yield at value) = tested (move at ▸ only_in_function error.InvalidYield (generating ▸ value_or const.none (opt_emission value) ▸ emit op.YieldValue 0))
+      let cs = clause_emissions gs in tested_value (move at ▸ comprehension (some_async gs || awaits elt) (codes "<genexpr>") cs (generator_body cs (as_element (emissions elt).value)))
+  emissions (tree.Await at value) = tested_value (move at ▸ refuse error.InvalidAwait)
+  emissions (tree.Yield at value) = tested_value (move at ▸ only_in_function error.InvalidYield (generator_mark ▸ value_or const.none (opt_emission value) ▸ emit op.YieldValue 0))
   emissions (tree.YieldFrom at value) =
-      tested (move at ▸ only_in_function error.InvalidYieldFrom (generating ▸ (emissions value).value ▸ emit op.GetIter 0 ▸ emit_constant op.LoadConst const.none ▸ emit op.YieldFrom 0))
-  emissions (tree.Compare at left ops others) = tested (move at ▸ emission_of_compare (emissions left).value ops (all_emissions others))
-  emissions (tree.Call at func args keywords) = tested (move at ▸ emission_of_call (emissions func).callee (elements (all_emissions args)) (keyword_emissions keywords))
-  emissions (tree.FormattedValue at value c spec) = tested (move at ▸ (emissions value).value ▸ value_or (const.str []) (opt_emission spec) ▸ emit op.FormatValue (conversion_case c))
+      tested_value (move at ▸ only_in_function error.InvalidYieldFrom (generator_mark ▸ (emissions value).value ▸ emit op.GetIter 0 ▸ emit_constant op.LoadConst const.none ▸ emit op.YieldFrom 0))
+  emissions (tree.Compare at left ops others) = tested_value (move at ▸ emission_of_compare (emissions left).value ops (all_emissions others))
+  emissions (tree.Call at func args keywords) = tested_value (move at ▸ emission_of_call (emissions func).callee (elements (all_emissions args)) (keyword_emissions keywords))
+  emissions (tree.FormattedValue at value c spec) = tested_value (move at ▸ (emissions value).value ▸ value_or (const.str []) (opt_emission spec) ▸ emit op.FormatValue (conversion_case c))
   emissions (tree.JoinedStr at parts) =
-      let vs = values (all_emissions parts) in record (tested (move at ▸ joined_value (texts_of parts) vs)) { returned = move at ▸ joined_return (texts_of parts) vs }
+      let vs = values (all_emissions parts) in record (tested_value (move at ▸ joined_value (texts_of parts) vs)) { returned = move at ▸ joined_return (texts_of parts) vs }
   emissions (tree.Constant at value) = constant_emissions at (constant_of value)
   emissions (tree.Attribute at value attr) =
       let v : Emission = move at ▸ (emissions value).value ▸ emit_mangled op.LoadAttr attr in
-      record (tested v) { callee = Method attr (emissions value).value }
-  emissions (tree.Subscript at value slice) = tested (move at ▸ (emissions value).value ▸ (emissions slice).value ▸ emit op.Subscript 0)
+      record (tested_value v) { callee = Method attr (emissions value).value }
+  emissions (tree.Subscript at value slice) = tested_value (move at ▸ (emissions value).value ▸ (emissions slice).value ▸ emit op.Subscript 0)
   emissions (tree.Starred at value) =
       let v : Emission = move at ▸ refuse error.InvalidStarExpr in
-      record (tested v) { element = Spread (emissions value).value }
-  emissions (tree.Name at id) = record (tested (move at ▸ emission_of_name id)) { returned = move at ▸ name_return id }
-  emissions (tree.List at elts) = tested (move at ▸ display op.BuildList op.BuildListUnpack (elements (all_emissions elts)))
-  emissions (tree.Tuple at elts) = tested (move at ▸ display op.BuildTuple op.BuildTupleUnpack (elements (all_emissions elts)))
-  emissions (tree.Slice at lower upper step) = tested (move at ▸ slice_value (opt_emission lower) (opt_emission upper) (opt_emission step))
+      record (tested_value v) { element = Spread (emissions value).value }
+  emissions (tree.Name at id) = record (tested_value (move at ▸ emission_of_name id)) { returned = move at ▸ name_return id }
+  emissions (tree.List at elts) = tested_value (move at ▸ display op.BuildList op.BuildListUnpack (elements (all_emissions elts)))
+  emissions (tree.Tuple at elts) = tested_value (move at ▸ display op.BuildTuple op.BuildTupleUnpack (elements (all_emissions elts)))
+  emissions (tree.Slice at lower upper step) = tested_value (move at ▸ slice_value (opt_emission lower) (opt_emission upper) (opt_emission step))
 
   pub all_emissions : tree.Exprs → List Emissions
   all_emissions tree.no_exprs = []

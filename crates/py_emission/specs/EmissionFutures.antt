@@ -3,7 +3,7 @@ use Rattle.std.specs.Prelude.{List, [], ◌∷◌, Some, None, if◌then◌else�
 use Rattle.py_tree.specs.Tree as tree
 use Rattle.py_tree.specs.declared.statements.Alias.{Alias}
 use Rattle.py_base.specs.declared.errors.CodegenErrorType.TheVariants as error
-use Rattle.py_emission_parts.specs.Emitting.{Emission, ◌▸◌, keep, move, postponing, refuse}
+use Rattle.py_emission_parts.specs.Emitting.{Emission, ◌▸◌, keep, move, postponed_part, refuse}
 use Rattle.py_emission.specs.EmissionImports.{emission_of_from}
 use Rattle.py_emission.specs.Futures.{Future, future_of, is_feature, postpones}
 
@@ -16,14 +16,14 @@ check_features (a ∷ rest) = if is_feature a.name then check_features rest else
 abbrev pub emission_of_future : Future → Emission
 emission_of_future f = move f.at ▸ check_features f.names ▸ emission_of_from f.path f.names f.level
 
--- what is emitted behind it
-abbrev pub following : Future → Emission → Emission
-following f a = if postpones f then postponing a else a
+-- what is emitted after it
+abbrev pub after_future_import : Future → Emission → Emission
+after_future_import f a = if postpones f then postponed_part a else a
 
--- future imports, and the statements behind them by what is emitted of these
+-- future imports, and the statements after them by what is emitted of these
 abbrev pub emission_behind : (tree.Stmts → Emission) → tree.Stmts → Emission
 emission_behind emission tree.no_stmts = emission tree.no_stmts
 emission_behind emission (tree.more_stmts s ss) = elim (future_of s) [
   | None ↦ emission (tree.more_stmts s ss)
-  | Some f ↦ emission_of_future f ▸ following f (emission_behind emission ss)
+  | Some f ↦ emission_of_future f ▸ after_future_import f (emission_behind emission ss)
 ]

@@ -8,7 +8,7 @@ use Rattle.py_base.specs.declared.errors.CodegenErrorType.TheVariants as error
 use Rattle.py_emission_parts.specs.Accesses.{emission_of_stored}
 use Rattle.py_emission_parts.specs.Context.{is_function}
 use Rattle.py_emission_parts.specs.Emitting.{Emission, ◌▸◌, by_context, emit, emit_constant, emit_mangled, keep, refuse}
-use Rattle.py_emission.specs.Imports.{asked, asked_all, further_segments, import_name, taken_name, takes_all}
+use Rattle.py_emission.specs.Imports.{asked_tuple, asked_all, further_segments, import_name, taken_name, takes_all}
 
 -- a module is imported by its path, or has none
 abbrev pub import_step : (path : Option (List ℕ)) → Emission
@@ -53,4 +53,4 @@ emission_of_star path level = by_context (λ c. if is_function c.typ then refuse
 
 -- all names of a module, or some
 abbrev pub emission_of_from : (path : Option (List ℕ)) → List Alias → (level : ℕ) → Emission
-emission_of_from path names level = if takes_all names then emission_of_star path level else emission_of_module path level (asked names) ▸ emission_of_names names
+emission_of_from path names level = if takes_all names then emission_of_star path level else emission_of_module path level (asked_tuple names) ▸ emission_of_names names

@@ -8,16 +8,17 @@ use Rattle.py_bytecode.specs.Objects as const
 use Rattle.py_base.specs.declared.errors.CodegenErrorType.TheVariants as error
 use Rattle.py_emission.specs.Texts.{after_doc, doc_of}
 use Rattle.py_emission_parts.specs.Accesses.{emission_of_stored}
-use Rattle.py_emission_parts.specs.Children.{decorated}
+use Rattle.py_emission_parts.specs.Children.{decorated_value}
 use Rattle.py_emission_parts.specs.Context.{Context}
-use Rattle.py_emission_parts.specs.Emitting.{Emission, Outcome, Refused, ◌▸◌, by_level, emit, emit_constant, emit_name, keep, move, nothing}
+use Rattle.py_emission_parts.specs.Running.{run}
+use Rattle.py_emission_parts.specs.Emitting.{Emission, Faults, Outcome, ◌▸◌, by_level, emit, emit_constant, emit_name, keep, move, nothing}
 use Rattle.py_emission_parts.specs.EmissionParts.{values}
 use Rattle.py_emission.specs.Emission.{all_emissions, emission, emission_of_return}
 use Rattle.py_emission.specs.EmissionDefs.{emission_of_built, emission_of_end, emission_of_function, emission_of_setup}
-use Rattle.py_emission.specs.EmissionFutures.{emission_behind, emission_of_future, following}
+use Rattle.py_emission.specs.EmissionFutures.{emission_behind, emission_of_future, after_future_import}
 use Rattle.py_emission.specs.Futures.{future_of}
 use Rattle.py_emission.specs.EmissionStmts.{emission_of_rest, emission_of_stmt, emission_of_stmts}
-use Rattle.py_emission.specs.Predicates.{annotated, none}
+use Rattle.py_emission.specs.Predicates.{any_annotates, none}
 
 -- a docstring is stored under its name, which is global
 abbrev pub emission_of_doc : Option (List ℕ) → Emission
@@ -27,14 +28,14 @@ emission_of_doc (Some text) = emit_constant op.LoadConst (const.str text) ▸ em
 -- the docstring that is kept, room for annotations where there are any, future imports and what follows, and a return of None
 abbrev pub emission_of_program : tree.Stmts → Emission
 emission_of_program body =
-    by_level (λ l. emission_of_doc (doc_of l body)) ▸ emission_of_setup (annotated (after_doc body)) ▸ emission_behind emission_of_stmts (after_doc body) ▸ emit_constant op.ReturnConst const.none
+    by_level (λ l. emission_of_doc (doc_of l body)) ▸ emission_of_setup (any_annotates (after_doc body)) ▸ emission_behind emission_of_stmts (after_doc body) ▸ emit_constant op.ReturnConst const.none
 
 -- an expression at a prompt is printed, and the last is returned too
 abbrev pub emission_of_printed : (last : Bool) → (value rest : Emission) → Emission
 emission_of_printed true value rest = value ▸ emit op.Duplicate 0 ▸ emit op.PrintExpr 0 ▸ emit op.ReturnValue 0
 emission_of_printed false value rest = value ▸ emit op.PrintExpr 0 ▸ rest
 
--- statements at a prompt behind others; an expression that stands there itself is printed, and its statement is not entered
+-- statements at a prompt after others; an expression that stands there itself is printed, and its statement is not entered
 abbrev pub emission_of_single : tree.Stmts → Emission
 emission_of_single tree.no_stmts = emit_constant op.ReturnConst const.none
 emission_of_single (tree.more_stmts (tree.StmtExpr at value) ss) = emission_of_printed (none ss) (emission value) (emission_of_single ss)
@@ -46,7 +47,7 @@ emission_of_prompt tree.no_stmts = emit_constant op.ReturnConst const.none
 emission_of_prompt (tree.more_stmts (tree.StmtExpr at value) ss) = emission_of_printed (none ss) (emission value) (emission_of_prompt ss)
 emission_of_prompt (tree.more_stmts s ss) = elim (future_of s) [
   | None ↦ emission_of_single (tree.more_stmts s ss)
-  | Some f ↦ emission_of_future f ▸ following f (emission_of_prompt ss)
+  | Some f ↦ emission_of_future f ▸ after_future_import f (emission_of_prompt ss)
 ]
 
 -- what a definition stores is returned too
@@ -57,9 +58,9 @@ stored_and_returned name = emit op.Duplicate 0 ▸ emission_of_stored name ▸ e
 abbrev pub emission_of_value : tree.Stmt → Emission
 emission_of_value (tree.StmtExpr at value) = move at ▸ emission_of_return value
 emission_of_value (tree.FunctionDef at name params body decorators returns generic) =
-    move at ▸ decorated (values (all_emissions decorators)) (emission_of_function name params body returns generic (emission_of_rest body ▸ emission_of_end (after_doc body))) ▸ stored_and_returned name
+    move at ▸ decorated_value (values (all_emissions decorators)) (emission_of_function name params body returns generic (emission_of_rest body ▸ emission_of_end (after_doc body))) ▸ stored_and_returned name
 emission_of_value (tree.ClassDef at name bases keywords body decorators generic) =
-    move at ▸ decorated (values (all_emissions decorators)) (emission_of_built name bases keywords body generic (emission_of_rest body)) ▸ stored_and_returned name
+    move at ▸ decorated_value (values (all_emissions decorators)) (emission_of_built name bases keywords body generic (emission_of_rest body)) ▸ stored_and_returned name
 emission_of_value other = emission_of_stmt other ▸ emit_constant op.ReturnConst const.none
 
 -- statements whose last value is given
@@ -75,7 +76,7 @@ emission_of_interactive other ss = emission_behind emission_of_block ss
 
 -- a type of a function, which is no tree of a program in any mode, is at fault as a whole
 abbrev pub unsupported_tree : Emission
-unsupported_tree s = Refused error.NotImplementedYet None
+unsupported_tree = Faults error.NotImplementedYet
 
 -- what is emitted of a tree in a mode
 abbrev pub emission_of_mod : tree.Mod → Mode → Emission
@@ -85,5 +86,5 @@ emission_of_mod (tree.Expression body) m = emission_of_return body
 emission_of_mod other m = unsupported_tree
 
 -- where this is the context of the outermost scope
-abbrev pub emitted : tree.Mod → Mode → Context → Outcome
-emitted t m c = emission_of_mod t m (nothing c)
+abbrev pub emission_outcome : tree.Mod → Mode → Context → Outcome
+emission_outcome t m c = run (emission_of_mod t m) (nothing c)

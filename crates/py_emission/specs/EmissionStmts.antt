@@ -15,17 +15,17 @@ use Rattle.py_scope_counts.specs.Counts.{scopes_in, scopes_in_annotation, scopes
 use Rattle.py_emission.specs.Texts.{after_doc, stmt_text}
 use Rattle.py_emission_parts.specs.TableParts.{binary_case}
 use Rattle.py_emission.specs.Imports.{from_future}
-use Rattle.py_emission.specs.ControlEmissions.{any_match, asserted, caught, for_each, handler, managed, named_body, raise_again, try_body, typed_match}
+use Rattle.py_emission.specs.ControlEmissions.{any_match, assertion_of, caught_name, for_each, handler, managed_body, named_body, raise_again, try_body, typed_match}
 use Rattle.py_emission.specs.EmissionDefs.{emission_of_alias, emission_of_built, emission_of_end, emission_of_function, emission_of_note}
 use Rattle.py_emission.specs.EmissionImports.{emission_of_from, emission_of_import}
 use Rattle.py_emission.specs.Predicates.{but_doc, itemless, message_count, none}
-use Rattle.py_emission_parts.specs.Children.{decorated}
-use Rattle.py_emission_parts.specs.Emitting.{Emission, LoopBlocks, ◌▸◌, begin, by_context, by_level, by_loops, emit, emit_constant, emit_mangled, emit_name, in_loop, jump, keep, move, new_block, refuse}
+use Rattle.py_emission_parts.specs.Children.{decorated_value}
+use Rattle.py_emission_parts.specs.Emitting.{Emission, LoopBlocks, ◌▸◌, by_context, by_level, by_loops, emit, emit_constant, emit_mangled, emit_name, in_loop, jump, keep, move, refuse, three_blocks}
 use Rattle.py_emission_parts.specs.Accesses.{emission_of_name, emission_of_stored}
-use Rattle.py_emission_parts.specs.Context.{is_function, mangled}
+use Rattle.py_emission_parts.specs.Context.{is_function, mangled_by}
 use Rattle.py_emission_parts.specs.EmissionParts.{choice, only, only_in_function, pass_scopes, unless_debug, values}
 use Rattle.py_emission_parts.specs.Refused.{no_assignment}
-use Rattle.py_emission.specs.Emission.{all_emissions, emission, emission_of_deletes, emission_of_return, emission_of_store, emission_of_test, unsupported}
+use Rattle.py_emission.specs.Emission.{all_emissions, emission, emission_of_deletes, emission_of_return, emission_of_store, emission_of_test, unsupported_node}
 
 -- a value is stored to each target, and kept for those that follow
 abbrev pub emission_of_assign : tree.Exprs → Emission
@@ -53,7 +53,7 @@ emission_of_declared target (tree.some_expr e) = emission e ▸ emission_of_stor
 
 -- the annotation of a name is kept in `__annotations__`, that of another target is dropped
 abbrev pub emission_of_annotation : tree.Expr → Emission
-emission_of_annotation (tree.Name at id) = emit_name op.LoadNameAny (codes "__annotations__") ▸ by_context (λ c. emit_constant op.LoadConst (const.str (mangled c id))) ▸ emit op.StoreSubscript 0
+emission_of_annotation (tree.Name at id) = emit_name op.LoadNameAny (codes "__annotations__") ▸ by_context (λ c. emit_constant op.LoadConst (const.str (mangled_by c id))) ▸ emit op.StoreSubscript 0
 emission_of_annotation other = emit op.Pop 0
 
 -- a function does nothing with the annotations of its names, which are only scanned
@@ -78,7 +78,7 @@ emission_of_item (tree.some_expr t) = move (tree.expr_location t) ▸ emission_o
 -- further items are managed within the first
 abbrev pub emission_of_items : SourceLocation → tree.WithItems → (body : Emission) → Emission
 emission_of_items at tree.no_items body = body
-emission_of_items at (tree.more_items e target items) body = managed at (emission e) (emission_of_item target) (emission_of_items at items body)
+emission_of_items at (tree.more_items e target items) body = managed_body at (emission e) (emission_of_item target) (emission_of_items at items body)
 
 -- an exception, one with its cause, or the one in hand
 abbrev pub emission_of_raise : (exc cause : tree.OptExpr) → Emission
@@ -93,14 +93,14 @@ emission_of_message (tree.some_expr e) = emission e
 -- above level 0 an assertion is only scanned
 abbrev pub emission_of_assert : tree.Expr → tree.OptExpr → (level : ℕ) → Emission
 emission_of_assert t msg level =
-    if nat_eq level 0 then asserted (emission_of_test t) (emission_of_message msg) (message_count msg)
+    if nat_eq level 0 then assertion_of (emission_of_test t) (emission_of_message msg) (message_count msg)
     else pass_scopes (λ postponed. scopes_in postponed t + scopes_in_opt postponed msg)
 
 -- a future import stands before all else, and is emitted there
 abbrev pub emission_of_import_from : (path : Option (List ℕ)) → List Alias → (level : ℕ) → Emission
 emission_of_import_from path names level = if from_future path then refuse error.InvalidFuturePlacement else emission_of_from path names level
 
--- the last part of a `try`, where there is one
+-- the finally block of a `try`, where there is one
 abbrev pub emission_of_last : tree.Stmts → Emission → Emission
 emission_of_last tree.no_stmts last = keep
 emission_of_last (tree.more_stmts s ss) last = last ▸ emit op.EndFinally 0
@@ -108,9 +108,9 @@ emission_of_last (tree.more_stmts s ss) last = last ▸ emit op.EndFinally 0
 abbrev mutual
   pub emission_of_stmt : tree.Stmt → Emission
   emission_of_stmt (tree.FunctionDef at name params body decorators returns generic) =
-      move at ▸ decorated (values (all_emissions decorators)) (emission_of_function name params body returns generic (emission_of_rest body ▸ emission_of_end (after_doc body))) ▸ emission_of_stored name
+      move at ▸ decorated_value (values (all_emissions decorators)) (emission_of_function name params body returns generic (emission_of_rest body ▸ emission_of_end (after_doc body))) ▸ emission_of_stored name
   emission_of_stmt (tree.ClassDef at name bases keywords body decorators generic) =
-      move at ▸ decorated (values (all_emissions decorators)) (emission_of_built name bases keywords body generic (emission_of_rest body)) ▸ emission_of_stored name
+      move at ▸ decorated_value (values (all_emissions decorators)) (emission_of_built name bases keywords body generic (emission_of_rest body)) ▸ emission_of_stored name
   emission_of_stmt (tree.Return at value) = move at ▸ only_in_function error.InvalidReturn (emission_of_returned value)
   emission_of_stmt (tree.Delete at targets) = move at ▸ emission_of_deletes targets
   emission_of_stmt (tree.Assign at targets value) = move at ▸ emission value ▸ emission_of_assign targets
@@ -120,9 +120,9 @@ abbrev mutual
   emission_of_stmt (tree.If at t body orelse) =
       move at ▸ (if none orelse then only (emission_of_test t) (emission_of_stmts body) else choice (emission_of_test t) (emission_of_stmts body) (emission_of_stmts orelse))
   emission_of_stmt (tree.While at t body orelse) =
-      move at ▸ new_block (λ start. new_block (λ other. new_block (λ end.
-      emit op.SetupLoop 0 ▸ begin start ▸ emission_of_test t false other ▸ in_loop (record { on_break = end; on_continue = start }) (emission_of_stmts body) ▸ jump op.Jump start
-      ▸ begin other ▸ emit op.PopBlock 0 ▸ emission_of_stmts orelse ▸ begin end)))
+      move at ▸ three_blocks (λ start other end. emit op.SetupLoop 0)
+      (λ start other end. emission_of_test t false other ▸ in_loop (record { on_break = end; on_continue = start }) (emission_of_stmts body) ▸ jump op.Jump start)
+      (λ start other end. emit op.PopBlock 0 ▸ emission_of_stmts orelse) (λ start other end. keep)
   emission_of_stmt (tree.For at target iter body orelse) = move at ▸ for_each (emission iter) (emission_of_store target) (emission_of_stmts body) (emission_of_stmts orelse)
   emission_of_stmt (tree.With at items body) =
       move at ▸ (if itemless items then refuse error.EmptyWithItems else emission_of_items at items (if none body then refuse error.EmptyWithBody else emission_of_stmts body))
@@ -138,13 +138,13 @@ abbrev mutual
   emission_of_stmt (tree.Break at) = move at ▸ by_loops (leave_loop op.Break (λ x. x.on_break) error.InvalidBreak)
   emission_of_stmt (tree.Continue at) = move at ▸ by_loops (leave_loop op.Continue (λ x. x.on_continue) error.InvalidContinue)
   emission_of_stmt (tree.Pass at) = move at
-  emission_of_stmt other = unsupported (tree.stmt_location other)
+  emission_of_stmt other = unsupported_node (tree.stmt_location other)
 
   pub emission_of_stmts : tree.Stmts → Emission
   emission_of_stmts tree.no_stmts = keep
   emission_of_stmts (tree.more_stmts s ss) = emission_of_stmt s ▸ emission_of_stmts ss
 
-  -- the statements of a scope within, but a docstring
+  -- the statements of a nested scope, but a docstring
   pub emission_of_rest : tree.Stmts → Emission
   emission_of_rest tree.no_stmts = keep
   emission_of_rest (tree.more_stmts s ss) = but_doc (stmt_text s) (emission_of_stmts ss) (emission_of_stmt s ▸ emission_of_stmts ss)
@@ -154,4 +154,4 @@ abbrev mutual
   emission_of_handlers tree.no_handlers last end = raise_again
   emission_of_handlers (tree.more_handlers tree.no_expr name body rest) last end = handler last end any_match (emission_of_stmts body) (emission_of_handlers rest last end)
   emission_of_handlers (tree.more_handlers (tree.some_expr e) name body rest) last end =
-      handler last end (typed_match (emission e) (caught name)) (named_body name (emission_of_stmts body)) (emission_of_handlers rest last end)
+      handler last end (typed_match (emission e) (caught_name name)) (named_body name (emission_of_stmts body)) (emission_of_handlers rest last end)

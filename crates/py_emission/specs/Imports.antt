@@ -15,7 +15,7 @@ from_future path = is_future path
 abbrev pub package_name : (path : List ℕ) → List ℕ
 package_name path = first_segment path
 
--- and those behind it
+-- and those after it
 abbrev pub further_segments : (path : List ℕ) → List (List ℕ)
 further_segments path = drop 1 (slice_split (λ b. nat_eq b 46) path)
 
@@ -40,8 +40,8 @@ abbrev pub takes_all : List Alias → Bool
 takes_all names = list_any is_star names
 
 -- the tuple of the names that a module is asked for
-abbrev pub asked : List Alias → Const
-asked names = const.tuple (consts_of (map (λ a. const.str a.name) names))
+abbrev pub asked_tuple : List Alias → Const
+asked_tuple names = const.tuple (consts_of (map (λ a. const.str a.name) names))
 
 -- that of all names
 abbrev pub asked_all : Const

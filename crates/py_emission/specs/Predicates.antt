@@ -17,17 +17,17 @@ itemless (tree.more_items e target items) = false
 abbrev mutual
   pub annotates : tree.Stmt → Bool
   annotates (tree.AnnAssign at target annotation value simple) = true
-  annotates (tree.For at target iter body orelse) = annotated body || annotated orelse
-  annotates (tree.While at t body orelse) = annotated body || annotated orelse
-  annotates (tree.If at t body orelse) = annotated body || annotated orelse
-  annotates (tree.With at items body) = annotated body
-  annotates (tree.Try at body excepts orelse finalbody) = annotated body || (annotated orelse || annotated finalbody)
+  annotates (tree.For at target iter body orelse) = any_annotates body || any_annotates orelse
+  annotates (tree.While at t body orelse) = any_annotates body || any_annotates orelse
+  annotates (tree.If at t body orelse) = any_annotates body || any_annotates orelse
+  annotates (tree.With at items body) = any_annotates body
+  annotates (tree.Try at body excepts orelse finalbody) = any_annotates body || (any_annotates orelse || any_annotates finalbody)
   annotates other = false
 
   -- one of the statements does
-  pub annotated : tree.Stmts → Bool
-  annotated tree.no_stmts = false
-  annotated (tree.more_stmts s ss) = annotates s || annotated ss
+  pub any_annotates : tree.Stmts → Bool
+  any_annotates tree.no_stmts = false
+  any_annotates (tree.more_stmts s ss) = annotates s || any_annotates ss
 
 -- how many messages there are
 abbrev pub message_count : tree.OptExpr → ℕ

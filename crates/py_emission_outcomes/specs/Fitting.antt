@@ -6,9 +6,9 @@ use Rattle.py_bytecode.specs.Objects.{Object, constants, head}
 use Rattle.py_emission_parts.specs.Context.{outermost}
 use Rattle.py_emission_parts.specs.Emitting.{Done, State}
 use Rattle.py_emission_parts.specs.Everywhere.{Everywhere}
-use Rattle.py_emission_parts.specs.Sealed.{sealed}
+use Rattle.py_emission_parts.specs.Sealed.{assembled_object}
 use Rattle.py_emit.specs.States.{module_head}
-use Rattle.py_emission.specs.EmissionMods.{emitted}
+use Rattle.py_emission.specs.EmissionMods.{emission_outcome}
 use Rattle.py_meaning.specs.Faults.{faults}
 use Rattle.py_meaning.specs.Scanned.{scopes_of}
 
@@ -20,7 +20,7 @@ pub record IsSmall (s : State) : Type 0 where
   pub blocks : s.blocks < 2 ^ 30
   pub next : s.next < 2 ^ 30
 
--- fewer than 2 ^ 30 names, names of its own, cells, names from outside, constants and parameters of a code object
+-- fewer than 2 ^ 30 names, names of its own, cells, free variables, constants and parameters of a code object
 pub record HasShortTables (o : Object) : Type 0 where
   pub names : length (head o).names < 2 ^ 30
   pub varnames : length (head o).varnames < 2 ^ 30
@@ -34,4 +34,4 @@ pub record HasShortTables (o : Object) : Type 0 where
 -- what is emitted of a tree without faults is done, its tables, blocks and scopes are so few, and the tables of its code object and of each code object within are so short and its parameters so few, in each mode, at each level of optimization and from each path
 abbrev pub TreesFit : Type 0
 TreesFit =
-    (t : tree.Mod) (m : Mode) (level : ℕ) (path : List ℕ) → faults t m level ≡ [] → (s : State) × (emitted t m (outermost level path (scopes_of t)) ≡ Done s) × IsSmall s × Everywhere HasShortTables (sealed level (module_head (outermost level path (scopes_of t))) s)
+    (t : tree.Mod) (m : Mode) (level : ℕ) (path : List ℕ) → faults t m level ≡ [] → (s : State) × (emission_outcome t m (outermost level path (scopes_of t)) ≡ Done s) × IsSmall s × Everywhere HasShortTables (assembled_object level (module_head (outermost level path (scopes_of t))) s)

@@ -4,8 +4,8 @@ use Rattle.py_bytecode.specs.declared.instruction.Instruction.TheVariants as op
 use Rattle.py_bytecode.specs.Values.{Usage, Load, Store, Delete, Kind, Unsaid, Fast, ByName, Global, Deref, ClassDeref}
 use Rattle.py_control.specs.Form.{Resolved}
 use Rattle.py_emission_parts.specs.TableParts.{debug_constant, is_debug}
-use Rattle.py_emission_parts.specs.Context.{Context, access_kind, cell_place, mangled}
-use Rattle.py_emission_parts.specs.Emitting.{Emission, by_level, emit, emit_constant, emit_name, emit_varname}
+use Rattle.py_emission_parts.specs.Context.{Context, access_kind, cell_place, mangled_by}
+use Rattle.py_emission_parts.specs.Emitting.{Emission, by_context, by_level, emit, emit_constant, emit_name, emit_varname}
 use Rattle.py_emission_parts.specs.EmissionParts.{unless_debug}
 use Rattle.py_emission_parts.specs.Refused.{no_assignment, no_deletion}
 
@@ -47,17 +47,17 @@ abbrev pub accessed_in : Context → Usage → (name : List ℕ) → Emission
 accessed_in c u x = access_by u (access_kind c u Resolved x) x (cell_place c x)
 
 -- a name as the innermost class writes it
-unfoldable pub accessed : Usage → List ℕ → Emission
-accessed u x s = accessed_in s.around.context u (mangled s.around.context x) s
+unfoldable pub name_access : Usage → List ℕ → Emission
+name_access u x = by_context (λ c. accessed_in c u (mangled_by c x))
 
 -- `__debug__` is a constant, which nothing changes
 abbrev pub emission_of_name : List ℕ → Emission
-emission_of_name x = if is_debug x then by_level (λ l. emit_constant op.LoadConst (debug_constant l)) else accessed Load x
+emission_of_name x = if is_debug x then by_level (λ l. emit_constant op.LoadConst (debug_constant l)) else name_access Load x
 
 -- a name is stored, but `__debug__`
 abbrev pub emission_of_stored : List ℕ → Emission
-emission_of_stored x = unless_debug no_assignment x (accessed Store x)
+emission_of_stored x = unless_debug no_assignment x (name_access Store x)
 
 -- a name is deleted, but `__debug__`
 abbrev pub emission_of_deleted : List ℕ → Emission
-emission_of_deleted x = unless_debug no_deletion x (accessed Delete x)
+emission_of_deleted x = unless_debug no_deletion x (name_access Delete x)

@@ -1,54 +1,24 @@
--- What is emitted of a scope within: it begins where its parent stands, its code object is a constant of the parent, and the parent goes on where it leaves off.
-use Rattle.std.specs.Prelude.{ℕ, suc, ◌+◌, List, [], ◌∷◌, ◌++◌, Option, Some, None, codes, if◌then◌else◌}
+-- What is emitted of a nested scope: it begins where its parent stands, its code object is a constant of the parent, and the parent goes on where it leaves off.
+use Rattle.std.specs.Prelude.{ℕ, ◌+◌, List, [], ◌∷◌, ◌++◌, Option, Some, None, codes, if◌then◌else◌}
 use Rattle.std.specs.List.{list_any}
 use Rattle.py_base.specs.declared.errors.CodegenErrorType.TheVariants as error
-use Rattle.py_base.specs.declared.location.SourceLocation.{SourceLocation}
 use Rattle.py_bytecode.specs.declared.instruction.Instruction.TheVariants as op
 use Rattle.py_bytecode.specs.Equality.{text_eq}
 use Rattle.py_bytecode.specs.Objects as const
 use Rattle.py_bytecode.specs.Objects.{Object}
-use Rattle.py_emission_parts.specs.Context.{Context, cell_place, mangled, qualified}
-use Rattle.py_emission_parts.specs.Emitting.{Emission, Outcome, State, ◌▸◌, Done, TooWide, Refused, add_constant, add_varname, begun, by_context, emit, emit_constant, emit_count, emit_name, keep, refuse}
-use Rattle.py_emission_parts.specs.EmissionParts.{built, in_turn, map_of, unless_debug}
+use Rattle.py_emission_parts.specs.Context.{Context, cell_place, mangled_by, qualified_under}
+use Rattle.py_emission_parts.specs.Emitting.{Emission, Within, ◌▸◌, add_constant, add_varname, by_context, emit, emit_constant, emit_count, emit_name, keep, refuse}
+use Rattle.py_emission_parts.specs.EmissionParts.{counted_build, in_turn, map_of, unless_debug}
 use Rattle.py_emission_parts.specs.Refused.{no_assignment}
-use Rattle.py_emission_parts.specs.Sealed.{Head, sealed}
 use Rattle.py_emission_parts.specs.Within.{Shape, some_flag}
-
--- the head of a scope's code object, whose first line is that of the place where it begins
-abbrev pub code_head : Context → Shape → SourceLocation → Head
-code_head c h at = record {
-  flags = h.flags;
-  posonlyarg_count = h.posonlyarg_count;
-  arg_count = h.arg_count;
-  kwonlyarg_count = h.kwonlyarg_count;
-  source_path = c.source;
-  first_line_number = at.row;
-  obj_name = h.obj_name;
-  cellvars = c.cells;
-  freevars = c.frees;
-}
-
--- a parent goes on where its child leaves off
-abbrev pub behind_child : (parent child : State) → State
-behind_child s t = record s { location = t.location; next = t.next }
-
--- what a child comes to is sealed, and what follows goes on with its code object
-abbrev pub on_sealed : (level : ℕ) → Head → (parent : State) → Outcome → (Object → Emission) → Outcome
-on_sealed level h s (Done t) k = k (sealed level h t) (behind_child s t)
-on_sealed level h s TooWide k = TooWide
-on_sealed level h s (Refused e at) k = Refused e at
 
 -- a child within, which the present context and the number of the next scope tell
 unfoldable pub child : (within : Context → (number : ℕ) → Context) → Shape → (body : Emission) → (Object → Emission) → Emission
-child within h body k s =
-    let c = within s.around.context s.next in
-    on_sealed c.level (code_head c h s.location) s (body (begun c s.location (suc s.next))) k
+child within h body k = Within within h body k
 
 -- a cell that a function is made of, which is one of the present scope's or comes to it from outside; where it is not there, that is refused
 unfoldable pub load_cell : List ℕ → Emission
-load_cell x s =
-    if list_any (text_eq x) (s.around.context.cells ++ s.around.context.frees) then emit op.LoadClosure (cell_place s.around.context x) s
-    else refuse error.MissingCell s
+load_cell x = by_context (λ c. if list_any (text_eq x) (c.cells ++ c.frees) then emit op.LoadClosure (cell_place c x) else refuse error.MissingCell)
 
 abbrev pub cell_loads : List (List ℕ) → List Emission
 cell_loads [] = []
@@ -57,15 +27,15 @@ cell_loads (x ∷ xs) = load_cell x ∷ cell_loads xs
 -- the tuple of the cells that are handed on, where there are any
 abbrev pub closure : List (List ℕ) → Emission
 closure [] = keep
-closure (x ∷ xs) = built op.BuildTuple (cell_loads (x ∷ xs))
+closure (x ∷ xs) = counted_build op.BuildTuple (cell_loads (x ∷ xs))
 
 -- the names that the code object has from outside
 abbrev pub free_names : Object → List (List ℕ)
 free_names o = (const.head o).freevars
 
 -- a function of a code object
-abbrev pub made : (flags : ℕ) → (name : List ℕ) → Object → Emission
-made flags name o =
+abbrev pub made_function : (flags : ℕ) → (name : List ℕ) → Object → Emission
+made_function flags name o =
     closure (free_names o) ▸ emit_constant op.LoadConst (const.code o) ▸ emit_constant op.LoadConst (const.str name) ▸ emit op.MakeFunction (flags + some_flag 0x01 (free_names o))
 
 -- values and what is built of them, where there are any
@@ -80,7 +50,7 @@ pub record DefaultEmissions : Type 0 where
 
 -- a tuple and a map, where there are any
 abbrev pub emission_of_defaults : DefaultEmissions → Emission
-emission_of_defaults d = some_emitted (built op.BuildTuple) d.positional ▸ some_emitted map_of d.keyword
+emission_of_defaults d = some_emitted (counted_build op.BuildTuple) d.positional ▸ some_emitted map_of d.keyword
 
 -- the flags of the defaults that there are
 abbrev pub flags_of_defaults : DefaultEmissions → ℕ
@@ -96,17 +66,17 @@ abbrev pub function_scope : (parameters : List (List ℕ)) → (body : Emission)
 function_scope xs body = enter_parameters xs ▸ add_constant const.none ▸ body
 
 -- an annotation, after the name that it has in the map of them, which is mangled
-abbrev pub noted : (name : List ℕ) → Emission → Emission
-noted name v = by_context (λ c. emit_constant op.LoadConst (const.str (mangled c name))) ▸ v
+abbrev pub named_annotation : (name : List ℕ) → Emission → Emission
+named_annotation name v = by_context (λ c. emit_constant op.LoadConst (const.str (mangled_by c name))) ▸ v
 
 -- a function of a code object and its annotations, by its qualified name
 abbrev pub function_made : (flags : ℕ) → (notes : List Emission) → (name : List ℕ) → Object → Emission
-function_made flags notes name o = some_emitted (built op.BuildMap) notes ▸ by_context (λ c. made (flags + some_flag 0x02 notes) (qualified c name) o)
+function_made flags notes name o = some_emitted (counted_build op.BuildMap) notes ▸ by_context (λ c. made_function (flags + some_flag 0x02 notes) (qualified_under c name) o)
 
 -- a docstring is stored to the function
-abbrev pub documented : Option (List ℕ) → Emission
-documented None = keep
-documented (Some text) = emit op.Duplicate 0 ▸ emit_constant op.LoadConst (const.str text) ▸ emit op.Rotate2 0 ▸ emit_name op.StoreAttr (codes "__doc__")
+abbrev pub docstring_store : Option (List ℕ) → Emission
+docstring_store None = keep
+docstring_store (Some text) = emit op.Duplicate 0 ▸ emit_constant op.LoadConst (const.str text) ▸ emit op.Rotate2 0 ▸ emit_name op.StoreAttr (codes "__doc__")
 
 -- one call for each decorator
 abbrev pub decorations : List Emission → Emission
@@ -114,5 +84,5 @@ decorations [] = keep
 decorations (d ∷ ds) = emit_count op.CallFunctionPositional 1 ▸ decorations ds
 
 -- decorators come first, and are called last
-abbrev pub decorated : List Emission → (value : Emission) → Emission
-decorated ds v = in_turn ds ▸ v ▸ decorations ds
+abbrev pub decorated_value : List Emission → (value : Emission) → Emission
+decorated_value ds v = in_turn ds ▸ v ▸ decorations ds

@@ -1,4 +1,4 @@
--- What is emitted of classes: a scope within, which hands on the cell of `__class__` where it has one, and whose function is called with the name and the bases.
+-- What is emitted of classes: a nested scope, which hands on the cell of `__class__` where it has one, and whose function is called with the name and the bases.
 use Rattle.std.specs.Prelude.{ℕ, List, [], ◌∷◌, Option, codes}
 use Rattle.py_bytecode.specs.declared.instruction.Instruction.TheVariants as op
 use Rattle.py_bytecode.specs.Objects as const

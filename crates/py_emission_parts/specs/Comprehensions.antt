@@ -1,15 +1,14 @@
--- What is emitted of comprehensions: a scope within that is called at once with the first iterator, and in which each clause stands around those after it.
+-- What is emitted of comprehensions: a nested scope that is called at once with the first iterator, and in which each clause stands around those after it.
 use Rattle.std.specs.Prelude.{ℕ, List, [], ◌∷◌, length, Bool, false, codes, if◌then◌else◌}
 use Rattle.py_base.specs.declared.shapes.Malformed.TheVariants as shape
 use Rattle.py_bytecode.specs.declared.instruction.Instruction.{Instruction}
 use Rattle.py_bytecode.specs.declared.instruction.Instruction.TheVariants as op
 use Rattle.py_bytecode.specs.Objects as const
 use Rattle.py_base.specs.declared.errors.CodegenErrorType.TheVariants as error
-use Rattle.py_emission_parts.specs.Children.{child, made}
+use Rattle.py_emission_parts.specs.Children.{child, made_function}
 use Rattle.py_emission_parts.specs.Within.{Shape, comprehension_inside}
-use Rattle.py_emission_parts.specs.Emitting.{Emission, Outcome, ◌▸◌, Done, TooWide, Refused, begin, emit, emit_constant, emit_count, emit_varname, generating, jump, keep, new_block, refuse}
+use Rattle.py_emission_parts.specs.Emitting.{Emission, Retold, ◌▸◌, emit, emit_constant, emit_count, emit_varname, generator_mark, jump, keep, refuse, two_blocks}
 use Rattle.py_emission_parts.specs.EmissionParts.{Emissions}
-use Rattle.py_emission_parts.specs.Refused.{retold}
 
 -- a comprehension takes the first iterator; it has names of its own, and quick locals
 abbrev pub comprehension_shape : (name : List ℕ) → Shape
@@ -33,7 +32,7 @@ conditions (e ∷ es) start = e.test false start ▸ conditions es start
 -- a clause over an iterator, around what is within
 abbrev pub clause : (iterator : Emission) → ClauseEmissions → (within : Emission) → Emission
 clause iterator c within =
-    new_block (λ start. new_block (λ end. iterator ▸ begin start ▸ jump op.ForIter end ▸ c.target ▸ conditions c.conditions start ▸ within ▸ jump op.Jump start ▸ begin end))
+    two_blocks (λ start end. iterator) (λ start end. jump op.ForIter end ▸ c.target ▸ conditions c.conditions start ▸ within ▸ jump op.Jump start) (λ start end. keep)
 
 -- clauses that have iterables of their own
 abbrev pub further_clauses : List ClauseEmissions → (within : Emission) → Emission
@@ -45,26 +44,21 @@ abbrev pub clauses : List ClauseEmissions → (within : Emission) → Emission
 clauses [] within = within
 clauses (c ∷ cs) within = clause handed_iterator c (further_clauses cs within)
 
-abbrev pub retold_in : Outcome → Outcome
-retold_in (Done s) = Done s
-retold_in TooWide = TooWide
-retold_in (Refused e at) = Refused (retold e) at
-
 unfoldable pub as_element : Emission → Emission
-as_element a s = retold_in (a s)
+as_element a = Retold a
 
 -- the scope of a comprehension that adds each element to a collection
-abbrev pub gathered : (build append : Instruction) → List ClauseEmissions → (element : Emission) → Emission
-gathered build append cs element = emit build 0 ▸ clauses cs (element ▸ emit append (length cs)) ▸ emit op.ReturnValue 0
+abbrev pub collection_scope : (build append : Instruction) → List ClauseEmissions → (element : Emission) → Emission
+collection_scope build append cs element = emit build 0 ▸ clauses cs (element ▸ emit append (length cs)) ▸ emit op.ReturnValue 0
 
 -- the scope of a generator, which gives each element
-abbrev pub generated : List ClauseEmissions → (element : Emission) → Emission
-generated cs element = clauses cs (element ▸ generating ▸ emit op.YieldValue 0 ▸ emit op.Pop 0) ▸ emit_constant op.ReturnConst const.none
+abbrev pub generator_body : List ClauseEmissions → (element : Emission) → Emission
+generator_body cs element = clauses cs (element ▸ generator_mark ▸ emit op.YieldValue 0 ▸ emit op.Pop 0) ▸ emit_constant op.ReturnConst const.none
 
 -- a function of such a scope, called with the iterator of a value
 unfoldable pub called_at_once : (name : List ℕ) → (scope : Emission) → (iterable : Emission) → Emission
 called_at_once name scope iterable =
-    child comprehension_inside (comprehension_shape name) scope (made 0 name) ▸ iterable ▸ emit op.GetIter 0 ▸ emit_count op.CallFunctionPositional 1
+    child comprehension_inside (comprehension_shape name) scope (made_function 0 name) ▸ iterable ▸ emit op.GetIter 0 ▸ emit_count op.CallFunctionPositional 1
 
 -- a comprehension has a clause, and nothing in it is awaited
 abbrev pub comprehension : (awaited : Bool) → (name : List ℕ) → List ClauseEmissions → (scope : Emission) → Emission

@@ -1,4 +1,4 @@
--- How a node is read: what stands around it, and what its scope says of names.
+-- How a node is read: its context, and what its scope says of names.
 use Rattle.std.specs.Prelude.{ℕ, ◌||◌, List, [], ◌∷◌, ◌++◌, Bool, true, false, Option, Some, None, codes, find, if◌then◌else◌}
 use Rattle.std.specs.List.{list_any, position_or_len}
 use Rattle.py_base.specs.Mangle.{mangled_in}
@@ -88,7 +88,7 @@ within_class name c = record c { class = Some name }
 unfoldable pub with_path : (path : List ℕ) → Context → Context
 with_path path c = record c { path = path }
 
--- the scope is that of a function; lambdas, comprehensions and hidden scopes are functions too
+-- the scope is that of a function; lambdas, comprehensions and type-parameter scopes are functions too
 abbrev pub is_function : SymbolTableType → Bool
 is_function kind.Module = false
 is_function kind.Class = false
@@ -104,8 +104,8 @@ is_class kind.Comprehension = false
 is_class kind.TypeParams = false
 
 -- a name as the innermost class writes it
-abbrev pub mangled : Context → List ℕ → List ℕ
-mangled c name = mangled_in c.class name
+abbrev pub mangled_by : Context → List ℕ → List ℕ
+mangled_by c name = mangled_in c.class name
 
 -- what a mangled name is in the present scope
 abbrev pub scope_of : Context → (name : List ℕ) → SymbolScope
@@ -161,15 +161,15 @@ head_of c = record {
   class_cell = class_cells c;
 }
 
--- behind a dot, where anything stands before
+-- after a dot, where anything stands before
 abbrev pub behind_dot : (path name : List ℕ) → List ℕ
 behind_dot [] name = name
 behind_dot (x ∷ path) name = (x ∷ path) ++ (codes "." ++ name)
 
 -- the qualified name of what stands in the present scope under this name
-abbrev pub qualified : Context → (name : List ℕ) → List ℕ
-qualified c name = behind_dot c.path name
+abbrev pub qualified_under : Context → (name : List ℕ) → List ℕ
+qualified_under c name = behind_dot c.path name
 
 -- the qualified name of what stands in a function
 abbrev pub function_path : Context → (name : List ℕ) → List ℕ
-function_path c name = qualified c name ++ codes ".<locals>"
+function_path c name = qualified_under c name ++ codes ".<locals>"

@@ -13,22 +13,22 @@ pub data Callee (A : Type 0) : Type 0 where
 
 module _ {B A : Type 0} where
   -- whether an element is starred
-  abbrev pub starred : List (Element B A) → Bool
-  starred [] = false
-  starred (Single x ∷ es) = starred es
-  starred (Spread x ∷ es) = true
+  abbrev pub has_starred : List (Element B A) → Bool
+  has_starred [] = false
+  has_starred (Single x ∷ es) = has_starred es
+  has_starred (Spread x ∷ es) = true
 
   module _ (tuple : List B → A) where
     -- a run of plain elements is one tuple, and none where the run is empty
-    abbrev pub grouped : List B → List A
-    grouped [] = []
-    grouped (x ∷ xs) = tuple (x ∷ xs) ∷ []
+    abbrev pub run_tuple : List B → List A
+    run_tuple [] = []
+    run_tuple (x ∷ xs) = tuple (x ∷ xs) ∷ []
 
     -- a tuple of each longest run of plain elements, the first of which begins with these, and each starred value itself
     abbrev pub groups : (run : List B) → List (Element B A) → List A
-    groups run [] = grouped run
+    groups run [] = run_tuple run
     groups run (Single x ∷ es) = groups (run ++ x ∷ []) es
-    groups run (Spread x ∷ es) = grouped run ++ x ∷ groups [] es
+    groups run (Spread x ∷ es) = run_tuple run ++ x ∷ groups [] es
 
   -- the longest run of plain elements at the front
   abbrev pub front : List (Element B A) → List B

@@ -15,9 +15,9 @@ use Rattle.py_bytecode.specs.Values.{flip}
 use Rattle.py_base.specs.declared.errors.CodegenErrorType.{CodegenErrorType}
 use Rattle.py_base.specs.declared.errors.CodegenErrorType.TheVariants as error
 use Rattle.py_emission_parts.specs.Context.{is_function}
-use Rattle.py_emission_parts.specs.Elements.{Element, Single, Spread, Callee, Function, Method, starred, bare, stars, before_star, after_star, groups, front, behind, pairs, sides}
-use Rattle.py_emission_parts.specs.TableParts.{unary_case, deciding, is_debug, any}
-use Rattle.py_emission_parts.specs.Emitting.{Emission, ◌▸◌, begin, by_context, emit, emit_constant, emit_count, emit_mangled, jump, keep, move, new_block, pass_over, refuse}
+use Rattle.py_emission_parts.specs.Elements.{Element, Single, Spread, Callee, Function, Method, has_starred, bare, stars, before_star, after_star, groups, front, behind, pairs, sides}
+use Rattle.py_emission_parts.specs.TableParts.{unary_case, deciding_truth, is_debug, any}
+use Rattle.py_emission_parts.specs.Emitting.{Emission, ◌▸◌, by_context, emit, emit_constant, emit_count, emit_mangled, jump, keep, move, one_block, pass_over, refuse, two_blocks}
 use Rattle.py_emission_parts.specs.Refused.{few_aside, no_assignment}
 
 -- the jump that keeps a value where its truth is this
@@ -62,12 +62,12 @@ ordinary v t = record { value = v; test = t; element = Single v; callee = Functi
 abbrev pub truth_of : Emission → (truth : Bool) → (block : ℕ) → Emission
 truth_of v c to = v ▸ jump (testing_jump c) to
 
-abbrev pub tested : Emission → Emissions
-tested v = ordinary v (truth_of v)
+abbrev pub tested_value : Emission → Emissions
+tested_value v = ordinary v (truth_of v)
 
 -- a constant is loaded or returned by one instruction
 abbrev pub constant_emissions : SourceLocation → Const → Emissions
-constant_emissions at c = record (tested (move at ▸ emit_constant op.LoadConst c)) { returned = move at ▸ emit_constant op.ReturnConst c }
+constant_emissions at c = record (tested_value (move at ▸ emit_constant op.LoadConst c)) { returned = move at ▸ emit_constant op.ReturnConst c }
 
 abbrev pub values : List Emissions → List Emission
 values [] = []
@@ -82,15 +82,15 @@ in_turn [] = keep
 in_turn (v ∷ vs) = v ▸ in_turn vs
 
 -- values, and an instruction that counts them
-abbrev pub built : Instruction → List Emission → Emission
-built i vs = in_turn vs ▸ emit_count i (length vs)
+abbrev pub counted_build : Instruction → List Emission → Emission
+counted_build i vs = in_turn vs ▸ emit_count i (length vs)
 
 -- all that the elements give, where some are starred
-abbrev pub unpacked : (unpack : Instruction) → List (Element Emission Emission) → Emission
-unpacked unpack es = built unpack (groups (built op.BuildTuple) [] es)
+abbrev pub unpacked_value : (unpack : Instruction) → List (Element Emission Emission) → Emission
+unpacked_value unpack es = counted_build unpack (groups (counted_build op.BuildTuple) [] es)
 
 abbrev pub display : (build unpack : Instruction) → List (Element Emission Emission) → Emission
-display build unpack es = if starred es then unpacked unpack es else built build (bare es)
+display build unpack es = if has_starred es then unpacked_value unpack es else counted_build build (bare es)
 
 -- a call of a function, or of a method that its value gives
 abbrev pub call_by : Callee Emission → (function method : Instruction) → (args : Emission) → (count : ℕ) → Emission
@@ -106,10 +106,10 @@ abbrev pub unless_debug : (text name : List ℕ) → Emission → Emission
 unless_debug text name change = if is_debug name then refuse (error.SyntaxError text) else change
 
 -- no keyword is `__debug__`
-abbrev pub checked : Keywords → Emission
-checked [] = keep
-checked (Single p ∷ ks) = unless_debug no_assignment p.0 keep ▸ checked ks
-checked (Spread v ∷ ks) = checked ks
+abbrev pub keyword_checks : Keywords → Emission
+keyword_checks [] = keep
+keyword_checks (Single p ∷ ks) = unless_debug no_assignment p.0 keep ▸ keyword_checks ks
+keyword_checks (Spread v ∷ ks) = keyword_checks ks
 
 -- each name and its value
 abbrev pub name_values : List (List ℕ × Emission) → List Emission
@@ -124,7 +124,7 @@ map_of ps = in_turn (name_values ps) ▸ emit_count op.BuildMap (length ps)
 abbrev pub joined_map : List Emission → Emission
 joined_map [] = keep
 joined_map (v ∷ []) = v
-joined_map (v ∷ w ∷ ws) = built op.BuildMapForCall (v ∷ w ∷ ws)
+joined_map (v ∷ w ∷ ws) = counted_build op.BuildMapForCall (v ∷ w ∷ ws)
 
 abbrev pub names_in : Keywords → Consts
 names_in [] = no_consts
@@ -139,21 +139,21 @@ values_in (Spread v ∷ ks) = v ∷ values_in ks
 -- the tuple of the arguments
 abbrev pub packed_tuple : List (Element Emission Emission) → Keywords → Emission
 packed_tuple es ks =
-    if starred es then in_turn (groups (built op.BuildTuple) [] es) ▸ checked ks ▸ emit_count op.BuildTupleUnpack (length (groups (built op.BuildTuple) [] es))
-    else in_turn (bare es) ▸ checked ks ▸ emit_count op.BuildTuple (length es)
+    if has_starred es then in_turn (groups (counted_build op.BuildTuple) [] es) ▸ keyword_checks ks ▸ emit_count op.BuildTupleUnpack (length (groups (counted_build op.BuildTuple) [] es))
+    else in_turn (bare es) ▸ keyword_checks ks ▸ emit_count op.BuildTuple (length es)
 
 -- and the map of the keywords where there are any
-abbrev pub packed : List (Element Emission Emission) → Keywords → Emission
-packed es ks = packed_tuple es ks ▸ joined_map (groups map_of [] ks)
+abbrev pub packed_arguments : List (Element Emission Emission) → Keywords → Emission
+packed_arguments es ks = packed_tuple es ks ▸ joined_map (groups map_of [] ks)
 
 -- arguments in their places, then the values of the keywords and the tuple of their names, where there are any
-abbrev pub placed : Callee Emission → List Emission → Keywords → Emission
-placed c vs [] = call_by c op.CallFunctionPositional op.CallMethodPositional (in_turn vs) (length vs)
-placed c vs (p ∷ ps) =
-    call_by c op.CallFunctionKeyword op.CallMethodKeyword (in_turn vs ▸ checked (p ∷ ps) ▸ in_turn (values_in (p ∷ ps)) ▸ emit_constant op.LoadConst (const.tuple (names_in (p ∷ ps)))) (length vs + length (p ∷ ps))
+abbrev pub positional_call : Callee Emission → List Emission → Keywords → Emission
+positional_call c vs [] = call_by c op.CallFunctionPositional op.CallMethodPositional (in_turn vs) (length vs)
+positional_call c vs (p ∷ ps) =
+    call_by c op.CallFunctionKeyword op.CallMethodKeyword (in_turn vs ▸ keyword_checks (p ∷ ps) ▸ in_turn (values_in (p ∷ ps)) ▸ emit_constant op.LoadConst (const.tuple (names_in (p ∷ ps)))) (length vs + length (p ∷ ps))
 
 abbrev pub emission_of_call : Callee Emission → List (Element Emission Emission) → Keywords → Emission
-emission_of_call c es ks = if starred es || starred ks then call_by c op.CallFunctionEx op.CallMethodEx (packed es ks) (any ks) else placed c (bare es) ks
+emission_of_call c es ks = if has_starred es || has_starred ks then call_by c op.CallFunctionEx op.CallMethodEx (packed_arguments es ks) (any ks) else positional_call c (bare es) ks
 
 -- values that are added to a map
 abbrev pub updates : List Emission → Emission
@@ -187,7 +187,7 @@ slice_value lower upper step = value_or const.none lower ▸ value_or const.none
 -- one text, or what is built of the values
 abbrev pub joined_value : Option (List ℕ) → List Emission → Emission
 joined_value (Some text) vs = emit_constant op.LoadConst (const.str text)
-joined_value None vs = built op.BuildString vs
+joined_value None vs = counted_build op.BuildString vs
 
 -- an expression or a statement that only a function may hold
 abbrev pub only_in_function : CodegenErrorType → Emission → Emission
@@ -195,16 +195,16 @@ only_in_function e v = by_context (λ c. if is_function c.typ then v else refuse
 
 -- the scopes of parts that are scanned and not compiled, which annotations that are postponed have none of
 abbrev pub pass_scopes : ((postponed : Bool) → ℕ) → Emission
-pass_scopes count = by_context (λ c. pass_over (λ n. n + count c.postponed))
+pass_scopes count = by_context (λ c. pass_over (count c.postponed))
 
 -- values, where all but the last are followed by a jump to the end
 abbrev pub shorts : BoolOp → (end : ℕ) → List Emissions → Emission
 shorts o end [] = keep
 shorts o end (e ∷ []) = e.value
-shorts o end (e ∷ f ∷ fs) = e.value ▸ jump (keeping_jump (deciding o)) end ▸ shorts o end (f ∷ fs)
+shorts o end (e ∷ f ∷ fs) = e.value ▸ jump (keeping_jump (deciding_truth o)) end ▸ shorts o end (f ∷ fs)
 
 abbrev pub some_values : BoolOp → List Emissions → Emission
-some_values o es = new_block (λ end. shorts o end es ▸ begin end)
+some_values o es = one_block (λ end. shorts o end es) (λ end. keep)
 
 abbrev pub bool_value : BoolOp → List Emissions → Emission
 bool_value o es = if nat_eq (length es) 0 then refuse (error.MalformedTree shape.NoOperand) else some_values o es
@@ -217,7 +217,7 @@ tests stop out c to (e ∷ f ∷ fs) = e.test stop out ▸ tests stop out c to (
 
 -- a value that decides jumps past the others
 abbrev pub past_tests : (deciding truth : Bool) → List Emissions → (block : ℕ) → Emission
-past_tests stop c es to = new_block (λ end. tests stop end c to es ▸ begin end)
+past_tests stop c es to = one_block (λ end. tests stop end c to es) (λ end. keep)
 
 -- where the deciding truth is the one that jumps, all jump there; else a value that decides goes past the others
 abbrev pub some_test : (deciding truth : Bool) → List Emissions → (block : ℕ) → Emission
@@ -227,7 +227,7 @@ some_test false true es to = past_tests false true es to
 some_test true false es to = past_tests true false es to
 
 abbrev pub bool_test : BoolOp → List Emissions → (truth : Bool) → (block : ℕ) → Emission
-bool_test o es c to = if nat_eq (length es) 0 then refuse (error.MalformedTree shape.NoOperand) else some_test (deciding o) c es to
+bool_test o es c to = if nat_eq (length es) 0 then refuse (error.MalformedTree shape.NoOperand) else some_test (deciding_truth o) c es to
 
 abbrev pub bool_emissions : SourceLocation → BoolOp → List Emissions → Emissions
 bool_emissions at o es = ordinary (move at ▸ bool_value o es) (bool_test o es)
@@ -254,7 +254,7 @@ links out (o ∷ p ∷ ops) (e ∷ es) = e.value ▸ emission_of_link o out ▸ 
 
 -- a chain of comparisons, where what a false one leaves lies above a value that goes
 abbrev pub chain : Emission → List CmpOp → List Emissions → Emission
-chain left ops es = new_block (λ out. new_block (λ end. left ▸ links out ops es ▸ jump op.Jump end ▸ begin out ▸ emit op.Rotate2 0 ▸ emit op.Pop 0 ▸ begin end))
+chain left ops es = two_blocks (λ out end. left ▸ links out ops es ▸ jump op.Jump end) (λ out end. emit op.Rotate2 0 ▸ emit op.Pop 0) (λ out end. keep)
 
 abbrev pub first_comparison : List CmpOp → Emission
 first_comparison [] = keep
@@ -271,11 +271,11 @@ emission_of_compare left ops es =
 
 -- one body, where the test holds
 abbrev pub only : ((truth : Bool) → (block : ℕ) → Emission) → (body : Emission) → Emission
-only test body = new_block (λ end. test false end ▸ body ▸ begin end)
+only test body = one_block (λ end. test false end ▸ body) (λ end. keep)
 
 -- one of two bodies
 abbrev pub choice : ((truth : Bool) → (block : ℕ) → Emission) → (body orelse : Emission) → Emission
-choice test body orelse = new_block (λ other. new_block (λ end. test false other ▸ body ▸ jump op.Jump end ▸ begin other ▸ orelse ▸ begin end))
+choice test body orelse = two_blocks (λ other end. test false other ▸ body ▸ jump op.Jump end) (λ other end. orelse) (λ other end. keep)
 
 -- one star, with few targets on each side
 abbrev pub unpack_starred : SourceLocation → List (Element Emission Emission) → Emission
@@ -284,12 +284,12 @@ unpack_starred at es =
     else move at ▸ refuse error.TooManyStarUnpack
 
 -- a value is unpacked to as many targets
-abbrev pub unpacking : SourceLocation → List (Element Emission Emission) → Emission
-unpacking at es = if nat_eq (stars es) 0 then emit_count op.UnpackSequence (length es) else unpack_starred at es
+abbrev pub unpack_emission : SourceLocation → List (Element Emission Emission) → Emission
+unpack_emission at es = if nat_eq (stars es) 0 then emit_count op.UnpackSequence (length es) else unpack_starred at es
 
 -- and what it gives is stored in turn
 abbrev pub unpack : SourceLocation → List (Element Emission Emission) → Emission
-unpack at es = unpacking at es ▸ in_turn (bare es)
+unpack at es = unpack_emission at es ▸ in_turn (bare es)
 
 -- what stores the value that lies there, alone and among others
 pub record Stores : Type 0 where

@@ -1,4 +1,4 @@
--- What holds of a code object and of all code objects within it.
+-- What holds of a code object and of all code objects nested in it.
 use Rattle.std.specs.Prelude.{ℕ, zero, suc}
 use Rattle.py_bytecode.specs.Objects.{Object, constants, codes_in}
 use Rattle.py_control.specs.Agree.{AllOf}

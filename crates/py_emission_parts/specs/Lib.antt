@@ -2,6 +2,7 @@ pub mod Elements
 pub mod TableParts
 pub mod Context
 pub mod Emitting
+pub mod Running
 pub mod Listed
 pub mod Sealed
 pub mod EmissionParts

@@ -1,5 +1,5 @@
 -- The list of instructions that steps come to, with the place where each block starts.
-use Rattle.std.specs.Prelude.{ℕ, zero, suc, List, [], ◌∷◌, map, Bool, true, false, not, Option, Some, None, nat_eq, if◌then◌else◌}
+use Rattle.std.specs.Prelude.{◌≡◌, ◌⊎◌, ℕ, zero, suc, List, [], ◌∷◌, map, Bool, true, false, not, Option, Some, None, nat_eq, if◌then◌else◌}
 use Rattle.std.specs.List.{range_with_len}
 use Rattle.py_bytecode.specs.Table.{row_of}
 use Rattle.py_dataflow.specs.declared.info.InstructionInfo.{InstructionInfo}
@@ -37,3 +37,9 @@ start_in b (Begin c ∷ xs) = if nat_eq b c then 0 else start_in b xs
 -- the place where each of so many blocks starts; block 0 begins it all
 abbrev pub starts_in : (blocks : ℕ) → List Step → List ℕ
 starts_in blocks xs = map (λ b. start_in b (Begin 0 ∷ xs)) (range_with_len 0 blocks)
+
+-- the block begins in these steps
+abbrev pub Begun : ℕ → List Step → Type 0
+Begun b [] = ⊥
+Begun b (Put i n to at ∷ xs) = Begun b xs
+Begun b (Begin c ∷ xs) = (b ≡ c) ⊎ Begun b xs

@@ -6,7 +6,7 @@ use Rattle.py_bytecode.specs.Decode.{Tables}
 use Rattle.py_bytecode.specs.Objects as obj
 use Rattle.py_bytecode.specs.Objects.{Object, object_of, consts_of}
 use Rattle.py_dataflow.specs.Highest.{height_of}
-use Rattle.py_layout.specs.Assembled.{Assembled, assembled}
+use Rattle.py_layout.specs.Assembled.{Assembled, assembled_code}
 use Rattle.py_emission_parts.specs.Emitting.{Step, State}
 use Rattle.py_emission_parts.specs.Listed.{items_in, steps_at, starts_in}
 
@@ -33,7 +33,7 @@ flags_of true flags = bit_or flags 0x02
 
 -- the units of so many blocks
 abbrev pub assembled_steps : (blocks : ℕ) → List Step → Assembled
-assembled_steps blocks xs = assembled (starts_in blocks xs) (items_in xs)
+assembled_steps blocks xs = assembled_code (starts_in blocks xs) (items_in xs)
 
 -- all of the code object but its constants, with these units
 abbrev pub head_with : Head → State → Assembled → obj.Head
@@ -56,5 +56,5 @@ head_with h s a = record {
 }
 
 -- the code object at an optimization level
-unfoldable pub sealed : (level : ℕ) → Head → State → Object
-sealed level h s = object_of (head_with h s (assembled_steps s.blocks (steps_at level s.steps))) (consts_of s.constants)
+unfoldable pub assembled_object : (level : ℕ) → Head → State → Object
+assembled_object level h s = object_of (head_with h s (assembled_steps s.blocks (steps_at level s.steps))) (consts_of s.constants)

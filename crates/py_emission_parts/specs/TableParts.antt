@@ -19,7 +19,7 @@ use Rattle.py_bytecode.specs.declared.instruction.Instruction.TheVariants as op
 use Rattle.py_bytecode.specs.Objects as const
 use Rattle.py_bytecode.specs.Objects.{Const, Consts, no_consts, more_consts}
 use Rattle.py_bytecode.specs.Values.{Operation, operation, Bare, Number, Named}
-use Rattle.py_emission_parts.specs.Elements.{Element, Single, Spread, Callee, Function, Method, starred, bare, stars, before_star, after_star, groups, front, behind, sides}
+use Rattle.py_emission_parts.specs.Elements.{Element, Single, Spread, Callee, Function, Method, has_starred, bare, stars, before_star, after_star, groups, front, behind, sides}
 use Rattle.py_control.specs.Form.{VForm, VConst, VLoad, VOp, VShort, VChain, VAt, VForms, VNone, VMore, VMethod, Shorts, OneShort, MoreShort, Links, LastLink, MoreLink, TForm, TTruth, TNot, TAll, Tests, OneTest, MoreTest, Resolved, Target, GUnpack, Targets, NoTarget, MoreTarget}
 
 -- the number of a binary operator among the operations
@@ -105,16 +105,16 @@ comparison_operation comparison.Is = test 2
 comparison_operation comparison.IsNot = test 3
 
 -- an operation on so many values, or with this case
-abbrev pub counted : Instruction → ℕ → Operation
-counted i n = operation i (Number n)
+abbrev pub counted_operation : Instruction → ℕ → Operation
+counted_operation i n = operation i (Number n)
 
-abbrev pub named : Instruction → (name : List ℕ) → Operation
-named i name = operation i (Named name)
+abbrev pub named_operation : Instruction → (name : List ℕ) → Operation
+named_operation i name = operation i (Named name)
 
 -- the truth at which a value decides
-abbrev pub deciding : BoolOp → Bool
-deciding And = false
-deciding Or = true
+abbrev pub deciding_truth : BoolOp → Bool
+deciding_truth And = false
+deciding_truth Or = true
 
 -- an expression as a value, as a test, as an element of a display or of arguments, and as what is called
 pub record ExprForms : Type 0 where
@@ -128,8 +128,8 @@ abbrev pub ordinary : VForm → TForm → ExprForms
 ordinary f t = record { value = f; test = t; element = Single f; callee = Function f }
 
 -- a test of its truth
-abbrev pub tested : VForm → ExprForms
-tested f = ordinary f (TTruth f)
+abbrev pub tested_form : VForm → ExprForms
+tested_form f = ordinary f (TTruth f)
 
 -- what stands for a list of no operands, which no program has
 abbrev pub no_operand : VForm
@@ -148,20 +148,20 @@ parts_of [] = VNone
 parts_of (f ∷ fs) = VMore f (parts_of fs)
 
 -- an operation on as many values as it counts
-abbrev pub built : Instruction → List VForm → VForm
-built i fs = VOp (counted i (length fs)) (parts_of fs)
+abbrev pub built_form : Instruction → List VForm → VForm
+built_form i fs = VOp (counted_operation i (length fs)) (parts_of fs)
 
 -- all that the elements give, where some are starred
-abbrev pub unpacked : (unpack : Instruction) → List (Element VForm VForm) → VForm
-unpacked unpack es = built unpack (groups (built op.BuildTuple) [] es)
+abbrev pub unpacked_form : (unpack : Instruction) → List (Element VForm VForm) → VForm
+unpacked_form unpack es = built_form unpack (groups (built_form op.BuildTuple) [] es)
 
 abbrev pub display : (build unpack : Instruction) → List (Element VForm VForm) → VForm
-display build unpack es = if starred es then unpacked unpack es else built build (bare es)
+display build unpack es = if has_starred es then unpacked_form unpack es else built_form build (bare es)
 
 -- a call of a function, or of a method that its value gives
 abbrev pub call_by : Callee VForm → (function method : Operation) → VForms → VForm
 call_by (Function f) function method args = VOp function (VMore f args)
-call_by (Method name f) function method args = VOp method (VMethod (named op.LoadMethod name) f args)
+call_by (Method name f) function method args = VOp method (VMethod (named_operation op.LoadMethod name) f args)
 
 -- the keywords of a call: a value with its name, or a starred map
 abbrev pub Keywords : Type 0
@@ -174,13 +174,13 @@ name_values (p ∷ ps) = VConst (const.str p.0) ∷ p.1 ∷ name_values ps
 
 -- a map of a run of named values
 abbrev pub map_of : List (List ℕ × VForm) → VForm
-map_of ps = VOp (counted op.BuildMap (length ps)) (parts_of (name_values ps))
+map_of ps = VOp (counted_operation op.BuildMap (length ps)) (parts_of (name_values ps))
 
 -- one map, or one of several
 abbrev pub joined_map : List VForm → VForms
 joined_map [] = VNone
 joined_map (f ∷ []) = VMore f VNone
-joined_map (f ∷ g ∷ gs) = VMore (built op.BuildMapForCall (f ∷ g ∷ gs)) VNone
+joined_map (f ∷ g ∷ gs) = VMore (built_form op.BuildMapForCall (f ∷ g ∷ gs)) VNone
 
 abbrev pub names_in : Keywords → Consts
 names_in [] = no_consts
@@ -193,8 +193,8 @@ values_in (Single p ∷ ks) = p.1 ∷ values_in ks
 values_in (Spread f ∷ ks) = f ∷ values_in ks
 
 -- the tuple of the arguments, and the map of the keywords where there are any
-abbrev pub packed : List (Element VForm VForm) → Keywords → VForms
-packed es ks = VMore (if starred es then unpacked op.BuildTupleUnpack es else built op.BuildTuple (bare es)) (joined_map (groups map_of [] ks))
+abbrev pub packed_forms : List (Element VForm VForm) → Keywords → VForms
+packed_forms es ks = VMore (if has_starred es then unpacked_form op.BuildTupleUnpack es else built_form op.BuildTuple (bare es)) (joined_map (groups map_of [] ks))
 
 -- 1 where there are keywords
 abbrev pub any : {A : Type 0} → List A → ℕ
@@ -202,21 +202,21 @@ any [] = 0
 any (x ∷ xs) = 1
 
 -- arguments in their places, then the values of the keywords and the tuple of their names, where there are any
-abbrev pub placed : Callee VForm → List VForm → Keywords → VForm
-placed c fs [] = call_by c (counted op.CallFunctionPositional (length fs)) (counted op.CallMethodPositional (length fs)) (parts_of fs)
-placed c fs (k ∷ ks) =
+abbrev pub positional_form : Callee VForm → List VForm → Keywords → VForm
+positional_form c fs [] = call_by c (counted_operation op.CallFunctionPositional (length fs)) (counted_operation op.CallMethodPositional (length fs)) (parts_of fs)
+positional_form c fs (k ∷ ks) =
     let n = length fs + length (k ∷ ks) in
-    call_by c (counted op.CallFunctionKeyword n) (counted op.CallMethodKeyword n) (parts_of (fs ++ (values_in (k ∷ ks) ++ VConst (const.tuple (names_in (k ∷ ks))) ∷ [])))
+    call_by c (counted_operation op.CallFunctionKeyword n) (counted_operation op.CallMethodKeyword n) (parts_of (fs ++ (values_in (k ∷ ks) ++ VConst (const.tuple (names_in (k ∷ ks))) ∷ [])))
 
 abbrev pub call_form : Callee VForm → List (Element VForm VForm) → Keywords → VForm
 call_form c es ks =
-    if starred es || starred ks then call_by c (counted op.CallFunctionEx (any ks)) (counted op.CallMethodEx (any ks)) (packed es ks)
-    else placed c (bare es) ks
+    if has_starred es || has_starred ks then call_by c (counted_operation op.CallFunctionEx (any ks)) (counted_operation op.CallMethodEx (any ks)) (packed_forms es ks)
+    else positional_form c (bare es) ks
 
 -- a map that each of the values then adds to
-abbrev pub updated : VForm → List VForm → VForm
-updated map [] = map
-updated map (f ∷ fs) = updated (VOp (operation op.DictUpdate Bare) (VMore map (VMore f VNone))) fs
+abbrev pub updated_map : VForm → List VForm → VForm
+updated_map map [] = map
+updated_map map (f ∷ fs) = updated_map (VOp (operation op.DictUpdate Bare) (VMore map (VMore f VNone))) fs
 
 -- one part where there are any values, and none where there is none
 abbrev pub some_built : {A : Type 0} → (List A → VForm) → List A → VForms → VForms
@@ -225,11 +225,11 @@ some_built build (x ∷ xs) rest = VMore (build (x ∷ xs)) rest
 
 -- a map of a run of keys and values
 abbrev pub map_of_pairs : List (VForm × VForm) → VForm
-map_of_pairs ps = VOp (counted op.BuildMap (length ps)) (parts_of (sides ps))
+map_of_pairs ps = VOp (counted_operation op.BuildMap (length ps)) (parts_of (sides ps))
 
 -- the first run of pairs is a map, to which each later run and each map that is unpacked adds, in order
 abbrev pub dict_form : List (Element (VForm × VForm) VForm) → VForm
-dict_form es = updated (map_of_pairs (front es)) (groups map_of_pairs [] (behind es))
+dict_form es = updated_map (map_of_pairs (front es)) (groups map_of_pairs [] (behind es))
 
 -- the value, or a constant where there is none
 abbrev pub value_or : Const → Option VForm → VForm
@@ -237,13 +237,13 @@ value_or c None = VConst c
 value_or c (Some f) = f
 
 abbrev pub slice_form : (lower upper step : Option VForm) → VForm
-slice_form lower upper None = VOp (counted op.BuildSlice 0) (VMore (value_or const.none lower) (VMore (value_or const.none upper) VNone))
-slice_form lower upper (Some step) = VOp (counted op.BuildSlice 1) (VMore (value_or const.none lower) (VMore (value_or const.none upper) (VMore step VNone)))
+slice_form lower upper None = VOp (counted_operation op.BuildSlice 0) (VMore (value_or const.none lower) (VMore (value_or const.none upper) VNone))
+slice_form lower upper (Some step) = VOp (counted_operation op.BuildSlice 1) (VMore (value_or const.none lower) (VMore (value_or const.none upper) (VMore step VNone)))
 
 -- one text, or what is built of the values
 abbrev pub joined_form : Option (List ℕ) → List VForm → VForm
 joined_form (Some text) fs = VConst (const.str text)
-joined_form None fs = built op.BuildString fs
+joined_form None fs = built_form op.BuildString fs
 
 abbrev pub shorts_of : ExprForms → List ExprForms → Shorts
 shorts_of f [] = OneShort f.value
@@ -263,8 +263,8 @@ tests_of o f [] = OneTest (part_test o f.test)
 tests_of o f (g ∷ gs) = MoreTest (part_test o f.test) (tests_of o g gs)
 
 abbrev pub bool_forms : SourceLocation → BoolOp → List ExprForms → ExprForms
-bool_forms at o [] = tested (VAt at no_operand)
-bool_forms at o (f ∷ fs) = ordinary (VAt at (VShort (deciding o) (shorts_of f fs))) (whole_test o (tests_of o f fs))
+bool_forms at o [] = tested_form (VAt at no_operand)
+bool_forms at o (f ∷ fs) = ordinary (VAt at (VShort (deciding_truth o) (shorts_of f fs))) (whole_test o (tests_of o f fs))
 
 -- `not` turns the test of its operand
 abbrev pub unary_test : SourceLocation → UnaryOp → ExprForms → TForm
@@ -289,15 +289,15 @@ compare_form f (o ∷ p ∷ ops) (g ∷ []) = no_operand
 compare_form f (o ∷ p ∷ ops) (g ∷ h ∷ hs) = VChain f (comparison_operation o) g.value (links_of p h.value ops hs)
 
 -- values are unpacked to as many targets, or with a star to these before it, these after it and a list of the others
-abbrev pub unpacking : {A : Type 0} → List (Element A A) → Operation
-unpacking es = if nat_eq (stars es) 0 then counted op.UnpackSequence (length es) else counted op.UnpackEx (before_star es + 256 * after_star es)
+abbrev pub unpack_operation : {A : Type 0} → List (Element A A) → Operation
+unpack_operation es = if nat_eq (stars es) 0 then counted_operation op.UnpackSequence (length es) else counted_operation op.UnpackEx (before_star es + 256 * after_star es)
 
 abbrev pub targets_of : List Target → Targets
 targets_of [] = NoTarget
 targets_of (t ∷ ts) = MoreTarget t (targets_of ts)
 
 abbrev pub unpacked_to : List (Element Target Target) → Target
-unpacked_to es = GUnpack (unpacking es) (targets_of (bare es))
+unpacked_to es = GUnpack (unpack_operation es) (targets_of (bare es))
 
 -- an expression as a target, alone and among others; what is no target stands for a value that is dropped, which no program has
 pub record TargetForms : Type 0 where

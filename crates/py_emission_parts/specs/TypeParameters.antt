@@ -1,13 +1,13 @@
--- What is emitted of type parameters: a hidden scope around a function, a class or an alias, which is called at once with the defaults that it is handed.
+-- What is emitted of type parameters: a type-parameter scope around a function, a class or an alias, which is called at once with the defaults that it is handed.
 use Rattle.std.specs.Prelude.{ℕ, length, List, [], ◌∷◌}
 use Rattle.py_bytecode.specs.declared.instruction.Instruction.TheVariants as op
 use Rattle.py_bytecode.specs.Objects as const
 use Rattle.py_emission_parts.specs.Accesses.{emission_of_stored}
-use Rattle.py_emission_parts.specs.Children.{DefaultEmissions, child, emission_of_defaults, made}
-use Rattle.py_emission_parts.specs.Within.{Shape, handed, hidden_inside, hidden_name}
+use Rattle.py_emission_parts.specs.Children.{DefaultEmissions, child, emission_of_defaults, made_function}
+use Rattle.py_emission_parts.specs.Within.{Shape, passed_defaults, hidden_inside, hidden_name}
 use Rattle.py_emission_parts.specs.Emitting.{Emission, ◌▸◌, emit, emit_constant, emit_count, emit_varname, keep}
 
--- a hidden scope takes what it is handed by its place
+-- a type-parameter scope takes what it is handed by its place
 abbrev pub hidden_shape : (count : ℕ) → (name : List ℕ) → Shape
 hidden_shape count name = record { flags = 0x21; posonlyarg_count = count; arg_count = count; kwonlyarg_count = 0; obj_name = hidden_name name }
 
@@ -20,21 +20,21 @@ abbrev pub plain : (name : List ℕ) → Emission
 plain name = emit_constant op.LoadConst (const.str name) ▸ emit op.TypeVar 0 ▸ kept_as name
 
 -- one whose bound comes first
-abbrev pub bounded : (bound : Emission) → (name : List ℕ) → Emission
-bounded v name = v ▸ emit_constant op.LoadConst (const.str name) ▸ emit op.TypeVarWithBound 0 ▸ kept_as name
+abbrev pub bounded_type_var : (bound : Emission) → (name : List ℕ) → Emission
+bounded_type_var v name = v ▸ emit_constant op.LoadConst (const.str name) ▸ emit op.TypeVarWithBound 0 ▸ kept_as name
 
 -- what is handed is loaded in order
 abbrev pub load_handed : (names : List (List ℕ)) → Emission
 load_handed [] = keep
 load_handed (x ∷ xs) = emit_varname op.LoadFast x ▸ load_handed xs
 
--- a hidden scope returns what is made in it, and is called with the defaults
+-- a type-parameter scope returns what is made in it, and is called with the defaults
 abbrev pub hidden : (name : List ℕ) → DefaultEmissions → (value : Emission) → Emission
 hidden name d value =
-    let count = length (handed d.positional d.keyword) in
-    child hidden_inside (hidden_shape count name) (value ▸ emit op.ReturnValue 0) (made 0 (hidden_name name)) ▸ emission_of_defaults d ▸ emit_count op.CallFunctionPositional count
+    let count = length (passed_defaults d.positional d.keyword) in
+    child hidden_inside (hidden_shape count name) (value ▸ emit op.ReturnValue 0) (made_function 0 (hidden_name name)) ▸ emission_of_defaults d ▸ emit_count op.CallFunctionPositional count
 
--- nothing is handed to the hidden scope of a class or an alias
+-- nothing is handed to the type-parameter scope of a class or an alias
 abbrev pub no_defaults : DefaultEmissions
 no_defaults = record { positional = []; keyword = [] }
 

@@ -1,12 +1,12 @@
--- What stands around the nodes of a scope within, and what the form of such a scope and its emission have in common: names, flags, and parts in order.
-use Rattle.std.specs.Prelude.{ℕ, List, [], ◌∷◌, Bool, true, false, Option, Some, None, if◌then◌else◌, ◌+◌, ◌++◌, codes}
+-- What stands around the nodes of a nested scope, and what the form of such a scope and its emission have in common: names, flags, and parts in order.
+use Rattle.std.specs.Prelude.{ℕ, List, [], ◌∷◌, Bool, true, false, Option, Some, None, if◌then◌else◌, ◌++◌, codes}
 use Rattle.py_scope.specs.declared.table_type.SymbolTableType.TheVariants as kind
-use Rattle.py_emission_parts.specs.Context.{Context, function_path, inside, with_path, mangled, qualified, scope_of, within_class}
+use Rattle.py_emission_parts.specs.Context.{Context, function_path, inside, with_path, mangled_by, qualified_under, scope_of, within_class}
 use Rattle.py_bytecode.specs.Objects as const
 use Rattle.py_bytecode.specs.Objects.{Const}
 use Rattle.py_scope.specs.declared.kinds.SymbolScope.{SymbolScope}
 use Rattle.py_scope.specs.declared.kinds.SymbolScope.TheVariants as scope
-use Rattle.py_emission_parts.specs.Elements.{Element, Single, Spread, starred}
+use Rattle.py_emission_parts.specs.Elements.{Element, Single, Spread, has_starred}
 use Rattle.py_control.specs.Form.{VForms, VMore, VLoad, FixedFast}
 
 -- what a node says of its scope's code object
@@ -45,13 +45,13 @@ is_global scope.Cell = false
 
 -- the qualified name of a class, which begins anew where its name is global in the scope that it stands in
 abbrev pub class_path : Context → (name : List ℕ) → List ℕ
-class_path c name = if is_global (scope_of c (mangled c name)) then name else qualified c name
+class_path c name = if is_global (scope_of c (mangled_by c name)) then name else qualified_under c name
 
 -- within a class of this name and this qualified name, which mangles the names within it
 abbrev pub class_within : (path name : List ℕ) → Context → (number : ℕ) → Context
 class_within path name c n = inside kind.Class n (with_path path (within_class name c))
 
--- where no hidden scope stands around it
+-- where no type-parameter scope stands around it
 abbrev pub class_inside : (name : List ℕ) → Context → (number : ℕ) → Context
 class_inside name c n = class_within (class_path c name) name c n
 
@@ -62,13 +62,13 @@ doc_const (Some text) = const.str text
 
 -- the function of a class and its name come before the bases, and make a tuple of their own where one of these is starred
 abbrev pub behind_name : {A : Type 0} → (tuple : List A → A) → (function name : A) → List (Element A A) → List (Element A A)
-behind_name tuple f x es = if starred es then Spread (tuple (f ∷ x ∷ [])) ∷ es else Single f ∷ Single x ∷ es
+behind_name tuple f x es = if has_starred es then Spread (tuple (f ∷ x ∷ [])) ∷ es else Single f ∷ Single x ∷ es
 
--- the name of a hidden scope
+-- the name of a type-parameter scope
 abbrev pub hidden_name : (name : List ℕ) → List ℕ
 hidden_name name = codes "<generic parameters of " ++ (name ++ codes ">")
 
--- within a hidden scope, around which the class and the qualified name stay as they are
+-- within a type-parameter scope, around which the class and the qualified name stay as they are
 abbrev pub hidden_inside : Context → (number : ℕ) → Context
 hidden_inside c n = inside kind.TypeParams n c
 
@@ -77,9 +77,9 @@ abbrev pub some_name : {A : Type 0} → (name : List ℕ) → List A → List (L
 some_name name [] = []
 some_name name (x ∷ xs) = name ∷ []
 
--- the names under which a hidden scope has the defaults that it is handed
-abbrev pub handed : {A B : Type 0} → (positional : List A) → (keyword : List B) → List (List ℕ)
-handed ps ks = some_name (codes ".defaults") ps ++ some_name (codes ".kwdefaults") ks
+-- the names under which a type-parameter scope has the defaults that it is handed
+abbrev pub passed_defaults : {A B : Type 0} → (positional : List A) → (keyword : List B) → List (List ℕ)
+passed_defaults ps ks = some_name (codes ".defaults") ps ++ some_name (codes ".kwdefaults") ks
 
 -- the same as parts of a function
 abbrev pub handed_parts : (names : List (List ℕ)) → VForms → VForms

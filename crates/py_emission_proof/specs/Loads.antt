@@ -1,4 +1,4 @@
--- How many cells a code loads for the functions that it makes: as many as the scopes of these have names from outside.
+-- How many cells a code loads for the functions that it makes: as many as the scopes of these have free variables.
 use Rattle.std.specs.Prelude.{ℕ, zero, suc, ◌+◌, ◌≤◌, ◌≢◌, List, [], ◌∷◌, length}
 use Rattle.py_scope.specs.declared.flat.ScopeEntry.{ScopeEntry}
 use Rattle.py_control.specs.Agree.{AllOf, form_of, head_of, kids}
@@ -15,7 +15,7 @@ abbrev pub AreNumbered : List Scope → Type 0
 AreNumbered [] = Unit {0}
 AreNumbered (s ∷ ss) = AllOf (λ t. (head_of t).number ≢ (head_of s).number) ss × AreNumbered ss
 
--- the scopes that stand directly in it, where they have numbers of their own, have no more than so many names from outside together;
+-- the scopes that stand directly in it, where they have numbers of their own, have no more than so many free variables together;
 -- and so it is for each of them, down to n levels
 abbrev pub LoadsUpTo : List ScopeEntry → (most n : ℕ) → Scope → Type 0
 LoadsUpTo entries most zero s = Unit {0}

@@ -8,17 +8,18 @@ use Rattle.py_dataflow.specs.declared.info.BlockIdx.{BlockIdx}
 use Rattle.py_dataflow.specs.declared.info.InstructionInfo.{InstructionInfo}
 use Rattle.py_ir.specs.declared.blocks.Block.{Block}
 use Rattle.py_ir.specs.Chain.{Blk, blk, plain}
-use Rattle.py_ir.specs.BlockList.{BlockList, IsOutside, IsWhole, block_at, current_block, empty_block, leading_to, placed, pushed, with_items, with_new_block}
+use Rattle.py_ir.specs.BlockList.{BlockList, IsOutside, IsWhole, block_at, current_block, empty_block, leading_to, with_next_block, with_item, with_items, with_new_block}
 use Rattle.py_emission_parts.specs.Emitting.{Step, Begin, State}
-use Rattle.py_emit.specs.Steps.{step_of, onwards, steps_from, steps_in, Begun, IsOpen}
-use Rattle.py_emit.proofs.Chains.{Leads, chain_leads, chain_short, short_list}
+use Rattle.py_emission_parts.specs.Listed.{Begun}
+use Rattle.py_emit.specs.Steps.{step_of, onwards, steps_from, steps_in, IsOpen}
+use Rattle.py_emit.proofs.Chains.{ChainLeads, chain_leads, chain_short, short_list}
 
 -- the steps of a block and of those that come after it
 abbrev pub path_steps : List Blk → ℕ → List ℕ → List Step
 path_steps bs c [] = map step_of (blk bs c).items
 path_steps bs c (d ∷ ds) = map step_of (blk bs c).items ++ Begin d ∷ path_steps bs d ds
 
-pub steps_are : (bs : List Blk) (n c : ℕ) (ds : List ℕ) → Leads bs (c ∷ ds) → length (c ∷ ds) ≤ n → steps_from bs n c ≡ path_steps bs c ds
+pub steps_are : (bs : List Blk) (n c : ℕ) (ds : List ℕ) → ChainLeads bs (c ∷ ds) → length (c ∷ ds) ≤ n → steps_from bs n c ≡ path_steps bs c ds
 steps_are bs zero c ds leads le = absurd (omega (arith, le))
 steps_are bs (suc n) c [] leads le = ap (λ o. map step_of (blk bs c).items ++ onwards o (steps_from bs n)) leads ∙ append-nil (map step_of (blk bs c).items)
 steps_are bs (suc n) c (d ∷ ds) leads le =
@@ -42,7 +43,7 @@ tails_from last c (d ∷ ds) apart e =
 -- blocks with their chain, whose last is the current one
 pub record Along (v : BlockList) : Type 0 where
   pub rest : List ℕ
-  pub leads : Leads (map plain v.blocks) (0 ∷ rest)
+  pub leads : ChainLeads (map plain v.blocks) (0 ∷ rest)
   pub tails : Tails v.current.0 0 rest
   pub short : length (0 ∷ rest) ≤ length v.blocks
   pub inside : (k : ℕ) → k < length (0 ∷ rest) → get_or (0 ∷ rest) k 0 < length v.blocks
@@ -50,8 +51,8 @@ pub record Along (v : BlockList) : Type 0 where
   pub outside : (b : ℕ) → b < length v.blocks → ¬ Contains (0 ∷ rest) b → block_at v b ≡ empty_block
   pub steps : steps_in (map plain v.blocks) ≡ path_steps (map plain v.blocks) 0 rest
 
-pub along : (v : BlockList) → IsWhole v → Along v
-along v w =
+pub block_step_along : (v : BlockList) → IsWhole v → Along v
+block_step_along v w =
     let bs = map plain v.blocks in
     let l = chain_leads bs w.chain w.is_chain in
     let long : length bs ≡ length v.blocks = length-map v.blocks plain in
@@ -87,7 +88,7 @@ module _ (bs ds : List Blk) (last : ℕ) (x : InstructionInfo) (others : (b : �
       ∙ sym (append_assoc (map step_of (blk bs c).items) (Begin d ∷ path_steps bs d cs) (step_of x ∷ []))
 
 -- blocks with the same nexts
-leads_same : (bs ds : List Blk) → ((b : ℕ) → (blk ds b).next ≡ (blk bs b).next) → (cs : List ℕ) → Leads bs cs → Leads ds cs
+leads_same : (bs ds : List Blk) → ((b : ℕ) → (blk ds b).next ≡ (blk bs b).next) → (cs : List ℕ) → ChainLeads bs cs → ChainLeads ds cs
 leads_same bs ds same [] h = tt
 leads_same bs ds same (c ∷ []) h = same c ∙ h
 leads_same bs ds same (c ∷ d ∷ cs) h = (same c ∙ h.0, leads_same bs ds same (d ∷ cs) h.1)
@@ -99,12 +100,12 @@ pub tail_inside : (bound last c : ℕ) (cs : List ℕ) → Tails last c cs → (
 tail_inside bound last c [] e h = subst (λ n. n < bound) e (h 0 (omega arith))
 tail_inside bound last c (d ∷ cs) e h = tail_inside bound last d cs e.1 (λ k l. h (suc k) (omega (arith, l)))
 
-pub push_long : (v : BlockList) (x : InstructionInfo) → length (pushed v x).blocks ≡ length v.blocks
+pub push_long : (v : BlockList) (x : InstructionInfo) → length (with_item v x).blocks ≡ length v.blocks
 push_long v x = length-set v.blocks v.current.0 (with_items (current_block v) (x ∷ []))
 
-pub push_steps : (v : BlockList) (x : InstructionInfo) → IsWhole v → steps_in (map plain (pushed v x).blocks) ≡ steps_in (map plain v.blocks) ++ step_of x ∷ []
+pub push_steps : (v : BlockList) (x : InstructionInfo) → IsWhole v → steps_in (map plain (with_item v x).blocks) ≡ steps_in (map plain v.blocks) ++ step_of x ∷ []
 push_steps v x w =
-    let a = along v w in
+    let a = block_step_along v w in
     let bs = map plain v.blocks in
     let block : Block = with_items (current_block v) (x ∷ []) in
     let ds = map plain (set v.blocks v.current.0 block) in
@@ -134,19 +135,19 @@ module _ (bs ds : List Blk) (last b : ℕ) (others : (c : ℕ) → c ≢ last �
       ∙ ap (λ l. map step_of (blk bs c).items ++ Begin d ∷ l) (begun_path d cs e.1)
       ∙ sym (append_assoc (map step_of (blk bs c).items) (Begin d ∷ path_steps bs d cs) (Begin b ∷ []))
 
-  begun_leads : (c : ℕ) (cs : List ℕ) → Tails last c cs → Leads bs (c ∷ cs) → Leads ds (c ∷ (cs ++ b ∷ []))
+  begun_leads : (c : ℕ) (cs : List ℕ) → Tails last c cs → ChainLeads bs (c ∷ cs) → ChainLeads ds (c ∷ (cs ++ b ∷ []))
   begun_leads c [] e h = (subst (λ n. (blk ds n).next ≡ Some b) (sym e) next, ends)
   begun_leads c (d ∷ cs) e h = (ap (λ (y : Blk). y.next) (others c e.0) ∙ h.0, begun_leads d cs e.1 h.1)
 
-pub place_long : (v : BlockList) (b : BlockIdx) → length (placed v b).blocks ≡ length v.blocks
+pub place_long : (v : BlockList) (b : BlockIdx) → length (with_next_block v b).blocks ≡ length v.blocks
 place_long v b = length-set v.blocks v.current.0 (leading_to (current_block v) b)
 
 last_within : (last c : ℕ) (cs : List ℕ) → Tails last c cs → Contains (c ∷ cs) last
 last_within last c [] e = (0, omega arith, e)
 last_within last c (d ∷ cs) e = let h = last_within last d cs e.1 in (suc h.0, (let l = h.1 in omega arith), h.2)
 
-named : (n b : ℕ) → n ≢ b → (if nat_eq n b then None else Some n) ≡ Some n
-named n b h = if_not (nat_eq n b) (some_number n b h)
+block_step_named : (n b : ℕ) → n ≢ b → (if nat_eq n b then None else Some n) ≡ Some n
+block_step_named n b h = if_not (nat_eq n b) (some_number n b h)
   where
     if_not : (c : Bool) → c ≡ false → (if c then None else Some n) ≡ Some n
     if_not true e = absurd cc
@@ -156,7 +157,8 @@ named n b h = if_not (nat_eq n b) (some_number n b h)
     some_number n b h = search (rules, h)
 
 -- one more number, not among the others
-longer_list : (n b : ℕ) (cs : List ℕ) → ((i j : ℕ) → i < j → j < length cs → get_or cs i 0 ≢ get_or cs j 0) → ((k : ℕ) → k < length cs → get_or cs k 0 < n) → b < n → ¬ Contains cs b → suc (length cs) ≤ n
+longer_list : (n b : ℕ) (cs : List ℕ) → ((i j : ℕ) → i < j → j < length cs → get_or cs i 0 ≢ get_or cs j 0) → ((k : ℕ) → k < length cs → get_or cs k 0 < n)
+    → b < n → ¬ Contains cs b → suc (length cs) ≤ n
 longer_list n b cs distinct inside lt new = short_list n (b ∷ cs) apart within
   where
     apart : (i j : ℕ) → i < j → j < length (b ∷ cs) → get_or (b ∷ cs) i 0 ≢ get_or (b ∷ cs) j 0
@@ -169,9 +171,10 @@ longer_list n b cs distinct inside lt new = short_list n (b ∷ cs) apart within
     within (suc k) l = inside k (omega (arith, l))
 
 -- a block that is not in the chain begins after it
-pub place_steps : (v : BlockList) (b : BlockIdx) (w : IsWhole v) → b.0 < length v.blocks → ¬ Contains (0 ∷ (along v w).rest) b.0 → b.0 ≢ 0xffff_ffff → steps_in (map plain (placed v b).blocks) ≡ steps_in (map plain v.blocks) ++ Begin b.0 ∷ []
+pub place_steps : (v : BlockList) (b : BlockIdx) (w : IsWhole v) → b.0 < length v.blocks → ¬ Contains (0 ∷ (block_step_along v w).rest) b.0 → b.0 ≢ 0xffff_ffff
+    → steps_in (map plain (with_next_block v b).blocks) ≡ steps_in (map plain v.blocks) ++ Begin b.0 ∷ []
 place_steps v b w made new low =
-    let a = along v w in
+    let a = block_step_along v w in
     let bs = map plain v.blocks in
     let last = v.current.0 in
     let other : b.0 ≢ last = λ e. new (subst (Contains (0 ∷ a.rest)) (sym e) (last_within last 0 a.rest a.tails)) in
@@ -184,7 +187,7 @@ place_steps v b w made new low =
     let others : (c : ℕ) → c ≢ last → blk ds c ≡ blk bs c = (λ c n. blk_at set_blocks c ∙ ap plain (get_or-set_other v.blocks last c block empty_block n) ∙ sym (blk_at v.blocks c)) in
     let at_new : blk ds b.0 ≡ plain empty_block = others b.0 other ∙ blk_at v.blocks b.0 ∙ ap plain (a.outside b.0 made new) in
     let items : (blk ds last).items ≡ (blk bs last).items = ap (λ (y : Blk). y.items) at_last ∙ sym (ap (λ (y : Blk). y.items) was_last) in
-    let next : (blk ds last).next ≡ Some b.0 = ap (λ (y : Blk). y.next) at_last ∙ named b.0 0xffff_ffff low in
+    let next : (blk ds last).next ≡ Some b.0 = ap (λ (y : Blk). y.next) at_last ∙ block_step_named b.0 0xffff_ffff low in
     let long : length ds ≡ length v.blocks = length-map set_blocks plain ∙ length-set v.blocks last block in
     let no_items = ap (λ (y : Blk). y.items) at_new in
     let no_next = ap (λ (y : Blk). y.next) at_new in
@@ -206,14 +209,14 @@ begun_in_path bs b c [] (suc k, l, e) = absurd (omega (arith, l))
 begun_in_path bs b c (d ∷ cs) (suc k, l, e) = inr (begun_after b (blk bs c).items (Begin d ∷ path_steps bs d cs) (begun_in_path bs b d cs (k, (omega (arith, l)), e)))
 
 -- a block that has not begun is in no chain
-pub not_in_chain : (v : BlockList) (w : IsWhole v) (b : ℕ) → b ≢ 0 → ¬ Begun b (steps_in (map plain v.blocks)) → ¬ Contains (0 ∷ (along v w).rest) b
+pub not_in_chain : (v : BlockList) (w : IsWhole v) (b : ℕ) → b ≢ 0 → ¬ Begun b (steps_in (map plain v.blocks)) → ¬ Contains (0 ∷ (block_step_along v w).rest) b
 not_in_chain v w b some none h =
-    let a = along v w in
+    let a = block_step_along v w in
     elim (begun_in_path (map plain v.blocks) b 0 a.rest h) [ inl e ↦ some e | inr g ↦ none (subst (Begun b) (sym a.steps) g) ]
 
-pub is_outside : (v : BlockList) (w : IsWhole v) (b : ℕ) → b < length v.blocks → ¬ Contains (0 ∷ (along v w).rest) b → IsOutside v b
+pub is_outside : (v : BlockList) (w : IsWhole v) (b : ℕ) → b < length v.blocks → ¬ Contains (0 ∷ (block_step_along v w).rest) b → IsOutside v b
 is_outside v w b made new =
-    let a = along v w in
+    let a = block_step_along v w in
     record { made = made; other = λ e. new (subst (Contains (0 ∷ a.rest)) (sym e) (last_within v.current.0 0 a.rest a.tails)); no_next = ap (λ (y : Block). y.next) (a.outside b made new) }
 
 -- one block more, in no chain
@@ -223,7 +226,7 @@ same_path bs ds c (d ∷ cs) same =
     ap (λ (y : Blk). map step_of y.items ++ Begin d ∷ path_steps ds d cs) (same 0 (omega arith))
     ∙ ap (λ l. map step_of (blk bs c).items ++ Begin d ∷ l) (same_path bs ds d cs (λ k l. same (suc k) (omega (arith, l))))
 
-same_leads : (bs ds : List Blk) (c : ℕ) (cs : List ℕ) → ((k : ℕ) → k < length (c ∷ cs) → blk ds (get_or (c ∷ cs) k 0) ≡ blk bs (get_or (c ∷ cs) k 0)) → Leads bs (c ∷ cs) → Leads ds (c ∷ cs)
+same_leads : (bs ds : List Blk) (c : ℕ) (cs : List ℕ) → ((k : ℕ) → k < length (c ∷ cs) → blk ds (get_or (c ∷ cs) k 0) ≡ blk bs (get_or (c ∷ cs) k 0)) → ChainLeads bs (c ∷ cs) → ChainLeads ds (c ∷ cs)
 same_leads bs ds c [] same h = ap (λ (y : Blk). y.next) (same 0 (omega arith)) ∙ h
 same_leads bs ds c (d ∷ cs) same h = (ap (λ (y : Blk). y.next) (same 0 (omega arith)) ∙ h.0, same_leads bs ds d cs (λ k l. same (suc k) (omega (arith, l))) h.1)
 
@@ -232,7 +235,7 @@ new_long v = let l = length_push v.blocks empty_block in omega (arith, l)
 
 pub new_steps : (v : BlockList) → IsWhole v → steps_in (map plain (with_new_block v).blocks) ≡ steps_in (map plain v.blocks)
 new_steps v w =
-    let a = along v w in
+    let a = block_step_along v w in
     let bs = map plain v.blocks in
     let ds = map plain (v.blocks ++ empty_block ∷ []) in
     let same : (k : ℕ) → k < length (0 ∷ a.rest) → blk ds (get_or (0 ∷ a.rest) k 0) ≡ blk bs (get_or (0 ∷ a.rest) k 0) = (λ k l. let n = get_or (0 ∷ a.rest) k 0 in blk_at (v.blocks ++ empty_block ∷ []) n ∙ ap plain (get_or_append_left v.blocks (empty_block ∷ []) empty_block n (a.inside k l)) ∙ sym (blk_at v.blocks n)) in
@@ -250,25 +253,25 @@ none_begun : (b : ℕ) (xs : List InstructionInfo) → ¬ Begun b (map step_of x
 none_begun b [] h = h
 none_begun b (x ∷ xs) h = none_begun b xs h
 
-further : (b c d : ℕ) (cs : List ℕ) → Contains (d ∷ cs) b → Contains (c ∷ d ∷ cs) b
-further b c d cs r = (suc r.0, (let l = r.1 in omega (arith, l)), r.2)
+block_step_further : (b c d : ℕ) (cs : List ℕ) → Contains (d ∷ cs) b → Contains (c ∷ d ∷ cs) b
+block_step_further b c d cs r = (suc r.0, (let l = r.1 in omega (arith, l)), r.2)
 
 path_holds : (bs : List Blk) (b c : ℕ) (cs : List ℕ) → Begun b (path_steps bs c cs) → Contains (c ∷ cs) b
 path_holds bs b c [] h = absurd (none_begun b (blk bs c).items h)
 path_holds bs b c (d ∷ cs) h =
-    elim (begun_apart b (blk bs c).items (Begin d ∷ path_steps bs d cs) h) [ inl e ↦ (1, omega arith, sym e) | inr g ↦ further b c d cs (path_holds bs b d cs g) ]
+    elim (begun_apart b (blk bs c).items (Begin d ∷ path_steps bs d cs) h) [ inl e ↦ (1, omega arith, sym e) | inr g ↦ block_step_further b c d cs (path_holds bs b d cs g) ]
 
 -- no block has begun that is not made
 pub begun_made : (v : BlockList) → IsWhole v → (b : ℕ) → Begun b (steps_in (map plain v.blocks)) → b < length v.blocks
 begun_made v w b h =
-    let a = along v w in
+    let a = block_step_along v w in
     let r = path_holds (map plain v.blocks) b 0 a.rest (subst (Begun b) a.steps h) in
     let i = a.inside r.0 r.1 in
     let e = get_or_default (0 ∷ a.rest) r.0 0 b r.1 ∙ r.2 in
     omega (arith, i, e)
 
 pub some_block : (v : BlockList) → IsWhole v → 0 < length v.blocks
-some_block v w = let a = along v w in a.inside 0 (omega arith)
+some_block v w = let a = block_step_along v w in a.inside 0 (omega arith)
 
 -- a new block has not begun
 pub new_open : (v : BlockList) (w : IsWhole v) (s : State) → s.steps ≡ steps_in (map plain (with_new_block v).blocks) → s.blocks ≡ length (with_new_block v).blocks → IsOpen (length v.blocks) s

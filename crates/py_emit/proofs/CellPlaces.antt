@@ -1,4 +1,4 @@
--- Where a name stands in one list behind another.
+-- Where a name stands in one list after another.
 use Rattle.std.proofs.Common.{◌≡◌, ℕ, ◌+◌, ◌<◌, ◌≤◌, List, [], ◌∷◌, ◌++◌, length, Bool, true, false, not, Option, Some, None, refl, arith, rules}
 use Rattle.std.specs.Prelude.{◌||◌, position, cond, nat_lt}
 use Rattle.std.specs.List.{list_any, position_or_len}
@@ -12,16 +12,16 @@ module _ {A : Type 0} (f : A → Bool) where
   place_within [] = omega arith
   place_within (x ∷ xs) = let h = by_one (f x) (position_or_len f xs) (length xs) (place_within xs) in omega (arith, h)
 
-  taken : (b : Bool) (n p : ℕ) → cond b (Some n) None ≡ Some p → (b ≡ true) × (p ≡ n)
-  taken true n p e = (refl, cc)
-  taken false n p e = absurd cc
+  cell_place_taken : (b : Bool) (n p : ℕ) → cond b (Some n) None ≡ Some p → (b ≡ true) × (p ≡ n)
+  cell_place_taken true n p e = (refl, cc)
+  cell_place_taken false n p e = absurd cc
 
   left_out : (b : Bool) (n : ℕ) → ◌≡◌ {A = Option ℕ} (cond b (Some n) None) None → b ≡ false
   left_out true n e = absurd cc
   left_out false n e = refl
 
-  pub found : (xs : List A) (p : ℕ) → position f xs ≡ Some p → p ≡ position_or_len f xs
-  found xs p e = (taken _ (position_or_len f xs) p e).1
+  pub cell_place_found : (xs : List A) (p : ℕ) → position f xs ≡ Some p → p ≡ position_or_len f xs
+  cell_place_found xs p e = (cell_place_taken _ (position_or_len f xs) p e).1
 
   not_below : (n m : ℕ) → nat_lt n m ≡ false → m ≤ n
   not_below n m e = search (rules, e)
@@ -33,7 +33,9 @@ module _ {A : Type 0} (f : A → Bool) where
   place_first [] ys h = absurd (omega (arith, h))
   place_first (x ∷ xs) ys h = go (f x) h (place_first xs ys)
     where
-      go : (b : Bool) → cond (not b) (1 + position_or_len f xs) 0 < length (x ∷ xs) → (position_or_len f xs < length xs → position_or_len f xs ≡ position_or_len f (xs ++ ys)) → cond (not b) (1 + position_or_len f xs) 0 ≡ cond (not b) (1 + position_or_len f (xs ++ ys)) 0
+      go : (b : Bool) → cond (not b) (1 + position_or_len f xs) 0 < length (x ∷ xs)
+          → (position_or_len f xs < length xs → position_or_len f xs ≡ position_or_len f (xs ++ ys))
+          → cond (not b) (1 + position_or_len f xs) 0 ≡ cond (not b) (1 + position_or_len f (xs ++ ys)) 0
       go true l next = refl
       go false l next = let e = next (omega (arith, l)) in omega (arith, e)
 
@@ -41,7 +43,9 @@ module _ {A : Type 0} (f : A → Bool) where
   place_behind [] ys h = omega arith
   place_behind (x ∷ xs) ys h = go (f x) h (place_behind xs ys)
     where
-      go : (b : Bool) → length (x ∷ xs) ≤ cond (not b) (1 + position_or_len f xs) 0 → (length xs ≤ position_or_len f xs → position_or_len f xs + position_or_len f ys ≡ position_or_len f (xs ++ ys)) → cond (not b) (1 + position_or_len f xs) 0 + position_or_len f ys ≡ cond (not b) (1 + position_or_len f (xs ++ ys)) 0
+      go : (b : Bool) → length (x ∷ xs) ≤ cond (not b) (1 + position_or_len f xs) 0
+          → (length xs ≤ position_or_len f xs → position_or_len f xs + position_or_len f ys ≡ position_or_len f (xs ++ ys))
+          → cond (not b) (1 + position_or_len f xs) 0 + position_or_len f ys ≡ cond (not b) (1 + position_or_len f (xs ++ ys)) 0
       go true l next = absurd (omega (arith, l))
       go false l next = let e = next (omega (arith, l)) in omega (arith, e)
 

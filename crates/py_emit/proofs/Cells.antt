@@ -2,20 +2,13 @@
 use Rattle.std.proofs.Common.{◌≡◌, ℕ, ◌+◌, List, [], ◌∷◌, ◌++◌, take, Bool, true, false, ◌||◌, Some, refl, sym, ap, ◌∙◌}
 use Rattle.std.specs.Prelude.{if◌then◌else◌, slice_get}
 use Rattle.std.specs.List.{list_any}
-use Rattle.py_bytecode.specs.Equality.{entered, text_eq}
+use Rattle.py_base.proofs.Booleans.{or_false_left, or_false_right}
+use Rattle.py_bytecode.specs.Equality.{insert_if_new, text_eq}
 use Rattle.py_scope.specs.Names.{same_name}
 use Rattle.py_scope.specs.Symbols.{AreApart}
 use Rattle.py_scope.specs.declared.symbols.Symbol.{Symbol}
 use Rattle.py_scope.proofs.SymbolLists.{not_before, take_next}
 use Rattle.py_emission_parts.specs.Context.{names_of_those}
-
-left_false : (a b : Bool) → a || b ≡ false → a ≡ false
-left_false true b h = cc
-left_false false b h = refl
-
-right_false : (a b : Bool) → a || b ≡ false → b ≡ false
-right_false true b h = cc
-right_false false b h = h
 
 -- a name that no symbol has is the name of none of those
 absent_if : (d : Bool) (x name : List ℕ) (rest : List (List ℕ)) → same_name x name ≡ false → list_any (text_eq x) rest ≡ false → list_any (text_eq x) (if d then name ∷ rest else rest) ≡ false
@@ -24,30 +17,31 @@ absent_if false x name rest e h = h
 
 absent : (p : Symbol → Bool) (x : List ℕ) (ss : List Symbol) → list_any (λ t. same_name x t.name) ss ≡ false → list_any (text_eq x) (names_of_those p ss) ≡ false
 absent p x [] h = refl
-absent p x (s ∷ ss) h = absent_if (p s) x s.name (names_of_those p ss) (left_false (same_name x s.name) _ h) (absent p x ss (right_false (same_name x s.name) _ h))
+absent p x (s ∷ ss) h = absent_if (p s) x s.name (names_of_those p ss) (or_false_left (same_name x s.name) _ h) (absent p x ss (or_false_right (same_name x s.name) _ h))
 
-one_more : (b d : Bool) (first last : List ℕ) (xs : List (List ℕ)) → (if b then first ∷ (if d then xs ++ last ∷ [] else xs) else (if d then xs ++ last ∷ [] else xs)) ≡ (if d then (if b then first ∷ xs else xs) ++ last ∷ [] else (if b then first ∷ xs else xs))
-one_more true true first last xs = refl
-one_more true false first last xs = refl
-one_more false true first last xs = refl
-one_more false false first last xs = refl
+cell_one_more : (b d : Bool) (first last : List ℕ) (xs : List (List ℕ))
+    → (if b then first ∷ (if d then xs ++ last ∷ [] else xs) else (if d then xs ++ last ∷ [] else xs)) ≡ (if d then (if b then first ∷ xs else xs) ++ last ∷ [] else (if b then first ∷ xs else xs))
+cell_one_more true true first last xs = refl
+cell_one_more true false first last xs = refl
+cell_one_more false true first last xs = refl
+cell_one_more false false first last xs = refl
 
 -- one symbol more
-grown : (p : Symbol → Bool) (ss : List Symbol) (s : Symbol) → names_of_those p (ss ++ s ∷ []) ≡ (if p s then names_of_those p ss ++ s.name ∷ [] else names_of_those p ss)
-grown p [] s = refl
-grown p (t ∷ ss) s = ap (λ l. if p t then t.name ∷ l else l) (grown p ss s) ∙ one_more (p t) (p s) t.name s.name (names_of_those p ss)
+cell_grown : (p : Symbol → Bool) (ss : List Symbol) (s : Symbol) → names_of_those p (ss ++ s ∷ []) ≡ (if p s then names_of_those p ss ++ s.name ∷ [] else names_of_those p ss)
+cell_grown p [] s = refl
+cell_grown p (t ∷ ss) s = ap (λ l. if p t then t.name ∷ l else l) (cell_grown p ss s) ∙ cell_one_more (p t) (p s) t.name s.name (names_of_those p ss)
 
 module _ (p : Symbol → Bool) (ss : List Symbol) (i : ℕ) (s : Symbol) (at : slice_get ss i ≡ Some s) where
-  next : names_of_those p (take (i + 1) ss) ≡ (if p s then names_of_those p (take i ss) ++ s.name ∷ [] else names_of_those p (take i ss))
-  next = ap (names_of_those p) (take_next ss i s at) ∙ grown p (take i ss) s
+  cell_next : names_of_those p (take (i + 1) ss) ≡ (if p s then names_of_those p (take i ss) ++ s.name ∷ [] else names_of_those p (take i ss))
+  cell_next = ap (names_of_those p) (take_next ss i s at) ∙ cell_grown p (take i ss) s
 
   -- it is one of those, and goes last
-  pub names_next : AreApart ss → p s ≡ true → entered text_eq (names_of_those p (take i ss)) s.name ≡ names_of_those p (take (i + 1) ss)
-  names_next apart is =
+  pub cell_names_next : AreApart ss → p s ≡ true → insert_if_new text_eq (names_of_those p (take i ss)) s.name ≡ names_of_those p (take (i + 1) ss)
+  cell_names_next apart is =
       ap (λ b. if b then names_of_those p (take i ss) else names_of_those p (take i ss) ++ s.name ∷ []) (absent p s.name (take i ss) (not_before ss i s apart at))
       ∙ sym (ap (λ b. if b then names_of_those p (take i ss) ++ s.name ∷ [] else names_of_those p (take i ss)) is)
-      ∙ sym next
+      ∙ sym cell_next
 
   -- or it is none
   pub names_kept : p s ≡ false → names_of_those p (take i ss) ≡ names_of_those p (take (i + 1) ss)
-  names_kept is = sym (ap (λ b. if b then names_of_those p (take i ss) ++ s.name ∷ [] else names_of_those p (take i ss)) is) ∙ sym next
+  names_kept is = sym (ap (λ b. if b then names_of_those p (take i ss) ++ s.name ∷ [] else names_of_those p (take i ss)) is) ∙ sym cell_next

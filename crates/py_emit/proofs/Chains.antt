@@ -10,27 +10,30 @@ use Rattle.std.proofs.lemmas.Map.Steps.{length-le_from_distinct_below}
 use Rattle.py_ir.specs.Chain.{Blk, blk, IsPath, IsChain}
 
 -- each number's block has the next number as its next, and the last one's none
-abbrev pub Leads : List Blk → List ℕ → Type 0
-Leads bs [] = Unit {0}
-Leads bs (c ∷ []) = (blk bs c).next ≡ None
-Leads bs (c ∷ d ∷ cs) = ((blk bs c).next ≡ Some d) × Leads bs (d ∷ cs)
+abbrev pub ChainLeads : List Blk → List ℕ → Type 0
+ChainLeads bs [] = Unit {0}
+ChainLeads bs (c ∷ []) = (blk bs c).next ≡ None
+ChainLeads bs (c ∷ d ∷ cs) = ((blk bs c).next ≡ Some d) × ChainLeads bs (d ∷ cs)
 
-leads_on : (bs : List Blk) (c : ℕ) (cs : List ℕ) → ((k : ℕ) → k + 1 < length (c ∷ cs) → (blk bs (get_or (c ∷ cs) k 0)).next ≡ Some (get_or (c ∷ cs) (k + 1) 0)) → (blk bs (get_or (c ∷ cs) (length (c ∷ cs) - 1) 0)).next ≡ None → Leads bs (c ∷ cs)
-leads_on bs c [] follows ends = ends
-leads_on bs c (d ∷ cs) follows ends = (
+chain_leads_on : (bs : List Blk) (c : ℕ) (cs : List ℕ)
+    → ((k : ℕ) → k + 1 < length (c ∷ cs) → (blk bs (get_or (c ∷ cs) k 0)).next ≡ Some (get_or (c ∷ cs) (k + 1) 0))
+    → (blk bs (get_or (c ∷ cs) (length (c ∷ cs) - 1) 0)).next ≡ None → ChainLeads bs (c ∷ cs)
+chain_leads_on bs c [] follows ends = ends
+chain_leads_on bs c (d ∷ cs) follows ends = (
   follows 0 (omega arith),
-  leads_on bs d cs
+  chain_leads_on bs d cs
       (λ k h. let e : suc k + 1 ≡ suc (k + 1) = omega arith in subst (λ j. (blk bs (get_or (d ∷ cs) k 0)).next ≡ Some (get_or (c ∷ d ∷ cs) j 0)) e (follows (suc k) (omega (arith, h))))
       (let e : length (c ∷ d ∷ cs) - 1 ≡ suc (length (d ∷ cs) - 1) = omega arith in subst (λ j. (blk bs (get_or (c ∷ d ∷ cs) j 0)).next ≡ None) e ends),
 )
 
 -- a chain begins with block 0
-pub chain_leads : (bs : List Blk) (cs : List ℕ) → IsChain bs cs → (ds : List ℕ) × (cs ≡ 0 ∷ ds) × Leads bs (0 ∷ ds)
+pub chain_leads : (bs : List Blk) (cs : List ℕ) → IsChain bs cs → (ds : List ℕ) × (cs ≡ 0 ∷ ds) × ChainLeads bs (0 ∷ ds)
 chain_leads bs cs chain = go cs chain.path.first chain.path.follows chain.ends
   where
-    go : (cs : List ℕ) → slice_get cs 0 ≡ Some 0 → ((k : ℕ) → k + 1 < length cs → (blk bs (get_or cs k 0)).next ≡ Some (get_or cs (k + 1) 0)) → (blk bs (get_or cs (length cs - 1) 0)).next ≡ None → (ds : List ℕ) × (cs ≡ 0 ∷ ds) × Leads bs (0 ∷ ds)
+    go : (cs : List ℕ) → slice_get cs 0 ≡ Some 0 → ((k : ℕ) → k + 1 < length cs → (blk bs (get_or cs k 0)).next ≡ Some (get_or cs (k + 1) 0))
+        → (blk bs (get_or cs (length cs - 1) 0)).next ≡ None → (ds : List ℕ) × (cs ≡ 0 ∷ ds) × ChainLeads bs (0 ∷ ds)
     go [] e follows ends = absurd cc
-    go (c ∷ ds) e follows ends = let z : c ≡ 0 = cc in (ds, ap (λ n. n ∷ ds) z, subst (λ n. Leads bs (n ∷ ds)) z (leads_on bs c ds follows ends))
+    go (c ∷ ds) e follows ends = let z : c ≡ 0 = cc in (ds, ap (λ n. n ∷ ds) z, subst (λ n. ChainLeads bs (n ∷ ds)) z (chain_leads_on bs c ds follows ends))
 
 differs : (b : Bool) → (b ≡ true → ⊥) → b ≡ false
 differs true h = absurd (h refl)
@@ -41,14 +44,14 @@ apart_from : (c : ℕ) (cs : List ℕ) → ((k : ℕ) → k < length cs → c �
 apart_from c [] h = tt
 apart_from c (d ∷ cs) h = (differs (eqb c d) (λ e. h 0 (omega arith) (eqb-true c d e)), apart_from c cs (λ k l. h (suc k) (omega (arith, l))))
 
-apart : (cs : List ℕ) → ((i j : ℕ) → i < j → j < length cs → get_or cs i 0 ≢ get_or cs j 0) → IsDistinct eqb cs
+chain_apart : (cs : List ℕ) → ((i j : ℕ) → i < j → j < length cs → get_or cs i 0 ≢ get_or cs j 0) → IsDistinct eqb cs
 unfolding IsDistinct
-apart [] h = tt
-apart (c ∷ cs) h = (apart_from c cs (λ k l. h 0 (suc k) (omega arith) (omega (arith, l))), apart cs (λ i j ij l. h (suc i) (suc j) (omega (arith, ij)) (omega (arith, l))))
+chain_apart [] h = tt
+chain_apart (c ∷ cs) h = (apart_from c cs (λ k l. h 0 (suc k) (omega arith) (omega (arith, l))), chain_apart cs (λ i j ij l. h (suc i) (suc j) (omega (arith, ij)) (omega (arith, l))))
 
 -- numbers below a bound, none of them twice, are no more than that
 pub short_list : (n : ℕ) (cs : List ℕ) → ((i j : ℕ) → i < j → j < length cs → get_or cs i 0 ≢ get_or cs j 0) → ((k : ℕ) → k < length cs → get_or cs k 0 < n) → length cs ≤ n
-short_list n cs distinct inside = length-le_from_distinct_below cs n (apart cs distinct) among
+short_list n cs distinct inside = length-le_from_distinct_below cs n (chain_apart cs distinct) among
   where
     among : (q : ℕ) → list_any (eqb q) cs ≡ true → q < n
     among q e =

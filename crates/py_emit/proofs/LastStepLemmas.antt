@@ -8,50 +8,51 @@ use Rattle.py_bytecode.specs.declared.instruction.Instruction.TheVariants as op
 use Rattle.py_dataflow.specs.declared.info.InstructionInfo.{InstructionInfo}
 use Rattle.py_ir.specs.declared.blocks.Block.{Block}
 use Rattle.py_ir.specs.Chain.{Blk, blk, block_number, plain}
-use Rattle.py_ir.specs.BlockList.{BlockList, IsWhole, current_block, empty_block, last_item, popped, pushed, with_items, without_last}
+use Rattle.py_ir.specs.BlockList.{BlockList, IsWhole, current_block, empty_block, last_item, without_last_item, with_item, with_items, without_last}
 use Rattle.py_emission_parts.specs.Emitting.{Step, Put, Begin, State, with_step}
-use Rattle.py_emit.specs.Steps.{EndsAtBegin, closed, returned, step_of, steps_in, with_closed, with_return}
-use Rattle.py_emit.proofs.BlockStepLemmas.{Tails, along, blk_at, path_steps, push_steps, tail_inside}
+use Rattle.py_emit.specs.Steps.{EndsAtBegin, closed_step, returned_steps, step_of, steps_in, with_closed, with_return}
+use Rattle.py_emit.proofs.BlockStepLemmas.{Tails, block_step_along, blk_at, path_steps, push_steps, tail_inside}
 
-back : {A : Type 0} (y z : A) (xs : List A) → length (y ∷ z ∷ xs) - 1 ≡ suc (length (z ∷ xs) - 1)
-back y z xs = omega arith
+last_step_back : {A : Type 0} (y z : A) (xs : List A) → length (y ∷ z ∷ xs) - 1 ≡ suc (length (z ∷ xs) - 1)
+last_step_back y z xs = omega arith
 
 last_back : {A : Type 0} (xs : List A) (x : A) → slice_get xs (length xs - 1) ≡ Some x → take (length xs - 1) xs ++ x ∷ [] ≡ xs
 last_back [] x e = absurd cc
 last_back (y ∷ []) x e = let s : y ≡ x = cc in ap (λ z. z ∷ []) (sym s)
 last_back (y ∷ z ∷ xs) x e =
-    let n = back y z xs in
+    let n = last_step_back y z xs in
     ap (λ k. take k (y ∷ z ∷ xs) ++ x ∷ []) n ∙ ap (λ l. y ∷ l) (last_back (z ∷ xs) x (subst (λ k. slice_get (y ∷ z ∷ xs) k ≡ Some x) n e))
 
 none_last : {A : Type 0} (xs : List A) → slice_get xs (length xs - 1) ≡ None → xs ≡ []
 none_last [] e = refl
 none_last (y ∷ []) e = absurd cc
-none_last (y ∷ z ∷ xs) e = absurd (let h : z ∷ xs ≡ [] = none_last (z ∷ xs) (subst (λ k. slice_get (y ∷ z ∷ xs) k ≡ None) (back y z xs) e) in cc)
+none_last (y ∷ z ∷ xs) e = absurd (let h : z ∷ xs ≡ [] = none_last (z ∷ xs) (subst (λ k. slice_get (y ∷ z ∷ xs) k ≡ None) (last_step_back y z xs) e) in cc)
 
 current_made : (v : BlockList) → IsWhole v → v.current.0 < length v.blocks
-current_made v w = let a = along v w in tail_inside (length v.blocks) v.current.0 0 a.rest a.tails a.inside
+current_made v w = let a = block_step_along v w in tail_inside (length v.blocks) v.current.0 0 a.rest a.tails a.inside
 
 -- what is taken is put back
-pushed_popped : (v : BlockList) (x : InstructionInfo) → IsWhole v → last_item v ≡ Some x → pushed (popped v) x ≡ v
+pushed_popped : (v : BlockList) (x : InstructionInfo) → IsWhole v → last_item v ≡ Some x → with_item (without_last_item v) x ≡ v
 pushed_popped v x w e =
     let at = v.current.0 in
     let b = current_block v in
-    let now : current_block (popped v) ≡ without_last b = get_or-set_same v.blocks at (without_last b) empty_block (current_made v w) in
+    let now : current_block (without_last_item v) ≡ without_last b = get_or-set_same v.blocks at (without_last b) empty_block (current_made v w) in
     let back : with_items (without_last b) (x ∷ []) ≡ b = ap (λ (l : List InstructionInfo). record { instructions = l; next = b.next }) (last_back b.instructions x e) in
     ap (λ (bs : List Block). record { blocks = bs; current = v.current })
-    (set-set v.blocks at (without_last b) (with_items (current_block (popped v)) (x ∷ []))
+    (set-set v.blocks at (without_last b) (with_items (current_block (without_last_item v)) (x ∷ []))
     ∙ ap (λ (c : Block). set v.blocks at (with_items c (x ∷ []))) now
     ∙ ap (set v.blocks at) back
     ∙ set-get_or v.blocks at empty_block)
 
-pub pop_long : (v : BlockList) → length (popped v).blocks ≡ length v.blocks
+pub pop_long : (v : BlockList) → length (without_last_item v).blocks ≡ length v.blocks
 pop_long v = length-set v.blocks v.current.0 (without_last (current_block v))
 
-pub pop_steps : (v : BlockList) (x : InstructionInfo) → IsWhole v → IsWhole (popped v) → Some x ≡ last_item v → steps_in (map plain v.blocks) ≡ steps_in (map plain (popped v).blocks) ++ step_of x ∷ []
-pop_steps v x w kept e = ap (λ (u : BlockList). steps_in (map plain u.blocks)) (sym (pushed_popped v x w (sym e))) ∙ push_steps (popped v) x kept
+pub pop_steps : (v : BlockList) (x : InstructionInfo) → IsWhole v → IsWhole (without_last_item v) → Some x ≡ last_item v
+    → steps_in (map plain v.blocks) ≡ steps_in (map plain (without_last_item v).blocks) ++ step_of x ∷ []
+pop_steps v x w kept e = ap (λ (u : BlockList). steps_in (map plain u.blocks)) (sym (pushed_popped v x w (sym e))) ∙ push_steps (without_last_item v) x kept
 
 -- a current block without instructions stays as it is
-pub pop_nothing : (v : BlockList) → None ≡ last_item v → popped v ≡ v
+pub pop_nothing : (v : BlockList) → None ≡ last_item v → without_last_item v ≡ v
 pop_nothing v e =
     let b = current_block v in
     let none : b.instructions ≡ [] = none_last b.instructions (sym e) in
@@ -70,7 +71,7 @@ ends_path bs last c (d ∷ cs) e none = ends_after (map step_of (blk bs c).items
 
 pub ends_at_begin : (v : BlockList) → IsWhole v → None ≡ last_item v → EndsAtBegin (steps_in (map plain v.blocks))
 ends_at_begin v w e =
-    let a = along v w in
+    let a = block_step_along v w in
     let none : (blk (map plain v.blocks) v.current.0).items ≡ [] = ap (λ (b : Blk). b.items) (blk_at v.blocks v.current.0) ∙ none_last (current_block v).instructions (sym e) in
     subst EndsAtBegin (sym a.steps) (ends_path (map plain v.blocks) v.current.0 0 a.rest a.tails none)
 
@@ -83,7 +84,7 @@ if_none None P h = h refl
 if_none (Some x) P h = tt
 
 -- how the value on top is returned after each last step
-returned_last : (at : SourceLocation) (xs : List Step) (x : Step) → returned at (xs ++ x ∷ []) ≡ xs ++ closed at x
+returned_last : (at : SourceLocation) (xs : List Step) (x : Step) → returned_steps at (xs ++ x ∷ []) ≡ xs ++ closed_step at x
 returned_last at [] x = refl
 returned_last at (y ∷ []) x = refl
 returned_last at (y ∷ z ∷ xs) x = ap (λ l. y ∷ l) (returned_last at (z ∷ xs) x)
@@ -92,10 +93,10 @@ returned_last at (y ∷ z ∷ xs) x = ap (λ l. y ∷ l) (returned_last at (z �
 pub closed_last : (x : Step) (s r : State) → s ≡ with_step x r → with_closed x r ≡ with_return s
 unfolding with_step with_closed with_return
 closed_last x s r e =
-    ap (λ (l : List Step). record r { steps = l }) (sym (returned_last r.location r.steps x)) ∙ sym (ap (λ (t : State). record t { steps = returned t.location t.steps }) e)
+    ap (λ (l : List Step). record r { steps = l }) (sym (returned_last r.location r.steps x)) ∙ sym (ap (λ (t : State). record t { steps = returned_steps t.location t.steps }) e)
 
 -- the return in an empty block
-returned_first : (at : SourceLocation) (xs : List Step) → EndsAtBegin xs → returned at xs ≡ xs ++ Put op.ReturnValue 0 None at ∷ []
+returned_first : (at : SourceLocation) (xs : List Step) → EndsAtBegin xs → returned_steps at xs ≡ xs ++ Put op.ReturnValue 0 None at ∷ []
 returned_first at [] h = refl
 returned_first at (Put i n to there ∷ []) h = absurd h
 returned_first at (Begin b ∷ []) h = refl
@@ -109,9 +110,9 @@ return_first s h = ap (λ (l : List Step). record s { steps = l }) (sym (returne
 pub closed_load : (x y : InstructionInfo) (s r : State) → x.instr ≡ op.LoadConst → y ≡ record x { instr = op.ReturnConst } → r ≡ with_step (step_of y) s → r ≡ with_closed (step_of x) s
 unfolding with_step with_closed
 closed_load x y s r i e h =
-    h ∙ ap (λ (z : InstructionInfo). record s { steps = s.steps ++ step_of z ∷ [] }) e ∙ ap (λ (l : List Step). record s { steps = s.steps ++ l }) (sym (ap (λ n. closed s.location (Put n x.arg.0 (block_number x.target.0) x.location)) i))
+    h ∙ ap (λ (z : InstructionInfo). record s { steps = s.steps ++ step_of z ∷ [] }) e ∙ ap (λ (l : List Step). record s { steps = s.steps ++ l }) (sym (ap (λ n. closed_step s.location (Put n x.arg.0 (block_number x.target.0) x.location)) i))
 
-closed_other : (at there : SourceLocation) (i : Instruction) (n : ℕ) (to : Option ℕ) → i ≢ op.LoadConst → closed at (Put i n to there) ≡ Put i n to there ∷ Put op.ReturnValue 0 None at ∷ []
+closed_other : (at there : SourceLocation) (i : Instruction) (n : ℕ) (to : Option ℕ) → i ≢ op.LoadConst → closed_step at (Put i n to there) ≡ Put i n to there ∷ Put op.ReturnValue 0 None at ∷ []
 closed_other at there i n to h = search (rules, h)
 
 pub closed_value : (x : InstructionInfo) (s r q : State) → x.instr ≢ op.LoadConst → r ≡ with_step (step_of x) s → q ≡ with_step (Put op.ReturnValue 0 None r.location) r → q ≡ with_closed (step_of x) s

@@ -5,25 +5,29 @@ use Rattle.py_bytecode.specs.View.{constant}
 use Rattle.py_ir.specs.Chain.{plain}
 use Rattle.py_ir.specs.FlatCode.{info_of}
 use Rattle.py_emission_parts.specs.Context.{Context}
-use Rattle.py_emission_parts.specs.Emitting.{Done, Step, State, begun, refuse, with_block, with_step}
+use Rattle.py_emission_parts.specs.Emitting.{Done, Step, State, initial_state, refuse, with_block, with_step}
+use Rattle.py_emission_parts.specs.Running.{run}
 use Rattle.py_emission_parts.specs.Sealed.{Head}
 use Rattle.py_base.specs.declared.errors.CodegenErrorType.{CodegenErrorType}
-use Rattle.py_emit.specs.States.{IsFirst, IsUnrefused, Source, context_of, flagged, head_of, info, loop_blocks, rest, source_of, state, state_of}
+use Rattle.py_emit.specs.States.{IsFirst, IsUnrefused, Source, context_of, flagged_code, head_of, info, loop_blocks, rest, source_of, state, state_of}
 use Rattle.py_emit.specs.declared.scopes.OpenScope.{OpenScope}
 use Rattle.py_emit.specs.Emitted.{Holds}
 use Rattle.py_emit.specs.Steps.{steps_in}
 use Rattle.py_emit.specs.declared.emitter.Emitter.{Emitter}
 
-pub stepped : (x : Step) (s r : State) → r.steps ≡ s.steps ++ x ∷ [] → r.blocks ≡ s.blocks → r.names ≡ s.names → r.varnames ≡ s.varnames → r.constants ≡ s.constants → r.generator ≡ s.generator → r.location ≡ s.location → r.next ≡ s.next → r.around ≡ s.around → r ≡ with_step x s
+pub state_stepped : (x : Step) (s r : State) → r.steps ≡ s.steps ++ x ∷ [] → r.blocks ≡ s.blocks → r.names ≡ s.names → r.varnames ≡ s.varnames
+    → r.constants ≡ s.constants → r.generator ≡ s.generator → r.location ≡ s.location → r.next ≡ s.next → r.around ≡ s.around → r ≡ with_step x s
 unfolding with_step
-stepped x s r p q n v c g l k a = λ i. record { steps = p i; blocks = q i; names = n i; varnames = v i; constants = c i; generator = g i; location = l i; next = k i; around = a i }
+state_stepped x s r p q n v c g l k a = λ i. record { steps = p i; blocks = q i; names = n i; varnames = v i; constants = c i; generator = g i; location = l i; next = k i; around = a i }
 
-pub blocked : (s r : State) → r.steps ≡ s.steps → r.blocks ≡ suc s.blocks → r.names ≡ s.names → r.varnames ≡ s.varnames → r.constants ≡ s.constants → r.generator ≡ s.generator → r.location ≡ s.location → r.next ≡ s.next → r.around ≡ s.around → r ≡ with_block s
+pub blocked : (s r : State) → r.steps ≡ s.steps → r.blocks ≡ suc s.blocks → r.names ≡ s.names → r.varnames ≡ s.varnames → r.constants ≡ s.constants
+    → r.generator ≡ s.generator → r.location ≡ s.location → r.next ≡ s.next → r.around ≡ s.around → r ≡ with_block s
 unfolding with_block
 blocked s r p q n v c g l k a = λ i. record { steps = p i; blocks = q i; names = n i; varnames = v i; constants = c i; generator = g i; location = l i; next = k i; around = a i }
 
 -- a scope before anything is emitted of it, within this context
-pub begun_state : (x : Source) (o : OpenScope) (h : Head) (c : Context) (at : SourceLocation) (next : ℕ) → IsFirst o.code h → o.generator ≡ false → context_of x o ≡ c → o.context.loop_blocks ≡ None → state_of x o at next ≡ begun c at next
+pub begun_state : (x : Source) (o : OpenScope) (h : Head) (c : Context) (at : SourceLocation) (next : ℕ) → IsFirst o.code h → o.generator ≡ false
+    → context_of x o ≡ c → o.context.loop_blocks ≡ None → state_of x o at next ≡ initial_state c at next
 begun_state x o h c at next f g e l = λ i. record {
   steps = steps_in (map plain (f.body i).blocks);
   blocks = length (f.body i).blocks;
@@ -36,17 +40,17 @@ begun_state x o h c at next f g e l = λ i. record {
   around = record { context = e i; loops = loop_blocks (l i) };
 }
 
-pub unrefused : (e : Emitter) → IsUnrefused (rest e).opts.optimize (info e) → IsUnrefused e.opts.optimize (info_of (flagged e.scope))
+pub state_unrefused : (e : Emitter) → IsUnrefused (rest e).opts.optimize (info e) → IsUnrefused e.opts.optimize (info_of (flagged_code e.scope))
 unfolding rest info
-unrefused e h = h
+state_unrefused e h = h
 
 -- nothing is emitted after a refusal
-pub never_refused : (e : CodegenErrorType) (s o : State) → refuse e s ≡ Done o → ⊥
+pub never_refused : (e : CodegenErrorType) (s o : State) → run (refuse e) s ≡ Done o → ⊥
 unfolding refuse
 never_refused e s o h = absurd cc
 
 -- what becomes a code object holds what is emitted
-pub scope_holds : (x : Source) (o : OpenScope) (at : SourceLocation) (next : ℕ) → Holds (info_of (flagged o)) (head_of o.code) (state_of x o at next)
+pub scope_holds : (x : Source) (o : OpenScope) (at : SourceLocation) (next : ℕ) → Holds (info_of (flagged_code o)) (head_of o.code) (state_of x o at next)
 scope_holds x o at next = record {
   flags = refl;
   posonlyarg_count = refl;

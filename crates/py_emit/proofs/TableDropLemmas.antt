@@ -14,8 +14,8 @@ pub typ_is : (es : List ScopeEntry) (k : ℕ) (t : SymbolTableType) → typ_at e
 typ_is es k t e = ap (λ (o : Option SymbolTableType). elim o [ None ↦ kind.Module | Some typ ↦ typ ]) e
 
 -- what is said of one more than is left
-pub one_left : (es : List ScopeEntry) (before count i k : ℕ) → i < count → Stand es before (count - i) k → (k < length es) × Stand es before (count - (i + 1)) (beyond es k)
-one_left es before count i k l s =
+pub table_drop_one_left : (es : List ScopeEntry) (before count i k : ℕ) → i < count → Stand es before (count - i) k → (k < length es) × Stand es before (count - (i + 1)) (beyond es k)
+table_drop_one_left es before count i k l s =
     let e : count - i ≡ suc (count - (i + 1)) = omega (arith, l) in
     let t : Stand es before (suc (count - (i + 1))) k = rw e at s in
     (t.1, t.2)
@@ -25,11 +25,11 @@ one_behind es count i k l =
     let e : count - i ≡ suc (count - (i + 1)) = omega (arith, l) in
     ap (λ n. behind es n k) e
 
-pub none_left : (es : List ScopeEntry) (count k : ℕ) → behind es (count - count) k ≡ k
-none_left es count k = let e : count - count ≡ 0 = omega arith in ap (λ n. behind es n k) e
+pub table_drop_none_left : (es : List ScopeEntry) (count k : ℕ) → behind es (count - count) k ≡ k
+table_drop_none_left es count k = let e : count - count ≡ 0 = omega arith in ap (λ n. behind es n k) e
 
 pub all_left : (es : List ScopeEntry) (before count k : ℕ) → Stand es before count k → Stand es before (count - 0) k
 all_left es before count k s = let e : count - 0 ≡ count = omega arith in rw e s
 
-pub all_behind : (es : List ScopeEntry) (count k : ℕ) → behind es (count - 0) k ≡ behind es count k
-all_behind es count k = let e : count - 0 ≡ count = omega arith in ap (λ n. behind es n k) e
+pub table_drop_all_behind : (es : List ScopeEntry) (count k : ℕ) → behind es (count - 0) k ≡ behind es count k
+table_drop_all_behind es count k = let e : count - 0 ≡ count = omega arith in ap (λ n. behind es n k) e

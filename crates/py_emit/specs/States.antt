@@ -19,7 +19,7 @@ use Rattle.py_scope.specs.declared.symbols.Symbol.{Symbol}
 use Rattle.py_emission_parts.specs.Context.{Context, cells_among, frees_among, inside, outermost, with_path, within_class}
 use Rattle.py_emission_parts.specs.Emitting.{Around, Emission, State, LoopBlocks, Outcome, Done, Refused}
 use Rattle.py_emission_parts.specs.Sealed.{Head, flags_of}
-use Rattle.py_emission_parts.specs.Children.{code_head}
+use Rattle.py_emission_parts.specs.Running.{Action, code_head, run}
 use Rattle.py_emission_parts.specs.Within.{Shape}
 use Rattle.py_base.specs.declared.errors.CodegenErrorType.{CodegenErrorType}
 use Rattle.py_base.specs.declared.errors.CodegenErrorType.TheVariants as error
@@ -57,7 +57,7 @@ context_of x o = record {
   frees = o.code.freevar_cache;
 }
 
--- what stands around the present node of a scope
+-- the context of the present node of a scope
 abbrev pub around : Source → OpenScope → Around
 around x o = record { context = context_of x o; loops = loop_blocks o.context.loop_blocks }
 
@@ -94,7 +94,7 @@ head_of c = record {
   freevars = c.freevar_cache;
 }
 
--- how it is compiled, what the code around says, the path that errors name, all scopes, what the scope is, and those around it, which wait
+-- how it is compiled, what the enclosing code says, the path that errors name, all scopes, what the scope is, and those around it, which wait
 pub record Rest : Type 0 where
   pub opts : CompileOpts
   pub context : EmitContext
@@ -127,23 +127,23 @@ no_context = record { loop_blocks = None; future_annotations = false }
 abbrev pub first_rest : CompileOpts → (path : List ℕ) → List ScopeEntry → Rest
 first_rest opts path scopes = record { opts = opts; context = no_context; path = path; scopes = scopes; head = module_head (outermost opts.optimize path scopes); outer = [] }
 
-abbrev pub looped : Option (BlockIdx × BlockIdx) → Rest → Rest
-looped loops r = record r { context = record r.context { loop_blocks = loops } }
+abbrev pub looped_rest : Option (BlockIdx × BlockIdx) → Rest → Rest
+looped_rest loops r = record r { context = record r.context { loop_blocks = loops } }
 
 abbrev pub postponed_rest : (postponed : Bool) → Rest → Rest
 postponed_rest p r = record r { context = record r.context { future_annotations = p } }
 
 -- the code of a scope, which is a generator or not
-abbrev pub flagged : OpenScope → FlatCode
-flagged o = record o.code { flags = record { 0 = flags_of o.generator o.code.flags.0 } }
+abbrev pub flagged_code : OpenScope → FlatCode
+flagged_code o = record o.code { flags = record { 0 = flags_of o.generator o.code.flags.0 } }
 
 -- what becomes a code object
 unfoldable pub info : Emitter → CodeInfo
-info e = info_of (flagged e.scope)
+info e = info_of (flagged_code e.scope)
 
--- no loop of the scope around is one of the scope within
-abbrev pub unlooped : EmitContext → EmitContext
-unlooped x = record x { loop_blocks = None }
+-- no loop of the enclosing scope is one of the nested scope
+abbrev pub unlooped_context : EmitContext → EmitContext
+unlooped_context x = record x { loop_blocks = None }
 
 -- these blocks are made
 abbrev pub AreMade : Option (BlockIdx × BlockIdx) → Type 0
@@ -173,11 +173,11 @@ abbrev pub Goes : {A : Type 0} → Result A (LocatedError CodegenErrorType) → 
 Goes (Ok a) s o = o ≡ Done s
 Goes (Err e) s o = e.error ≢ error.OutOfMemory → o ≡ Refused e.error e.location
 
--- an error names the path, and want of memory stands nowhere
+-- an error names the path, and out of memory stands nowhere
 abbrev pub IsTold : LocatedError CodegenErrorType → (path : List ℕ) → Type 0
 IsTold e path = (e.source_path ≡ path) × (e.error ≡ error.OutOfMemory → e.location ≡ None)
 
--- where a call is Ok, the rest is as it was; where it is not, the error names the path, and want of memory stands nowhere
+-- where a call is Ok, the rest is as it was; where it is not, the error names the path, and out of memory stands nowhere
 abbrev pub Same : {A : Type 0} → Result A (LocatedError CodegenErrorType) → (after before : Rest) → Type 0
 Same (Ok a) after before = after ≡ before
 Same (Err e) after before = IsTold e before.path
@@ -185,23 +185,28 @@ Same (Err e) after before = IsTold e before.path
 -- a call emits this: where it is Ok, it has come from the state before to the one after, and the rest is as it was; where it is not, the
 -- emission is refused so, and the error names the path, unless memory is wanting
 pub record Emits {A : Type 0} (r : Result A (LocatedError CodegenErrorType)) (a : Emission) (before after : Emitter) : Type 0 where
+  pub goes : Goes r (state after) (run a (state before))
+  pub same : Same r (rest after) (rest before)
+
+-- a call does this, as one emits: what it does may begin a block that was made before
+pub record Does {A : Type 0} (r : Result A (LocatedError CodegenErrorType)) (a : Action) (before after : Emitter) : Type 0 where
   pub goes : Goes r (state after) (a (state before))
   pub same : Same r (rest after) (rest before)
 
--- the code is refused for want of memory alone, where its tables are short enough
+-- the code is refused only when memory runs out, where its tables are short enough
 abbrev pub IsUnrefused : (level : ℕ) → CodeInfo → Type 0
 IsUnrefused level i =
     (chain : List ℕ) → IsChain (map plain i.blocks) chain → ¬ TooLong (lens_of (tables_of i)) → (e : FinalizeError) → IsRefused (tables_of i) level (map plain i.blocks) e → e ≡ FinalizeError.OutOfMemory
 
--- what class mangles the names within a scope, and the qualified name of what stands around them
+-- what class mangles the names within a scope, and the qualified name of their context
 abbrev pub named_in : Naming → Context → Context
 named_in naming.AsAround c = c
 named_in (naming.Function path) c = with_path path c
 named_in (naming.Class name path) c = with_path path (within_class name c)
 
--- a scope within, which begins with nothing
-abbrev pub entered : SymbolTableType → Naming → State → Context
-entered typ n s = inside typ s.next (named_in n s.around.context)
+-- a nested scope, which begins with nothing
+abbrev pub nested_context : SymbolTableType → Naming → State → Context
+nested_context typ n s = inside typ s.next (named_in n s.around.context)
 
 -- what a code object says of its scope, which begins at that line and has these symbols
 abbrev pub head_in : Shape → (source : List ℕ) → (line : ℕ) → List Symbol → Head
@@ -220,16 +225,16 @@ head_in h source line symbols = record {
 abbrev pub shape_of : ScopeHead → Shape
 shape_of h = record { flags = h.flags.0; posonlyarg_count = h.posonlyarg_count; arg_count = h.arg_count; kwonlyarg_count = h.kwonlyarg_count; obj_name = h.obj_name }
 
--- the scope around waits
+-- the enclosing scope waits
 abbrev pub entered_rest : (scope : OpenScope) → Head → Rest → Rest
-entered_rest o h r = record r { context = unlooped r.context; head = h; outer = r.outer ++ o ∷ [] }
+entered_rest o h r = record r { context = unlooped_context r.context; head = h; outer = r.outer ++ o ∷ [] }
 
 abbrev pub source_in : Rest → Source
 source_in r = record { opts = r.opts; path = r.path; scopes = r.scopes }
 
 -- the scope that waited goes on where the one within leaves off
-abbrev pub left : Rest → OpenScope → State → State
-left r o t = state_of (source_in r) o t.location t.next
+abbrev pub left_scope : Rest → OpenScope → State → State
+left_scope r o t = state_of (source_in r) o t.location t.next
 
 abbrev pub left_rest : (outer : List OpenScope) → OpenScope → Rest → Rest
 left_rest outer o r = record r { context = o.context; head = head_of o.code; outer = outer }

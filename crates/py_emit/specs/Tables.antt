@@ -7,11 +7,11 @@ use Rattle.py_scope.specs.declared.table_type.SymbolTableType.TheVariants as kin
 use Rattle.py_emission_parts.specs.Context.{Context, inside}
 use Rattle.py_emission_parts.specs.Emitting.{State}
 
--- the number behind the scope with this number and those inside it
+-- the number after the scope with this number and those inside it
 abbrev pub beyond : List ScopeEntry → ℕ → ℕ
 beyond entries i = elim (next_at entries i) [ None ↦ i | Some n ↦ n ]
 
--- the number behind so many scopes that stand side by side from number k on
+-- the number after so many scopes that stand side by side from number k on
 abbrev pub behind : List ScopeEntry → (count k : ℕ) → ℕ
 behind entries zero k = k
 behind entries (suc n) k = behind entries n (beyond entries k)

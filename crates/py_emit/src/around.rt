@@ -1,9 +1,9 @@
 //! What stands around a scope, told piece by piece: the class, the qualified name, and the context.
 ghost use Rattle.std.specs.Prelude.{◌≡◌, ◌<◌, ℕ, List, false, length, slice_index, IfErr, IfOk, OnOk};
-ghost use Rattle.py_emission_parts.specs.Context.{behind_dot, qualified as qualified_name};
+ghost use Rattle.py_emission_parts.specs.Context.{behind_dot, qualified_under as qualified_name};
 ghost use Rattle.py_emission_parts.specs.Emitting.{with_loops, with_postponed};
 ghost use Rattle.py_emit.specs.Around.{has_dot, in_class, on_path};
-ghost use Rattle.py_emit.specs.States.{IsStarved, loop_blocks, looped, postponed_rest, rest, state};
+ghost use Rattle.py_emit.specs.States.{IsStarved, loop_blocks, looped_rest, postponed_rest, rest, state};
 
 use crate::context::EmitContext;
 use crate::emitter::Emitter;
@@ -46,7 +46,7 @@ impl Emitter {
         Ok(())
     }
 
-    /// The last part of the qualified name of what stands around goes, which is what stands behind its last dot.
+    /// The last part of the qualified name of what stands around goes, which is what stands after its last dot.
     pub fn pop_path(&mut self)
         ensures state { (path part : List ℕ) → has_dot part ≡ false → behind_dot path part ≡ (state self.old).around.context.path → state self.new ≡ on_path path (state self.old) }
         ensures others { state self.new ≡ on_path (state self.new).around.context.path (state self.old) }
@@ -72,12 +72,12 @@ impl Emitter {
         }
     }
 
-    /// Says what the code around says: the blocks of the innermost loop, and whether annotations are postponed. Answers
+    /// Says what the enclosing code says: the blocks of the innermost loop, and whether annotations are postponed. Answers
     /// what was said before.
     pub fn set_context(&mut self, context: EmitContext) -> EmitContext
         ensures old { result ≡ (rest self.old).context }
         ensures state { state self.new ≡ with_postponed context.future_annotations (with_loops (loop_blocks context.loop_blocks) (state self.old)) }
-        ensures rest { rest self.new ≡ postponed_rest context.future_annotations (looped context.loop_blocks (rest self.old)) }
+        ensures rest { rest self.new ≡ postponed_rest context.future_annotations (looped_rest context.loop_blocks (rest self.old)) }
     {
         let before = self.context();
         self.set_loops(context.loop_blocks);

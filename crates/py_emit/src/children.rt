@@ -1,10 +1,10 @@
-//! Functions of the code objects of scopes within.
+//! Functions of the code objects of nested scopes.
 ghost use Rattle.std.specs.Prelude.{◌≡◌, ◌++◌, false, Err, IfOk, length, if◌then◌else◌};
 ghost use Rattle.std.specs.List.{list_any};
 ghost use Rattle.py_bytecode.specs.Equality.{text_eq};
 ghost use Rattle.py_bytecode.specs.Objects.{code as code_constant};
 ghost use Rattle.py_bytecode.specs.View.{object};
-ghost use Rattle.py_emission_parts.specs.Children.{cell_loads, closure, load_cell as cell_load, made};
+ghost use Rattle.py_emission_parts.specs.Children.{cell_loads, closure, load_cell as cell_load, made_function};
 ghost use Rattle.py_emission_parts.specs.Within.{some_flag};
 ghost use Rattle.py_emission_parts.specs.EmissionParts.{in_turn};
 ghost use Rattle.py_emission_parts.specs.Emitting.{◌▸◌, emit_constant, emit_count};
@@ -22,7 +22,7 @@ impl Emitter {
     /// # Errors
     /// MissingCell where the name is no cell of the scope and does not come to it from outside, at the present location,
     /// or OutOfMemory.
-    #[tactic(auto, unfolding(py_emission_parts::specs::Children::load_cell, py_emission_parts::specs::Emitting::refuse), using(crate::proofs::CellPlaces::any_within, crate::proofs::CellPlaces::none_within))]
+    #[tactic(auto, unfolding(py_emission_parts::specs::Children::load_cell, py_emission_parts::specs::Emitting::by_context, py_emission_parts::specs::Emitting::refuse), using(crate::proofs::CellPlaces::any_within, crate::proofs::CellPlaces::none_within))]
     pub fn load_cell(&mut self, name: &str) -> Result<(), CodegenError>
         ensures emits { Emits result (cell_load name.now) self.old self.new }
         ensures missing { list_any (text_eq name.now) ((state self.old).around.context.cells ++ (state self.old).around.context.frees) ≡ false → result ≡ Err (placed_error CodegenErrorType.MissingCell (state self.old).location (rest self.old).path) }
@@ -84,7 +84,7 @@ impl Emitter {
         name: Text,
         code: CodeObject,
     ) -> Result<(), CodegenError>
-        ensures { Emits result (made flags.0 name (object code)) self.old self.new }
+        ensures { Emits result (made_function flags.0 name (object code)) self.old self.new }
     {
         let closed = self.build_closure(&code)?;
         self.load_code(code)?;

@@ -1,4 +1,4 @@
-//! What an emitter is told of the code around.
+//! What an emitter is told of the enclosing code.
 
 use py_base::Text;
 use py_bytecode::CodeFlags;
@@ -32,15 +32,15 @@ pub struct ScopeHead {
 /// By what class the names of a scope are mangled, and what qualified name stands before those within it.
 #[derive(Drop)]
 pub enum Naming {
-    /// As in the scope around: a lambda or a comprehension.
+    /// As in the enclosing scope: a lambda or a comprehension.
     AsAround,
-    /// A function: `f.<locals>` behind what stands around.
+    /// A function: `f.<locals>` after what stands around.
     Function { path: Text },
     /// A class, whose name mangles those within it.
     Class { name: Text, path: Text },
 }
 
-/// What the code around says.
+/// What the enclosing code says.
 #[derive(Clone, Copy, Debug)]
 pub struct EmitContext {
     /// The blocks to which `continue` and `break` of the innermost loop of this scope go.

@@ -1,7 +1,7 @@
 //! Scopes that are entered and dropped in the order of the tables, each by one counted step.
 ghost use Rattle.std.specs.Prelude.{◌≡◌, ◌+◌, ℕ, suc, IfErr, OnOk};
-ghost use Rattle.py_emission_parts.specs.Children.{code_head};
-ghost use Rattle.py_emission_parts.specs.Emitting.{begun};
+ghost use Rattle.py_emission_parts.specs.Running.{code_head};
+ghost use Rattle.py_emission_parts.specs.Emitting.{initial_state};
 ghost use Rattle.py_emit.specs.States.{IsStarved, entered_rest, rest, shape_of, state};
 ghost use Rattle.py_emit.specs.Tables.{AreLeft, Stand, behind, next_within};
 
@@ -14,7 +14,7 @@ use std::sync::ledger::Ledger;
 impl Emitter {
     /// Goes into the scope of the first table that is left within the present one, and is of the kind that the table says.
     /// It has this head, the cells and the free names that its symbols say, the row of the present location as its first
-    /// line, and one empty block. The class and the qualified name stay, and the scope around waits. It counts one step.
+    /// line, and one empty block. The class and the qualified name stay, and the enclosing scope waits. It counts one step.
     ///
     /// # Errors
     /// OutOfMemory alone.
@@ -24,7 +24,7 @@ impl Emitter {
         steps: &mut Steps<L>,
     ) -> Result<(), CodegenError>
         requires left { AreLeft 1 (state self.old) }
-        ensures state { OnOk result (state self.new ≡ begun (next_within (state self.old)) (state self.old).location (suc (state self.old).next)) }
+        ensures state { OnOk result (state self.new ≡ initial_state (next_within (state self.old)) (state self.old).location (suc (state self.old).next)) }
         ensures rest { OnOk result (rest self.new ≡ entered_rest self.old.scope (code_head (next_within (state self.old)) (shape_of head) (state self.old).location) (rest self.old)) }
         ensures err { IfErr result (λ e. IsStarved e (rest self.old).path) }
         ensures steps { steps.new ≡ steps.old + 1 }
@@ -49,7 +49,7 @@ impl Emitter {
     }
 }
 
-/// The number behind so many scopes that stand side by side from this number on. It counts a step for each.
+/// The number after so many scopes that stand side by side from this number on. It counts a step for each.
 fn number_behind<L: Ledger>(
     scopes: &FlatScopes,
     first: usize,

@@ -5,11 +5,11 @@ ghost use Rattle.py_ir.specs.Chain.{block_number};
 ghost use Rattle.py_ir.specs.Final.{IsFinal};
 ghost use Rattle.py_base.specs.declared.location.SourceLocation.{SourceLocation as Location};
 ghost use Rattle.py_scope.specs.Flat.{flat_table};
-ghost use Rattle.py_emission_parts.specs.Children.{code_head};
+ghost use Rattle.py_emission_parts.specs.Running.{code_head, run};
 ghost use Rattle.py_emission_parts.specs.Context.{inside, outermost, symbols_in};
-ghost use Rattle.py_emission_parts.specs.Emitting.{Begin, Done, Put, begun, emit as emission_of, emit_count, generating, jump as jumping, located, nothing, with_block, with_loops, with_postponed, with_step};
-ghost use Rattle.py_emission_parts.specs.Sealed.{sealed};
-ghost use Rattle.py_emit.specs.States.{Emits, Goes, IsFirst, IsStarved, IsUnrefused, entered, entered_rest, first_rest, head_in, head_of, info, left, left_rest, loop_blocks, looped, module_shape, named_in, placed_error, postponed_rest, rest, shape_of, source_of, state, state_of, unlooped, without_path, without_source};
+ghost use Rattle.py_emission_parts.specs.Emitting.{Begin, Done, Put, initial_state, emit as emission_of, emit_count, generator_mark, jump as jumping, with_location, nothing, with_block, with_loops, with_postponed, with_step};
+ghost use Rattle.py_emission_parts.specs.Sealed.{assembled_object};
+ghost use Rattle.py_emit.specs.States.{Emits, Goes, IsFirst, IsStarved, IsUnrefused, nested_context, entered_rest, first_rest, head_in, head_of, info, left_scope, left_rest, loop_blocks, looped_rest, module_shape, named_in, placed_error, postponed_rest, rest, shape_of, source_of, state, state_of, unlooped_context, without_path, without_source};
 ghost use Rattle.py_emit.specs.Steps.{IsOpen, step_of};
 
 use crate::context::{CompileOpts, EmitContext, Naming, ScopeHead};
@@ -117,7 +117,7 @@ impl Emitter {
         self.opts
     }
 
-    /// What the code around says.
+    /// What the enclosing code says.
     #[tactic(auto, unfolding(crate::specs::States::rest))]
     pub fn context(&self) -> EmitContext
         ensures { result ≡ (rest self.now).context }
@@ -130,7 +130,7 @@ impl Emitter {
     pub fn set_loops(&mut self, loops: Option<(BlockIdx, BlockIdx)>) -> Option<(BlockIdx, BlockIdx)>
         ensures old { result ≡ (rest self.old).context.loop_blocks }
         ensures state { state self.new ≡ with_loops (loop_blocks loops) (state self.old) }
-        ensures rest { rest self.new ≡ looped loops (rest self.old) }
+        ensures rest { rest self.new ≡ looped_rest loops (rest self.old) }
     {
         mem::replace(&mut self.scope.context.loop_blocks, loops)
     }
@@ -146,15 +146,15 @@ impl Emitter {
     }
 
     /// What follows stands there in the source.
-    #[tactic(auto, unfolding(py_emission_parts::specs::Emitting::located, crate::specs::States::rest))]
+    #[tactic(auto, unfolding(py_emission_parts::specs::Emitting::with_location, crate::specs::States::rest))]
     pub fn set_location(&mut self, location: SourceLocation)
-        ensures state { state self.new ≡ located location (state self.old) }
+        ensures state { state self.new ≡ with_location location (state self.old) }
         ensures rest { rest self.new ≡ rest self.old }
     {
         self.location = location;
     }
 
-    /// The error at the present location; for want of memory there is none. It takes the source path with it, and leaves an
+    /// The error at the present location; as memory runs out there is none. It takes the source path with it, and leaves an
     /// empty one; what is emitted stays.
     #[tactic(auto, unfolding(crate::specs::States::rest))]
     pub fn error(&mut self, error: CodegenErrorType) -> CodegenError
@@ -216,7 +216,7 @@ impl Emitter {
     ///
     /// # Errors
     /// OutOfMemory alone.
-    #[tactic(auto, unfolding(py_emission_parts::specs::Emitting::emit))]
+    #[tactic(auto, unfolding(py_emission_parts::specs::Emitting::emit, py_emission_parts::specs::Running::put))]
     pub fn emit_arg(&mut self, instr: Instruction, arg: u32) -> Result<(), CodegenError>
         ensures { Emits result (emission_of instr arg) self.old self.new }
     {
@@ -224,11 +224,11 @@ impl Emitter {
     }
 
     /// Appends one instruction that counts so many values, at the present location. More than an instruction counts are
-    /// want of memory.
+    /// out of memory.
     ///
     /// # Errors
     /// OutOfMemory alone.
-    #[tactic(auto, unfolding(py_emission_parts::specs::Emitting::emit_count))]
+    #[tactic(auto, unfolding(py_emission_parts::specs::Emitting::emit_count, py_emission_parts::specs::Emitting::emit))]
     pub fn emit_count(&mut self, instr: Instruction, count: usize) -> Result<(), CodegenError>
         ensures { Emits result (emit_count instr count) self.old self.new }
     {
@@ -280,8 +280,8 @@ impl Emitter {
         self.scope.code.body.place(block);
     }
 
-    /// Goes into a scope within, whose number is that of the next one. It has this head, the cells and the free names that
-    /// its symbols say, the row of the present location as its first line, and one empty block; the scope around waits.
+    /// Goes into a nested scope, whose number is that of the next one. It has this head, the cells and the free names that
+    /// its symbols say, the row of the present location as its first line, and one empty block; the enclosing scope waits.
     ///
     /// # Errors
     /// OutOfMemory alone.
@@ -292,8 +292,8 @@ impl Emitter {
         typ: SymbolTableType,
         naming: Naming,
     ) -> Result<(), CodegenError>
-        ensures state { OnOk result (state self.new ≡ begun (entered typ naming (state self.old)) (state self.old).location (suc (state self.old).next)) }
-        ensures rest { OnOk result (rest self.new ≡ entered_rest self.old.scope (code_head (entered typ naming (state self.old)) (shape_of head) (state self.old).location) (rest self.old)) }
+        ensures state { OnOk result (state self.new ≡ initial_state (nested_context typ naming (state self.old)) (state self.old).location (suc (state self.old).next)) }
+        ensures rest { OnOk result (rest self.new ≡ entered_rest self.old.scope (code_head (nested_context typ naming (state self.old)) (shape_of head) (state self.old).location) (rest self.old)) }
         ensures err { IfErr result (λ e. IsStarved e (rest self.old).path) }
     {
         let number = self.next;
@@ -320,8 +320,8 @@ impl Emitter {
     #[tactic(auto, unfolding(crate::specs::States::rest))]
     pub fn leave_scope(&mut self) -> Result<CodeObject, CodegenError>
         requires inner { (rest self.old).outer ≢ [] }
-        ensures code { IfOk result (λ code. object code ≡ sealed (rest self.old).opts.optimize (rest self.old).head (state self.old)) }
-        ensures state { OnOk result ((outer : Scopes OpenScope) (o : OpenScope) → (rest self.old).outer ≡ outer ++ o ∷ [] → state self.new ≡ left (rest self.old) o (state self.old)) }
+        ensures code { IfOk result (λ code. object code ≡ assembled_object (rest self.old).opts.optimize (rest self.old).head (state self.old)) }
+        ensures state { OnOk result ((outer : Scopes OpenScope) (o : OpenScope) → (rest self.old).outer ≡ outer ++ o ∷ [] → state self.new ≡ left_scope (rest self.old) o (state self.old)) }
         ensures rest { OnOk result ((outer : Scopes OpenScope) (o : OpenScope) → (rest self.old).outer ≡ outer ++ o ∷ [] → rest self.new ≡ left_rest outer o (rest self.old)) }
         ensures err { IfErr result (λ e. IsStarved e (rest self.old).path) }
     {
@@ -355,9 +355,9 @@ impl Emitter {
     }
 
     /// The scope's code is a generator.
-    #[tactic(auto, unfolding(py_emission_parts::specs::Emitting::generating, crate::specs::States::rest))]
+    #[tactic(auto, unfolding(py_emission_parts::specs::Emitting::generator_mark, crate::specs::States::rest))]
     pub fn mark_generator(&mut self)
-        ensures goes { generating (state self.old) ≡ Done (state self.new) }
+        ensures goes { run generator_mark (state self.old) ≡ Done (state self.new) }
         ensures rest { rest self.new ≡ rest self.old }
     {
         self.scope.generator = true;
@@ -378,7 +378,7 @@ impl Emitter {
     pub fn finish(self) -> Result<CodeObject, CodegenError>
         requires { IsUnrefused (rest self).opts.optimize (info self) }
         ensures code { IfOk result (λ code. IsFinal (rest self).opts.optimize (info self) code) }
-        ensures sealed { IfOk result (λ code. object code ≡ sealed (rest self).opts.optimize (rest self).head (state self)) }
+        ensures sealed { IfOk result (λ code. object code ≡ assembled_object (rest self).opts.optimize (rest self).head (state self)) }
         ensures err { IfErr result (λ e. IsStarved e (rest self).path) }
     {
         let Emitter {
@@ -408,9 +408,9 @@ impl Emitter {
         naming: Naming,
         number: usize,
     ) -> Result<OpenScope, AllocError>
-        ensures state { IfOk result (λ o. (at : Location) (next : ℕ) → state_of (source_of self.now) o at next ≡ begun (inside typ number (named_in naming (state self.now).around.context)) at next) }
+        ensures state { IfOk result (λ o. (at : Location) (next : ℕ) → state_of (source_of self.now) o at next ≡ initial_state (inside typ number (named_in naming (state self.now).around.context)) at next) }
         ensures head { IfOk result (λ o. head_of o.code ≡ head_in (shape_of head) self.now.source_path self.now.location.row (symbols_in self.now.scopes number)) }
-        ensures context { IfOk result (λ o. o.context ≡ unlooped self.now.scope.context) }
+        ensures context { IfOk result (λ o. o.context ≡ unlooped_context self.now.scope.context) }
     {
         let line = self.location.row;
         let code = first_code(
@@ -436,7 +436,7 @@ impl Emitter {
         })
     }
 
-    /// What class mangles the names of a scope within, and the qualified name of what stands around them.
+    /// What class mangles the names of a nested scope, and the qualified name of their context.
     #[tactic(auto, unfolding(py_emission_parts::specs::Context::with_path, py_emission_parts::specs::Context::within_class))]
     fn names_within(&self, naming: Naming) -> Result<(Option<Text>, Text), AllocError>
         ensures class { IfOk result (λ names. names.0 ≡ (named_in naming (state self.now).around.context).class) }

@@ -1,6 +1,6 @@
 //! The two ways in which code above appends an instruction, or leaves with a fault.
 
-/// Appends an instruction at the present location, or leaves with want of memory: `emit!(em, Instruction::Pop)`, with an
+/// Appends an instruction at the present location, or leaves with out of memory: `emit!(em, Instruction::Pop)`, with an
 /// operand `emit!(em, Instruction::BuildList, count)`, with the block that it jumps to `emit!(em, Instruction::Jump => end)`.
 #[macro_export]
 macro_rules! emit {

@@ -2,15 +2,16 @@
 ghost use Rattle.std.specs.Prelude.{◌≡◌, ◌≢◌, ◌++◌, ◌<◌, ◌^◌, find, length, IfOk, IfErr, OnOk};
 ghost use Rattle.std.specs.List.{list_any, position_or_len};
 ghost use Rattle.std.specs.Option.{option_copied};
-ghost use Rattle.py_base.specs.Mangle.{mangled as mangled_name};
+ghost use Rattle.py_base.specs.Mangle.{mangling as mangled_name};
 ghost use Rattle.py_bytecode.specs.View.{constant};
 ghost use Rattle.py_bytecode.specs.Equality.{text_eq};
 ghost use Rattle.py_scope.specs.Names.{same_name};
 ghost use Rattle.py_control.specs.Form.{Resolved};
-ghost use Rattle.py_emission_parts.specs.Accesses.{accessed, accessed_in, delete_by, emission_of_name, load_by, store_by};
-ghost use Rattle.py_emission_parts.specs.Context.{access_kind, cell_place, deref_kind, is_function, kind_by, mangled as mangled_here, scope_of, symbols_in};
+ghost use Rattle.py_emission_parts.specs.Accesses.{name_access, accessed_in, delete_by, emission_of_name, load_by, store_by};
+ghost use Rattle.py_emission_parts.specs.Context.{access_kind, cell_place, deref_kind, is_function, kind_by, mangled_by as mangled_here, scope_of, symbols_in};
 ghost use Rattle.py_emission_parts.specs.EmissionParts.{unless_debug};
 ghost use Rattle.py_emission_parts.specs.Emitting.{Refused, emit as emission_of_arg, emit_mangled as emission_mangled, refuse};
+ghost use Rattle.py_emission_parts.specs.Running.{run};
 ghost use Rattle.py_emission_parts.specs.TableParts.{debug_constant as constant_debug, is_debug as named_debug};
 ghost use Rattle.py_emit.specs.Access.{emission_of_access, kind_of, usage_of};
 ghost use Rattle.py_emit.specs.States.{Emits, IsStarved, IsTold, rest, state};
@@ -128,7 +129,7 @@ impl Emitter {
 
     /// Appends what stores or deletes a name, or leaves with the text where the name is `__debug__`.
     fn change_name(&mut self, usage: NameUsage, name: &str, text: &str) -> Result<(), CodegenError>
-        ensures { Emits result (unless_debug text.now name.now (accessed (usage_of usage) name.now)) self.old self.new }
+        ensures { Emits result (unless_debug text.now name.now (name_access (usage_of usage) name.now)) self.old self.new }
     {
         if is_debug(name) {
             return Err(self.syntax_error(text));
@@ -140,9 +141,9 @@ impl Emitter {
     ///
     /// # Errors
     /// OutOfMemory alone.
-    #[tactic(auto, unfolding(py_emission_parts::specs::Accesses::accessed))]
+    #[tactic(auto, unfolding(py_emission_parts::specs::Accesses::name_access, py_emission_parts::specs::Emitting::by_context))]
     pub fn access(&mut self, usage: NameUsage, name: &str) -> Result<(), CodegenError>
-        ensures { Emits result (accessed (usage_of usage) name.now) self.old self.new }
+        ensures { Emits result (name_access (usage_of usage) name.now) self.old self.new }
     {
         match self.mangled_if_private(name)? {
             Some(other) => self.access_mangled(usage, other.as_str()),
@@ -306,10 +307,10 @@ impl Emitter {
         }
     }
 
-    /// The SyntaxError with a text, or want of memory for it.
+    /// The SyntaxError with a text, or out of memory for it.
     #[tactic(auto, unfolding(py_emission_parts::specs::Emitting::refuse))]
     pub fn syntax_error(&mut self, text: &str) -> CodegenError
-        ensures goes { result.error ≢ CodegenErrorType.OutOfMemory → refuse (CodegenErrorType.SyntaxError text.now) (state self.old) ≡ Refused result.error result.location }
+        ensures goes { result.error ≢ CodegenErrorType.OutOfMemory → run (refuse (CodegenErrorType.SyntaxError text.now)) (state self.old) ≡ Refused result.error result.location }
         ensures told { IsTold result (rest self.old).path }
     {
         match self.text(text) {
@@ -347,7 +348,7 @@ pub(crate) fn cell_position(code: &FlatCode, name: &str) -> usize
 }
 
 /// The place of a name, or one past the last.
-#[tactic(auto, using(crate::proofs::CellPlaces::found, crate::proofs::CellPlaces::missing, crate::proofs::CellPlaces::place_within))]
+#[tactic(auto, using(crate::proofs::CellPlaces::cell_place_found, crate::proofs::CellPlaces::missing, crate::proofs::CellPlaces::place_within))]
 fn place_among(names: &NameSet, name: &str) -> usize
     ensures place { result ≡ position_or_len (text_eq name.now) names.now }
     ensures small { result < 2 ^ 63 }

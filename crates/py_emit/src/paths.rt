@@ -1,7 +1,7 @@
 //! Qualified names.
 ghost use Rattle.std.specs.Prelude.{◌≡◌, ◌++◌, IfErr, IfOk, OnOk};
 ghost use Rattle.py_emission_parts.specs.Within.{class_path as path_of_class, is_global as is_declared_global};
-ghost use Rattle.py_emission_parts.specs.Context.{behind_dot, function_path as path_of_function, mangled, qualified as qualified_name, scope_of};
+ghost use Rattle.py_emission_parts.specs.Context.{behind_dot, function_path as path_of_function, mangled_by, qualified_under as qualified_name, scope_of};
 ghost use Rattle.py_emit.specs.States.{IsStarved, rest, state};
 
 use crate::emitter::Emitter;
@@ -58,7 +58,7 @@ impl Emitter {
 
     /// Whether a name is declared global in the present scope.
     fn is_declared_global(&mut self, name: &str) -> Result<bool, CodegenError>
-        ensures data { IfOk result (λ global. global ≡ is_declared_global (scope_of (state self.old).around.context (mangled (state self.old).around.context name.now))) }
+        ensures data { IfOk result (λ global. global ≡ is_declared_global (scope_of (state self.old).around.context (mangled_by (state self.old).around.context name.now))) }
         ensures same { OnOk result (self.new ≡ self.old) }
         ensures err { IfErr result (λ e. IsStarved e (rest self.old).path) }
     {
@@ -70,7 +70,7 @@ impl Emitter {
     }
 }
 
-/// A name behind a path and a dot, where there is a path, and what follows the name.
+/// A name after a path and a dot, where there is a path, and what follows the name.
 ///
 /// # Errors
 /// There is no memory for it.

@@ -1,14 +1,14 @@
 //! Scopes whose code is not laid out yet.
 ghost use Rattle.std.specs.Prelude.{◌≡◌, [], None, Some, IfErr, IfOk, OnOk, map};
 ghost use Rattle.std.specs.Option.{option_copied};
-ghost use Rattle.py_bytecode.specs.Equality.{entered, text_eq};
+ghost use Rattle.py_bytecode.specs.Equality.{insert_if_new, text_eq};
 ghost use Rattle.py_ir.specs.BlockList.{IsWhole};
 ghost use Rattle.py_ir.specs.Chain.{plain};
 ghost use Rattle.py_ir.specs.Final.{IsFinal, tables_of};
 ghost use Rattle.py_ir.specs.FlatCode.{info_of};
 ghost use Rattle.py_ir.specs.Refusals.{NoneBefore, Refused};
 ghost use Rattle.py_emission_parts.specs.Context.{cells_among, frees_among, cells_here, frees_here, symbols_in};
-ghost use Rattle.py_emit.specs.States.{IsFirst, flagged, head_in, shape_of};
+ghost use Rattle.py_emit.specs.States.{IsFirst, flagged_code, head_in, shape_of};
 
 use crate::context::{EmitContext, ScopeHead};
 use bitflags::Flags;
@@ -36,7 +36,7 @@ pub struct OpenScope {
 impl OpenScope {
     /// Its code, with the flag of a generator where it is one.
     pub(crate) fn into_code(self) -> FlatCode
-        ensures { result ≡ flagged self }
+        ensures { result ≡ flagged_code self }
     {
         let OpenScope {
             mut code,
@@ -64,9 +64,9 @@ pub(crate) fn laid_out(
     scope: OpenScope,
 ) -> Result<CodeObject, FinalizeError>
     ensures whole { IsWhole scope.code.body }
-    ensures code { IfOk result (λ code. IsFinal optimize (info_of (flagged scope)) code) }
-    ensures clear { IfOk result (λ code. NoneBefore 10 (tables_of (info_of (flagged scope))) optimize (map plain scope.code.body.blocks)) }
-    ensures refused { IfErr result (λ e. Refused (tables_of (info_of (flagged scope))) optimize (map plain scope.code.body.blocks) e) }
+    ensures code { IfOk result (λ code. IsFinal optimize (info_of (flagged_code scope)) code) }
+    ensures clear { IfOk result (λ code. NoneBefore 10 (tables_of (info_of (flagged_code scope))) optimize (map plain scope.code.body.blocks)) }
+    ensures refused { IfErr result (λ e. Refused (tables_of (info_of (flagged_code scope))) optimize (map plain scope.code.body.blocks) e) }
 {
     scope.into_code().finalize(alloc, optimize)
 }
@@ -134,7 +134,7 @@ fn frees_among(alloc: Global, symbols: &Symbols) -> Result<NameSet, AllocError>
 
 /// Enters a name.
 fn enter(alloc: Global, names: &mut NameSet, name: &Text) -> Result<(), AllocError>
-    ensures { OnOk result (names.new ≡ entered text_eq names.old name.now) }
+    ensures { OnOk result (names.new ≡ insert_if_new text_eq names.old name.now) }
 {
     match names.insert_full(name.try_clone(alloc)?) {
         Ok(_) => Ok(()),

@@ -3,7 +3,7 @@ ghost use Rattle.std.specs.Prelude.{◌≡◌, IfOk, IfErr, OnOk};
 ghost use Rattle.py_bytecode.specs.Equality.{const_eq, text_eq};
 ghost use Rattle.py_bytecode.specs.View.{constant as constant_of};
 ghost use Rattle.py_emission_parts.specs.Emitting.{add_constant, add_varname, emit_constant, emit_name as emission_of_name, emit_varname as emission_of_varname, place_in, with_constant, with_name, with_varname};
-ghost use Rattle.py_emission_parts.specs.Context.{mangled};
+ghost use Rattle.py_emission_parts.specs.Context.{mangled_by};
 ghost use Rattle.py_emission_parts.specs.EmissionParts.{unless_debug};
 ghost use Rattle.py_emission_parts.specs.Refused.{no_assignment};
 ghost use Rattle.py_emit.specs.States.{Emits, IsStarved, rest, state};
@@ -19,8 +19,8 @@ impl Emitter {
     /// # Errors
     /// OutOfMemory alone.
     pub fn name(&mut self, name: &str) -> Result<u32, CodegenError>
-        ensures place { IfOk result (λ place. place ≡ place_in text_eq (state self.old).names (mangled (state self.old).around.context name.now)) }
-        ensures next { OnOk result (state self.new ≡ with_name (mangled (state self.old).around.context name.now) (state self.old)) }
+        ensures place { IfOk result (λ place. place ≡ place_in text_eq (state self.old).names (mangled_by (state self.old).around.context name.now)) }
+        ensures next { OnOk result (state self.new ≡ with_name (mangled_by (state self.old).around.context name.now) (state self.old)) }
         ensures rest { OnOk result (rest self.new ≡ rest self.old) }
         ensures err { IfErr result (λ e. IsStarved e (rest self.old).path) }
     {
@@ -54,7 +54,7 @@ impl Emitter {
     /// # Errors
     /// SyntaxError where the name is `__debug__`, at the present location, or OutOfMemory.
     pub fn varname(&mut self, name: &str) -> Result<u32, CodegenError>
-        ensures place { IfOk result (λ place. place ≡ place_in text_eq (state self.old).varnames (mangled (state self.old).around.context name.now)) }
+        ensures place { IfOk result (λ place. place ≡ place_in text_eq (state self.old).varnames (mangled_by (state self.old).around.context name.now)) }
         ensures emits { Emits result (unless_debug no_assignment name.now (add_varname name.now)) self.old self.new }
     {
         if is_debug(name) {
@@ -66,7 +66,7 @@ impl Emitter {
     /// The place of a name, as the innermost class writes it, among those that the code object has of its own.
     #[tactic(auto, unfolding(py_emission_parts::specs::Emitting::add_varname))]
     fn mangled_varname(&mut self, name: &str) -> Result<u32, CodegenError>
-        ensures place { IfOk result (λ place. place ≡ place_in text_eq (state self.old).varnames (mangled (state self.old).around.context name.now)) }
+        ensures place { IfOk result (λ place. place ≡ place_in text_eq (state self.old).varnames (mangled_by (state self.old).around.context name.now)) }
         ensures emits { Emits result (add_varname name.now) self.old self.new }
     {
         match self.mangled_if_private(name)? {
@@ -120,7 +120,7 @@ impl Emitter {
     ///
     /// # Errors
     /// OutOfMemory alone.
-    #[tactic(auto, unfolding(py_emission_parts::specs::Emitting::emit_varname))]
+    #[tactic(auto, unfolding(py_emission_parts::specs::Emitting::emit_varname, py_emission_parts::specs::Emitting::emit))]
     pub fn emit_varname(&mut self, instr: Instruction, name: &str) -> Result<(), CodegenError>
         ensures { Emits result (emission_of_varname instr name.now) self.old self.new }
     {
@@ -157,7 +157,7 @@ impl Emitter {
         Ok(())
     }
 
-    /// A place in a table. What does not fit 32 bits counts as want of memory.
+    /// A place in a table. What does not fit 32 bits counts as out of memory.
     ///
     /// # Errors
     /// OutOfMemory, where the place is 2^32 or more.
@@ -176,7 +176,7 @@ impl Emitter {
     ///
     /// # Errors
     /// OutOfMemory alone.
-    #[tactic(auto, unfolding(py_emission_parts::specs::Emitting::emit_constant))]
+    #[tactic(auto, unfolding(py_emission_parts::specs::Emitting::emit_constant, py_emission_parts::specs::Emitting::emit))]
     pub fn load_const(&mut self, constant: ConstantData) -> Result<(), CodegenError>
         ensures { Emits result (emit_constant Instruction.LoadConst (constant_of constant)) self.old self.new }
     {
@@ -188,7 +188,7 @@ impl Emitter {
     ///
     /// # Errors
     /// OutOfMemory alone.
-    #[tactic(auto, unfolding(py_emission_parts::specs::Emitting::emit_constant))]
+    #[tactic(auto, unfolding(py_emission_parts::specs::Emitting::emit_constant, py_emission_parts::specs::Emitting::emit))]
     pub fn return_const(&mut self, constant: ConstantData) -> Result<(), CodegenError>
         ensures { Emits result (emit_constant Instruction.ReturnConst (constant_of constant)) self.old self.new }
     {
@@ -200,7 +200,7 @@ impl Emitter {
     ///
     /// # Errors
     /// OutOfMemory alone.
-    #[tactic(auto, unfolding(py_emission_parts::specs::Emitting::emit_name))]
+    #[tactic(auto, unfolding(py_emission_parts::specs::Emitting::emit_name, py_emission_parts::specs::Emitting::emit))]
     pub fn emit_name(&mut self, instr: Instruction, name: &str) -> Result<(), CodegenError>
         ensures { Emits result (emission_of_name instr name.now) self.old self.new }
     {

@@ -1,11 +1,12 @@
 -- An expression and its return begin with the move to its location: it does not matter who moves there first.
 use Rattle.std.proofs.Common.{◌≡◌, refl}
 use Rattle.py_tree.specs.Tree as tree
-use Rattle.py_emission_parts.specs.Emitting.{State, located, move}
+use Rattle.py_emission_parts.specs.Running.{run}
+use Rattle.py_emission_parts.specs.Emitting.{State, with_location, move}
 use Rattle.py_emission.specs.Emission.{emission, emission_of_return}
 
-pub entering : (e : tree.Expr) (s : State) → emission e s ≡ emission e (located (tree.expr_location e) s)
-unfolding move located
+pub entering : (e : tree.Expr) (s : State) → run (emission e) s ≡ run (emission e) (with_location (tree.expr_location e) s)
+unfolding move with_location
 entering (tree.BoolOp at op values) s = refl
 entering (tree.NamedExpr at target value) s = refl
 entering (tree.BinOp at left op right) s = refl
@@ -34,8 +35,8 @@ entering (tree.List at elts) s = refl
 entering (tree.Tuple at elts) s = refl
 entering (tree.Slice at lower upper step) s = refl
 
-pub entering_return : (e : tree.Expr) (s : State) → emission_of_return e s ≡ emission_of_return e (located (tree.expr_location e) s)
-unfolding move located
+pub entering_return : (e : tree.Expr) (s : State) → run (emission_of_return e) s ≡ run (emission_of_return e) (with_location (tree.expr_location e) s)
+unfolding move with_location
 entering_return (tree.BoolOp at op values) s = refl
 entering_return (tree.NamedExpr at target value) s = refl
 entering_return (tree.BinOp at left op right) s = refl

@@ -3,9 +3,9 @@ ghost use Rattle.std.specs.Prelude.{◌≡◌, false, IfOk};
 ghost use Rattle.py_tree.specs.View.{expr_tree, exprs, keywords as keyword_trees};
 ghost use Rattle.py_emission_parts.specs.EmissionParts.{elements, in_turn};
 ghost use Rattle.py_emission.specs.Emission.{all_emissions, emissions, keyword_emissions};
-ghost use Rattle.py_emission_parts.specs.Elements.{bare, starred};
+ghost use Rattle.py_emission_parts.specs.Elements.{bare, has_starred};
 ghost use Rattle.py_emit.specs.States.{Emits};
-ghost use Rattle.py_expr_parts.specs.Calls.{argument_tuple, arguments, called, callee_value, is_method, keyworded, positional, taken};
+ghost use Rattle.py_expr_parts.specs.Calls.{argument_tuple, arguments, call_emission, callee_value, is_method, keyword_arguments, positional, taken_type};
 
 use crate::elements::compile_groups;
 use crate::expressions::{compile_expression, compile_expressions};
@@ -21,7 +21,7 @@ use py_tree::{Expr, ExprCall, Exprs, Keyword, List};
 /// Emits what is called, its arguments and the call.
 #[cycle(code)]
 pub(crate) fn compile_call(em: &mut Emitter, e: &ExprCall) -> Result<(), CodegenError>
-    ensures { Emits result (called (emissions (expr_tree e.now.func.value)).callee (elements (all_emissions (exprs expr_tree e.now.args))) (keyword_emissions (keyword_trees expr_tree e.now.keywords))) em.old em.new }
+    ensures { Emits result (call_emission (emissions (expr_tree e.now.func.value)).callee (elements (all_emissions (exprs expr_tree e.now.args))) (keyword_emissions (keyword_trees expr_tree e.now.keywords))) em.old em.new }
 {
     let is_method = compile_callee(em, &e.func)?;
     let call = compile_call_arguments(em, e)?;
@@ -50,7 +50,7 @@ fn compile_callee(em: &mut Emitter, func: &Expr) -> Result<bool, CodegenError>
 /// Emits the arguments of a call. Answers what the call takes.
 #[cycle(code)]
 fn compile_call_arguments(em: &mut Emitter, e: &ExprCall) -> Result<CallType, CodegenError>
-    ensures call { IfOk result (λ c. c ≡ taken 0 (elements (all_emissions (exprs expr_tree e.now.args))) (keyword_emissions (keyword_trees expr_tree e.now.keywords))) }
+    ensures call { IfOk result (λ c. c ≡ taken_type 0 (elements (all_emissions (exprs expr_tree e.now.args))) (keyword_emissions (keyword_trees expr_tree e.now.keywords))) }
     ensures emits { Emits result (arguments 0 (elements (all_emissions (exprs expr_tree e.now.args))) (keyword_emissions (keyword_trees expr_tree e.now.keywords))) em.old em.new }
 {
     let args = e.args.as_slice();
@@ -61,7 +61,7 @@ fn compile_call_arguments(em: &mut Emitter, e: &ExprCall) -> Result<CallType, Co
     call_type(em, packed, 0, args, keywords)
 }
 
-/// Emits arguments as those of a call, behind `additional` values that lie there. Answers what the call takes with these.
+/// Emits arguments as those of a call, after `additional` values that lie there. Answers what the call takes with these.
 ///
 /// # Errors
 /// The first compile fault of the arguments, with its location; MissingCell; or OutOfMemory.
@@ -71,7 +71,7 @@ pub fn compile_call_inner(
     args: &Exprs,
     keywords: &List<Keyword>,
 ) -> Result<CallType, CodegenError>
-    ensures call { IfOk result (λ c. c ≡ taken additional (elements (all_emissions (exprs expr_tree args.now))) (keyword_emissions (keyword_trees expr_tree keywords.now))) }
+    ensures call { IfOk result (λ c. c ≡ taken_type additional (elements (all_emissions (exprs expr_tree args.now))) (keyword_emissions (keyword_trees expr_tree keywords.now))) }
     ensures emits { Emits result (arguments additional (elements (all_emissions (exprs expr_tree args.now))) (keyword_emissions (keyword_trees expr_tree keywords.now))) em.old em.new }
 {
     let args = args.as_slice();
@@ -82,7 +82,7 @@ pub fn compile_call_inner(
     call_type(em, packed, additional, args, keywords)
 }
 
-/// Emits arguments, behind `additional` values, in their places or in one tuple.
+/// Emits arguments, after `additional` values, in their places or in one tuple.
 #[cycle(code)]
 fn compile_positional(
     em: &mut Emitter,
@@ -91,7 +91,7 @@ fn compile_positional(
     args: &[Expr],
     keywords: &[Keyword],
 ) -> Result<(), CodegenError>
-    requires plain { packed ≡ false → starred (elements (all_emissions (exprs expr_tree args.now))) ≡ false }
+    requires plain { packed ≡ false → has_starred (elements (all_emissions (exprs expr_tree args.now))) ≡ false }
     ensures { Emits result (positional packed additional (elements (all_emissions (exprs expr_tree args.now))) (keyword_emissions (keyword_trees expr_tree keywords.now))) em.old em.new }
 {
     if packed {
@@ -103,13 +103,13 @@ fn compile_positional(
 /// Emits arguments of which none is starred.
 #[cycle(code)]
 fn compile_plain(em: &mut Emitter, args: &[Expr]) -> Result<(), CodegenError>
-    requires plain { starred (elements (all_emissions (exprs expr_tree args.now))) ≡ false }
+    requires plain { has_starred (elements (all_emissions (exprs expr_tree args.now))) ≡ false }
     ensures { Emits result (in_turn (bare (elements (all_emissions (exprs expr_tree args.now))))) em.old em.new }
 {
     compile_expressions(em, args)
 }
 
-/// Emits a tuple of arguments, behind `additional` values: where some are starred, of these first.
+/// Emits a tuple of arguments, after `additional` values: where some are starred, of these first.
 #[cycle(code)]
 #[tactic(auto, using(py_expr_parts::proofs::Groups::many_elements, crate::proofs::Runs::few_runs))]
 fn compile_argument_tuple(
@@ -138,7 +138,7 @@ fn compile_keywords(
     packed: bool,
     keywords: &[Keyword],
 ) -> Result<(), CodegenError>
-    ensures { Emits result (keyworded packed (keyword_emissions (keyword_trees expr_tree keywords.now))) em.old em.new }
+    ensures { Emits result (keyword_arguments packed (keyword_emissions (keyword_trees expr_tree keywords.now))) em.old em.new }
 {
     if packed {
         return compile_keyword_map(em, keywords);

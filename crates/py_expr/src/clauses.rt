@@ -3,9 +3,9 @@ ghost use Rattle.std.specs.Prelude.{◌≡◌, ◌<◌, suc, IfErr, IfOk};
 ghost use Rattle.py_tree.specs.View.{expr_tree, exprs, generators as clause_trees};
 ghost use Rattle.py_emission_parts.specs.Comprehensions.{conditions};
 ghost use Rattle.py_emission.specs.Emission.{all_emissions, clause_emissions, emission};
-ghost use Rattle.py_emit.specs.States.{Emits, Same, rest, state};
+ghost use Rattle.py_emit.specs.States.{Does, Emits, Same, rest, state};
 ghost use Rattle.py_emit.specs.Steps.{IsOpen};
-ghost use Rattle.py_expr_scopes.specs.Clauses.{AllOpen, AreOpened, AreRefused, IsOpenClause, clause_of, iterator_of, opened, opened_clause};
+ghost use Rattle.py_expr_scopes.specs.Clauses.{AllOpen, AreOpened, AreRefused, IsOpenClause, clause_of, iterator_of, clause_start, opened_clause};
 
 use crate::conditions::compile_test;
 use crate::expressions::compile_expression;
@@ -41,7 +41,7 @@ pub(crate) fn open_clauses(
 /// Emits what stands before what is within a clause: the iterator, the store of what it gives, and the conditions. Answers
 /// the blocks of the clause.
 #[cycle(code)]
-#[tactic(auto, using(py_expr_parts::proofs::Steps::steps))]
+#[tactic(auto, using(py_expr_parts::proofs::Steps::step_steps))]
 fn open_clause(
     em: &mut Emitter,
     clause: &Comprehension,
@@ -50,7 +50,7 @@ fn open_clause(
     ensures start { IfOk result (λ blocks. blocks.start.0 ≡ (state em.old).blocks) }
     ensures end { IfOk result (λ blocks. blocks.end.0 ≡ suc (state em.old).blocks) }
     ensures open { IfOk result (λ blocks. IsOpenClause blocks (state em.new)) }
-    ensures emits { Emits result (opened_clause (iterator_of first (clause_of clause.now).iterable) (clause_of clause.now)) em.old em.new }
+    ensures emits { Does result (opened_clause (iterator_of first (clause_of clause.now).iterable) (clause_of clause.now)) em.old em.new }
 {
     let start = em.new_block()?;
     let end = em.new_block()?;
@@ -61,7 +61,7 @@ fn open_clause(
 
 /// Emits what stands before what is within a clause of these blocks.
 #[cycle(code)]
-#[tactic(auto, using(py_expr_parts::proofs::Steps::steps))]
+#[tactic(auto, using(py_expr_parts::proofs::Steps::step_steps))]
 fn begin_clause(
     em: &mut Emitter,
     clause: &Comprehension,
@@ -71,7 +71,7 @@ fn begin_clause(
     requires open { IsOpen blocks.now.start.0 (state em.old) }
     requires start_below { blocks.now.start.0 < 0xffff_ffff }
     requires end_below { blocks.now.end.0 < 0xffff_ffff }
-    ensures { Emits result (opened (iterator_of first (clause_of clause.now).iterable) (clause_of clause.now) blocks.now.start.0 blocks.now.end.0) em.old em.new }
+    ensures { Does result (clause_start (iterator_of first (clause_of clause.now).iterable) (clause_of clause.now) blocks.now.start.0 blocks.now.end.0) em.old em.new }
 {
     compile_iterator(em, &clause.iter, first)?;
     em.switch_to_block(blocks.start);

@@ -5,7 +5,7 @@ ghost use Rattle.py_emission_parts.specs.Emitting.{◌▸◌};
 ghost use Rattle.py_emission_parts.specs.EmissionParts.{chain, emission_of_compare, in_turn, links, first_comparison, values};
 ghost use Rattle.py_emission.specs.Emission.{all_emissions, emissions};
 ghost use Rattle.py_emit.specs.States.{Emits};
-ghost use Rattle.py_expr_parts.specs.Turns.{linked};
+ghost use Rattle.py_expr_parts.specs.Turns.{linked_value};
 
 use crate::expressions::{compile_expression, compile_expressions};
 use py_base::{CodegenError, CodegenErrorType};
@@ -34,7 +34,7 @@ pub(crate) fn compile_compare(em: &mut Emitter, e: &ExprCompare) -> Result<(), C
 }
 
 #[cycle(code)]
-#[tactic(auto, using(py_expr_parts::proofs::Steps::steps))]
+#[tactic(auto, using(py_expr_parts::proofs::Steps::step_steps))]
 fn compile_one_comparison(em: &mut Emitter, e: &ExprCompare) -> Result<(), CodegenError>
     requires { 0 < length e.now.ops }
     ensures { Emits result ((emissions (expr_tree e.now.left.value)).value ▸ in_turn (values (all_emissions (exprs expr_tree e.now.comparators))) ▸ first_comparison e.now.ops) em.old em.new }
@@ -46,7 +46,7 @@ fn compile_one_comparison(em: &mut Emitter, e: &ExprCompare) -> Result<(), Codeg
 
 /// Emits a chain of comparisons. What a false one leaves lies above a value that goes.
 #[cycle(code)]
-#[tactic(auto, using(py_expr_parts::proofs::Steps::steps))]
+#[tactic(auto, using(py_expr_parts::proofs::Steps::step_steps))]
 fn compile_chain(em: &mut Emitter, e: &ExprCompare) -> Result<(), CodegenError>
     requires { length e.now.ops ≡ length e.now.comparators }
     ensures { Emits result (chain (emissions (expr_tree e.now.left.value)).value e.now.ops (all_emissions (exprs expr_tree e.now.comparators))) em.old em.new }
@@ -91,7 +91,7 @@ fn compile_linked(
     value: &Expr,
 ) -> Result<(), CodegenError>
     requires below { out.0 < 0xffff_ffff }
-    ensures { Emits result (linked out.0 op more (expr_tree value.now)) em.old em.new }
+    ensures { Emits result (linked_value out.0 op more (expr_tree value.now)) em.old em.new }
 {
     compile_expression(em, value)?;
     if more {

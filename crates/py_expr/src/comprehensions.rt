@@ -1,13 +1,14 @@
-//! Comprehensions: a scope within that is called at once with the first iterator.
+//! Comprehensions: a nested scope that is called at once with the first iterator.
 ghost use Rattle.std.specs.Prelude.{◌≡◌, ◌<◌, length};
 ghost use Rattle.py_tree.specs.View.{dict_comp_tree, expr_tree, generator_exp_tree, generators as clause_trees, list_comp_tree, set_comp_tree};
-ghost use Rattle.py_emission_parts.specs.Children.{child, made};
+ghost use Rattle.py_emission_parts.specs.Children.{child, made_function};
 ghost use Rattle.py_emission_parts.specs.Comprehensions.{as_element, called_at_once, clauses, comprehension_shape};
 ghost use Rattle.py_emission_parts.specs.Within.{comprehension_inside};
 ghost use Rattle.py_emission_parts.specs.Emitting.{◌▸◌};
+ghost use Rattle.py_emission_parts.specs.Running.{run};
 ghost use Rattle.py_emission.specs.Emission.{clause_emissions, emission};
 ghost use Rattle.py_emit.specs.States.{Emits, Same, rest, state};
-ghost use Rattle.py_expr_scopes.specs.Comprehensions.{added, comprehension_of, element_of, first_iterable, name_of, scope_of, turn};
+ghost use Rattle.py_expr_scopes.specs.Comprehensions.{added_element, comprehension_of, element_of, first_iterable, name_of, scope_of, turn};
 ghost use Rattle.py_expr_scopes.specs.Functions.{Gives};
 
 use crate::clauses::{compile_iterator, open_clauses};
@@ -25,7 +26,7 @@ use py_tree::{
 };
 
 #[cycle(code)]
-#[tactic(auto, using(py_expr_parts::proofs::Steps::steps))]
+#[tactic(auto, using(py_expr_parts::proofs::Steps::step_steps))]
 pub(crate) fn compile_list_comp(em: &mut Emitter, e: &ExprListComp) -> Result<(), CodegenError>
     requires at { (state em.old).location ≡ e.now.location }
     ensures { Emits result (emission (list_comp_tree e.now)) em.old em.new }
@@ -35,7 +36,7 @@ pub(crate) fn compile_list_comp(em: &mut Emitter, e: &ExprListComp) -> Result<()
 }
 
 #[cycle(code)]
-#[tactic(auto, using(py_expr_parts::proofs::Steps::steps))]
+#[tactic(auto, using(py_expr_parts::proofs::Steps::step_steps))]
 pub(crate) fn compile_set_comp(em: &mut Emitter, e: &ExprSetComp) -> Result<(), CodegenError>
     requires at { (state em.old).location ≡ e.now.location }
     ensures { Emits result (emission (set_comp_tree e.now)) em.old em.new }
@@ -45,7 +46,7 @@ pub(crate) fn compile_set_comp(em: &mut Emitter, e: &ExprSetComp) -> Result<(), 
 }
 
 #[cycle(code)]
-#[tactic(auto, using(py_expr_parts::proofs::Steps::steps))]
+#[tactic(auto, using(py_expr_parts::proofs::Steps::step_steps))]
 pub(crate) fn compile_dict_comp(em: &mut Emitter, e: &ExprDictComp) -> Result<(), CodegenError>
     requires at { (state em.old).location ≡ e.now.location }
     ensures { Emits result (emission (dict_comp_tree e.now)) em.old em.new }
@@ -58,7 +59,7 @@ pub(crate) fn compile_dict_comp(em: &mut Emitter, e: &ExprDictComp) -> Result<()
 }
 
 #[cycle(code)]
-#[tactic(auto, using(py_expr_parts::proofs::Steps::steps))]
+#[tactic(auto, using(py_expr_parts::proofs::Steps::step_steps))]
 pub(crate) fn compile_generator_exp(
     em: &mut Emitter,
     e: &ExprGeneratorExp,
@@ -116,7 +117,7 @@ fn make_comprehension(
     generators: &[Comprehension],
     element: &ComprehensionElement<'_>,
 ) -> Result<(), CodegenError>
-    ensures { Emits result (child comprehension_inside (comprehension_shape (name_of element.now)) (scope_of (clause_emissions (clause_trees expr_tree generators.now)) element.now) (made 0 (name_of element.now))) em.old em.new }
+    ensures { Emits result (child comprehension_inside (comprehension_shape (name_of element.now)) (scope_of (clause_emissions (clause_trees expr_tree generators.now)) element.now) (made_function 0 (name_of element.now))) em.old em.new }
 {
     let name = em.text(scope_name(element))?;
     let code = compile_comprehension_scope(em, generators, element, name)?;
@@ -131,7 +132,7 @@ fn compile_comprehension_scope(
     element: &ComprehensionElement<'_>,
     name: Text,
 ) -> Result<CodeObject, CodegenError>
-    ensures goes { Gives result (state em.new) (λ k. child comprehension_inside (comprehension_shape name) (scope_of (clause_emissions (clause_trees expr_tree generators.now)) element.now) k (state em.old)) }
+    ensures goes { Gives result (state em.new) (λ k. run (child comprehension_inside (comprehension_shape name) (scope_of (clause_emissions (clause_trees expr_tree generators.now)) element.now) k) (state em.old)) }
     ensures same { Same result (rest em.new) (rest em.old) }
 {
     enter_comprehension(em, name)?;
@@ -174,7 +175,7 @@ fn compile_turn(
     element: &ComprehensionElement<'_>,
     depth: usize,
 ) -> Result<(), CodegenError>
-    ensures { Emits result (element_of element.now ▸ added element.now depth) em.old em.new }
+    ensures { Emits result (element_of element.now ▸ added_element element.now depth) em.old em.new }
 {
     compile_element(em, element)?;
     add_element(em, element, depth)

@@ -2,7 +2,7 @@
 ghost use Rattle.std.specs.Prelude.{◌≡◌, ◌<◌};
 ghost use Rattle.py_bytecode.specs.Values.{flip};
 ghost use Rattle.py_tree.specs.View.{bool_op_tree, expr_tree, exprs};
-ghost use Rattle.py_emission_parts.specs.TableParts.{deciding};
+ghost use Rattle.py_emission_parts.specs.TableParts.{deciding_truth};
 ghost use Rattle.py_emission_parts.specs.EmissionParts.{bool_test, bool_value, past_tests, shorts, some_test, some_values, tests, values, truth_of};
 ghost use Rattle.py_emission.specs.Emission.{all_emissions, emission, emission_of_test};
 ghost use Rattle.py_emit.specs.States.{Emits, state};
@@ -16,7 +16,7 @@ use py_ir::BlockIdx;
 use py_tree::{BoolOp, Expr, ExprBoolOp, Malformed, UnaryOp};
 
 #[cycle(code)]
-#[tactic(auto, using(py_expr_parts::proofs::Steps::steps))]
+#[tactic(auto, using(py_expr_parts::proofs::Steps::step_steps))]
 pub(crate) fn compile_bool_op(em: &mut Emitter, e: &ExprBoolOp) -> Result<(), CodegenError>
     requires at { (state em.old).location ≡ e.now.location }
     ensures { Emits result (emission (bool_op_tree e.now)) em.old em.new }
@@ -37,7 +37,7 @@ fn compile_bool_value(em: &mut Emitter, op: BoolOp, values: &[Expr]) -> Result<(
 
 /// Emits values, each but the last of which decides where its truth does.
 #[cycle(code)]
-#[tactic(auto, using(py_expr_parts::proofs::Steps::steps))]
+#[tactic(auto, using(py_expr_parts::proofs::Steps::step_steps))]
 fn compile_some_values(em: &mut Emitter, op: BoolOp, values: &[Expr]) -> Result<(), CodegenError>
     ensures { Emits result (some_values op (all_emissions (exprs expr_tree values.now))) em.old em.new }
 {
@@ -106,7 +106,7 @@ pub fn compile_jump_if(
 
 /// Emits an expression as a test.
 #[cycle(code)]
-#[tactic(auto, using(py_tree::proofs::View::trees, py_expr_parts::proofs::Steps::steps))]
+#[tactic(auto, using(py_tree::proofs::View::trees, py_expr_parts::proofs::Steps::step_steps))]
 pub(crate) fn compile_test(em: &mut Emitter, expr: &Expr, jump: &JumpIf) -> Result<(), CodegenError>
     requires below { jump.now.block.0 < 0xffff_ffff }
     ensures { Emits result (emission_of_test (expr_tree expr.now) jump.now.truth jump.now.block.0) em.old em.new }
@@ -123,7 +123,7 @@ pub(crate) fn compile_test(em: &mut Emitter, expr: &Expr, jump: &JumpIf) -> Resu
 
 /// Emits the test that is turned: that of `not` where the operand is this.
 #[cycle(code)]
-#[tactic(auto, using(py_expr_parts::proofs::Steps::steps))]
+#[tactic(auto, using(py_expr_parts::proofs::Steps::step_steps))]
 fn compile_not(em: &mut Emitter, operand: &Expr, jump: &JumpIf) -> Result<(), CodegenError>
     requires below { jump.now.block.0 < 0xffff_ffff }
     ensures { Emits result (emission_of_test (expr_tree operand.now) (flip jump.now.truth) jump.now.block.0) em.old em.new }
@@ -178,7 +178,7 @@ fn compile_some_test(
 
 /// Emits values as tests, where one that decides goes past the others.
 #[cycle(code)]
-#[tactic(auto, using(py_expr_parts::proofs::Steps::steps))]
+#[tactic(auto, using(py_expr_parts::proofs::Steps::step_steps))]
 fn compile_past_tests(
     em: &mut Emitter,
     deciding: bool,

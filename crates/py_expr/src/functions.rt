@@ -3,7 +3,8 @@ ghost use Rattle.std.specs.Prelude.{◌≡◌, ◌+◌, ◌≤◌, length, IfOk}
 ghost use Rattle.py_tree.specs.View.{args, arguments, expr_tree, opt_box};
 ghost use Rattle.py_emission_parts.specs.Children.{child, emission_of_defaults, flags_of_defaults, function_scope, some_emitted};
 ghost use Rattle.py_emission_parts.specs.Within.{lambda_inside, some_flag};
-ghost use Rattle.py_emission_parts.specs.EmissionParts.{built, in_turn, map_of};
+ghost use Rattle.py_emission_parts.specs.EmissionParts.{counted_build, in_turn, map_of};
+ghost use Rattle.py_emission_parts.specs.Running.{run};
 ghost use Rattle.py_emission.specs.Emission.{default_emissions, emission_of_return, lambda_value};
 ghost use Rattle.py_emission.specs.Parameters.{function_shape, parameters};
 ghost use Rattle.py_emit.specs.States.{Emits, Same, rest, state};
@@ -40,7 +41,7 @@ fn compile_lambda_scope(
     params: &Arguments,
     name: Text,
 ) -> Result<CodeObject, CodegenError>
-    ensures goes { Gives result (state em.new) (λ k. child lambda_inside (function_shape (arguments expr_tree params.now) name) (function_scope (parameters (arguments expr_tree params.now)) (emission_of_return (expr_tree body.now))) k (state em.old)) }
+    ensures goes { Gives result (state em.new) (λ k. run (child lambda_inside (function_shape (arguments expr_tree params.now) name) (function_scope (parameters (arguments expr_tree params.now)) (emission_of_return (expr_tree body.now))) k) (state em.old)) }
     ensures same { Same result (rest em.new) (rest em.old) }
 {
     enter_function(em, params, name, Naming::AsAround)?;
@@ -72,7 +73,7 @@ pub fn compile_defaults(em: &mut Emitter, params: &Arguments) -> Result<Defaults
 #[tactic(auto, using(py_expr_scopes::proofs::Signatures::positional_goes, py_expr_scopes::proofs::Signatures::positional_any))]
 fn compile_positional_defaults(em: &mut Emitter, params: &Arguments) -> Result<bool, CodegenError>
     ensures any { IfOk result (λ any. some_flag 0x08 (default_emissions (arguments expr_tree params.now)).positional ≡ flag_if 0x08 any) }
-    ensures emits { Emits result (some_emitted (built Instruction.BuildTuple) (default_emissions (arguments expr_tree params.now)).positional) em.old em.new }
+    ensures emits { Emits result (some_emitted (counted_build Instruction.BuildTuple) (default_emissions (arguments expr_tree params.now)).positional) em.old em.new }
 {
     let posonly = params.posonlyargs.as_slice();
     let others = params.args.as_slice();

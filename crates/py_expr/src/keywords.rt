@@ -82,7 +82,7 @@ fn compile_maps(em: &mut Emitter, keywords: &[Keyword]) -> Result<usize, Codegen
     Ok(maps)
 }
 
-/// Emits a keyword that stands behind a run of so many named ones, which an unpacked one ends. Answers how many maps are
+/// Emits a keyword that stands after a run of so many named ones, which an unpacked one ends. Answers how many maps are
 /// complete now.
 #[cycle(code)]
 fn compile_keyword(em: &mut Emitter, keyword: &Keyword, run: usize) -> Result<usize, CodegenError>

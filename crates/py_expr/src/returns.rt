@@ -22,7 +22,7 @@ use py_tree::{Expr, ExprJoinedStr};
 /// # Errors
 /// The first compile fault of the expression, with its location; MissingCell; or OutOfMemory.
 #[cycle(code)]
-#[tactic(auto, using(py_tree::proofs::View::trees, py_expr_parts::proofs::Steps::steps))]
+#[tactic(auto, using(py_tree::proofs::View::trees, py_expr_parts::proofs::Steps::step_steps))]
 pub fn compile_return(em: &mut Emitter, expr: &Expr) -> Result<(), CodegenError>
     ensures { Emits result (emission_of_return (expr_tree expr.now)) em.old em.new }
 {
@@ -32,7 +32,7 @@ pub fn compile_return(em: &mut Emitter, expr: &Expr) -> Result<(), CodegenError>
 
 /// Emits the return of an expression's value, at whose location the emitter is.
 #[cycle(code)]
-#[tactic(auto, using(py_tree::proofs::View::trees, py_expr_parts::proofs::Steps::steps))]
+#[tactic(auto, using(py_tree::proofs::View::trees, py_expr_parts::proofs::Steps::step_steps))]
 fn return_entered(em: &mut Emitter, expr: &Expr) -> Result<(), CodegenError>
     requires at { (state em.old).location ≡ expr_location (expr_tree expr.now) }
     ensures { Emits result (emission_of_return (expr_tree expr.now)) em.old em.new }
@@ -47,7 +47,7 @@ fn return_entered(em: &mut Emitter, expr: &Expr) -> Result<(), CodegenError>
 
 /// Emits a value and its return.
 #[cycle(code)]
-#[tactic(auto, using(py_expr_parts::proofs::Steps::steps))]
+#[tactic(auto, using(py_expr_parts::proofs::Steps::step_steps))]
 fn return_value(em: &mut Emitter, expr: &Expr) -> Result<(), CodegenError>
     requires at { (state em.old).location ≡ expr_location (expr_tree expr.now) }
     ensures { Emits result (emission (expr_tree expr.now) ▸ emitting Instruction.ReturnValue 0) em.old em.new }
@@ -58,7 +58,7 @@ fn return_value(em: &mut Emitter, expr: &Expr) -> Result<(), CodegenError>
 }
 
 #[cycle(code)]
-#[tactic(auto, using(py_expr_parts::proofs::Steps::steps))]
+#[tactic(auto, using(py_expr_parts::proofs::Steps::step_steps))]
 fn return_joined_str(em: &mut Emitter, e: &ExprJoinedStr) -> Result<(), CodegenError>
     requires at { (state em.old).location ≡ e.now.location }
     ensures { Emits result (emission_of_return (joined_str_tree e.now)) em.old em.new }

@@ -149,7 +149,7 @@ pub fn compile_deletes(em: &mut Emitter, targets: &[Expr]) -> Result<(), Codegen
 
 /// Emits a value that is stored and kept.
 #[cycle(code)]
-#[tactic(auto, using(py_expr_parts::proofs::Steps::steps))]
+#[tactic(auto, using(py_expr_parts::proofs::Steps::step_steps))]
 pub(crate) fn compile_named_expr(em: &mut Emitter, e: &ExprNamedExpr) -> Result<(), CodegenError>
     requires at { (state em.old).location ≡ e.now.location }
     ensures { Emits result (emission (named_expr_tree e.now)) em.old em.new }

@@ -3,7 +3,7 @@ ghost use Rattle.std.specs.Prelude.{◌≡◌, []};
 ghost use Rattle.py_tree.specs.View.{expr_tree, exprs, formatted_value_tree, joined_str_tree, opt_box};
 ghost use Rattle.py_bytecode.specs.Objects as object;
 ghost use Rattle.py_emission.specs.Texts.{texts_of};
-ghost use Rattle.py_emission_parts.specs.EmissionParts.{built, joined_value, value_or, values};
+ghost use Rattle.py_emission_parts.specs.EmissionParts.{counted_build, joined_value, value_or, values};
 ghost use Rattle.py_emission.specs.Emission.{all_emissions, emission, opt_emission};
 ghost use Rattle.py_emit.specs.States.{Emits, state};
 
@@ -16,7 +16,7 @@ use py_node_values::operators::conversion_case_of;
 use py_tree::{Expr, ExprFormattedValue, ExprJoinedStr, Text};
 
 #[cycle(code)]
-#[tactic(auto, using(py_expr_parts::proofs::Steps::steps))]
+#[tactic(auto, using(py_expr_parts::proofs::Steps::step_steps))]
 pub(crate) fn compile_joined_str(em: &mut Emitter, e: &ExprJoinedStr) -> Result<(), CodegenError>
     requires at { (state em.old).location ≡ e.now.location }
     ensures { Emits result (emission (joined_str_tree e.now)) em.old em.new }
@@ -39,14 +39,14 @@ fn compile_joined(em: &mut Emitter, parts: &[Expr]) -> Result<(), CodegenError>
 /// Emits parts of an f-string and the instruction that joins them.
 #[cycle(code)]
 pub(crate) fn compile_parts(em: &mut Emitter, parts: &[Expr]) -> Result<(), CodegenError>
-    ensures { Emits result (built Instruction.BuildString (values (all_emissions (exprs expr_tree parts.now)))) em.old em.new }
+    ensures { Emits result (counted_build Instruction.BuildString (values (all_emissions (exprs expr_tree parts.now)))) em.old em.new }
 {
     compile_expressions(em, parts)?;
     em.emit_count(Instruction::BuildString, parts.len())
 }
 
 #[cycle(code)]
-#[tactic(auto, using(py_expr_parts::proofs::Steps::steps))]
+#[tactic(auto, using(py_expr_parts::proofs::Steps::step_steps))]
 pub(crate) fn compile_formatted_value(
     em: &mut Emitter,
     e: &ExprFormattedValue,

@@ -2,7 +2,7 @@
 ghost use Rattle.std.specs.Prelude.{◌≡◌};
 ghost use Rattle.py_tree.specs.View.{expr_tree, opt_box, yield_from_tree, yield_tree};
 ghost use Rattle.py_bytecode.specs.Objects as object;
-ghost use Rattle.py_emission_parts.specs.Emitting.{◌▸◌, emit as emitting, emit_constant, generating};
+ghost use Rattle.py_emission_parts.specs.Emitting.{◌▸◌, emit as emitting, emit_constant, generator_mark};
 ghost use Rattle.py_emission_parts.specs.EmissionParts.{only_in_function, value_or};
 ghost use Rattle.py_emission.specs.Emission.{emission, opt_emission};
 ghost use Rattle.py_emit.specs.States.{Emits, state};
@@ -16,7 +16,7 @@ use py_expr_parts::yields::check_in_function;
 use py_tree::{Expr, ExprYield, ExprYieldFrom};
 
 #[cycle(code)]
-#[tactic(auto, using(py_expr_parts::proofs::Steps::steps))]
+#[tactic(auto, using(py_expr_parts::proofs::Steps::step_steps))]
 pub(crate) fn compile_yield(em: &mut Emitter, e: &ExprYield) -> Result<(), CodegenError>
     requires at { (state em.old).location ≡ e.now.location }
     ensures { Emits result (emission (yield_tree e.now)) em.old em.new }
@@ -27,7 +27,7 @@ pub(crate) fn compile_yield(em: &mut Emitter, e: &ExprYield) -> Result<(), Codeg
 /// Emits what hands a value on, which only a function may do.
 #[cycle(code)]
 fn yield_within(em: &mut Emitter, value: &Option<Box<Expr>>) -> Result<(), CodegenError>
-    ensures { Emits result (only_in_function CodegenErrorType.InvalidYield (generating ▸ value_or object.none (opt_emission (opt_box expr_tree value.now)) ▸ emitting Instruction.YieldValue 0)) em.old em.new }
+    ensures { Emits result (only_in_function CodegenErrorType.InvalidYield (generator_mark ▸ value_or object.none (opt_emission (opt_box expr_tree value.now)) ▸ emitting Instruction.YieldValue 0)) em.old em.new }
 {
     check_in_function(em, CodegenErrorType::InvalidYield)?;
     yield_value(em, value)
@@ -35,9 +35,9 @@ fn yield_within(em: &mut Emitter, value: &Option<Box<Expr>>) -> Result<(), Codeg
 
 /// Emits a value, or None where it is missing, and what hands it on.
 #[cycle(code)]
-#[tactic(auto, using(py_expr_parts::proofs::Steps::steps))]
+#[tactic(auto, using(py_expr_parts::proofs::Steps::step_steps))]
 fn yield_value(em: &mut Emitter, value: &Option<Box<Expr>>) -> Result<(), CodegenError>
-    ensures { Emits result (generating ▸ value_or object.none (opt_emission (opt_box expr_tree value.now)) ▸ emitting Instruction.YieldValue 0) em.old em.new }
+    ensures { Emits result (generator_mark ▸ value_or object.none (opt_emission (opt_box expr_tree value.now)) ▸ emitting Instruction.YieldValue 0) em.old em.new }
 {
     em.mark_generator();
     compile_or_none(em, value)?;
@@ -46,7 +46,7 @@ fn yield_value(em: &mut Emitter, value: &Option<Box<Expr>>) -> Result<(), Codege
 }
 
 #[cycle(code)]
-#[tactic(auto, using(py_expr_parts::proofs::Steps::steps))]
+#[tactic(auto, using(py_expr_parts::proofs::Steps::step_steps))]
 pub(crate) fn compile_yield_from(em: &mut Emitter, e: &ExprYieldFrom) -> Result<(), CodegenError>
     requires at { (state em.old).location ≡ e.now.location }
     ensures { Emits result (emission (yield_from_tree e.now)) em.old em.new }
@@ -57,7 +57,7 @@ pub(crate) fn compile_yield_from(em: &mut Emitter, e: &ExprYieldFrom) -> Result<
 /// Emits what hands on all that a value gives, which only a function may do.
 #[cycle(code)]
 fn yield_all_within(em: &mut Emitter, value: &Expr) -> Result<(), CodegenError>
-    ensures { Emits result (only_in_function CodegenErrorType.InvalidYieldFrom (generating ▸ emission (expr_tree value.now) ▸ emitting Instruction.GetIter 0 ▸ emit_constant Instruction.LoadConst object.none ▸ emitting Instruction.YieldFrom 0)) em.old em.new }
+    ensures { Emits result (only_in_function CodegenErrorType.InvalidYieldFrom (generator_mark ▸ emission (expr_tree value.now) ▸ emitting Instruction.GetIter 0 ▸ emit_constant Instruction.LoadConst object.none ▸ emitting Instruction.YieldFrom 0)) em.old em.new }
 {
     check_in_function(em, CodegenErrorType::InvalidYieldFrom)?;
     yield_all(em, value)
@@ -67,7 +67,7 @@ fn yield_all_within(em: &mut Emitter, value: &Expr) -> Result<(), CodegenError>
 #[cycle(code)]
 #[tactic(auto, using(py_bytecode::proofs::View::views))]
 fn yield_all(em: &mut Emitter, value: &Expr) -> Result<(), CodegenError>
-    ensures { Emits result (generating ▸ emission (expr_tree value.now) ▸ emitting Instruction.GetIter 0 ▸ emit_constant Instruction.LoadConst object.none ▸ emitting Instruction.YieldFrom 0) em.old em.new }
+    ensures { Emits result (generator_mark ▸ emission (expr_tree value.now) ▸ emitting Instruction.GetIter 0 ▸ emit_constant Instruction.LoadConst object.none ▸ emitting Instruction.YieldFrom 0) em.old em.new }
 {
     em.mark_generator();
     compile_expression(em, value)?;

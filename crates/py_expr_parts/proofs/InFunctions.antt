@@ -4,21 +4,22 @@ use Rattle.std.specs.Prelude.{if◌then◌else◌}
 use Rattle.py_base.specs.declared.errors.CodegenErrorType.{CodegenErrorType}
 use Rattle.py_emission_parts.specs.Context.{is_function}
 use Rattle.py_emission_parts.specs.Emitting.{Emission, State, ◌▸◌, by_context, keep, refuse}
+use Rattle.py_emission_parts.specs.Running.{run}
 use Rattle.py_emission_parts.specs.EmissionParts.{only_in_function}
 
 -- where the present scope is a function, what follows goes on
-pub inside_function : (e : CodegenErrorType) (v : Emission) (s : State) → only_in_function e v s ≡ (only_in_function e keep ▸ v) s
+pub inside_function : (e : CodegenErrorType) (v : Emission) (s : State) → run (only_in_function e v) s ≡ run (only_in_function e keep ▸ v) s
 unfolding by_context refuse
 inside_function e v s = by_test (is_function s.around.context.typ)
   where
-    by_test : (b : Bool) → (if b then v else refuse e) s ≡ ((if b then keep else refuse e) ▸ v) s
+    by_test : (b : Bool) → run (if b then v else refuse e) s ≡ run ((if b then keep else refuse e) ▸ v) s
     by_test true = refl
     by_test false = refl
 
-pub within_function : (e : CodegenErrorType) (v : Emission) (s : State) → is_function s.around.context.typ ≡ true → only_in_function e v s ≡ v s
+pub within_function : (e : CodegenErrorType) (v : Emission) (s : State) → is_function s.around.context.typ ≡ true → run (only_in_function e v) s ≡ run v s
 unfolding by_context
-within_function e v s f = ap (λ (b : Bool). (if b then v else refuse e) s) f
+within_function e v s f = ap (λ (b : Bool). run (if b then v else refuse e) s) f
 
-pub outside_function : (e : CodegenErrorType) (v : Emission) (s : State) → is_function s.around.context.typ ≡ false → only_in_function e v s ≡ refuse e s
+pub outside_function : (e : CodegenErrorType) (v : Emission) (s : State) → is_function s.around.context.typ ≡ false → run (only_in_function e v) s ≡ run (refuse e) s
 unfolding by_context
-outside_function e v s f = ap (λ (b : Bool). (if b then v else refuse e) s) f
+outside_function e v s f = ap (λ (b : Bool). run (if b then v else refuse e) s) f

@@ -1,7 +1,8 @@
 -- Targets, one at a time, and how many stand on each side of a star.
 use Rattle.std.proofs.Common.{◌≡◌, ◌≢◌, ℕ, suc, ◌+◌, ◌*◌, ◌<◌, ◌≤◌, List, [], ◌∷◌, length, drop, get_or, Bool, true, false, refl, sym, subst, ap, ◌∙◌, arith, rules}
-use Rattle.std.specs.Prelude.{◌&&◌, nat_eq, nat_lt, if◌then◌else◌}
+use Rattle.std.specs.Prelude.{◌&&◌, nat_eq, if◌then◌else◌}
 use Rattle.std.proofs.Math.Seq.{drop-cons}
+use Rattle.py_base.proofs.Numbers.{nat_eq_false, nat_lt_false, nat_lt_true, suc_is_plus_one}
 use Rattle.py_tree.specs.declared.expressions.Expr.{Expr}
 use Rattle.py_base.specs.declared.location.SourceLocation.{SourceLocation}
 use Rattle.py_tree.specs.Tree as tree
@@ -15,22 +16,20 @@ use Rattle.py_bytecode.specs.declared.instruction.Instruction.TheVariants as op
 use Rattle.py_emission_parts.specs.Elements.{Element, Single, Spread, after_star, bare, before_star, stars}
 use Rattle.py_base.specs.declared.errors.CodegenErrorType.TheVariants as error
 use Rattle.py_emission_parts.specs.Emitting.{Emission, ◌▸◌, emit, emit_count, move, refuse}
-use Rattle.py_emission_parts.specs.EmissionParts.{in_turn, unpack_starred, unpacking}
+use Rattle.py_emission_parts.specs.EmissionParts.{in_turn, unpack_starred, unpack_emission}
 use Rattle.py_emission_parts.specs.Refused.{few_aside}
 use Rattle.py_emission.specs.Emission.{all_stores, stores}
 use Rattle.py_expr_parts.specs.Targets.{bare_of}
 use Rattle.py_expr_parts.specs.Turns.{is_spread}
-use Rattle.py_expr_parts.proofs.Otherwise.{apart, as_layer}
-use Rattle.py_expr_parts.proofs.Turns.{if_so, if_not}
-
-one_more : (i : ℕ) → suc i ≡ i + 1
-one_more i = omega arith
+use Rattle.py_expr_parts.proofs.Otherwise.{otherwise_apart, otherwise_as_layer}
+use Rattle.py_expr_parts.proofs.Turns.{turn_if_so, if_not}
 
 -- the target at a place
-pub targets_at : (xs : List Expr) (i : ℕ) (d x : Expr) → x ≡ get_or xs i d → i < length xs → all_stores (exprs expr_tree (drop i xs)) ≡ (stores (expr_tree x)).element ∷ all_stores (exprs expr_tree (drop (i + 1) xs))
+pub targets_at : (xs : List Expr) (i : ℕ) (d x : Expr) → x ≡ get_or xs i d → i < length xs
+    → all_stores (exprs expr_tree (drop i xs)) ≡ (stores (expr_tree x)).element ∷ all_stores (exprs expr_tree (drop (i + 1) xs))
 targets_at xs i d x is lt =
     ap (λ ys. all_stores (exprs expr_tree ys)) (drop-cons xs i d lt)
-    ∙ ap (λ j. (stores (expr_tree (get_or xs i d))).element ∷ all_stores (exprs expr_tree (drop j xs))) (one_more i)
+    ∙ ap (λ j. (stores (expr_tree (get_or xs i d))).element ∷ all_stores (exprs expr_tree (drop j xs))) (suc_is_plus_one i)
     ∙ ap (λ y. (stores (expr_tree y)).element ∷ all_stores (exprs expr_tree (drop (i + 1) xs))) (sym is)
 
 pub many_targets : (xs : List Expr) → length (all_stores (exprs expr_tree xs)) ≡ length xs
@@ -51,10 +50,10 @@ module _ {A : Type 0} where
   before_next (Spread x) es false h = absurd cc
 
   -- the star stands between those before it and those after it
-  pub around_star : (es : List (Element A A)) → stars es ≢ 0 → before_star es + 1 + after_star es ≡ length es
-  around_star [] h = absurd (h refl)
-  around_star (Single x ∷ es) h = let e = around_star es h in omega (arith, e)
-  around_star (Spread x ∷ es) h = omega arith
+  pub store_around_star : (es : List (Element A A)) → stars es ≢ 0 → before_star es + 1 + after_star es ≡ length es
+  store_around_star [] h = absurd (h refl)
+  store_around_star (Single x ∷ es) h = let e = store_around_star es h in omega (arith, e)
+  store_around_star (Spread x ∷ es) h = omega arith
 
   pub before_low : (es : List (Element A A)) → before_star es ≤ length es
   before_low [] = omega arith
@@ -62,9 +61,10 @@ module _ {A : Type 0} where
   before_low (Spread x ∷ es) = omega arith
 
 -- where the count of the stars is not 0
-pub around : (xs : List Expr) (starred before : ℕ) → starred ≢ 0 → starred ≡ stars (all_stores (exprs expr_tree xs)) → before ≡ before_star (all_stores (exprs expr_tree xs)) → before + 1 + after_star (all_stores (exprs expr_tree xs)) ≡ length xs
-around xs starred before n s b =
-    let e = around_star (all_stores (exprs expr_tree xs)) (λ z. n (s ∙ z)) in
+pub store_around : (xs : List Expr) (starred before : ℕ) → starred ≢ 0 → starred ≡ stars (all_stores (exprs expr_tree xs))
+    → before ≡ before_star (all_stores (exprs expr_tree xs)) → before + 1 + after_star (all_stores (exprs expr_tree xs)) ≡ length xs
+store_around xs starred before n s b =
+    let e = store_around_star (all_stores (exprs expr_tree xs)) (λ z. n (s ∙ z)) in
     let m = many_targets xs in
     omega (arith, e, m, b)
 
@@ -73,43 +73,37 @@ first_stored (Single v) es = refl
 first_stored (Spread v) es = refl
 
 -- the stars from a place on
-pub stars_at : (xs : List Expr) (i : ℕ) (d x : Expr) (b : Bool) → x ≡ get_or xs i d → i < length xs → b ≡ is_spread (stores (expr_tree x)).element → stars (all_stores (exprs expr_tree (drop i xs))) ≡ (if b then suc (stars (all_stores (exprs expr_tree (drop (i + 1) xs)))) else stars (all_stores (exprs expr_tree (drop (i + 1) xs))))
+pub stars_at : (xs : List Expr) (i : ℕ) (d x : Expr) (b : Bool) → x ≡ get_or xs i d → i < length xs → b ≡ is_spread (stores (expr_tree x)).element
+    → stars (all_stores (exprs expr_tree (drop i xs))) ≡ (if b then suc (stars (all_stores (exprs expr_tree (drop (i + 1) xs)))) else stars (all_stores (exprs expr_tree (drop (i + 1) xs))))
 stars_at xs i d x b is lt h = ap stars (targets_at xs i d x is lt) ∙ star_next (stores (expr_tree x)).element (all_stores (exprs expr_tree (drop (i + 1) xs))) b h
 
-pub before_at : (xs : List Expr) (i : ℕ) (d x : Expr) (b : Bool) → x ≡ get_or xs i d → i < length xs → b ≡ is_spread (stores (expr_tree x)).element → before_star (all_stores (exprs expr_tree (drop i xs))) ≡ (if b then 0 else suc (before_star (all_stores (exprs expr_tree (drop (i + 1) xs)))))
+pub before_at : (xs : List Expr) (i : ℕ) (d x : Expr) (b : Bool) → x ≡ get_or xs i d → i < length xs → b ≡ is_spread (stores (expr_tree x)).element
+    → before_star (all_stores (exprs expr_tree (drop i xs))) ≡ (if b then 0 else suc (before_star (all_stores (exprs expr_tree (drop (i + 1) xs)))))
 before_at xs i d x b is lt h = ap before_star (targets_at xs i d x is lt) ∙ before_next (stores (expr_tree x)).element (all_stores (exprs expr_tree (drop (i + 1) xs))) b h
 
-pub stored_at : (xs : List Expr) (i : ℕ) (d x : Expr) → x ≡ get_or xs i d → i < length xs → in_turn (bare (all_stores (exprs expr_tree (drop i xs)))) ≡ bare_of (stores (expr_tree x)).element ▸ in_turn (bare (all_stores (exprs expr_tree (drop (i + 1) xs))))
-stored_at xs i d x is lt = ap (λ es. in_turn (bare es)) (targets_at xs i d x is lt) ∙ first_stored (stores (expr_tree x)).element (all_stores (exprs expr_tree (drop (i + 1) xs)))
+pub store_stored_at : (xs : List Expr) (i : ℕ) (d x : Expr) → x ≡ get_or xs i d → i < length xs
+    → in_turn (bare (all_stores (exprs expr_tree (drop i xs)))) ≡ bare_of (stores (expr_tree x)).element ▸ in_turn (bare (all_stores (exprs expr_tree (drop (i + 1) xs))))
+store_stored_at xs i d x is lt = ap (λ es. in_turn (bare es)) (targets_at xs i d x is lt) ∙ first_stored (stores (expr_tree x)).element (all_stores (exprs expr_tree (drop (i + 1) xs)))
 
-plain_layer : (y : Expr-F Expr) → ((e : ExprStarredOf Expr) → roll-Expr y ≢ expr.Starred e) → (stores (expr_layer expr_tree y)).element ≡ Single (stores (expr_layer expr_tree y)).alone
-plain_layer (kind.Starred e) h = absurd (h e (rolls-Starred e))
-plain_layer y h = refl
+store_plain_layer : (y : Expr-F Expr) → ((e : ExprStarredOf Expr) → roll-Expr y ≢ expr.Starred e) → (stores (expr_layer expr_tree y)).element ≡ Single (stores (expr_layer expr_tree y)).alone
+store_plain_layer (kind.Starred e) h = absurd (h e (rolls-Starred e))
+store_plain_layer y h = refl
 
 -- a target that is not starred
 pub plain_target : (x : Expr) → ((e : ExprStarredOf Expr) → x ≢ expr.Starred e) → (stores (expr_tree x)).element ≡ Single (stores (expr_tree x)).alone
-plain_target x h = subst (λ (t : tree.Expr). (stores t).element ≡ Single (stores t).alone) (sym (as_layer x)) (plain_layer (out-Expr x) (apart expr.Starred x h))
+plain_target x h = subst (λ (t : tree.Expr). (stores t).element ≡ Single (stores t).alone) (sym (otherwise_as_layer x)) (store_plain_layer (out-Expr x) (otherwise_apart expr.Starred x h))
 
 eq_so : (m n : ℕ) → m ≡ n → nat_eq m n ≡ true
 eq_so m n h = search (rules, h)
 
-eq_not : (m n : ℕ) → m ≢ n → nat_eq m n ≡ false
-eq_not m n h = search (rules, h)
+store_both : (a b : Bool) → a ≡ true → b ≡ true → (a && b) ≡ true
+store_both true true p q = refl
+store_both true false p q = absurd cc
+store_both false b p q = absurd cc
 
-less_so : (m n : ℕ) → m < n → nat_lt m n ≡ true
-less_so m n h = search (rules, h)
-
-less_not : (m n : ℕ) → ¬ (m < n) → nat_lt m n ≡ false
-less_not m n h = search (rules, h)
-
-both : (a b : Bool) → a ≡ true → b ≡ true → (a && b) ≡ true
-both true true p q = refl
-both true false p q = absurd cc
-both false b p q = absurd cc
-
-not_first : (a b : Bool) → a ≡ false → (a && b) ≡ false
-not_first true b p = absurd cc
-not_first false b p = refl
+store_not_first : (a b : Bool) → a ≡ false → (a && b) ≡ false
+store_not_first true b p = absurd cc
+store_not_first false b p = refl
 
 not_second : (a b : Bool) → b ≡ false → (a && b) ≡ false
 not_second true true q = absurd cc
@@ -118,26 +112,26 @@ not_second false b q = refl
 
 -- what unpacks a value, by how many targets are starred and stand aside
 module _ (at : SourceLocation) (es : List (Element Emission Emission)) where
-  pub no_star : stars es ≡ 0 → unpacking at es ≡ emit_count op.UnpackSequence (length es)
-  no_star h = if_so _ _ _ (eq_so (stars es) 0 h)
+  pub no_star : stars es ≡ 0 → unpack_emission at es ≡ emit_count op.UnpackSequence (length es)
+  no_star h = turn_if_so _ _ _ (eq_so (stars es) 0 h)
 
-  pub some_star : stars es ≢ 0 → unpacking at es ≡ unpack_starred at es
-  some_star h = if_not _ _ _ (eq_not (stars es) 0 h)
+  pub some_star : stars es ≢ 0 → unpack_emission at es ≡ unpack_starred at es
+  some_star h = if_not _ _ _ (nat_eq_false (stars es) 0 h)
 
-  too_many : few_aside es ≡ false → unpack_starred at es ≡ move at ▸ refuse error.TooManyStarUnpack
-  too_many h = if_not _ _ _ h
+  store_too_many : few_aside es ≡ false → unpack_starred at es ≡ move at ▸ refuse error.TooManyStarUnpack
+  store_too_many h = if_not _ _ _ h
 
   pub many_before : 255 < before_star es → unpack_starred at es ≡ move at ▸ refuse error.TooManyStarUnpack
-  many_before h = too_many (not_first _ _ (less_not (before_star es) 256 (λ g. absurd (omega (arith, h, g)))))
+  many_before h = store_too_many (store_not_first _ _ (nat_lt_false (before_star es) 256 (λ g. absurd (omega (arith, h, g)))))
 
   pub many_after : 255 < after_star es → unpack_starred at es ≡ move at ▸ refuse error.TooManyStarUnpack
-  many_after h = too_many (not_second _ _ (less_not (after_star es) 256 (λ g. absurd (omega (arith, h, g)))))
+  many_after h = store_too_many (not_second _ _ (nat_lt_false (after_star es) 256 (λ g. absurd (omega (arith, h, g)))))
 
-  few : before_star es ≤ 255 → after_star es ≤ 255 → few_aside es ≡ true
-  few h g = both _ _ (less_so (before_star es) 256 (omega (arith, h))) (less_so (after_star es) 256 (omega (arith, g)))
+  store_few : before_star es ≤ 255 → after_star es ≤ 255 → few_aside es ≡ true
+  store_few h g = store_both _ _ (nat_lt_true (before_star es) 256 (omega (arith, h))) (nat_lt_true (after_star es) 256 (omega (arith, g)))
 
   pub two_stars : before_star es ≤ 255 → after_star es ≤ 255 → stars es ≢ 1 → unpack_starred at es ≡ refuse error.MultipleStarArgs
-  two_stars h g n = if_so _ _ _ (few h g) ∙ if_not _ _ _ (eq_not (stars es) 1 n)
+  two_stars h g n = turn_if_so _ _ _ (store_few h g) ∙ if_not _ _ _ (nat_eq_false (stars es) 1 n)
 
   pub one_star : before_star es ≤ 255 → after_star es ≤ 255 → stars es ≡ 1 → unpack_starred at es ≡ emit op.UnpackEx (before_star es + 256 * after_star es)
-  one_star h g n = if_so _ _ _ (few h g) ∙ if_so _ _ _ (eq_so (stars es) 1 n)
+  one_star h g n = turn_if_so _ _ _ (store_few h g) ∙ turn_if_so _ _ _ (eq_so (stars es) 1 n)

@@ -1,4 +1,4 @@
--- The entries of a dict display, and what is left to emit of them behind a run of pairs.
+-- The entries of a dict display, and what is left to emit of them after a run of pairs.
 use Rattle.std.specs.Prelude.{ℕ, zero, suc, ◌+◌, List, [], ◌∷◌, Bool, true, false, Option, Some, None}
 use Rattle.py_tree.specs.Tree as tree
 use Rattle.py_bytecode.specs.declared.instruction.Instruction.TheVariants as op
@@ -18,7 +18,7 @@ closed_pairs false n = emit_count op.BuildMap n
 closed_pairs true zero = keep
 closed_pairs true (suc n) = emit_count op.BuildMap (suc n) ▸ emit op.DictUpdate 0
 
--- what stands before the value of an entry, and behind it
+-- what stands before the value of an entry, and after it
 abbrev pub entry_begun : (begun : Bool) → (run : ℕ) → tree.OptExpr → Emission
 entry_begun b n tree.no_expr = closed_pairs b n
 entry_begun b n (tree.some_expr key) = emission key
@@ -27,12 +27,12 @@ abbrev pub entry_ended : tree.OptExpr → Emission
 entry_ended tree.no_expr = emit op.DictUpdate 0
 entry_ended (tree.some_expr key) = keep
 
--- an entry behind a run of so many pairs, which a value that is unpacked ends
+-- an entry after a run of so many pairs, which a value that is unpacked ends
 abbrev pub entry_behind : (begun : Bool) → (run : ℕ) → Element (Emission × Emission) Emission → Emission
 entry_behind b n (Single p) = p.0 ▸ p.1
 entry_behind b n (Spread v) = closed_pairs b n ▸ v ▸ emit op.DictUpdate 0
 
--- whether the first map is built behind it
+-- whether the first map is built after it
 abbrev pub begun_behind : (begun : Bool) → Element (Emission × Emission) Emission → Bool
 begun_behind b (Single p) = b
 begun_behind b (Spread v) = true

@@ -7,18 +7,18 @@ use Rattle.py_base.specs.declared.operators.BoolOp.{BoolOp}
 use Rattle.py_base.specs.declared.operators.CmpOp.{CmpOp}
 use Rattle.py_bytecode.specs.declared.instruction.Instruction.TheVariants as op
 use Rattle.py_emission_parts.specs.Elements.{Element, Single, Spread, pairs}
-use Rattle.py_emission_parts.specs.TableParts.{deciding}
+use Rattle.py_emission_parts.specs.TableParts.{deciding_truth}
 use Rattle.py_emission_parts.specs.Emitting.{Emission, ◌▸◌, emit_count, jump, keep}
 use Rattle.py_emission_parts.specs.EmissionParts.{emission_of_comparison, emission_of_link, keeping_jump, values}
 use Rattle.py_emission.specs.Emission.{all_emissions, emission, opt_emissions}
 
 -- a value of `and` or `or`, with a jump to the end where more follow
 abbrev pub short : BoolOp → (end : ℕ) → (more : Bool) → tree.Expr → Emission
-short o end more t = if more then emission t ▸ jump (keeping_jump (deciding o)) end else emission t
+short o end more t = if more then emission t ▸ jump (keeping_jump (deciding_truth o)) end else emission t
 
 -- a value that is compared with the one before it, and kept where more follow
-abbrev pub linked : (out : ℕ) → CmpOp → (more : Bool) → tree.Expr → Emission
-linked out o more t = emission t ▸ (if more then emission_of_link o out else emission_of_comparison o)
+abbrev pub linked_value : (out : ℕ) → CmpOp → (more : Bool) → tree.Expr → Emission
+linked_value out o more t = emission t ▸ (if more then emission_of_link o out else emission_of_comparison o)
 
 module _ {B A : Type 0} where
   abbrev pub is_spread : Element B A → Bool
@@ -26,19 +26,19 @@ module _ {B A : Type 0} where
   is_spread (Spread x) = true
 
 -- the tuple of a run of so many elements, where there are any
-abbrev pub closed : (run : ℕ) → Emission
-closed zero = keep
-closed (suc n) = emit_count op.BuildTuple (suc n)
+abbrev pub closed_run : (run : ℕ) → Emission
+closed_run zero = keep
+closed_run (suc n) = emit_count op.BuildTuple (suc n)
 
 -- how many tuples that is
 abbrev pub runs : (run : ℕ) → ℕ
 runs zero = 0
 runs (suc n) = 1
 
--- an element behind a run of so many plain ones, which a starred one ends
+-- an element after a run of so many plain ones, which a starred one ends
 abbrev pub element_behind : (run : ℕ) → Element Emission Emission → Emission
 element_behind n (Single v) = v
-element_behind n (Spread v) = closed n ▸ v
+element_behind n (Spread v) = closed_run n ▸ v
 
 module _ {B A : Type 0} where
   -- how many groups are complete with it
@@ -46,19 +46,19 @@ module _ {B A : Type 0} where
   groups_by n (Single x) = 0
   groups_by n (Spread x) = runs n + 1
 
-  -- the run of plain elements behind it
+  -- the run of plain elements after it
   abbrev pub run_behind : (run : ℕ) → Element B A → ℕ
   run_behind n (Single x) = n + 1
   run_behind n (Spread x) = 0
 
-  -- how many groups elements give behind it
+  -- how many groups elements give after it
   abbrev pub group_count : (run : ℕ) → List (Element B A) → ℕ
   group_count n [] = runs n
   group_count n (e ∷ es) = groups_by n e + group_count (run_behind n e) es
 
--- what is left to emit of elements behind a run of so many plain ones
+-- what is left to emit of elements after a run of so many plain ones
 abbrev pub group_rest : (run : ℕ) → List (Element Emission Emission) → Emission
-group_rest n [] = closed n
+group_rest n [] = closed_run n
 group_rest n (e ∷ es) = element_behind n e ▸ group_rest (run_behind n e) es
 
 -- the entries of a dict display

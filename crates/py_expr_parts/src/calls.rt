@@ -3,9 +3,9 @@ ghost use Rattle.std.specs.Prelude.{◌≡◌, ◌+◌, ◌||◌, length, IfErr,
 ghost use Rattle.py_tree.specs.View.{expr_tree, exprs, keywords as keyword_trees};
 ghost use Rattle.py_emission_parts.specs.EmissionParts.{elements};
 ghost use Rattle.py_emission.specs.Emission.{all_emissions, keyword_emissions};
-ghost use Rattle.py_emission_parts.specs.Elements.{starred};
+ghost use Rattle.py_emission_parts.specs.Elements.{has_starred};
 ghost use Rattle.py_emit.specs.States.{Emits, IsStarved, rest};
-ghost use Rattle.py_expr_parts.specs.Calls.{call_operand, calling, function_call, method_call, type_of};
+ghost use Rattle.py_expr_parts.specs.Calls.{call_operand, call_of_type, function_call, method_call, type_of};
 
 use crate::elements::has_star;
 use crate::keywords::has_double_star;
@@ -27,7 +27,7 @@ pub enum CallType {
 
 /// Whether arguments come in one tuple and one map: where one is starred, or a keyword is unpacked.
 pub fn is_packed(args: &[Expr], keywords: &[Keyword]) -> bool
-    ensures { result ≡ (starred (elements (all_emissions (exprs expr_tree args.now))) || starred (keyword_emissions (keyword_trees expr_tree keywords.now))) }
+    ensures { result ≡ (has_starred (elements (all_emissions (exprs expr_tree args.now))) || has_starred (keyword_emissions (keyword_trees expr_tree keywords.now))) }
 {
     has_star(args) || has_double_star(keywords)
 }
@@ -65,7 +65,7 @@ pub fn call_type(
 /// # Errors
 /// OutOfMemory alone.
 pub fn emit_call(em: &mut Emitter, is_method: bool, call: CallType) -> Result<(), CodegenError>
-    ensures { Emits result (calling is_method call) em.old em.new }
+    ensures { Emits result (call_of_type is_method call) em.old em.new }
 {
     em.emit_count(
         call_instruction(is_method, call),

@@ -1,6 +1,6 @@
 //! Where a test jumps, and the jumps of `and` and `or`.
 ghost use Rattle.std.specs.Prelude.{◌≡◌, if◌then◌else◌};
-ghost use Rattle.py_emission_parts.specs.TableParts.{deciding};
+ghost use Rattle.py_emission_parts.specs.TableParts.{deciding_truth};
 ghost use Rattle.py_emission_parts.specs.EmissionParts.{keeping_jump, testing_jump};
 
 use py_bytecode::Instruction;
@@ -18,7 +18,7 @@ pub struct JumpIf {
 
 /// The truth at which a value decides.
 pub fn deciding(op: BoolOp) -> bool
-    ensures { result ≡ deciding op }
+    ensures { result ≡ deciding_truth op }
 {
     match op {
         BoolOp::And => false,

@@ -21,7 +21,7 @@ pub fn pair_count(e: &ExprDict) -> usize
     if keys < values { keys } else { values }
 }
 
-/// Emits what adds an unpacked value to the map below it; nothing behind a value with a key.
+/// Emits what adds an unpacked value to the map below it; nothing after a value with a key.
 ///
 /// # Errors
 /// OutOfMemory alone.
@@ -37,14 +37,14 @@ pub fn end_entry(em: &mut Emitter, key: &Option<Expr>) -> Result<(), CodegenErro
     }
 }
 
-/// Whether the first map is built behind an entry of this key, where it was so before or not.
+/// Whether the first map is built after an entry of this key, where it was so before or not.
 pub fn begun_after(key: &Option<Expr>, begun: bool) -> bool
     ensures { result ≡ begun_by begun key.now }
 {
     if key.is_none() { true } else { begun }
 }
 
-/// How many pairs stand together behind an entry, where so many stand before it.
+/// How many pairs stand together after an entry, where so many stand before it.
 pub fn run_after(key: &Option<Expr>, run: usize) -> usize
     requires { run < 0xffff_ffff_ffff_ffff }
     ensures { result ≡ pairs_by run key.now }

@@ -1,11 +1,11 @@
 //! Elements, some of which may be starred, and the tuples of runs of plain ones.
 ghost use Rattle.std.specs.Prelude.{◌≡◌, ◌<◌, IfOk};
 ghost use Rattle.py_tree.specs.View.{expr_tree, exprs};
-ghost use Rattle.py_emission_parts.specs.Elements.{starred};
+ghost use Rattle.py_emission_parts.specs.Elements.{has_starred};
 ghost use Rattle.py_emission_parts.specs.EmissionParts.{elements};
 ghost use Rattle.py_emission.specs.Emission.{all_emissions, emissions, stores};
 ghost use Rattle.py_emit.specs.States.{Emits};
-ghost use Rattle.py_expr_parts.specs.Turns.{is_spread, run_behind, runs, closed};
+ghost use Rattle.py_expr_parts.specs.Turns.{is_spread, run_behind, runs, closed_run};
 
 use py_base::CodegenError;
 use py_bytecode::Instruction;
@@ -14,7 +14,7 @@ use py_tree::Expr;
 
 /// Whether an element is starred.
 pub fn has_star(elts: &[Expr]) -> bool
-    ensures { result ≡ starred (elements (all_emissions (exprs expr_tree elts.now))) }
+    ensures { result ≡ has_starred (elements (all_emissions (exprs expr_tree elts.now))) }
 {
     for elt in elts {
         if is_star(elt) {
@@ -36,7 +36,7 @@ pub(crate) fn is_star(elt: &Expr) -> bool
     }
 }
 
-/// How many plain elements stand together behind an element, where so many stand before it.
+/// How many plain elements stand together after an element, where so many stand before it.
 pub fn run_after(elt: &Expr, run: usize) -> usize
     requires { run < 0xffff_ffff_ffff_ffff }
     ensures { result ≡ run_behind run (emissions (expr_tree elt.now)).element }
@@ -50,7 +50,7 @@ pub fn run_after(elt: &Expr, run: usize) -> usize
 /// OutOfMemory alone.
 pub fn close_run(em: &mut Emitter, run: usize) -> Result<usize, CodegenError>
     ensures count { IfOk result (λ n. n ≡ runs run) }
-    ensures emits { Emits result (closed run) em.old em.new }
+    ensures emits { Emits result (closed_run run) em.old em.new }
 {
     if run == 0 {
         return Ok(0);

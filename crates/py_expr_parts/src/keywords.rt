@@ -3,9 +3,9 @@ ghost use Rattle.std.specs.Prelude.{◌≡◌, ◌<◌, IfOk};
 ghost use Rattle.py_tree.specs.View.{expr_tree, keywords as keyword_trees};
 ghost use Rattle.py_bytecode.specs.View.{constant};
 ghost use Rattle.py_bytecode.specs.Objects.{tuple};
-ghost use Rattle.py_emission_parts.specs.Elements.{starred};
+ghost use Rattle.py_emission_parts.specs.Elements.{has_starred};
 ghost use Rattle.py_emission_parts.specs.Emitting.{emit_constant, keep};
-ghost use Rattle.py_emission_parts.specs.EmissionParts.{checked, names_in, unless_debug};
+ghost use Rattle.py_emission_parts.specs.EmissionParts.{keyword_checks, names_in, unless_debug};
 ghost use Rattle.py_emission_parts.specs.Refused.{no_assignment};
 ghost use Rattle.py_emission.specs.Emission.{keyword_emissions};
 ghost use Rattle.py_emit.specs.States.{Emits};
@@ -21,7 +21,7 @@ use std::alloc::{AllocError, Global};
 
 /// Whether a keyword is unpacked.
 pub(crate) fn has_double_star(keywords: &[Keyword]) -> bool
-    ensures { result ≡ starred (keyword_emissions (keyword_trees expr_tree keywords.now)) }
+    ensures { result ≡ has_starred (keyword_emissions (keyword_trees expr_tree keywords.now)) }
 {
     for keyword in keywords {
         if keyword.arg.is_none() {
@@ -36,7 +36,7 @@ pub(crate) fn has_double_star(keywords: &[Keyword]) -> bool
 /// # Errors
 /// SyntaxError where one is, or OutOfMemory for its text.
 pub fn check_keywords(em: &mut Emitter, keywords: &[Keyword]) -> Result<(), CodegenError>
-    ensures { Emits result (checked (keyword_emissions (keyword_trees expr_tree keywords.now))) em.old em.new }
+    ensures { Emits result (keyword_checks (keyword_emissions (keyword_trees expr_tree keywords.now))) em.old em.new }
 {
     for keyword in keywords {
         check_keyword(em, keyword)?;
@@ -90,7 +90,7 @@ fn name_tuple(alloc: Global, keywords: &[Keyword]) -> Result<ConstantData, Alloc
     Ok(ConstantData::Tuple { elements })
 }
 
-/// How many named values stand together behind a keyword, where so many stand before it.
+/// How many named values stand together after a keyword, where so many stand before it.
 pub fn run_after(keyword: &Keyword, run: usize) -> usize
     requires { run < 0xffff_ffff_ffff_ffff }
     ensures { result ≡ run_behind run (keyword_emission keyword.now.arg (expr_tree keyword.now.value)) }

@@ -4,7 +4,7 @@ ghost use Rattle.py_tree.specs.View.{expr_tree, exprs};
 ghost use Rattle.py_tree.specs.PythonName.{python_name};
 ghost use Rattle.py_emission_parts.specs.Elements.{before_star, stars};
 ghost use Rattle.py_emission_parts.specs.Emitting.{refuse};
-ghost use Rattle.py_emission_parts.specs.EmissionParts.{unpack_starred, unpacking};
+ghost use Rattle.py_emission_parts.specs.EmissionParts.{unpack_starred, unpack_emission};
 ghost use Rattle.py_emission_parts.specs.Refused.{lone_star};
 ghost use Rattle.py_emission.specs.Emission.{all_stores};
 ghost use Rattle.py_emission.specs.Predicates.{deletion_name};
@@ -29,7 +29,7 @@ pub fn emit_unpack(
     location: SourceLocation,
     elts: &[Expr],
 ) -> Result<(), CodegenError>
-    ensures { Emits result (unpacking location (all_stores (exprs expr_tree elts.now))) em.old em.new }
+    ensures { Emits result (unpack_emission location (all_stores (exprs expr_tree elts.now))) em.old em.new }
 {
     let starred = star_count(elts);
     if starred == 0 {
@@ -102,7 +102,7 @@ pub fn refuse_lone_star(em: &mut Emitter) -> Result<(), CodegenError>
 ///
 /// # Errors
 /// Assign, which names the kind of the expression, or OutOfMemory for its name.
-#[tactic(auto, using(crate::proofs::Steps::steps))]
+#[tactic(auto, using(crate::proofs::Steps::step_steps))]
 pub fn refuse_store(em: &mut Emitter, target: &Expr) -> Result<(), CodegenError>
     ensures { Emits result (refuse (CodegenErrorType.Assign (python_name (expr_tree target.now)))) em.old em.new }
 {
@@ -114,7 +114,7 @@ pub fn refuse_store(em: &mut Emitter, target: &Expr) -> Result<(), CodegenError>
 ///
 /// # Errors
 /// Delete, which names the kind of the expression, or OutOfMemory for its name.
-#[tactic(auto, using(crate::proofs::Steps::steps))]
+#[tactic(auto, using(crate::proofs::Steps::step_steps))]
 pub fn refuse_delete(em: &mut Emitter, target: &Expr) -> Result<(), CodegenError>
     ensures { Emits result (refuse (CodegenErrorType.Delete (deletion_name (expr_tree target.now)))) em.old em.new }
 {

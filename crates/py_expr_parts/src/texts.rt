@@ -18,7 +18,7 @@ use py_tree::{Constant, Expr, ExprConstant, Text};
 ///
 /// # Errors
 /// OutOfMemory alone.
-#[tactic(auto, using(crate::proofs::Steps::steps))]
+#[tactic(auto, using(crate::proofs::Steps::step_steps))]
 pub fn compile_constant(em: &mut Emitter, e: &ExprConstant) -> Result<(), CodegenError>
     requires at { (state em.old).location ≡ e.now.location }
     ensures { Emits result (emission (constant_tree e.now)) em.old em.new }
@@ -27,7 +27,7 @@ pub fn compile_constant(em: &mut Emitter, e: &ExprConstant) -> Result<(), Codege
     em.load_const(value)
 }
 
-/// The constant of a code object that a constant of the tree is, or want of memory for it.
+/// The constant of a code object that a constant of the tree is, or out of memory for it.
 pub(crate) fn copied_constant(
     em: &mut Emitter,
     value: &Constant,

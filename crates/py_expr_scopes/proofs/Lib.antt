@@ -1,11 +1,4 @@
 pub mod OpenBlocks
-pub mod KeptParts
-pub mod KeptDisplays
-pub mod KeptTargets
-pub mod KeptCalls
-pub mod KeptScopes
-pub mod KeptComprehensions
-pub mod KeptExpressions
 pub mod OpenClauses
 pub mod ComprehensionScopes
 pub mod Signatures

@@ -1,114 +1,121 @@
 -- The clauses of a comprehension: what opens them, one at a time, and what closes them, the last one first.
-use Rattle.std.proofs.Common.{◌≡◌, ◌≢◌, ◌<◌, ◌≤◌, ℕ, suc, ◌+◌, List, [], ◌∷◌, ◌++◌, length, drop, get_or, Bool, true, false, refl, sym, ap, ◌∙◌, arith}
-use Rattle.std.specs.Prelude.{IsTrue, codes}
+use Rattle.std.proofs.Common.{◌≡◌, ◌≢◌, ◌<◌, ℕ, suc, ◌+◌, List, [], ◌∷◌, ◌++◌, length, drop, get_or, Bool, true, false, refl, sym, ap, ◌∙◌, subst, arith}
+use Rattle.std.specs.Prelude.{IsTrue}
 use Rattle.std.proofs.Math.Seq.{drop-cons}
+use Rattle.py_base.proofs.Numbers.{suc_is_plus_one}
 use Rattle.py_tree.specs.View.{generators, expr_tree, exprs}
 use Rattle.py_tree.specs.declared.expressions.ComprehensionOf.{ComprehensionOf}
 use Rattle.py_tree.specs.declared.expressions.Expr.{Expr}
 use Rattle.py_bytecode.specs.declared.instruction.Instruction.TheVariants as op
 use Rattle.py_emission_parts.specs.Comprehensions.{ClauseEmissions, clause, conditions, further_clauses}
-use Rattle.py_emission_parts.specs.Emitting.{Begin, Done, Emission, Outcome, State, ◌▸◌, begin, emit, go_on, jump, new_block, with_block, with_step}
-use Rattle.py_emission_parts.specs.EmissionParts.{Emissions}
+use Rattle.py_emission_parts.specs.Emitting.{Begin, Done, Emission, Outcome, Refused, State, TooWide, ◌▸◌, jump, two_blocks, with_block, with_step}
+use Rattle.py_emission_parts.specs.Running.{Action, begin, begins, on_done, run}
 use Rattle.py_emission.specs.Emission.{all_emissions, clause_emissions, emission_of_test}
 use Rattle.py_emit.specs.Steps.{IsOpen}
-use Rattle.py_emit.proofs.Joined.{between, done_same, joined, keep_last}
-use Rattle.py_expr_scopes.specs.Clauses.{AllOpen, AreApart, IsOpenClause, clause_of, clauses_by, closed, closing, iterator_of, opened, opened_clause}
+use Rattle.py_emit.proofs.Joined.{joined_between, done_last, done_same, joined_grouped}
+use Rattle.py_expr_scopes.specs.Clauses.{AllOpen, AreApart, IsOpenClause, clause_of, clauses_by, closed_clauses, clause_end, iterator_of, clause_start, opened_clause, behind_start}
 use Rattle.py_expr_scopes.specs.declared.clauses.ClauseBlocks.{ClauseBlocks}
-use Rattle.py_expr_scopes.proofs.OpenBlocks.{From, Keeps, begin_keeps, block_from, emit_keeps, idle_keeps, jump_keeps, opens, then_from, then_keeps, varname_keeps}
-use Rattle.py_expr_scopes.proofs.KeptParts.{AllKeep}
-use Rattle.py_expr_scopes.proofs.KeptExpressions.{begin_opens, expr_keeps, exprs_keep, jump_opens, store_keeps}
-
-pub begin_goes : (b : ℕ) (s : State) → begin b s ≡ Done (with_step (Begin b) s)
-unfolding begin
-begin_goes b s = refl
+use Rattle.py_expr_scopes.proofs.OpenBlocks.{open_block_apart, begin_opens, block_opens, jump_opens, opens}
 
 -- whether no clause is open yet
 abbrev pub none_open : List ClauseBlocks → Bool
 none_open [] = true
 none_open (b ∷ bs) = false
 
-pub none_is : (bs : List ClauseBlocks) (b : Bool) → (IsTrue b → bs ≡ []) → (bs ≡ [] → IsTrue b) → none_open bs ≡ b
-none_is [] true f g = refl
-none_is [] false f g = let h = g refl in absurd cc
-none_is (x ∷ bs) true f g = let h = f refl in absurd cc
-none_is (x ∷ bs) false f g = refl
+pub open_clause_none_is : (bs : List ClauseBlocks) (b : Bool) → (IsTrue b → bs ≡ []) → (bs ≡ [] → IsTrue b) → none_open bs ≡ b
+open_clause_none_is [] true f g = refl
+open_clause_none_is [] false f g = let h = g refl in absurd cc
+open_clause_none_is (x ∷ bs) true f g = let h = f refl in absurd cc
+open_clause_none_is (x ∷ bs) false f g = refl
 
 pub some_open : (bs : List ClauseBlocks) (b : ClauseBlocks) → none_open (bs ++ b ∷ []) ≡ false
 some_open [] b = refl
 some_open (x ∷ bs) b = refl
 
-last_of_five : (a b c d e f : Emission) → a ▸ b ▸ c ▸ d ▸ e ▸ f ≡ (a ▸ b ▸ c ▸ d ▸ e) ▸ f
-last_of_five a b c d e f =
-    ap (λ w. a ▸ b ▸ c ▸ w) (sym (joined d e f))
-    ∙ ap (λ w. a ▸ b ▸ w) (sym (joined c (d ▸ e) f))
-    ∙ ap (λ w. a ▸ w) (sym (joined b (c ▸ d ▸ e) f))
-    ∙ sym (joined a (b ▸ c ▸ d ▸ e) f)
+-- what comes last of four may as well follow the others
+last_of_four : (o : Outcome) (b c d e : Action) → on_done o (λ t. on_done (b t) (λ u. on_done (c u) (λ v. on_done (d v) e))) ≡ on_done (on_done (on_done o (λ t. on_done (b t) c)) d) e
+last_of_four o b c d e =
+    sym (joined_grouped o b (λ u. on_done (c u) (λ v. on_done (d v) e)))
+    ∙ sym (joined_grouped (on_done o b) c (λ v. on_done (d v) e))
+    ∙ sym (joined_grouped (on_done (on_done o b) c) d e)
+    ∙ ap (λ x. on_done (on_done x d) e) (joined_grouped o b c)
+
+-- what follows what is within a clause
+abbrev open_clause_turned : (start end : ℕ) → Action
+open_clause_turned start end s = on_done (run (jump op.Jump start) s) (begin end)
 
 -- what is within a clause stands between what opens it and what closes it
-clause_is : (iterator : Emission) (c : ClauseEmissions) (within : Emission) (s : State) → clause iterator c within s ≡ go_on (opened_clause iterator c s) (within ▸ jump op.Jump s.blocks ▸ begin (suc s.blocks))
-unfolding new_block with_block
-clause_is iterator c within s =
-    ap (λ (f : Emission). f (with_block (with_block s)))
-    (last_of_five iterator (begin s.blocks) (jump op.ForIter (suc s.blocks)) c.target (conditions c.conditions s.blocks) (within ▸ jump op.Jump s.blocks ▸ begin (suc s.blocks)))
+clause_is : (iterator : Emission) (c : ClauseEmissions) (within : Emission) (s : State)
+    → run (clause iterator c within) s ≡ on_done (on_done (opened_clause iterator c s) (run within)) (open_clause_turned s.blocks (suc s.blocks))
+unfolding two_blocks
+clause_is iterator c within s = go (run iterator (with_block (with_block s)))
+  where
+    n : ℕ
+    n = s.blocks
 
-pub closed_push : (bs : List ClauseBlocks) (b : ClauseBlocks) → closed (bs ++ b ∷ []) ≡ closing b ▸ closed bs
-closed_push [] b = sym (keep_last (closing b))
-closed_push (x ∷ bs) b = ap (λ w. w ▸ closing x) (closed_push bs b) ∙ joined (closing b) (closed bs) (closing x)
+    go : (o : Outcome) →
+        on_done o (λ t. on_done (run (jump op.ForIter (suc n) ▸ c.target ▸ conditions c.conditions n ▸ within ▸ jump op.Jump n) (begins n t)) (begin (suc n)))
+        ≡ on_done (on_done (on_done o (λ t. run (behind_start c n (suc n)) (begins n t))) (run within)) (open_clause_turned n (suc n))
+    go (Done t) =
+        let first = run (jump op.ForIter (suc n)) (begins n t) in
+        ap (λ x. on_done x (begin (suc n))) (last_of_four first (run c.target) (run (conditions c.conditions n)) (run within) (run (jump op.Jump n)))
+        ∙ joined_grouped (on_done (run (behind_start c n (suc n)) (begins n t)) (run within)) (run (jump op.Jump n)) (begin (suc n))
+    go TooWide = refl
+    go (Refused x at) = refl
 
-first_is : (first : Bool) (c : ClauseEmissions) (cs : List ClauseEmissions) (within : Emission) → clauses_by first (c ∷ cs) within ≡ clause (iterator_of first c.iterable) c (further_clauses cs within)
-first_is true c cs within = refl
-first_is false c cs within = refl
+pub closed_push : (bs : List ClauseBlocks) (b : ClauseBlocks) (s : State) → closed_clauses (bs ++ b ∷ []) s ≡ on_done (clause_end b s) (closed_clauses bs)
+closed_push [] b s = sym (done_last (clause_end b s))
+closed_push (x ∷ bs) b s = ap (λ o. on_done o (clause_end x)) (closed_push bs b s) ∙ joined_grouped (clause_end b s) (closed_clauses bs) (clause_end x)
+
+open_clause_first_is : (first : Bool) (c : ClauseEmissions) (cs : List ClauseEmissions) (within : Emission)
+    → clauses_by first (c ∷ cs) within ≡ clause (iterator_of first c.iterable) c (further_clauses cs within)
+open_clause_first_is true c cs within = refl
+open_clause_first_is false c cs within = refl
 
 module _ (first : Bool) (c : ClauseEmissions) (cs : List ClauseEmissions) (within : Emission) (bs : List ClauseBlocks) (s : State) where
-  abbrev inner : Emission
-  inner = further_clauses cs within ▸ jump op.Jump s.blocks ▸ begin (suc s.blocks)
+  abbrev open_clause_inner : Action
+  open_clause_inner t = on_done (run (further_clauses cs within) t) (open_clause_turned s.blocks (suc s.blocks))
 
   -- by what the opening of the first of them comes to
-  pub opened_to : (o : Outcome) → opened_clause (iterator_of first c.iterable) c s ≡ o → (clauses_by first (c ∷ cs) within ▸ closed bs) s ≡ go_on (go_on o inner) (closed bs)
+  pub opened_to : (o : Outcome) → opened_clause (iterator_of first c.iterable) c s ≡ o
+      → on_done (run (clauses_by first (c ∷ cs) within) s) (closed_clauses bs) ≡ on_done (on_done o open_clause_inner) (closed_clauses bs)
   opened_to o h =
-      ap (λ (f : Emission). go_on (f s) (closed bs)) (first_is first c cs within)
-      ∙ ap (λ x. go_on x (closed bs)) (clause_is (iterator_of first c.iterable) c (further_clauses cs within) s)
-      ∙ ap (λ x. go_on (go_on x inner) (closed bs)) h
+      ap (λ (f : Emission). on_done (run f s) (closed_clauses bs)) (open_clause_first_is first c cs within)
+      ∙ ap (λ x. on_done x (closed_clauses bs)) (clause_is (iterator_of first c.iterable) c (further_clauses cs within) s)
+      ∙ ap (λ x. on_done (on_done (on_done x (run (further_clauses cs within))) (open_clause_turned s.blocks (suc s.blocks))) (closed_clauses bs)) h
+      ∙ ap (λ x. on_done x (closed_clauses bs)) (joined_grouped o (run (further_clauses cs within)) (open_clause_turned s.blocks (suc s.blocks)))
 
   -- one clause more is open
-  pub opened_more : (b : ClauseBlocks) (r : State) → opened_clause (iterator_of first c.iterable) c s ≡ Done r → b.start.0 ≡ s.blocks → b.end.0 ≡ suc s.blocks → (clauses_by first (c ∷ cs) within ▸ closed bs) s ≡ (clauses_by false cs within ▸ closed (bs ++ b ∷ [])) r
+  pub opened_more : (b : ClauseBlocks) (r : State) → opened_clause (iterator_of first c.iterable) c s ≡ Done r → b.start.0 ≡ s.blocks → b.end.0 ≡ suc s.blocks
+      → on_done (run (clauses_by first (c ∷ cs) within) s) (closed_clauses bs) ≡ on_done (run (clauses_by false cs within) r) (closed_clauses (bs ++ b ∷ []))
   opened_more b r h m n =
       opened_to (Done r) h
-      ∙ ap (λ (f : Emission). f r) (joined (further_clauses cs within) (jump op.Jump s.blocks ▸ begin (suc s.blocks)) (closed bs))
-      ∙ (λ i. (further_clauses cs within ▸ (jump op.Jump (sym m i) ▸ begin (sym n i)) ▸ closed bs) r)
-      ∙ ap (λ w. (further_clauses cs within ▸ w) r) (sym (closed_push bs b))
-
-one_more : (i : ℕ) → suc i ≡ i + 1
-one_more i = omega arith
+      ∙ joined_grouped (run (further_clauses cs within) r) (open_clause_turned s.blocks (suc s.blocks)) (closed_clauses bs)
+      ∙ (λ i. on_done (run (further_clauses cs within) r) (λ t. on_done (open_clause_turned (sym m i) (sym n i) t) (closed_clauses bs)))
+      ∙ (λ i. on_done (run (further_clauses cs within) r) (λ t. sym (closed_push bs b t) i))
 
 -- the clause at a place
-pub clauses_at : (xs : List (ComprehensionOf Expr)) (i : ℕ) (d x : ComprehensionOf Expr) → x ≡ get_or xs i d → i < length xs → clause_emissions (generators expr_tree (drop i xs)) ≡ clause_of x ∷ clause_emissions (generators expr_tree (drop (i + 1) xs))
+pub clauses_at : (xs : List (ComprehensionOf Expr)) (i : ℕ) (d x : ComprehensionOf Expr) → x ≡ get_or xs i d → i < length xs
+    → clause_emissions (generators expr_tree (drop i xs)) ≡ clause_of x ∷ clause_emissions (generators expr_tree (drop (i + 1) xs))
 clauses_at xs i d x is lt =
     ap (λ ys. clause_emissions (generators expr_tree ys)) (drop-cons xs i d lt)
-    ∙ ap (λ j. clause_of (get_or xs i d) ∷ clause_emissions (generators expr_tree (drop j xs))) (one_more i)
+    ∙ ap (λ j. clause_of (get_or xs i d) ∷ clause_emissions (generators expr_tree (drop j xs))) (suc_is_plus_one i)
     ∙ ap (λ (y : ComprehensionOf Expr). clause_of y ∷ clause_emissions (generators expr_tree (drop (i + 1) xs))) (sym is)
 
 -- the condition at a place
-pub conditions_at : (start : ℕ) (xs : List Expr) (i : ℕ) (d x : Expr) → x ≡ get_or xs i d → i < length xs → conditions (all_emissions (exprs expr_tree (drop i xs))) start ≡ emission_of_test (expr_tree x) false start ▸ conditions (all_emissions (exprs expr_tree (drop (i + 1) xs))) start
+pub conditions_at : (start : ℕ) (xs : List Expr) (i : ℕ) (d x : Expr) → x ≡ get_or xs i d → i < length xs
+    → conditions (all_emissions (exprs expr_tree (drop i xs))) start ≡ emission_of_test (expr_tree x) false start ▸ conditions (all_emissions (exprs expr_tree (drop (i + 1) xs))) start
 conditions_at start xs i d x is lt =
     ap (λ ys. conditions (all_emissions (exprs expr_tree ys)) start) (drop-cons xs i d lt)
-    ∙ ap (λ j. emission_of_test (expr_tree (get_or xs i d)) false start ▸ conditions (all_emissions (exprs expr_tree (drop j xs))) start) (one_more i)
+    ∙ ap (λ j. emission_of_test (expr_tree (get_or xs i d)) false start ▸ conditions (all_emissions (exprs expr_tree (drop j xs))) start) (suc_is_plus_one i)
     ∙ ap (λ (y : Expr). emission_of_test (expr_tree y) false start ▸ conditions (all_emissions (exprs expr_tree (drop (i + 1) xs))) start) (sym is)
 
 pub many_clauses : (xs : List (ComprehensionOf Expr)) → length (clause_emissions (generators expr_tree xs)) ≡ length xs
 many_clauses [] = refl
 many_clauses (x ∷ xs) = ap suc (many_clauses xs)
 
-iterator_keeps : (first : Bool) (v : Emission) → Keeps v → Keeps (iterator_of first v)
-iterator_keeps true v h = varname_keeps op.LoadFast (codes ".0")
-iterator_keeps false v h = then_keeps v (emit op.GetIter 0) h (emit_keeps op.GetIter 0)
-
-conditions_keep : (es : List Emissions) (start : ℕ) → AllKeep es → Keeps (conditions es start)
-conditions_keep [] start a = idle_keeps
-conditions_keep (e ∷ es) start a = then_keeps (e.test false start) (conditions es start) (a.0.test false start) (conditions_keep es start a.1)
-
-begun_opens : (c : ℕ) (s r : State) (b : ℕ) → b ≢ c → begin c s ≡ Done r → IsOpen b s → IsOpen b r
-begun_opens c s r b n e i = begin_opens s r b c n (sym (done_same (with_step (Begin c) s) r (sym (begin_goes c s) ∙ e))) i
+begun_opens : (c : ℕ) (s : State) (b : ℕ) → b ≢ c → IsOpen b s → IsOpen b (begins c s)
+begun_opens c s b n i = begin_opens s (with_step (Begin c) s) b c n refl i
 
 module _ (first : Bool) (x : ComprehensionOf Expr) where
   abbrev c : ClauseEmissions
@@ -117,33 +124,14 @@ module _ (first : Bool) (x : ComprehensionOf Expr) where
   abbrev iterator : Emission
   iterator = iterator_of first c.iterable
 
-  iterator_kept : Keeps iterator
-  iterator_kept = iterator_keeps first c.iterable (expr_keeps (expr_tree x.iter.value)).value
-
-  pub iterator_opens : (s r : State) (b : ℕ) → iterator s ≡ Done r → IsOpen b s → IsOpen b r
-  iterator_opens = opens iterator iterator_kept
-
-  abbrev behind_start : (start end : ℕ) → Emission
-  behind_start start end = jump op.ForIter end ▸ c.target ▸ conditions c.conditions start
-
-  behind_keeps : (start end : ℕ) → Keeps (behind_start start end)
-  behind_keeps start end =
-      then_keeps (jump op.ForIter end) _ (jump_keeps op.ForIter end)
-      (then_keeps c.target (conditions c.conditions start) (store_keeps (expr_tree x.target.value)).alone (conditions_keep c.conditions start (exprs_keep (exprs expr_tree x.ifs))))
-
-  opened_from : (z : State) (start end : ℕ) → z.blocks ≤ start → From z (opened iterator c start end)
-  opened_from z start end l = then_from z iterator _ (iterator_kept z) (then_from z (begin start) _ (begin_keeps start z l) (behind_keeps start end z))
-
-  -- what opens a clause begins only blocks that it makes
-  pub clause_opens : (s r : State) (b : ℕ) → opened_clause iterator c s ≡ Done r → IsOpen b s → IsOpen b r
-  clause_opens = opens (opened_clause iterator c) (λ z. block_from z _ (λ start l. block_from z _ (λ end m. opened_from z start end l)))
-
-  -- and of these not the one behind it
-  pub end_opens : (start end : ℕ) (s r : State) (b : ℕ) → b ≢ start → opened iterator c start end s ≡ Done r → IsOpen b s → IsOpen b r
+  -- what opens a clause begins only blocks that it makes, and of these not the one after it
+  pub end_opens : (start end : ℕ) (s r : State) (b : ℕ) → b ≢ start → clause_start iterator c start end s ≡ Done r → IsOpen b s → IsOpen b r
   end_opens start end s r b n e i =
-      let u = between (iterator s) (begin start ▸ behind_start start end) r e in
-      let v = between (begin start u.mid) (behind_start start end) r u.second in
-      opens (behind_start start end) (behind_keeps start end) v.mid r b v.second (begun_opens start u.mid v.mid b n v.first (iterator_opens s u.mid b u.first i))
+      let m = joined_between (run iterator s) (λ t. run (behind_start c start end) (begins start t)) r e in
+      opens (behind_start c start end) (begins start m.mid) r b m.second (begun_opens start m.mid b n (opens iterator s m.mid b m.first i))
+
+  pub clause_opens : (s r : State) (b : ℕ) → opened_clause iterator c s ≡ Done r → IsOpen b s → IsOpen b r
+  clause_opens s r b e i = end_opens s.blocks (suc s.blocks) (with_block (with_block s)) r b (open_block_apart s b s.blocks i refl) e (block_opens (with_block s) (with_block (with_block s)) b refl (block_opens s (with_block s) b refl i))
 
 -- a clause stays open where its last block does
 stays_open : (b : ClauseBlocks) (s r : State) → (IsOpen b.end.0 s → IsOpen b.end.0 r) → IsOpenClause b s → IsOpenClause b r
@@ -178,11 +166,11 @@ last_open [] c s a = a.0
 last_open (b ∷ bs) c s a = last_open bs c s a.2
 
 -- what closes a clause begins no other block
-closing_opens : (c : ClauseBlocks) (s r : State) (b : ℕ) → b ≢ c.end.0 → closing c s ≡ Done r → IsOpen b s → IsOpen b r
+closing_opens : (c : ClauseBlocks) (s r : State) (b : ℕ) → b ≢ c.end.0 → clause_end c s ≡ Done r → IsOpen b s → IsOpen b r
 closing_opens c s r b n e i =
-    let u = between (jump op.Jump c.start.0 s) (begin c.end.0) r e in
-    begun_opens c.end.0 u.mid r b n u.second (jump_opens op.Jump c.start.0 s u.mid b u.first i)
+    let m = joined_between (run (jump op.Jump c.start.0) s) (begin c.end.0) r e in
+    subst (IsOpen b) (done_same (begins c.end.0 m.mid) r m.second) (begun_opens c.end.0 m.mid b n (jump_opens op.Jump c.start.0 s m.mid b m.first i))
 
-pub others_open : (bs : List ClauseBlocks) (c : ClauseBlocks) (s r : State) → closing c s ≡ Done r → AllOpen (bs ++ c ∷ []) s → AllOpen bs r
+pub others_open : (bs : List ClauseBlocks) (c : ClauseBlocks) (s r : State) → clause_end c s ≡ Done r → AllOpen (bs ++ c ∷ []) s → AllOpen bs r
 others_open [] c s r e a = tt
 others_open (b ∷ bs) c s r e a = (stays_open b s r (closing_opens c s r b.end.0 (last_apart b.end.0 bs c a.1) e) a.0, others_apart b.end.0 bs c a.1, others_open bs c s r e a.2)

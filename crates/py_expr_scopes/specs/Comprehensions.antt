@@ -5,7 +5,7 @@ use Rattle.py_tree.specs.View.{expr_tree}
 use Rattle.py_bytecode.specs.declared.instruction.Instruction.TheVariants as op
 use Rattle.py_bytecode.specs.Objects as const
 use Rattle.py_emission_parts.specs.Comprehensions.{ClauseEmissions, as_element, clauses, comprehension}
-use Rattle.py_emission_parts.specs.Emitting.{Emission, ◌▸◌, emit, emit_constant, generating, keep}
+use Rattle.py_emission_parts.specs.Emitting.{Emission, ◌▸◌, emit, emit_constant, generator_mark, keep}
 use Rattle.py_emission.specs.Awaits.{awaits, some_async}
 use Rattle.py_emission.specs.Emission.{clause_emissions, emission}
 use Rattle.py_expr_scopes.specs.declared.comprehensions.ComprehensionElement.{ComprehensionElement}
@@ -40,26 +40,26 @@ element_of (element.Dict k v) = emission (expr_tree k.now) ▸ emission (expr_tr
 element_of (element.Generator e) = as_element (emission (expr_tree e.now))
 
 -- what adds the element to the collection, over which so many iterators lie, or what hands it on
-abbrev pub added : ComprehensionElement → (depth : ℕ) → Emission
-added (element.List e) n = emit op.ListAppend n
-added (element.Set e) n = emit op.SetAdd n
-added (element.Dict k v) n = emit op.MapAdd n
-added (element.Generator e) n = generating ▸ emit op.YieldValue 0 ▸ emit op.Pop 0
+abbrev pub added_element : ComprehensionElement → (depth : ℕ) → Emission
+added_element (element.List e) n = emit op.ListAppend n
+added_element (element.Set e) n = emit op.SetAdd n
+added_element (element.Dict k v) n = emit op.MapAdd n
+added_element (element.Generator e) n = generator_mark ▸ emit op.YieldValue 0 ▸ emit op.Pop 0
 
 -- what the scope returns
-abbrev pub finished : ComprehensionElement → Emission
-finished (element.List e) = emit op.ReturnValue 0
-finished (element.Set e) = emit op.ReturnValue 0
-finished (element.Dict k v) = emit op.ReturnValue 0
-finished (element.Generator e) = emit_constant op.ReturnConst const.none
+abbrev pub final_return : ComprehensionElement → Emission
+final_return (element.List e) = emit op.ReturnValue 0
+final_return (element.Set e) = emit op.ReturnValue 0
+final_return (element.Dict k v) = emit op.ReturnValue 0
+final_return (element.Generator e) = emit_constant op.ReturnConst const.none
 
 -- the element and what takes it, within clauses
 abbrev pub turn : List ClauseEmissions → ComprehensionElement → Emission
-turn cs e = element_of e ▸ added e (length cs)
+turn cs e = element_of e ▸ added_element e (length cs)
 
 -- the scope
 abbrev pub scope_of : List ClauseEmissions → ComprehensionElement → Emission
-scope_of cs e = collection e ▸ clauses cs (turn cs e) ▸ finished e
+scope_of cs e = collection e ▸ clauses cs (turn cs e) ▸ final_return e
 
 -- a comprehension with these clauses
 abbrev pub comprehension_of : tree.Generators → ComprehensionElement → Emission

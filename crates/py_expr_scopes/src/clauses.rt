@@ -1,7 +1,7 @@
 //! The blocks of the clauses of a comprehension, and what closes the clauses.
 ghost use Rattle.std.specs.Prelude.{◌≡◌, ◌++◌, ◌∷◌, [], IfErr, OnOk};
-ghost use Rattle.py_emit.specs.States.{Emits, IsStarved, rest, state};
-ghost use Rattle.py_expr_scopes.specs.Clauses.{AllOpen, IsOpenClause, closed, closing};
+ghost use Rattle.py_emit.specs.States.{Does, IsStarved, rest, state};
+ghost use Rattle.py_expr_scopes.specs.Clauses.{AllOpen, IsOpenClause, closed_clauses, clause_end};
 
 use py_base::{CodegenError, CodegenErrorType};
 use py_bytecode::Instruction;
@@ -18,7 +18,7 @@ pub struct ClauseBlocks {
     pub end: BlockIdx,
 }
 
-/// Puts the blocks of a clause behind the others, and emits nothing.
+/// Puts the blocks of a clause after the others, and emits nothing.
 ///
 /// # Errors
 /// OutOfMemory alone.
@@ -43,7 +43,7 @@ pub fn keep_blocks(
 /// OutOfMemory alone.
 pub fn close_clauses(em: &mut Emitter, blocks: List<ClauseBlocks>) -> Result<(), CodegenError>
     requires open { AllOpen blocks (state em.old) }
-    ensures { Emits result (closed blocks) em.old em.new }
+    ensures { Does result (closed_clauses blocks) em.old em.new }
 {
     let mut blocks = blocks;
     while let Some(clause) = blocks.pop() {
@@ -53,10 +53,9 @@ pub fn close_clauses(em: &mut Emitter, blocks: List<ClauseBlocks>) -> Result<(),
 }
 
 /// Emits what closes a clause: the jump to its next turn, and what follows the last one.
-#[tactic(auto, using(crate::proofs::OpenClauses::begin_goes))]
 fn close_clause(em: &mut Emitter, blocks: &ClauseBlocks) -> Result<(), CodegenError>
     requires open { IsOpenClause blocks.now (state em.old) }
-    ensures { Emits result (closing blocks.now) em.old em.new }
+    ensures { Does result (clause_end blocks.now) em.old em.new }
 {
     emit!(em, Instruction::Jump => blocks.start);
     em.switch_to_block(blocks.end);

@@ -2,13 +2,14 @@
 ghost use Rattle.std.specs.Prelude.{◌≡◌, ◌≢◌, suc, None, IfErr, OnOk};
 ghost use Rattle.py_tree.specs.View.{expr_tree, generators as clause_trees};
 ghost use Rattle.py_bytecode.specs.View.{object};
-ghost use Rattle.py_emission_parts.specs.Children.{code_head, made};
+ghost use Rattle.py_emission_parts.specs.Children.{made_function};
+ghost use Rattle.py_emission_parts.specs.Running.{code_head};
 ghost use Rattle.py_emission_parts.specs.Comprehensions.{comprehension_shape};
 ghost use Rattle.py_emission_parts.specs.Refused.{retold};
-ghost use Rattle.py_emission_parts.specs.Emitting.{◌▸◌, begun, emit as emitting, generating};
+ghost use Rattle.py_emission_parts.specs.Emitting.{◌▸◌, initial_state, emit as emitting, generator_mark};
 ghost use Rattle.py_emission.specs.Awaits.{some_async};
-ghost use Rattle.py_emit.specs.States.{Emits, IsStarved, entered, entered_rest, rest, state};
-ghost use Rattle.py_expr_scopes.specs.Comprehensions.{added, collection, finished, is_awaited, name_of};
+ghost use Rattle.py_emit.specs.States.{Emits, IsStarved, nested_context, entered_rest, rest, state};
+ghost use Rattle.py_expr_scopes.specs.Comprehensions.{added_element, collection, final_return, is_awaited, name_of};
 
 use crate::awaits::contains_await;
 use bitflags::Flags;
@@ -65,7 +66,7 @@ pub fn make_named(
     element: &ComprehensionElement<'_>,
     code: CodeObject,
 ) -> Result<(), CodegenError>
-    ensures { Emits result (made 0 (name_of element.now) (object code)) em.old em.new }
+    ensures { Emits result (made_function 0 (name_of element.now) (object code)) em.old em.new }
 {
     let name = em.text(scope_name(element))?;
     em.make_function(MakeFunctionFlags::from_bits_retain(0), name, code)
@@ -83,13 +84,13 @@ pub fn scope_name(element: &ComprehensionElement<'_>) -> &'static str
     }
 }
 
-/// Goes into the scope of a comprehension of this name, which takes the first iterator; the scope around waits.
+/// Goes into the scope of a comprehension of this name, which takes the first iterator; the enclosing scope waits.
 ///
 /// # Errors
 /// OutOfMemory alone.
 pub fn enter_comprehension(em: &mut Emitter, name: Text) -> Result<(), CodegenError>
-    ensures state { OnOk result (state em.new ≡ begun (entered SymbolTableType.Comprehension Naming.AsAround (state em.old)) (state em.old).location (suc (state em.old).next)) }
-    ensures rest { OnOk result (rest em.new ≡ entered_rest em.old.scope (code_head (entered SymbolTableType.Comprehension Naming.AsAround (state em.old)) (comprehension_shape name) (state em.old).location) (rest em.old)) }
+    ensures state { OnOk result (state em.new ≡ initial_state (nested_context SymbolTableType.Comprehension Naming.AsAround (state em.old)) (state em.old).location (suc (state em.old).next)) }
+    ensures rest { OnOk result (rest em.new ≡ entered_rest em.old.scope (code_head (nested_context SymbolTableType.Comprehension Naming.AsAround (state em.old)) (comprehension_shape name) (state em.old).location) (rest em.old)) }
     ensures err { IfErr result (λ e. IsStarved e (rest em.old).path) }
 {
     let head = ScopeHead {
@@ -129,7 +130,7 @@ pub fn finish_collection(
     em: &mut Emitter,
     element: &ComprehensionElement<'_>,
 ) -> Result<(), CodegenError>
-    ensures { Emits result (finished element.now) em.old em.new }
+    ensures { Emits result (final_return element.now) em.old em.new }
 {
     match element {
         ComprehensionElement::Generator(_) => em.return_const(ConstantData::None),
@@ -177,7 +178,7 @@ pub fn add_element(
     element: &ComprehensionElement<'_>,
     depth: usize,
 ) -> Result<(), CodegenError>
-    ensures { Emits result (added element.now depth) em.old em.new }
+    ensures { Emits result (added_element element.now depth) em.old em.new }
 {
     match element {
         ComprehensionElement::List(_) => append(em, Instruction::ListAppend, depth),
@@ -197,7 +198,7 @@ fn append(em: &mut Emitter, instr: Instruction, depth: usize) -> Result<(), Code
 
 /// Emits what hands a value on, and forgets what comes back for it.
 fn hand_on(em: &mut Emitter) -> Result<(), CodegenError>
-    ensures { Emits result (generating ▸ emitting Instruction.YieldValue 0 ▸ emitting Instruction.Pop 0) em.old em.new }
+    ensures { Emits result (generator_mark ▸ emitting Instruction.YieldValue 0 ▸ emitting Instruction.Pop 0) em.old em.new }
 {
     em.mark_generator();
     emit!(em, Instruction::YieldValue);

@@ -1,15 +1,16 @@
-//! What lambdas share with the definitions of functions: the scope within, its flags, names of defaults, and the scopes that are
+//! What lambdas share with the definitions of functions: the nested scope, its flags, names of defaults, and the scopes that are
 //! passed over.
 ghost use Rattle.std.specs.Prelude.{◌≡◌, ◌+◌, ℕ, Bool, suc, codes, IfErr, IfOk, OnOk};
 ghost use Rattle.py_scope_counts.specs.Counts.{IsSum, scopes_in_annotations as annotation_scopes};
 ghost use Rattle.py_tree.specs.View.{arguments, expr_tree};
 ghost use Rattle.py_bytecode.specs.Objects as object;
 ghost use Rattle.py_bytecode.specs.View.{object as code_object};
-ghost use Rattle.py_emission_parts.specs.Children.{code_head, enter_parameters, made};
-ghost use Rattle.py_emission_parts.specs.Emitting.{◌▸◌, add_constant, begun, emit_constant};
+ghost use Rattle.py_emission_parts.specs.Children.{enter_parameters, made_function};
+ghost use Rattle.py_emission_parts.specs.Running.{code_head, run};
+ghost use Rattle.py_emission_parts.specs.Emitting.{◌▸◌, add_constant, initial_state, emit_constant};
 ghost use Rattle.py_emission_parts.specs.EmissionParts.{pass_scopes};
 ghost use Rattle.py_emission.specs.Parameters.{function_shape, parameters};
-ghost use Rattle.py_emit.specs.States.{Emits, Goes, IsStarved, Same, entered, entered_rest, rest, state};
+ghost use Rattle.py_emit.specs.States.{Emits, Goes, IsStarved, Same, nested_context, entered_rest, rest, state};
 ghost use Rattle.py_expr_scopes.specs.Functions.{closed_by, default_name, flag_if, is_some};
 ghost use Rattle.py_bytecode.specs.Objects.{str};
 
@@ -41,14 +42,14 @@ pub fn make_lambda(
     defaults: Defaults,
     code: CodeObject,
 ) -> Result<(), CodegenError>
-    ensures { Emits result (pass_scopes (λ postponed. annotation_scopes postponed (arguments expr_tree params.now)) ▸ made (flag_if 0x08 defaults.positional + flag_if 0x04 defaults.keyword) (codes "<lambda>") (code_object code)) em.old em.new }
+    ensures { Emits result (pass_scopes (λ postponed. annotation_scopes postponed (arguments expr_tree params.now)) ▸ made_function (flag_if 0x08 defaults.positional + flag_if 0x04 defaults.keyword) (codes "<lambda>") (code_object code)) em.old em.new }
 {
     pass_annotations(em, params)?;
     let name = em.text("<lambda>")?;
     em.make_function(function_flags(defaults, false), name, code)
 }
 
-/// Goes into the scope of a function of these parameters, under this name; the scope around waits.
+/// Goes into the scope of a function of these parameters, under this name; the enclosing scope waits.
 ///
 /// # Errors
 /// OutOfMemory alone.
@@ -58,8 +59,8 @@ pub fn enter_function(
     name: Text,
     naming: Naming,
 ) -> Result<(), CodegenError>
-    ensures state { OnOk result (state em.new ≡ begun (entered SymbolTableType.Function naming (state em.old)) (state em.old).location (suc (state em.old).next)) }
-    ensures rest { OnOk result (rest em.new ≡ entered_rest em.old.scope (code_head (entered SymbolTableType.Function naming (state em.old)) (function_shape (arguments expr_tree params.now) name) (state em.old).location) (rest em.old)) }
+    ensures state { OnOk result (state em.new ≡ initial_state (nested_context SymbolTableType.Function naming (state em.old)) (state em.old).location (suc (state em.old).next)) }
+    ensures rest { OnOk result (rest em.new ≡ entered_rest em.old.scope (code_head (nested_context SymbolTableType.Function naming (state em.old)) (function_shape (arguments expr_tree params.now) name) (state em.old).location) (rest em.old)) }
     ensures err { IfErr result (λ e. IsStarved e (rest em.old).path) }
 {
     let head = function_head(em, params, name)?;
@@ -98,7 +99,7 @@ pub fn pass_annotations(em: &mut Emitter, params: &Arguments) -> Result<(), Code
 /// OutOfMemory alone.
 #[tactic(auto, unfolding(py_emission_parts::specs::Emitting::by_context, py_emission_parts::specs::Emitting::pass_over))]
 pub fn pass_counted(em: &mut Emitter, next: Option<usize>) -> Result<(), CodegenError>
-    ensures goes { (count : (postponed : Bool) → ℕ) → IsSum next ((state em.old).next + count (state em.old).around.context.postponed) → Goes result (state em.new) (pass_scopes count (state em.old)) }
+    ensures goes { (count : (postponed : Bool) → ℕ) → IsSum next ((state em.old).next + count (state em.old).around.context.postponed) → Goes result (state em.new) (run (pass_scopes count) (state em.old)) }
     ensures same { Same result (rest em.new) (rest em.old) }
 {
     let Some(number) = next else {

@@ -12,12 +12,12 @@ use Rattle.py_bytecode.specs.Values.{Operation, operation, Bare, Value, Constant
 use Rattle.py_control.specs.Form.{Interp, Scope, MkScope, VForm, VConst, VLoad, VOp, VMake, VChoice, VKeep, VAt, VNone, VMore, TForm, Resolved, Target, GStore, GUnpack, GDrop, SReturn, access, targets, run_value, run_test, run_target, run_targets}
 use Rattle.py_emission_parts.specs.Context.{Context, head_of}
 use Rattle.py_emission_parts.specs.Elements.{Element, Single, Spread, after_star, bare, before_star, stars}
-use Rattle.py_emission_parts.specs.TableParts.{ExprForms, TargetForms, binary, conversion_case, counted, debug_constant, is_debug, joined_form, named, plain_target, slice_form, targets_of, unary_forms, unary_operation, unary_test, unpacked_to, unpacking, value_or, values}
+use Rattle.py_emission_parts.specs.TableParts.{ExprForms, TargetForms, binary, conversion_case, counted_operation, debug_constant, is_debug, joined_form, named_operation, plain_target, slice_form, targets_of, unary_forms, unary_operation, unary_test, unpacked_to, unpack_operation, value_or, values}
 use Rattle.py_emission_parts.specs.Within.{comprehension_inside, lambda_inside}
 use Rattle.py_emission.specs.Texts.{texts_of}
-use Rattle.py_meaning.specs.ExprFaults.{starring}
+use Rattle.py_meaning.specs.ExprFaults.{as_elements}
 use Rattle.py_meaning.specs.Table.{after, after_args, after_clauses, after_defaults, after_key, after_opt, after_value, after_all, all_forms, all_targets, but_first_key, but_first_value, clause_forms, default_forms, expr_forms, first_iterable, key_forms, keyword_defaults, keyword_forms, opt_form, positional_defaults, target_forms, value_forms}
-use Rattle.py_meaning.specs.TableScopes.{called_at_once, gathered, generated, iterator}
+use Rattle.py_meaning.specs.TableScopes.{called_at_once, gather_form, generate_form, iterator}
 use Rattle.py_answers.specs.Told.{Known, short_value, short_values}
 use Rattle.py_interp.specs.declared.around.Around.{Around}
 use Rattle.py_interp.specs.Shortened.{short_got, short_world}
@@ -25,7 +25,7 @@ use Rattle.py_interp.specs.Doing as walk
 use Rattle.py_interp.specs.Doing.{Doing, ExprWalk, TargetWalk, drop_it, get_all, get_or, make, put_each, values_of_all}
 use Rattle.py_interp.specs.Laws.{around_of}
 use Rattle.py_interp.specs.Walks as program
-use Rattle.py_interp.specs.Walks.{all_walks, applied, default_walks, first_walk, key_walks, keyword_only_walks, keyword_walks, name_value, opt_walk, positional_walks, target_walks, value_walks, walks}
+use Rattle.py_interp.specs.Walks.{all_walks, applied_unary, default_walks, first_walk, key_walks, keyword_only_walks, keyword_walks, name_value, opt_walk, positional_walks, target_walks, value_walks, walks}
 use Rattle.py_interp.proofs.Shorter.{Shortens, short_ask_for, short_choose, short_for_none, short_for_one, short_then}
 use Rattle.py_interp.proofs.Steps.{Values, op_one, op_three, op_two, with_one, with_two}
 use Rattle.py_interp.proofs.Lists.{SameAll, SameExpr, SameOption, SameOptions, SameValues, all_same, bool_same, built_same, compare_same, dict_same, display_same, same_ordinary, same_tested, test_of, values_same}
@@ -34,16 +34,19 @@ use Rattle.py_interp.proofs.Calls.{SameDefaults, SameKeywords, call_same, lambda
 module _ {K : Type 0} (i : Interp K) where
   unary_test_same : (at : SourceLocation) (o : UnaryOp) (f : ExprForms) (m : ExprWalk) → SameExpr i f m → Shortens (λ t. t) (run_test i (unary_test at o f)) (program.unary_test o m)
   unary_test_same at unary.Not f m h w = short_then (run_test i f.test w) (m.test (short_world w)) (λ t. t) (λ t. t) (λ t w1. Fine (flip t) w1) (λ t w1. Fine (flip t) w1) (h.test w) (λ t w1. refl)
-  unary_test_same at o f m h w = test_of i (VOp (unary_operation o) (VMore f.value VNone)) (applied o m) (op_one i (unary_operation o) f.value m.value h.value) w
+  unary_test_same at o f m h w = test_of i (VOp (unary_operation o) (VMore f.value VNone)) (applied_unary o m) (op_one i (unary_operation o) f.value m.value h.value) w
 
-  unary_same : (at : SourceLocation) (o : UnaryOp) (f : ExprForms) (m : ExprWalk) → SameExpr i f m → SameExpr i (unary_forms at o f) (walk.ordinary (applied o m) (program.unary_test o m))
-  unary_same at o f m h = same_ordinary i (VAt at (VOp (unary_operation o) (VMore f.value VNone))) (unary_test at o f) (applied o m) (program.unary_test o m) (op_one i (unary_operation o) f.value m.value h.value) (unary_test_same at o f m h)
+  unary_same : (at : SourceLocation) (o : UnaryOp) (f : ExprForms) (m : ExprWalk) → SameExpr i f m → SameExpr i (unary_forms at o f) (walk.ordinary (applied_unary o m) (program.unary_test o m))
+  unary_same at o f m h = same_ordinary i (VAt at (VOp (unary_operation o) (VMore f.value VNone))) (unary_test at o f) (applied_unary o m) (program.unary_test o m) (op_one i (unary_operation o) f.value m.value h.value) (unary_test_same at o f m h)
 
-  pub keep_same : (f : VForm) (t : Target) (m : Doing (Value Known)) (g : Value Known → Doing (Unit {0})) → Values i f m → ((v : Value K) → Shortens (λ d. d) (run_target i t v) (g (short_value v))) → Values i (VKeep f None t) (λ w. then_get (m w) (λ v w1. then_get (g v w1) (λ d w2. Fine v w2)))
+  pub keep_same : (f : VForm) (t : Target) (m : Doing (Value Known)) (g : Value Known → Doing (Unit {0})) → Values i f m
+      → ((v : Value K) → Shortens (λ d. d) (run_target i t v) (g (short_value v)))
+      → Values i (VKeep f None t) (λ w. then_get (m w) (λ v w1. then_get (g v w1) (λ d w2. Fine v w2)))
   keep_same f t m g hf ht w =
       short_then (run_value i f w) (m (short_world w)) short_value short_value (λ v w1. then_get (run_target i t v w1) (λ d w2. Fine v w2)) (λ v w1. then_get (g v w1) (λ d w2. Fine v w2)) (hf w) (λ v w1. short_then (run_target i t v w1) (g (short_value v) (short_world w1)) (λ d. d) short_value (λ d w2. Fine v w2) (λ d w2. Fine (short_value v) w2) (ht v w1) (λ d w2. refl))
 
-  choice_same : (t : TForm) (f g : VForm) (u : Doing Bool) (m n : Doing (Value Known)) → Shortens (λ t. t) (run_test i t) u → Values i f m → Values i g n → Values i (VChoice t f g) (λ w. then_get (u w) (λ c w1. choose c (m w1) (n w1)))
+  choice_same : (t : TForm) (f g : VForm) (u : Doing Bool) (m n : Doing (Value Known)) → Shortens (λ t. t) (run_test i t) u → Values i f m → Values i g n
+      → Values i (VChoice t f g) (λ w. then_get (u w) (λ c w1. choose c (m w1) (n w1)))
   choice_same t f g u m n ht hf hg w =
       short_then (run_test i t w) (u (short_world w)) (λ t. t) short_value (λ c w1. choose c (run_value i f w1) (run_value i g w1)) (λ c w1. choose c (m w1) (n w1)) (ht w) (λ c w1. short_choose c (run_value i f w1) (run_value i g w1) (m (short_world w1)) (n (short_world w1)) short_value (hf w1) (hg w1))
 
@@ -53,14 +56,15 @@ module _ {K : Type 0} (i : Interp K) where
   or_same k (Some f) None h w = absurd h
   or_same k (Some f) (Some m) h w = h w
 
-  slice_same : (lower upper step : Option VForm) (l u s : Option (Doing (Value Known))) → SameOption i lower l → SameOption i upper u → SameOption i step s → Values i (slice_form lower upper step) (walk.slice l u s)
-  slice_same lower upper None l u None hl hu hs w = op_two i (counted op.BuildSlice 0) (value_or const.none lower) (value_or const.none upper) (get_or const.none l) (get_or const.none u) (or_same const.none lower l hl) (or_same const.none upper u hu) w
+  slice_same : (lower upper step : Option VForm) (l u s : Option (Doing (Value Known))) → SameOption i lower l → SameOption i upper u → SameOption i step s
+      → Values i (slice_form lower upper step) (walk.slice l u s)
+  slice_same lower upper None l u None hl hu hs w = op_two i (counted_operation op.BuildSlice 0) (value_or const.none lower) (value_or const.none upper) (get_or const.none l) (get_or const.none u) (or_same const.none lower l hl) (or_same const.none upper u hu) w
   slice_same lower upper None l u (Some s) hl hu hs w = absurd hs
   slice_same lower upper (Some step) l u None hl hu hs w = absurd hs
   slice_same lower upper (Some step) l u (Some s) hl hu hs w =
-      op_three i (counted op.BuildSlice 1) (value_or const.none lower) (value_or const.none upper) step (get_or const.none l) (get_or const.none u) s (or_same const.none lower l hl) (or_same const.none upper u hu) hs w
+      op_three i (counted_operation op.BuildSlice 1) (value_or const.none lower) (value_or const.none upper) step (get_or const.none l) (get_or const.none u) s (or_same const.none lower l hl) (or_same const.none upper u hu) hs w
 
-  joined_same : (t : Option (List ℕ)) (fs : List ExprForms) (ms : List ExprWalk) → SameAll i fs ms → Values i (joined_form t (values fs)) (walk.joined t ms)
+  joined_same : (t : Option (List ℕ)) (fs : List ExprForms) (ms : List ExprWalk) → SameAll i fs ms → Values i (joined_form t (values fs)) (walk.joined_value t ms)
   joined_same (Some text) fs ms h w = refl
   joined_same None fs ms h w = built_same i op.BuildString (values fs) (get_all [] (values_of_all ms)) (all_same i (values fs) (values_of_all ms) (values_same i fs ms h)) w
 
@@ -68,9 +72,10 @@ module _ {K : Type 0} (i : Interp K) where
   iterator_same f m h = op_one i (operation op.GetIter Bare) f m h
 
   at_once_same : (name : List ℕ) (s : Scope) (f : VForm) (m : Doing (Value Known)) → Values i f m → Values i (called_at_once name s f) (walk.call_at_once name m)
-  at_once_same name s f m h = op_two i (counted op.CallFunctionPositional 1) (VMake 0 VNone s name VNone) (iterator f) (make 0 [] [] name) (walk.iterator m) (λ w. made_same i 0 [] [] s name w) (iterator_same f m h)
+  at_once_same name s f m h = op_two i (counted_operation op.CallFunctionPositional 1) (VMake 0 VNone s name VNone) (iterator f) (make 0 [] [] name) (walk.iterator m) (λ w. made_same i 0 [] [] s name w) (iterator_same f m h)
 
-  pub name_same : (b : Bool) (k : Const) (id : List ℕ) (w : World K) → (if b then Fine (Constant k) (short_world w) else for_one (Accesses Unsaid Load id 0 []) (short_world w)) ≡ short_got short_value (run_value i (if b then VConst k else VLoad Resolved id) w)
+  pub name_same : (b : Bool) (k : Const) (id : List ℕ) (w : World K)
+      → (if b then Fine (Constant k) (short_world w) else for_one (Accesses Unsaid Load id 0 []) (short_world w)) ≡ short_got short_value (run_value i (if b then VConst k else VLoad Resolved id) w)
   name_same true k id w = refl
   name_same false k id w = short_for_one (access i Load Resolved id []) (Accesses Unsaid Load id 0 []) refl w
 
@@ -90,8 +95,8 @@ module _ {K : Type 0} (i : Interp K) where
     pub alone : (v : Value K) → Shortens (λ d. d) (run_target i t.alone v) (m.alone (short_value v))
     pub element : (v : Value K) → Shortens (λ d. d) (run_target i (of_element t.element) v) (m.element (short_value v))
 
-  plain_same : (t : Target) (m : Value Known → Doing (Unit {0})) → ((v : Value K) → Shortens (λ d. d) (run_target i t v) (m (short_value v))) → SameTarget (plain_target t) (walk.plain m)
-  plain_same t m h = record { alone = h; element = h }
+  expr_plain_same : (t : Target) (m : Value Known → Doing (Unit {0})) → ((v : Value K) → Shortens (λ d. d) (run_target i t v) (m (short_value v))) → SameTarget (plain_target t) (walk.plain m)
+  expr_plain_same t m h = record { alone = h; element = h }
 
   abbrev SameTargets : List (Element Target Target) → List TargetWalk → Type 0
   SameTargets [] [] = Unit {0}
@@ -99,7 +104,8 @@ module _ {K : Type 0} (i : Interp K) where
   SameTargets (t ∷ ts) [] = ⊥
   SameTargets (t ∷ ts) (m ∷ ms) = ((v : Value K) → Shortens (λ d. d) (run_target i (of_element t) v) (m.element (short_value v))) × SameTargets ts ms
 
-  put_same : (ts : List (Element Target Target)) (ms : List TargetWalk) → SameTargets ts ms → (vs : List (Value K)) → Shortens (λ d. d) (run_targets i (targets_of (bare ts)) vs) (put_each ms (short_values vs))
+  put_same : (ts : List (Element Target Target)) (ms : List TargetWalk) → SameTargets ts ms → (vs : List (Value K))
+      → Shortens (λ d. d) (run_targets i (targets_of (bare ts)) vs) (put_each ms (short_values vs))
   put_same [] [] h vs w = refl
   put_same [] (m ∷ ms) h vs w = absurd h
   put_same (t ∷ ts) [] h vs w = absurd h
@@ -110,33 +116,35 @@ module _ {K : Type 0} (i : Interp K) where
   put_same (Spread t ∷ ts) (m ∷ ms) h (v ∷ vs) w =
       short_then (run_target i t v w) (m.element (short_value v) (short_world w)) (λ d. d) (λ d. d) (λ d w1. run_targets i (targets_of (bare ts)) vs w1) (λ d w1. put_each ms (short_values vs) w1) (h.0 v w) (λ d w1. put_same ts ms h.1 vs w1)
 
-  unpack_same : (o p : Operation) (k : ℕ) (ts : List (Element Target Target)) (ms : List TargetWalk) → p ≡ o → k ≡ targets (targets_of (bare ts)) → SameTargets ts ms → (v : Value K) → Shortens (λ d. d) (run_target i (GUnpack o (targets_of (bare ts))) v) (λ w. then_get (ask_for (Operates p (short_value v ∷ [])) (Some k) w) (λ vs w1. put_each ms vs w1))
+  unpack_same : (o p : Operation) (k : ℕ) (ts : List (Element Target Target)) (ms : List TargetWalk) → p ≡ o → k ≡ targets (targets_of (bare ts))
+      → SameTargets ts ms → (v : Value K)
+      → Shortens (λ d. d) (run_target i (GUnpack o (targets_of (bare ts))) v) (λ w. then_get (ask_for (Operates p (short_value v ∷ [])) (Some k) w) (λ vs w1. put_each ms vs w1))
   unpack_same o p k ts ms q r h v w =
       (λ j. then_get (ask_for (Operates (q j) (short_value v ∷ [])) (Some (r j)) (short_world w)) (λ vs w1. put_each ms vs w1))
       ∙ short_then (ask_for (Operates o (v ∷ [])) (Some (targets (targets_of (bare ts)))) w) _ short_values (λ d. d) (λ vs w1. run_targets i (targets_of (bare ts)) vs w1) (λ vs w1. put_each ms vs w1) (short_ask_for (Operates o (v ∷ [])) (Operates o (short_value v ∷ [])) (Some (targets (targets_of (bare ts)))) refl w) (λ vs w1. put_same ts ms h vs w1)
 
 -- which targets are starred, and how many there are
-stars_is : (c : Context) (n : ℕ) (es : tree.Exprs) → stars (starring es) ≡ stars (all_targets c n es)
+stars_is : (c : Context) (n : ℕ) (es : tree.Exprs) → stars (as_elements es) ≡ stars (all_targets c n es)
 stars_is c n tree.no_exprs = refl
 stars_is c n (tree.more_exprs (tree.Starred at e) es) = ap suc (stars_is c (after c n (tree.Starred at e)) es)
 stars_is c n (tree.more_exprs e es) = stars_is c (after c n e) es
 
-many_is : (c : Context) (n : ℕ) (es : tree.Exprs) → length (starring es) ≡ length (all_targets c n es)
+many_is : (c : Context) (n : ℕ) (es : tree.Exprs) → length (as_elements es) ≡ length (all_targets c n es)
 many_is c n tree.no_exprs = refl
 many_is c n (tree.more_exprs e es) = ap suc (many_is c (after c n e) es)
 
-before_is : (c : Context) (n : ℕ) (es : tree.Exprs) → before_star (starring es) ≡ before_star (all_targets c n es)
+before_is : (c : Context) (n : ℕ) (es : tree.Exprs) → before_star (as_elements es) ≡ before_star (all_targets c n es)
 before_is c n tree.no_exprs = refl
 before_is c n (tree.more_exprs (tree.Starred at e) es) = refl
 before_is c n (tree.more_exprs e es) = ap suc (before_is c (after c n e) es)
 
-after_is : (c : Context) (n : ℕ) (es : tree.Exprs) → after_star (starring es) ≡ after_star (all_targets c n es)
+after_is : (c : Context) (n : ℕ) (es : tree.Exprs) → after_star (as_elements es) ≡ after_star (all_targets c n es)
 after_is c n tree.no_exprs = refl
 after_is c n (tree.more_exprs (tree.Starred at e) es) = many_is c (after c n (tree.Starred at e)) es
 after_is c n (tree.more_exprs e es) = after_is c (after c n e) es
 
-unpacking_is : (c : Context) (n : ℕ) (es : tree.Exprs) → unpacking (starring es) ≡ unpacking (all_targets c n es)
-unpacking_is c n es = λ j. if nat_eq (stars_is c n es j) 0 then counted op.UnpackSequence (many_is c n es j) else counted op.UnpackEx (before_is c n es j + 256 * after_is c n es j)
+unpacking_is : (c : Context) (n : ℕ) (es : tree.Exprs) → unpack_operation (as_elements es) ≡ unpack_operation (all_targets c n es)
+unpacking_is c n es = λ j. if nat_eq (stars_is c n es j) 0 then counted_operation op.UnpackSequence (many_is c n es j) else counted_operation op.UnpackEx (before_is c n es j + 256 * after_is c n es j)
 
 bare_length : (ts : List (Element Target Target)) → length ts ≡ targets (targets_of (bare ts))
 bare_length [] = refl
@@ -166,32 +174,32 @@ module _ {K : Type 0} (i : Interp K) (around : Context) where
     same_expr n (tree.Set at elts) = same_tested i (expr_forms c n (tree.Set at elts)).value (walks a (tree.Set at elts)).value (display_same i op.BuildSet op.BuildSetUnpack (all_forms c n elts) (all_walks a elts) (same_all n elts))
     same_expr n (tree.ListComp at elt gs) =
         let inner = comprehension_inside c n in let m = after_clauses c (suc n) gs in
-        same_tested i (expr_forms c n (tree.ListComp at elt gs)).value (walks a (tree.ListComp at elt gs)).value (at_once_same i (codes "<listcomp>") (MkScope (head_of inner) (gathered op.BuildList op.ListAppend (clause_forms inner (suc n) gs) (VMore (expr_forms inner m elt).value VNone))) (first_iterable c (after c m elt) gs) (first_walk a gs) (same_first (after c m elt) gs))
+        same_tested i (expr_forms c n (tree.ListComp at elt gs)).value (walks a (tree.ListComp at elt gs)).value (at_once_same i (codes "<listcomp>") (MkScope (head_of inner) (gather_form op.BuildList op.ListAppend (clause_forms inner (suc n) gs) (VMore (expr_forms inner m elt).value VNone))) (first_iterable c (after c m elt) gs) (first_walk a gs) (expr_same_first (after c m elt) gs))
     same_expr n (tree.SetComp at elt gs) =
         let inner = comprehension_inside c n in let m = after_clauses c (suc n) gs in
-        same_tested i (expr_forms c n (tree.SetComp at elt gs)).value (walks a (tree.SetComp at elt gs)).value (at_once_same i (codes "<setcomp>") (MkScope (head_of inner) (gathered op.BuildSet op.SetAdd (clause_forms inner (suc n) gs) (VMore (expr_forms inner m elt).value VNone))) (first_iterable c (after c m elt) gs) (first_walk a gs) (same_first (after c m elt) gs))
+        same_tested i (expr_forms c n (tree.SetComp at elt gs)).value (walks a (tree.SetComp at elt gs)).value (at_once_same i (codes "<setcomp>") (MkScope (head_of inner) (gather_form op.BuildSet op.SetAdd (clause_forms inner (suc n) gs) (VMore (expr_forms inner m elt).value VNone))) (first_iterable c (after c m elt) gs) (first_walk a gs) (expr_same_first (after c m elt) gs))
     same_expr n (tree.DictComp at key value gs) =
         let inner = comprehension_inside c n in let m = after_clauses c (suc n) gs in
-        same_tested i (expr_forms c n (tree.DictComp at key value gs)).value (walks a (tree.DictComp at key value gs)).value (at_once_same i (codes "<dictcomp>") (MkScope (head_of inner) (gathered op.BuildMap op.MapAdd (clause_forms inner (suc n) gs) (VMore (expr_forms inner m key).value (VMore (expr_forms inner (after c m key) value).value VNone)))) (first_iterable c (after c (after c m key) value) gs) (first_walk a gs) (same_first (after c (after c m key) value) gs))
+        same_tested i (expr_forms c n (tree.DictComp at key value gs)).value (walks a (tree.DictComp at key value gs)).value (at_once_same i (codes "<dictcomp>") (MkScope (head_of inner) (gather_form op.BuildMap op.MapAdd (clause_forms inner (suc n) gs) (VMore (expr_forms inner m key).value (VMore (expr_forms inner (after c m key) value).value VNone)))) (first_iterable c (after c (after c m key) value) gs) (first_walk a gs) (expr_same_first (after c (after c m key) value) gs))
     same_expr n (tree.GeneratorExp at elt gs) =
         let inner = comprehension_inside c n in let m = after_clauses c (suc n) gs in
-        same_tested i (expr_forms c n (tree.GeneratorExp at elt gs)).value (walks a (tree.GeneratorExp at elt gs)).value (at_once_same i (codes "<genexpr>") (MkScope (head_of inner) (generated (clause_forms inner (suc n) gs) (expr_forms inner m elt).value)) (first_iterable c (after c m elt) gs) (first_walk a gs) (same_first (after c m elt) gs))
+        same_tested i (expr_forms c n (tree.GeneratorExp at elt gs)).value (walks a (tree.GeneratorExp at elt gs)).value (at_once_same i (codes "<genexpr>") (MkScope (head_of inner) (generate_form (clause_forms inner (suc n) gs) (expr_forms inner m elt).value)) (first_iterable c (after c m elt) gs) (first_walk a gs) (expr_same_first (after c m elt) gs))
     same_expr n (tree.Await at value) = same_tested i (expr_forms c n (tree.Await at value)).value (walks a (tree.Await at value)).value (λ w. refl)
     same_expr n (tree.Yield at value) = same_tested i (expr_forms c n (tree.Yield at value)).value (walks a (tree.Yield at value)).value (op_one i (operation op.YieldValue Bare) (value_or const.none (opt_form c n value)) (get_or const.none (opt_walk a value)) (or_same i const.none (opt_form c n value) (opt_walk a value) (same_opt n value)))
     same_expr n (tree.YieldFrom at value) = same_tested i (expr_forms c n (tree.YieldFrom at value)).value (walks a (tree.YieldFrom at value)).value (op_two i (operation op.YieldFrom Bare) (iterator (expr_forms c n value).value) (VConst const.none) (walk.iterator (walks a value).value) (λ w. Fine (Constant const.none) w) (iterator_same i (expr_forms c n value).value (walks a value).value (same_expr n value).value) (λ w. refl))
     same_expr n (tree.Compare at left ops others) = same_tested i (expr_forms c n (tree.Compare at left ops others)).value (walks a (tree.Compare at left ops others)).value (compare_same i (expr_forms c n left).value (walks a left).value (same_expr n left).value ops (all_forms c (after c n left) others) (all_walks a others) (same_all (after c n left) others))
     same_expr n (tree.Call at func args ks) = same_tested i (expr_forms c n (tree.Call at func args ks)).value (walks a (tree.Call at func args ks)).value (call_same i (expr_forms c n func) (walks a func) (same_expr n func) (all_forms c (after c n func) args) (all_walks a args) (same_all (after c n func) args) (keyword_forms c (after_all c (after c n func) args) ks) (keyword_walks a ks) (same_keywords (after_all c (after c n func) args) ks))
-    same_expr n (tree.FormattedValue at value conversion spec) = same_tested i (expr_forms c n (tree.FormattedValue at value conversion spec)).value (walks a (tree.FormattedValue at value conversion spec)).value (op_two i (counted op.FormatValue (conversion_case conversion)) (expr_forms c n value).value (value_or (const.str []) (opt_form c (after c n value) spec)) (walks a value).value (get_or (const.str []) (opt_walk a spec)) (same_expr n value).value (or_same i (const.str []) (opt_form c (after c n value) spec) (opt_walk a spec) (same_opt (after c n value) spec)))
+    same_expr n (tree.FormattedValue at value conversion spec) = same_tested i (expr_forms c n (tree.FormattedValue at value conversion spec)).value (walks a (tree.FormattedValue at value conversion spec)).value (op_two i (counted_operation op.FormatValue (conversion_case conversion)) (expr_forms c n value).value (value_or (const.str []) (opt_form c (after c n value) spec)) (walks a value).value (get_or (const.str []) (opt_walk a spec)) (same_expr n value).value (or_same i (const.str []) (opt_form c (after c n value) spec) (opt_walk a spec) (same_opt (after c n value) spec)))
     same_expr n (tree.JoinedStr at parts) = same_tested i (expr_forms c n (tree.JoinedStr at parts)).value (walks a (tree.JoinedStr at parts)).value (joined_same i (texts_of parts) (all_forms c n parts) (all_walks a parts) (same_all n parts))
     same_expr n (tree.Constant at value) = same_tested i (expr_forms c n (tree.Constant at value)).value (walks a (tree.Constant at value)).value (λ w. refl)
     same_expr n (tree.Attribute at e attr) =
-        let f = VOp (named op.LoadAttr attr) (VMore (expr_forms c n e).value VNone) in let v = op_one i (named op.LoadAttr attr) (expr_forms c n e).value (walks a e).value (same_expr n e).value in
+        let f = VOp (named_operation op.LoadAttr attr) (VMore (expr_forms c n e).value VNone) in let v = op_one i (named_operation op.LoadAttr attr) (expr_forms c n e).value (walks a e).value (same_expr n e).value in
         record {
           value = v;
           test = test_of i f (walks a (tree.Attribute at e attr)).value v;
           element = (VAt at f, refl, v);
           method = refl;
-          callee = λ w. short_then (run_value i (expr_forms c n e).value w) ((walks a e).value (short_world w)) short_value short_values (λ x w1. ask_for (Operates (named op.LoadMethod attr) (x ∷ [])) (Some 3) w1) (λ x w1. ask_for (Operates (named op.LoadMethod attr) (x ∷ [])) (Some 3) w1) ((same_expr n e).value w) (λ x w1. short_ask_for (Operates (named op.LoadMethod attr) (x ∷ [])) (Operates (named op.LoadMethod attr) (short_value x ∷ [])) (Some 3) refl w1);
+          callee = λ w. short_then (run_value i (expr_forms c n e).value w) ((walks a e).value (short_world w)) short_value short_values (λ x w1. ask_for (Operates (named_operation op.LoadMethod attr) (x ∷ [])) (Some 3) w1) (λ x w1. ask_for (Operates (named_operation op.LoadMethod attr) (x ∷ [])) (Some 3) w1) ((same_expr n e).value w) (λ x w1. short_ask_for (Operates (named_operation op.LoadMethod attr) (x ∷ [])) (Operates (named_operation op.LoadMethod attr) (short_value x ∷ [])) (Some 3) refl w1);
         }
     same_expr n (tree.Subscript at e index) = same_tested i (expr_forms c n (tree.Subscript at e index)).value (walks a (tree.Subscript at e index)).value (op_two i (operation op.Subscript Bare) (expr_forms c n e).value (expr_forms c (after c n e) index).value (walks a e).value (walks a index).value (same_expr n e).value (same_expr (after c n e) index).value)
     same_expr n (tree.Starred at e) = record {
@@ -227,9 +235,9 @@ module _ {K : Type 0} (i : Interp K) (around : Context) where
     same_keywords n (tree.more_keywords None e ks) = ((same_expr n e).value, same_keywords (after c n e) ks)
     same_keywords n (tree.more_keywords (Some name) e ks) = (refl, (same_expr n e).value, same_keywords (after c n e) ks)
 
-    same_first : (n : ℕ) (gs : tree.Generators) → Values i (first_iterable c n gs) (first_walk a gs)
-    same_first n tree.no_generators = λ w. refl
-    same_first n (tree.more_generators target iter ifs is_async gs) = (same_expr n iter).value
+    expr_same_first : (n : ℕ) (gs : tree.Generators) → Values i (first_iterable c n gs) (first_walk a gs)
+    expr_same_first n tree.no_generators = λ w. refl
+    expr_same_first n (tree.more_generators target iter ifs is_async gs) = (same_expr n iter).value
 
     pub same_defaults : (n : ℕ) (params : tree.Arguments) → SameDefaults i (default_forms c n params) (default_walks a params)
     same_defaults n (tree.arguments posonly args vararg kwonly kwarg) = record {
@@ -248,17 +256,17 @@ module _ {K : Type 0} (i : Interp K) (around : Context) where
     same_keyword_only n (tree.more_args (tree.arg at name annotation) (tree.some_expr e) rest) = (refl, (same_expr n e).value, same_keyword_only (after c n e) rest)
 
     pub same_target : (n : ℕ) (e : tree.Expr) → SameTarget i (target_forms c n e) (target_walks a e)
-    same_target n (tree.Name at id) = plain_same i (GStore Resolved id) (target_walks a (tree.Name at id)).alone (λ v w. short_for_none (access i Store Resolved id (v ∷ [])) (Accesses Unsaid Store id 0 (short_value v ∷ [])) false refl w)
+    same_target n (tree.Name at id) = expr_plain_same i (GStore Resolved id) (target_walks a (tree.Name at id)).alone (λ v w. short_for_none (access i Store Resolved id (v ∷ [])) (Accesses Unsaid Store id 0 (short_value v ∷ [])) false refl w)
     same_target n (tree.Attribute at e attr) =
-        plain_same i (target_forms c n (tree.Attribute at e attr)).alone (target_walks a (tree.Attribute at e attr)).alone (λ v w. with_one i (expr_forms c n e).value (walks a e).value (λ d. d) (λ vs w1. for_none (Operates (named op.StoreAttr attr) (v ∷ vs)) false w1) (λ x w1. for_none (Operates (named op.StoreAttr attr) (short_value v ∷ x ∷ [])) false w1) (same_expr n e).value (λ x w1. short_for_none (Operates (named op.StoreAttr attr) (v ∷ x ∷ [])) (Operates (named op.StoreAttr attr) (short_value v ∷ short_value x ∷ [])) false refl w1) w)
+        expr_plain_same i (target_forms c n (tree.Attribute at e attr)).alone (target_walks a (tree.Attribute at e attr)).alone (λ v w. with_one i (expr_forms c n e).value (walks a e).value (λ d. d) (λ vs w1. for_none (Operates (named_operation op.StoreAttr attr) (v ∷ vs)) false w1) (λ x w1. for_none (Operates (named_operation op.StoreAttr attr) (short_value v ∷ x ∷ [])) false w1) (same_expr n e).value (λ x w1. short_for_none (Operates (named_operation op.StoreAttr attr) (v ∷ x ∷ [])) (Operates (named_operation op.StoreAttr attr) (short_value v ∷ short_value x ∷ [])) false refl w1) w)
     same_target n (tree.Subscript at e index) =
-        plain_same i (target_forms c n (tree.Subscript at e index)).alone (target_walks a (tree.Subscript at e index)).alone (λ v w. with_two i (expr_forms c n e).value (expr_forms c (after c n e) index).value (walks a e).value (walks a index).value (λ d. d) (λ vs w1. for_none (Operates (operation op.StoreSubscript Bare) (v ∷ vs)) false w1) (λ x y w1. for_none (Operates (operation op.StoreSubscript Bare) (short_value v ∷ x ∷ y ∷ [])) false w1) (same_expr n e).value (same_expr (after c n e) index).value (λ x y w1. short_for_none (Operates (operation op.StoreSubscript Bare) (v ∷ x ∷ y ∷ [])) (Operates (operation op.StoreSubscript Bare) (short_value v ∷ short_value x ∷ short_value y ∷ [])) false refl w1) w)
+        expr_plain_same i (target_forms c n (tree.Subscript at e index)).alone (target_walks a (tree.Subscript at e index)).alone (λ v w. with_two i (expr_forms c n e).value (expr_forms c (after c n e) index).value (walks a e).value (walks a index).value (λ d. d) (λ vs w1. for_none (Operates (operation op.StoreSubscript Bare) (v ∷ vs)) false w1) (λ x y w1. for_none (Operates (operation op.StoreSubscript Bare) (short_value v ∷ x ∷ y ∷ [])) false w1) (same_expr n e).value (same_expr (after c n e) index).value (λ x y w1. short_for_none (Operates (operation op.StoreSubscript Bare) (v ∷ x ∷ y ∷ [])) (Operates (operation op.StoreSubscript Bare) (short_value v ∷ short_value x ∷ short_value y ∷ [])) false refl w1) w)
     same_target n (tree.List at elts) =
-        plain_same i (unpacked_to (all_targets c n elts)) (program.unpacked elts (program.all_targets a elts)) (λ v. unpack_same i (unpacking (all_targets c n elts)) (unpacking (starring elts)) (length (starring elts)) (all_targets c n elts) (program.all_targets a elts) (unpacking_is c n elts) (many_is c n elts ∙ bare_length (all_targets c n elts)) (same_targets n elts) v)
+        expr_plain_same i (unpacked_to (all_targets c n elts)) (program.unpack_to elts (program.all_targets a elts)) (λ v. unpack_same i (unpack_operation (all_targets c n elts)) (unpack_operation (as_elements elts)) (length (as_elements elts)) (all_targets c n elts) (program.all_targets a elts) (unpacking_is c n elts) (many_is c n elts ∙ bare_length (all_targets c n elts)) (same_targets n elts) v)
     same_target n (tree.Tuple at elts) =
-        plain_same i (unpacked_to (all_targets c n elts)) (program.unpacked elts (program.all_targets a elts)) (λ v. unpack_same i (unpacking (all_targets c n elts)) (unpacking (starring elts)) (length (starring elts)) (all_targets c n elts) (program.all_targets a elts) (unpacking_is c n elts) (many_is c n elts ∙ bare_length (all_targets c n elts)) (same_targets n elts) v)
+        expr_plain_same i (unpacked_to (all_targets c n elts)) (program.unpack_to elts (program.all_targets a elts)) (λ v. unpack_same i (unpack_operation (all_targets c n elts)) (unpack_operation (as_elements elts)) (length (as_elements elts)) (all_targets c n elts) (program.all_targets a elts) (unpacking_is c n elts) (many_is c n elts ∙ bare_length (all_targets c n elts)) (same_targets n elts) v)
     same_target n (tree.Starred at e) = record { alone = λ v w. refl; element = (same_target n e).alone }
-    same_target n other = plain_same i GDrop drop_it (λ v w. refl)
+    same_target n other = expr_plain_same i GDrop drop_it (λ v w. refl)
 
     same_targets : (n : ℕ) (es : tree.Exprs) → SameTargets i (all_targets c n es) (program.all_targets a es)
     same_targets n tree.no_exprs = tt

@@ -1,12 +1,12 @@
 -- A run, shortened, is the run of shortened parts.
 use Rattle.std.proofs.Common.{◌≡◌, ℕ, zero, suc, List, [], ◌∷◌, ◌++◌, length, Bool, true, false, Option, Some, None, refl, sym, ap, ◌∙◌, append_assoc}
 use Rattle.std.specs.Prelude.{nat_eq, if◌then◌else◌}
-use Rattle.py_bytecode.specs.Values.{Operation, Value, Given, Answer, Gives, Truth, End, Raised, Event, Operates, AsksTruth, AsksNext, World, Got, Fine, Raises, Stops, then_get, ask_of, ask, ask_for, fits, fits_truth, fits_next, given, gives_of, for_one, for_two, for_none, one_of, two_of, none_of, truth_of, next_of, choose, meets}
+use Rattle.py_bytecode.specs.Values.{Operation, Value, Given, Answer, Gives, Truth, End, Raised, Event, Operates, AsksTruth, AsksNext, World, Got, Fine, Raises, Stops, then_get, ask_of, ask, ask_for, fits, fits_truth, fits_next, given_values, gives_of, for_one, for_two, for_none, one_of, two_of, none_of, truth_of, next_of, choose, meets}
 use Rattle.py_control.specs.Form.{decide, stop_test, link}
 use Rattle.py_answers.specs.Told.{Known, short_value, short_values, short_event, short_events}
 use Rattle.py_interp.specs.Shortened.{short_got, short_option, short_world}
 
-short_given : (K : Type 0) (n i k : ℕ) → given n i k ≡ short_values {K = K} (given n i k)
+short_given : (K : Type 0) (n i k : ℕ) → given_values n i k ≡ short_values {K = K} (given_values n i k)
 short_given K zero i k = refl
 short_given K (suc n) i k = ap (λ l. Given i k ∷ l) (short_given K n i (suc k))
 
@@ -24,7 +24,8 @@ module _ {K : Type 0} where
   values-length (x ∷ a) = ap suc (values-length a)
 
   -- what follows
-  pub short_then : {A B A1 B1 : Type 0} (r : Got K A) (r1 : Got Known A1) (f : A → A1) (h : B → B1) (k : A → World K → Got K B) (k1 : A1 → World Known → Got Known B1) → r1 ≡ short_got f r → ((a : A) (w : World K) → k1 (f a) (short_world w) ≡ short_got h (k a w)) → then_get r1 k1 ≡ short_got h (then_get r k)
+  pub short_then : {A B A1 B1 : Type 0} (r : Got K A) (r1 : Got Known A1) (f : A → A1) (h : B → B1) (k : A → World K → Got K B) (k1 : A1 → World Known → Got Known B1)
+      → r1 ≡ short_got f r → ((a : A) (w : World K) → k1 (f a) (short_world w) ≡ short_got h (k a w)) → then_get r1 k1 ≡ short_got h (then_get r k)
   short_then r r1 f h k k1 e hk = ap (λ x. then_get x k1) e ∙ go r
     where
       go : (r : Got K _) → then_get (short_got f r) k1 ≡ short_got h (then_get r k)
@@ -46,7 +47,7 @@ module _ {K : Type 0} where
 
   -- asking
   short_fits : (k : Option ℕ) (a : Answer) (i : ℕ) (w : World K) → fits k a i (short_world w) ≡ short_got short_values (fits k a i w)
-  short_fits (Some n) (Gives k) i w = short_if (nat_eq n k) (Fine (given n i 0) w) (Stops w.events) _ _ short_values (ap (λ l. Fine l (short_world w)) (short_given K n i 0)) refl
+  short_fits (Some n) (Gives k) i w = short_if (nat_eq n k) (Fine (given_values n i 0) w) (Stops w.events) _ _ short_values (ap (λ l. Fine l (short_world w)) (short_given K n i 0)) refl
   short_fits (Some n) (Truth b) i w = refl
   short_fits (Some n) End i w = refl
   short_fits (Some n) Raised i w = refl
@@ -67,7 +68,9 @@ module _ {K : Type 0} where
   short_fits_next End i w = refl
   short_fits_next Raised i w = refl
 
-  short_ask : {A B : Type 0} (e : Event K) (e1 : Event Known) (f : A → B) (k : Answer → ℕ → World K → Got K A) (k1 : Answer → ℕ → World Known → Got Known B) → short_event e ≡ e1 ∷ [] → ((a : Answer) (i : ℕ) (w : World K) → k1 a i (short_world w) ≡ short_got f (k a i w)) → (w : World K) → ask e1 (short_world w) k1 ≡ short_got f (ask e w k)
+  short_ask : {A B : Type 0} (e : Event K) (e1 : Event Known) (f : A → B) (k : Answer → ℕ → World K → Got K A) (k1 : Answer → ℕ → World Known → Got Known B)
+      → short_event e ≡ e1 ∷ [] → ((a : Answer) (i : ℕ) (w : World K) → k1 a i (short_world w) ≡ short_got f (k a i w)) → (w : World K)
+      → ask e1 (short_world w) k1 ≡ short_got f (ask e w k)
   short_ask e e1 f k k1 ee hk w = go w.answers
     where
       listing : short_events w.events ++ e1 ∷ [] ≡ short_events (w.events ++ e ∷ [])
@@ -111,13 +114,16 @@ module _ {K : Type 0} where
   abbrev pub Shortens : {A B : Type 0} → (A → B) → (World K → Got K A) → (World Known → Got Known B) → Type 0
   Shortens {A} {B} f m m1 = (w : World K) → m1 (short_world w) ≡ short_got f (m w)
 
-  pub short_decide : (d : Bool) (a b : World K → Got K (Value K)) (a1 b1 : World Known → Got Known (Value Known)) → Shortens short_value a a1 → Shortens short_value b b1 → Shortens short_value (decide d a b) (decide d a1 b1)
+  pub short_decide : (d : Bool) (a b : World K → Got K (Value K)) (a1 b1 : World Known → Got Known (Value Known)) → Shortens short_value a a1
+      → Shortens short_value b b1 → Shortens short_value (decide d a b) (decide d a1 b1)
   short_decide d a b a1 b1 ha hb w =
       short_then (a w) _ short_value short_value _ _ (ha w) (λ x w1. short_then (truth_of x w1) _ (λ t. t) short_value _ _ (short_truth x w1) (λ t w2. short_meets d t (Fine x w2) (b w2) _ _ short_value refl (hb w2)))
 
-  pub short_stop : (d : Bool) (a b : World K → Got K Bool) (a1 b1 : World Known → Got Known Bool) → Shortens (λ t. t) a a1 → Shortens (λ t. t) b b1 → Shortens (λ t. t) (stop_test d a b) (stop_test d a1 b1)
+  pub short_stop : (d : Bool) (a b : World K → Got K Bool) (a1 b1 : World Known → Got Known Bool) → Shortens (λ t. t) a a1 → Shortens (λ t. t) b b1
+      → Shortens (λ t. t) (stop_test d a b) (stop_test d a1 b1)
   short_stop d a b a1 b1 ha hb w = short_then (a w) _ (λ t. t) (λ t. t) _ _ (ha w) (λ t w1. short_meets d t (Fine t w1) (b w1) _ _ (λ t. t) refl (hb w1))
 
-  pub short_link : (o : Operation) (l x : Value K) (rest : World K → Got K (Value K)) (rest1 : World Known → Got Known (Value Known)) → Shortens short_value rest rest1 → Shortens short_value (link o l x rest) (link o (short_value l) (short_value x) rest1)
+  pub short_link : (o : Operation) (l x : Value K) (rest : World K → Got K (Value K)) (rest1 : World Known → Got Known (Value Known))
+      → Shortens short_value rest rest1 → Shortens short_value (link o l x rest) (link o (short_value l) (short_value x) rest1)
   short_link o l x rest rest1 hr w =
       short_then (for_one (Operates o (l ∷ x ∷ [])) w) _ short_value short_value _ _ (short_for_one (Operates o (l ∷ x ∷ [])) _ refl w) (λ r w1. short_then (truth_of r w1) _ (λ t. t) short_value _ _ (short_truth r w1) (λ t w2. short_meets false t (Fine r w2) (rest w2) _ _ short_value refl (hr w2)))

@@ -1,4 +1,4 @@
--- What the walk of a tree does at a node: what it gets, from a world to a world.
+-- What the interpreter of a tree does at a node: what it gets, from a world to a world.
 use Rattle.std.specs.Prelude.{ℕ, suc, ◌+◌, List, [], ◌∷◌, ◌++◌, length, ◌||◌, Bool, true, false, Option, Some, None, codes}
 use Rattle.py_base.specs.declared.operators.CmpOp.{CmpOp}
 use Rattle.py_bytecode.specs.declared.instruction.Instruction.{Instruction}
@@ -7,8 +7,8 @@ use Rattle.py_bytecode.specs.Objects as const
 use Rattle.py_bytecode.specs.Objects.{Const, Consts, no_consts, more_consts}
 use Rattle.py_bytecode.specs.Values.{Operation, operation, Bare, Value, Constant, Child, Operates, World, Got, Fine, Stops, then_get, for_one, truth_of, choose}
 use Rattle.py_control.specs.Form.{decide, stop_test, link}
-use Rattle.py_emission_parts.specs.Elements.{Element, Single, Spread, starred}
-use Rattle.py_emission_parts.specs.TableParts.{any, counted, comparison_operation}
+use Rattle.py_emission_parts.specs.Elements.{Element, Single, Spread, has_starred}
+use Rattle.py_emission_parts.specs.TableParts.{any, counted_operation, comparison_operation}
 use Rattle.py_emission_parts.specs.Within.{some_flag}
 use Rattle.py_answers.specs.Told.{Known, AChild}
 
@@ -24,7 +24,7 @@ none = Constant const.none
 
 -- an operation on as many values as it counts
 abbrev pub build : Instruction → List (Value Known) → Doing (Value Known)
-build i vs w = does (counted i (length vs)) vs w
+build i vs w = does (counted_operation i (length vs)) vs w
 
 -- what is done with the values that are got
 abbrev pub of_all : Doing (List (Value Known)) → Instruction → Doing (Value Known)
@@ -32,9 +32,9 @@ of_all values i w = then_get (values w) (λ vs w1. build i vs w1)
 
 -- a map of so many keys and values, which take turns
 abbrev pub build_map : (count : ℕ) → List (Value Known) → Doing (Value Known)
-build_map n vs w = does (counted op.BuildMap n) vs w
+build_map n vs w = does (counted_operation op.BuildMap n) vs w
 
--- behind others a tuple of a run of values, and none where the run is empty
+-- after others a tuple of a run of values, and none where the run is empty
 abbrev pub close_run : (groups run : List (Value Known)) → Doing (List (Value Known))
 close_run groups [] w = Fine groups w
 close_run groups (x ∷ xs) w = then_get (build op.BuildTuple (x ∷ xs) w) (λ t w1. Fine (groups ++ t ∷ []) w1)
@@ -62,7 +62,7 @@ join_maps (m ∷ k ∷ ms) w = then_get (build op.BuildMapForCall (m ∷ k ∷ m
 
 -- a function of these parts, and its notes
 abbrev pub make : (flags : ℕ) → (parts notes : List (Value Known)) → (name : List ℕ) → Doing (Value Known)
-make flags parts notes name w = does (counted op.MakeFunction flags) (parts ++ (notes ++ Child AChild ∷ Constant (const.str name) ∷ [])) w
+make flags parts notes name w = does (counted_operation op.MakeFunction flags) (parts ++ (notes ++ Child AChild ∷ Constant (const.str name) ∷ [])) w
 
 -- the iterator of a value
 abbrev pub iterator : Doing (Value Known) → Doing (Value Known)
@@ -70,7 +70,7 @@ iterator value w = then_get (value w) (λ x w1. does (operation op.GetIter Bare)
 
 -- a function is called at once, with the iterator of a value
 abbrev pub call_at_once : (name : List ℕ) → (iterable : Doing (Value Known)) → Doing (Value Known)
-call_at_once name iterable w = then_get (make 0 [] [] name w) (λ f w1. then_get (iterator iterable w1) (λ it w2. does (counted op.CallFunctionPositional 1) (f ∷ it ∷ []) w2))
+call_at_once name iterable w = then_get (make 0 [] [] name w) (λ f w1. then_get (iterator iterable w1) (λ it w2. does (counted_operation op.CallFunctionPositional 1) (f ∷ it ∷ []) w2))
 
 -- an expression as a value, as a test, whether it is starred, and as what is called: one value, or the three of a method
 pub record ExprWalk : Type 0 where
@@ -85,8 +85,8 @@ abbrev pub ordinary : Doing (Value Known) → Doing Bool → ExprWalk
 ordinary v t = record { value = v; test = t; star = false; method = false; callee = λ w. then_get (v w) (λ f w1. Fine (f ∷ []) w1) }
 
 -- a test of its truth
-abbrev pub tested : Doing (Value Known) → ExprWalk
-tested v = ordinary v (λ w. then_get (v w) truth_of)
+abbrev pub tested_walk : Doing (Value Known) → ExprWalk
+tested_walk v = ordinary v (λ w. then_get (v w) truth_of)
 
 -- an expression as a target, alone and among others
 pub record TargetWalk : Type 0 where
@@ -106,7 +106,7 @@ abbrev pub values_of_all : List ExprWalk → List (Doing (Value Known))
 values_of_all [] = []
 values_of_all (e ∷ es) = e.value ∷ values_of_all es
 
--- the values, behind those that there are
+-- the values, after those that there are
 abbrev pub get_all : (done : List (Value Known)) → List (Doing (Value Known)) → Doing (List (Value Known))
 get_all done [] w = Fine done w
 get_all done (e ∷ es) w = then_get (e w) (λ x w1. get_all (done ++ x ∷ []) es w1)
@@ -116,7 +116,7 @@ abbrev pub some_star : List ExprWalk → Bool
 some_star [] = false
 some_star (e ∷ es) = e.star || some_star es
 
--- a starred value is a group of its own, behind the run before it
+-- a starred value is a group of its own, after the run before it
 abbrev pub group_turn : (star : Bool) → (groups run : List (Value Known)) → Doing (Value Known) → (next : (groups run : List (Value Known)) → Doing (List (Value Known))) → Doing (List (Value Known))
 group_turn true gs run value next w = then_get (close_run gs run w) (λ hs w1. then_get (value w1) (λ x w2. next (hs ++ x ∷ []) [] w2))
 group_turn false gs run value next w = then_get (value w) (λ x w1. next gs (run ++ x ∷ []) w1)
@@ -165,8 +165,8 @@ comparable (o ∷ p ∷ ops) (e ∷ []) = false
 comparable (o ∷ p ∷ ops) (e ∷ f ∷ es) = true
 
 -- a value with those that it is compared to
-abbrev pub compared : Doing (Value Known) → List CmpOp → List ExprWalk → Doing (Value Known)
-compared left ops es w = choose (comparable ops es) (then_get (left w) (λ l w1. links ops es l w1)) (Fine none w)
+abbrev pub comparison_of : Doing (Value Known) → List CmpOp → List ExprWalk → Doing (Value Known)
+comparison_of left ops es w = choose (comparable ops es) (then_get (left w) (λ l w1. links ops es l w1)) (Fine none w)
 
 -- ---- calls
 
@@ -212,15 +212,15 @@ packed_call true = op.CallMethodEx
 -- a call of what these values are: with values in their places, and the names of the last where there are keywords
 abbrev pub call_placed : (method : Bool) → (callee : List (Value Known)) → (args : List ExprWalk) → KeywordWalks → Doing (Value Known)
 call_placed m fs es ks w =
-    then_get (get_all [] (values_of_all es) w) (λ vs w1. then_get (get_all vs (values_in ks) w1) (λ us w2. does (counted (placed_call m ks) (length us)) (fs ++ (us ++ name_tuple ks)) w2))
+    then_get (get_all [] (values_of_all es) w) (λ vs w1. then_get (get_all vs (values_in ks) w1) (λ us w2. does (counted_operation (placed_call m ks) (length us)) (fs ++ (us ++ name_tuple ks)) w2))
 
 -- with a tuple, and the map of the keywords where there are any
 abbrev pub call_packed : (method : Bool) → (callee : List (Value Known)) → (args : List ExprWalk) → KeywordWalks → Doing (Value Known)
 call_packed m fs es ks w =
-    then_get (display op.BuildTuple op.BuildTupleUnpack es w) (λ t w1. then_get (get_maps [] 0 [] ks w1) (λ ms w2. then_get (join_maps ms w2) (λ us w3. does (counted (packed_call m) (any ks)) (fs ++ t ∷ us) w3)))
+    then_get (display op.BuildTuple op.BuildTupleUnpack es w) (λ t w1. then_get (get_maps [] 0 [] ks w1) (λ ms w2. then_get (join_maps ms w2) (λ us w3. does (counted_operation (packed_call m) (any ks)) (fs ++ t ∷ us) w3)))
 
 abbrev pub call : ExprWalk → (args : List ExprWalk) → KeywordWalks → Doing (Value Known)
-call f es ks w = then_get (f.callee w) (λ fs w1. choose (some_star es || starred ks) (call_packed f.method fs es ks w1) (call_placed f.method fs es ks w1))
+call f es ks w = then_get (f.callee w) (λ fs w1. choose (some_star es || has_starred ks) (call_packed f.method fs es ks w1) (call_placed f.method fs es ks w1))
 
 -- ---- defaults, texts and targets
 
@@ -239,9 +239,9 @@ abbrev pub lambda : DefaultWalks → Doing (Value Known)
 lambda d w = then_get (get_defaults d w) (λ p w1. make (default_flags p) (p.0 ++ p.1) [] (codes "<lambda>") w1)
 
 -- one text, or what is built of the parts
-abbrev pub joined : Option (List ℕ) → List ExprWalk → Doing (Value Known)
-joined (Some text) es w = Fine (Constant (const.str text)) w
-joined None es w = of_all (get_all [] (values_of_all es)) op.BuildString w
+abbrev pub joined_value : Option (List ℕ) → List ExprWalk → Doing (Value Known)
+joined_value (Some text) es w = Fine (Constant (const.str text)) w
+joined_value None es w = of_all (get_all [] (values_of_all es)) op.BuildString w
 
 -- the value, or a constant where there is none
 abbrev pub get_or : Const → Option (Doing (Value Known)) → Doing (Value Known)
@@ -249,8 +249,8 @@ get_or c None w = Fine (Constant c) w
 get_or c (Some e) w = e w
 
 abbrev pub slice : (lower upper step : Option (Doing (Value Known))) → Doing (Value Known)
-slice lower upper None w = then_get (get_or const.none lower w) (λ x w1. then_get (get_or const.none upper w1) (λ y w2. does (counted op.BuildSlice 0) (x ∷ y ∷ []) w2))
-slice lower upper (Some step) w = then_get (get_or const.none lower w) (λ x w1. then_get (get_or const.none upper w1) (λ y w2. then_get (step w2) (λ z w3. does (counted op.BuildSlice 1) (x ∷ y ∷ z ∷ []) w3)))
+slice lower upper None w = then_get (get_or const.none lower w) (λ x w1. then_get (get_or const.none upper w1) (λ y w2. does (counted_operation op.BuildSlice 0) (x ∷ y ∷ []) w2))
+slice lower upper (Some step) w = then_get (get_or const.none lower w) (λ x w1. then_get (get_or const.none upper w1) (λ y w2. then_get (step w2) (λ z w3. does (counted_operation op.BuildSlice 1) (x ∷ y ∷ z ∷ []) w3)))
 
 -- values are assigned each to a target
 abbrev pub put_each : List TargetWalk → List (Value Known) → Doing (Unit {0})

@@ -1,4 +1,4 @@
--- What the walk of a statement does in the outermost scope, and what that of a whole tree does. The slot is the exception that is handled.
+-- What the interpreter of a statement does in the outermost scope, and what that of a whole tree does. The slot is the exception that is handled.
 use Rattle.std.specs.Prelude.{ℕ, List, [], ◌∷◌, ◌++◌, Bool, true, false, Option, Some, None, codes, nat_eq, if◌then◌else◌}
 use Rattle.py_tree.specs.Tree as tree
 use Rattle.py_tree.specs.declared.modules.Mode.{Mode}
@@ -8,11 +8,11 @@ use Rattle.py_bytecode.specs.declared.instruction.Instruction.TheVariants as op
 use Rattle.py_bytecode.specs.Objects as const
 use Rattle.py_bytecode.specs.Values.{operation, Bare, Number, Answer, Value, Constant, Operates, Fine, then_get, for_none, Breaks, Continues, Throws, Normal, Leaves, then_do, use_it, effect, choose, flip, Ran}
 use Rattle.py_bytecode.specs.Machine.{start}
-use Rattle.py_control.specs.Form.{assigned, augment_run, augment_two_run, ended_so, finally_run, for_run, reraised, returns, try_run, typed_run, while_run, with_run}
-use Rattle.py_emission_parts.specs.TableParts.{counted, inplace, named}
+use Rattle.py_control.specs.Form.{assign_then, augment_run, augment_two_run, ended_so, finally_run, for_run, reraise_end, returns, try_run, typed_run, while_run, with_run}
+use Rattle.py_emission_parts.specs.TableParts.{counted_operation, inplace, named_operation}
 use Rattle.py_annotation_text.specs.Annotation.{annotation}
 use Rattle.py_emission.specs.Futures.{Future, future_of, postpones}
-use Rattle.py_emission.specs.Predicates.{annotated, none as no_statement}
+use Rattle.py_emission.specs.Predicates.{any_annotates, none as no_statement}
 use Rattle.py_emission.specs.Texts.{after_doc, doc_of}
 use Rattle.py_answers.specs.Told.{Known}
 use Rattle.py_interp.specs.declared.around.Around.{Around}
@@ -56,12 +56,12 @@ note_walks a params returns = opt_note a (codes "return") returns ++ param_notes
 
 -- ---- the parts of statements
 
--- a function, which with type parameters is made in a hidden scope that is called with the defaults
+-- a function, which with type parameters is made in a type-parameter scope that is called with the defaults
 abbrev pub define : Around → (name : List ℕ) → tree.Arguments → tree.Stmts → (returns : tree.OptExpr) → tree.TypeParams → Doing (Value Known)
 define a name params body returns tree.no_type_params = document (doc_of a.level body) (make_function (default_walks a params) (note_walks a params returns) name)
 define a name params body returns (tree.more_type_params t ts) = call_hidden name (default_walks a params)
 
--- a class, which with type parameters is built in a hidden scope
+-- a class, which with type parameters is built in a type-parameter scope
 abbrev pub define_class : Around → (name : List ℕ) → (bases : tree.Exprs) → tree.Keywords → tree.TypeParams → Doing (Value Known)
 define_class a name bases ks tree.no_type_params = build_class name (all_walks a bases) (keyword_walks a ks)
 define_class a name bases ks (tree.more_type_params t ts) = call_hidden name no_defaults
@@ -79,7 +79,7 @@ alias_walk a other generic e w = Normal w
 abbrev mutual
   pub delete_walk : Around → tree.Expr → Acting
   delete_walk a (tree.Name at id) w = remove id w
-  delete_walk a (tree.Attribute at e attr) w = effect (then_get (walk_expr a e w) (λ x w1. for_none (Operates (named op.DeleteAttr attr) (x ∷ [])) false w1))
+  delete_walk a (tree.Attribute at e attr) w = effect (then_get (walk_expr a e w) (λ x w1. for_none (Operates (named_operation op.DeleteAttr attr) (x ∷ [])) false w1))
   delete_walk a (tree.Subscript at e index) w =
       effect (then_get (walk_expr a e w) (λ x w1. then_get (walk_expr a index w1) (λ y w2. for_none (Operates (operation op.DeleteSubscript Bare) (x ∷ y ∷ [])) false w2)))
   delete_walk a (tree.List at elts) w = deletes_walk a elts w
@@ -97,7 +97,7 @@ targets_of a (tree.more_exprs e es) = walk_target a e ∷ targets_of a es
 -- the present value, the operand, and the result back to where the first came from
 abbrev pub augment_walk : Around → tree.Expr → Operator → (value : tree.Expr) → Acting
 augment_walk a (tree.Name at id) o e w = into (λ w1. then_get (name_value a.level id w1) (λ x w2. then_get (walk_expr a e w2) (λ y w3. does (inplace o) (x ∷ y ∷ []) w3))) (store id) w
-augment_walk a (tree.Attribute at value attr) o e w = effect (augment_run (walk_expr a value) (named op.LoadAttr attr) (walk_expr a e) (inplace o) (named op.StoreAttr attr) w)
+augment_walk a (tree.Attribute at value attr) o e w = effect (augment_run (walk_expr a value) (named_operation op.LoadAttr attr) (walk_expr a e) (inplace o) (named_operation op.StoreAttr attr) w)
 augment_walk a (tree.Subscript at value index) o e w = effect (augment_two_run (walk_expr a value) (walk_expr a index) (operation op.Subscript Bare) (walk_expr a e) (inplace o) (operation op.StoreSubscript Bare) w)
 augment_walk a other o e w = Normal w
 
@@ -117,10 +117,10 @@ item_walk a (tree.some_expr t) v w = walk_target a t v w
 -- further items stand within the first
 abbrev pub with_walk : Around → tree.WithItems → (body : Acting) → Acting
 with_walk a tree.no_items body w = body w
-with_walk a (tree.more_items e target items) body w = with_run (walk_expr a e) (assigned (item_walk a target) (with_walk a items body)) w
+with_walk a (tree.more_items e target items) body w = with_run (walk_expr a e) (assign_then (item_walk a target) (with_walk a items body)) w
 
 abbrev pub raise_walk : Around → (exc cause : tree.OptExpr) → Option (Value Known) → Acting
-raise_walk a tree.no_expr cause slot w = reraised slot w
+raise_walk a tree.no_expr cause slot w = reraise_end slot w
 raise_walk a (tree.some_expr e) tree.no_expr slot w = throw (walk_expr a e) w
 raise_walk a (tree.some_expr e) (tree.some_expr f) slot w =
     effect (then_get (walk_expr a e w) (λ x w1. then_get (walk_expr a f w1) (λ y w2. for_none (Operates (operation op.Raise (Number 1)) (x ∷ y ∷ [])) true w2)))
@@ -131,8 +131,8 @@ return_walk a (tree.some_expr e) w = use_it (walk_expr a e w) returns
 
 -- an assertion with its message
 abbrev pub assertion : Around → tree.OptExpr → Doing (Value Known)
-assertion a tree.no_expr w = then_get (load (codes "AssertionError") w) (λ f w1. does (counted op.CallFunctionPositional 0) (f ∷ []) w1)
-assertion a (tree.some_expr e) w = then_get (load (codes "AssertionError") w) (λ f w1. then_get (walk_expr a e w1) (λ m w2. does (counted op.CallFunctionPositional 1) (f ∷ m ∷ []) w2))
+assertion a tree.no_expr w = then_get (load (codes "AssertionError") w) (λ f w1. does (counted_operation op.CallFunctionPositional 0) (f ∷ []) w1)
+assertion a (tree.some_expr e) w = then_get (load (codes "AssertionError") w) (λ f w1. then_get (walk_expr a e w1) (λ m w2. does (counted_operation op.CallFunctionPositional 1) (f ∷ m ∷ []) w2))
 
 -- above level 0 nothing is asserted
 abbrev pub assert_walk : Around → (test : tree.Expr) → (msg : tree.OptExpr) → Acting
@@ -151,7 +151,7 @@ abbrev mutual
   stmt_walk a (tree.TypeAlias at name generic value) slot w = alias_walk a name generic value w
   stmt_walk a (tree.AugAssign at target o value) slot w = augment_walk a target o value w
   stmt_walk a (tree.AnnAssign at target note value simple) slot w = then_do (declare_walk a target value w) (λ w1. into (note_walk a note) (annotate target) w1)
-  stmt_walk a (tree.For at target iter body orelse) slot w = for_run (iterator (walk_expr a iter)) (assigned (walk_target a target) (stmts_walk a body slot)) (stmts_walk a orelse slot) w
+  stmt_walk a (tree.For at target iter body orelse) slot w = for_run (iterator (walk_expr a iter)) (assign_then (walk_target a target) (stmts_walk a body slot)) (stmts_walk a orelse slot) w
   stmt_walk a (tree.While at t body orelse) slot w = while_run (walk_test a t) (stmts_walk a body slot) (stmts_walk a orelse slot) w
   stmt_walk a (tree.If at t body orelse) slot w = use_it (walk_test a t w) (λ c w1. choose c (stmts_walk a body slot w1) (stmts_walk a orelse slot w1))
   stmt_walk a (tree.With at items body) slot w = with_walk a items (stmts_walk a body slot) w
@@ -177,7 +177,7 @@ abbrev mutual
   handlers_walk a tree.no_handlers e w = Leaves (Throws e) w
   handlers_walk a (tree.more_handlers tree.no_expr name body rest) e w = stmts_walk a body (Some e) w
   handlers_walk a (tree.more_handlers (tree.some_expr type) name body rest) e w =
-      typed_run (walk_expr a type) (λ x w1. assigned (put_name name) (unname name (stmts_walk a body) (Some e)) x w1) (handlers_walk a rest) e w
+      typed_run (walk_expr a type) (λ x w1. assign_then (put_name name) (unname name (stmts_walk a body) (Some e)) x w1) (handlers_walk a rest) e w
 
 -- ---- whole trees
 
@@ -205,40 +205,40 @@ setup_walk true w = effect (for_none (Operates (operation op.SetupAnnotation Bar
 -- a file
 abbrev pub program_walk : Around → tree.Stmts → Acting
 program_walk a body w =
-    then_do (doc_walk (doc_of a.level body) w) (λ w1. then_do (setup_walk (annotated (after_doc body)) w1) (λ w2. then_do (behind_futures (λ b ss. stmts_walk b ss None) a (after_doc body) w2) (λ w3. returns none w3)))
+    then_do (doc_walk (doc_of a.level body) w) (λ w1. then_do (setup_walk (any_annotates (after_doc body)) w1) (λ w2. then_do (behind_futures (λ b ss. stmts_walk b ss None) a (after_doc body) w2) (λ w3. returns none w3)))
 
 abbrev pub print : Value Known → Doing (Unit {0})
 print v w = for_none (Operates (operation op.PrintExpr Bare) (v ∷ [])) false w
 
 -- an expression at a prompt is printed, and the last is returned too
-abbrev pub printed : (last : Bool) → Doing (Value Known) → (rest : Acting) → Acting
-printed true value rest w = use_it (then_get (value w) (λ v w1. then_get (print v w1) (λ d w2. Fine v w2))) returns
-printed false value rest w = then_do (into value print w) rest
+abbrev pub printed_then : (last : Bool) → Doing (Value Known) → (rest : Acting) → Acting
+printed_then true value rest w = use_it (then_get (value w) (λ v w1. then_get (print v w1) (λ d w2. Fine v w2))) returns
+printed_then false value rest w = then_do (into value print w) rest
 
--- statements at a prompt behind others
+-- statements at a prompt after others
 abbrev pub single_walk : Around → tree.Stmts → Acting
 single_walk a tree.no_stmts w = returns none w
-single_walk a (tree.more_stmts (tree.StmtExpr at value) ss) w = printed (no_statement ss) (walk_expr a value) (single_walk a ss) w
+single_walk a (tree.more_stmts (tree.StmtExpr at value) ss) w = printed_then (no_statement ss) (walk_expr a value) (single_walk a ss) w
 single_walk a (tree.more_stmts s ss) w = then_do (stmt_walk a s None w) (single_walk a ss)
 
 -- statements at a prompt; future imports stand before all but expressions
 abbrev pub prompt_walk : Around → tree.Stmts → Acting
 prompt_walk a tree.no_stmts w = returns none w
-prompt_walk a (tree.more_stmts (tree.StmtExpr at value) ss) w = printed (no_statement ss) (walk_expr a value) (prompt_walk a ss) w
+prompt_walk a (tree.more_stmts (tree.StmtExpr at value) ss) w = printed_then (no_statement ss) (walk_expr a value) (prompt_walk a ss) w
 prompt_walk a (tree.more_stmts s ss) w = elim (future_of s) [
   | None ↦ single_walk a (tree.more_stmts s ss) w
   | Some f ↦ then_do (import_from f.path f.names f.level w) (prompt_walk (after_future f a) ss)
 ]
 
 -- what is stored is returned too
-abbrev pub returned : Doing (Value Known) → (name : List ℕ) → Acting
-returned value name w = use_it (then_get (value w) (λ v w1. then_get (store name v w1) (λ d w2. Fine v w2))) returns
+abbrev pub stored_return : Doing (Value Known) → (name : List ℕ) → Acting
+stored_return value name w = use_it (then_get (value w) (λ v w1. then_get (store name v w1) (λ d w2. Fine v w2))) returns
 
 -- the last statement of a block gives its value, or None
 abbrev pub last_walk : Around → tree.Stmt → Acting
 last_walk a (tree.StmtExpr at e) w = use_it (walk_expr a e w) returns
-last_walk a (tree.FunctionDef at name params body decorators returns generic) w = returned (decorate (value_walks a decorators) (define a name params body returns generic)) name w
-last_walk a (tree.ClassDef at name bases ks body decorators generic) w = returned (decorate (value_walks a decorators) (define_class a name bases ks generic)) name w
+last_walk a (tree.FunctionDef at name params body decorators returns generic) w = stored_return (decorate (value_walks a decorators) (define a name params body returns generic)) name w
+last_walk a (tree.ClassDef at name bases ks body decorators generic) w = stored_return (decorate (value_walks a decorators) (define_class a name bases ks generic)) name w
 last_walk a other w = then_do (stmt_walk a other None w) (λ w1. returns none w1)
 
 -- statements whose last value is given

@@ -8,9 +8,9 @@ use Rattle.py_tree.specs.View.{expr_tree, keywords}
 use Rattle.py_tree.specs.Tree as tree
 use Rattle.py_bytecode.specs.declared.instruction.Instruction.TheVariants as op
 use Rattle.py_bytecode.specs.Objects as const
-use Rattle.py_bytecode.specs.Objects.{Const, Consts, consts_of, listed, no_consts, more_consts}
+use Rattle.py_bytecode.specs.Objects.{Const, Consts, consts_of, const_list, no_consts, more_consts}
 use Rattle.py_bytecode.specs.Values.{Value, Constant, World, choose}
-use Rattle.py_emission_parts.specs.Elements.{starred}
+use Rattle.py_emission_parts.specs.Elements.{has_starred}
 use Rattle.py_emission_parts.specs.TableParts.{any}
 use Rattle.py_answers.specs.Told.{Known}
 use Rattle.py_interp.specs.declared.around.Around.{Around}
@@ -28,27 +28,32 @@ names_walk a tree.no_keywords = refl
 names_walk a (tree.more_keywords None e ks) = names_walk a ks
 names_walk a (tree.more_keywords (Some name) e ks) = ap (more_consts (const.str name)) (names_walk a ks)
 
-consts_listed : (cs : Consts) → consts_of (listed cs) ≡ cs
+consts_listed : (cs : Consts) → consts_of (const_list cs) ≡ cs
 consts_listed no_consts = refl
 consts_listed (more_consts c cs) = ap (more_consts c) (consts_listed cs)
 
-none_after : (cs : List Const) → cs ++ [] ≡ cs
-none_after [] = refl
-none_after (c ∷ cs) = ap (λ ds. c ∷ ds) (none_after cs)
+calling_none_after : (cs : List Const) → cs ++ [] ≡ cs
+calling_none_after [] = refl
+calling_none_after (c ∷ cs) = ap (λ ds. c ∷ ds) (calling_none_after cs)
 
 -- these names are all of them, where none is left
-pub names_end : (xs : List (KeywordOf Expr)) (i : ℕ) (cs : List Const) → length xs ≤ i → listed (names_of (keywords expr_tree xs)) ≡ cs ++ listed (names_of (keywords expr_tree (drop i xs))) → consts_of cs ≡ names_of (keywords expr_tree xs)
-names_end xs i cs low e = go (drop i xs) (length-drop i xs) e
+pub calling_names_end : (xs : List (KeywordOf Expr)) (i : ℕ) (cs : List Const) → length xs ≤ i
+    → const_list (names_of (keywords expr_tree xs)) ≡ cs ++ const_list (names_of (keywords expr_tree (drop i xs)))
+    → consts_of cs ≡ names_of (keywords expr_tree xs)
+calling_names_end xs i cs low e = go (drop i xs) (length-drop i xs) e
   where
-    go : (ys : List (KeywordOf Expr)) → length ys ≡ length xs - i → listed (names_of (keywords expr_tree xs)) ≡ cs ++ listed (names_of (keywords expr_tree ys)) → consts_of cs ≡ names_of (keywords expr_tree xs)
-    go [] n e = ap consts_of (sym (none_after cs)) ∙ ap consts_of (sym e) ∙ consts_listed (names_of (keywords expr_tree xs))
+    go : (ys : List (KeywordOf Expr)) → length ys ≡ length xs - i
+        → const_list (names_of (keywords expr_tree xs)) ≡ cs ++ const_list (names_of (keywords expr_tree ys)) → consts_of cs ≡ names_of (keywords expr_tree xs)
+    go [] n e = ap consts_of (sym (calling_none_after cs)) ∙ ap consts_of (sym e) ∙ consts_listed (names_of (keywords expr_tree xs))
     go (y ∷ ys) n e = absurd (omega (arith, n, low))
 
-some_tuple : (a : Around) (arg : Option (List ℕ)) (e : tree.Expr) (ks : tree.Keywords) → name_tuple (keyword_walks a (tree.more_keywords arg e ks)) ≡ Constant (const.tuple (names_in (keyword_walks a (tree.more_keywords arg e ks)))) ∷ []
+some_tuple : (a : Around) (arg : Option (List ℕ)) (e : tree.Expr) (ks : tree.Keywords)
+    → name_tuple (keyword_walks a (tree.more_keywords arg e ks)) ≡ Constant (const.tuple (names_in (keyword_walks a (tree.more_keywords arg e ks)))) ∷ []
 some_tuple a None e ks = refl
 some_tuple a (Some name) e ks = refl
 
-some_placed : (a : Around) (arg : Option (List ℕ)) (e : tree.Expr) (ks : tree.Keywords) → (placed_call false (keyword_walks a (tree.more_keywords arg e ks)) ≡ op.CallFunctionKeyword) × (placed_call true (keyword_walks a (tree.more_keywords arg e ks)) ≡ op.CallMethodKeyword) × (any (keyword_walks a (tree.more_keywords arg e ks)) ≡ 1)
+some_placed : (a : Around) (arg : Option (List ℕ)) (e : tree.Expr) (ks : tree.Keywords)
+    → (placed_call false (keyword_walks a (tree.more_keywords arg e ks)) ≡ op.CallFunctionKeyword) × (placed_call true (keyword_walks a (tree.more_keywords arg e ks)) ≡ op.CallMethodKeyword) × (any (keyword_walks a (tree.more_keywords arg e ks)) ≡ 1)
 some_placed a None e ks = (refl, refl, refl)
 some_placed a (Some name) e ks = (refl, refl, refl)
 
@@ -79,15 +84,19 @@ module _ (a : Around) where
 
   -- ---- which call it is
 
-  packs : (es : tree.Exprs) (ks : tree.Keywords) → (some_star (all_walks a es) || starred (keyword_walks a ks)) ≡ (any_starred es || any_unpacked ks)
-  packs es ks = ap (λ b. b || starred (keyword_walks a ks)) (some_star_walk a es) ∙ ap (λ b. any_starred es || b) (unpacked_walk a ks)
+  packs : (es : tree.Exprs) (ks : tree.Keywords) → (some_star (all_walks a es) || has_starred (keyword_walks a ks)) ≡ (any_starred es || any_unpacked ks)
+  packs es ks = ap (λ b. b || has_starred (keyword_walks a ks)) (some_star_walk a es) ∙ ap (λ b. any_starred es || b) (unpacked_walk a ks)
 
-  pub packed : (f : tree.Expr) (es : tree.Exprs) (ks : tree.Keywords) (b m : Bool) (fs : List (Value Known)) (w : World Known) → b ≡ (any_starred es || any_unpacked ks) → m ≡ is_attribute f → b ≡ true → choose (some_star (all_walks a es) || starred (keyword_walks a ks)) (call_packed (walks a f).method fs (all_walks a es) (keyword_walks a ks) w) (call_placed (walks a f).method fs (all_walks a es) (keyword_walks a ks) w) ≡ call_packed m fs (all_walks a es) (keyword_walks a ks) w
+  pub packed : (f : tree.Expr) (es : tree.Exprs) (ks : tree.Keywords) (b m : Bool) (fs : List (Value Known)) (w : World Known)
+      → b ≡ (any_starred es || any_unpacked ks) → m ≡ is_attribute f → b ≡ true
+      → choose (some_star (all_walks a es) || has_starred (keyword_walks a ks)) (call_packed (walks a f).method fs (all_walks a es) (keyword_walks a ks) w) (call_placed (walks a f).method fs (all_walks a es) (keyword_walks a ks) w) ≡ call_packed m fs (all_walks a es) (keyword_walks a ks) w
   packed f es ks b m fs w p q h =
       ap (λ t. choose t (call_packed (walks a f).method fs (all_walks a es) (keyword_walks a ks) w) (call_placed (walks a f).method fs (all_walks a es) (keyword_walks a ks) w)) (packs es ks ∙ sym p ∙ h)
       ∙ ap (λ t. call_packed t fs (all_walks a es) (keyword_walks a ks) w) (method_walk a f ∙ sym q)
 
-  pub placed : (f : tree.Expr) (es : tree.Exprs) (ks : tree.Keywords) (b m : Bool) (fs : List (Value Known)) (w : World Known) → b ≡ (any_starred es || any_unpacked ks) → m ≡ is_attribute f → b ≡ false → choose (some_star (all_walks a es) || starred (keyword_walks a ks)) (call_packed (walks a f).method fs (all_walks a es) (keyword_walks a ks) w) (call_placed (walks a f).method fs (all_walks a es) (keyword_walks a ks) w) ≡ call_placed m fs (all_walks a es) (keyword_walks a ks) w
-  placed f es ks b m fs w p q h =
+  pub calling_placed : (f : tree.Expr) (es : tree.Exprs) (ks : tree.Keywords) (b m : Bool) (fs : List (Value Known)) (w : World Known)
+      → b ≡ (any_starred es || any_unpacked ks) → m ≡ is_attribute f → b ≡ false
+      → choose (some_star (all_walks a es) || has_starred (keyword_walks a ks)) (call_packed (walks a f).method fs (all_walks a es) (keyword_walks a ks) w) (call_placed (walks a f).method fs (all_walks a es) (keyword_walks a ks) w) ≡ call_placed m fs (all_walks a es) (keyword_walks a ks) w
+  calling_placed f es ks b m fs w p q h =
       ap (λ t. choose t (call_packed (walks a f).method fs (all_walks a es) (keyword_walks a ks) w) (call_placed (walks a f).method fs (all_walks a es) (keyword_walks a ks) w)) (packs es ks ∙ sym p ∙ h)
       ∙ ap (λ t. call_placed t fs (all_walks a es) (keyword_walks a ks) w) (method_walk a f ∙ sym q)

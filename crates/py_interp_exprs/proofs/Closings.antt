@@ -8,7 +8,7 @@ use Rattle.py_emission_parts.specs.Within.{some_flag}
 use Rattle.py_answers.specs.declared.trace.StepValue.{StepValue}
 use Rattle.py_answers.specs.Told.{Known, values_of}
 use Rattle.py_interp_exprs.specs.Options.{told_option}
-use Rattle.py_interp.specs.Doing.{ExprWalk, add_map, build, build_map, close_map, close_pairs, close_run, get_all, join_maps, joined, of_all, values_of_all}
+use Rattle.py_interp.specs.Doing.{ExprWalk, add_map, build, build_map, close_map, close_pairs, close_run, get_all, join_maps, joined_value, of_all, values_of_all}
 
 pub not_none : {A : Type 0} (x : A) (xs : List A) → nat_eq (length (x ∷ xs)) 0 ≡ true → ⊥
 not_none x xs e = let z : length (x ∷ xs) ≡ 0 = search (rules, e) in absurd (omega (arith, z))
@@ -22,7 +22,8 @@ module _ (w : World Known) where
   run_none gs [] e = refl
   run_none gs (x ∷ run) e = absurd (not_none x run e)
 
-  pub run_some : (gs : List (Value Known)) (run : List StepValue) → nat_eq (length run) 0 ≡ false → close_run gs (values_of run) w ≡ then_get (build op.BuildTuple (values_of run) w) (λ t w1. Fine (gs ++ t ∷ []) w1)
+  pub run_some : (gs : List (Value Known)) (run : List StepValue) → nat_eq (length run) 0 ≡ false
+      → close_run gs (values_of run) w ≡ then_get (build op.BuildTuple (values_of run) w) (λ t w1. Fine (gs ++ t ∷ []) w1)
   run_some gs [] e = absurd cc
   run_some gs (x ∷ run) e = refl
 
@@ -30,11 +31,13 @@ module _ (w : World Known) where
   map_none ms n [] e = refl
   map_none ms n (x ∷ run) e = absurd (not_none x run e)
 
-  pub map_some : (ms : List (Value Known)) (n : ℕ) (run : List StepValue) → nat_eq (length run) 0 ≡ false → close_map ms n (values_of run) w ≡ then_get (build_map n (values_of run) w) (λ m w1. Fine (ms ++ m ∷ []) w1)
+  pub map_some : (ms : List (Value Known)) (n : ℕ) (run : List StepValue) → nat_eq (length run) 0 ≡ false
+      → close_map ms n (values_of run) w ≡ then_get (build_map n (values_of run) w) (λ m w1. Fine (ms ++ m ∷ []) w1)
   map_some ms n [] e = absurd cc
   map_some ms n (x ∷ run) e = refl
 
-  pub pairs_some : (m : Value Known) (n : ℕ) (run : List StepValue) → nat_eq (length run) 0 ≡ false → close_pairs (Some m) n (values_of run) w ≡ then_get (build_map n (values_of run) w) (λ y w1. add_map m y w1)
+  pub pairs_some : (m : Value Known) (n : ℕ) (run : List StepValue) → nat_eq (length run) 0 ≡ false
+      → close_pairs (Some m) n (values_of run) w ≡ then_get (build_map n (values_of run) w) (λ y w1. add_map m y w1)
   pairs_some m n [] e = absurd cc
   pairs_some m n (x ∷ run) e = refl
 
@@ -70,10 +73,10 @@ no_text None h = refl
 no_text (Some x) h = absurd (h x refl)
 
 module _ (es : List ExprWalk) (w : World Known) where
-  pub joined_so : (t : Option (List ℕ)) (x : Value Known) → Some x ≡ option_map (λ s. text_value s) t → joined t es w ≡ Fine x w
+  pub joined_so : (t : Option (List ℕ)) (x : Value Known) → Some x ≡ option_map (λ s. text_value s) t → joined_value t es w ≡ Fine x w
   joined_so None x e = absurd cc
   joined_so (Some s) x e = ap (λ y. Fine y w) (text_same (Constant (const.str s)) x (sym e))
 
-  pub joined_not : (t : Option (List ℕ)) → None ≡ option_map (λ s. text_value s) t → joined t es w ≡ of_all (get_all [] (values_of_all es)) op.BuildString w
+  pub joined_not : (t : Option (List ℕ)) → None ≡ option_map (λ s. text_value s) t → joined_value t es w ≡ of_all (get_all [] (values_of_all es)) op.BuildString w
   joined_not None e = refl
   joined_not (Some s) e = absurd cc

@@ -9,7 +9,7 @@ use Rattle.py_tree.specs.View.{arg, args, expr_tree, opt_box}
 use Rattle.py_emission_parts.specs.Elements.{Single}
 use Rattle.py_interp.specs.declared.around.Around.{Around}
 use Rattle.py_interp.specs.Walks.{keyword_only_walks, positional_walks, walk_expr}
-use Rattle.py_interp_exprs.proofs.Places.{next}
+use Rattle.py_interp_exprs.proofs.Places.{place_next}
 
 same_box : (x y : Box Expr Global) → ◌≡◌ {A = Option (Box Expr Global)} (Some x) (Some y) → x ≡ y
 same_box x y e = cc
@@ -19,7 +19,8 @@ module _ (a : Around) where
   no_positional y None ys h = refl
   no_positional y (Some b) ys h = absurd cc
 
-  a_positional : (y : tree.Arg) (o : Option (Box Expr Global)) (b : Box Expr Global) (ys : tree.Args) → o ≡ Some b → positional_walks a (tree.more_args y (opt_box expr_tree o) ys) ≡ walk_expr a (expr_tree b.value) ∷ positional_walks a ys
+  a_positional : (y : tree.Arg) (o : Option (Box Expr Global)) (b : Box Expr Global) (ys : tree.Args) → o ≡ Some b
+      → positional_walks a (tree.more_args y (opt_box expr_tree o) ys) ≡ walk_expr a (expr_tree b.value) ∷ positional_walks a ys
   a_positional y None b ys h = absurd cc
   a_positional y (Some e) b ys h = ap (λ (z : Box Expr Global). walk_expr a (expr_tree z.value) ∷ positional_walks a ys) (same_box e b h)
 
@@ -27,19 +28,22 @@ module _ (a : Around) where
   no_keyword y None ys h = refl
   no_keyword y (Some b) ys h = absurd cc
 
-  a_keyword : (x : ArgWithDefaultOf Expr) (o : Option (Box Expr Global)) (b : Box Expr Global) (ys : tree.Args) → o ≡ Some b → keyword_only_walks a (tree.more_args (arg expr_tree x.def) (opt_box expr_tree o) ys) ≡ Single (x.def.arg, walk_expr a (expr_tree b.value)) ∷ keyword_only_walks a ys
+  a_keyword : (x : ArgWithDefaultOf Expr) (o : Option (Box Expr Global)) (b : Box Expr Global) (ys : tree.Args) → o ≡ Some b
+      → keyword_only_walks a (tree.more_args (arg expr_tree x.def) (opt_box expr_tree o) ys) ≡ Single (x.def.arg, walk_expr a (expr_tree b.value)) ∷ keyword_only_walks a ys
   a_keyword x None b ys h = absurd cc
   a_keyword x (Some e) b ys h = ap (λ (z : Box Expr Global). Single (x.def.arg, walk_expr a (expr_tree z.value)) ∷ keyword_only_walks a ys) (same_box e b h)
 
   module _ (xs : List (ArgWithDefaultOf Expr)) (i : ℕ) (d x : ArgWithDefaultOf Expr) (is : x ≡ get_or xs i d) (lt : i < length xs) where
     pub positional_none : x.default ≡ None → positional_walks a (args expr_tree (drop i xs)) ≡ positional_walks a (args expr_tree (drop (i + 1) xs))
-    positional_none h = ap (λ ys. positional_walks a (args expr_tree ys)) (next xs i d x is lt) ∙ no_positional (arg expr_tree x.def) x.default (args expr_tree (drop (i + 1) xs)) h
+    positional_none h = ap (λ ys. positional_walks a (args expr_tree ys)) (place_next xs i d x is lt) ∙ no_positional (arg expr_tree x.def) x.default (args expr_tree (drop (i + 1) xs)) h
 
-    pub positional_some : (b : Box Expr Global) → x.default ≡ Some b → positional_walks a (args expr_tree (drop i xs)) ≡ walk_expr a (expr_tree b.value) ∷ positional_walks a (args expr_tree (drop (i + 1) xs))
-    positional_some b h = ap (λ ys. positional_walks a (args expr_tree ys)) (next xs i d x is lt) ∙ a_positional (arg expr_tree x.def) x.default b (args expr_tree (drop (i + 1) xs)) h
+    pub positional_some : (b : Box Expr Global) → x.default ≡ Some b
+        → positional_walks a (args expr_tree (drop i xs)) ≡ walk_expr a (expr_tree b.value) ∷ positional_walks a (args expr_tree (drop (i + 1) xs))
+    positional_some b h = ap (λ ys. positional_walks a (args expr_tree ys)) (place_next xs i d x is lt) ∙ a_positional (arg expr_tree x.def) x.default b (args expr_tree (drop (i + 1) xs)) h
 
     pub keyword_none : x.default ≡ None → keyword_only_walks a (args expr_tree (drop i xs)) ≡ keyword_only_walks a (args expr_tree (drop (i + 1) xs))
-    keyword_none h = ap (λ ys. keyword_only_walks a (args expr_tree ys)) (next xs i d x is lt) ∙ no_keyword (arg expr_tree x.def) x.default (args expr_tree (drop (i + 1) xs)) h
+    keyword_none h = ap (λ ys. keyword_only_walks a (args expr_tree ys)) (place_next xs i d x is lt) ∙ no_keyword (arg expr_tree x.def) x.default (args expr_tree (drop (i + 1) xs)) h
 
-    pub keyword_some : (b : Box Expr Global) → x.default ≡ Some b → keyword_only_walks a (args expr_tree (drop i xs)) ≡ Single (x.def.arg, walk_expr a (expr_tree b.value)) ∷ keyword_only_walks a (args expr_tree (drop (i + 1) xs))
-    keyword_some b h = ap (λ ys. keyword_only_walks a (args expr_tree ys)) (next xs i d x is lt) ∙ a_keyword x x.default b (args expr_tree (drop (i + 1) xs)) h
+    pub keyword_some : (b : Box Expr Global) → x.default ≡ Some b
+        → keyword_only_walks a (args expr_tree (drop i xs)) ≡ Single (x.def.arg, walk_expr a (expr_tree b.value)) ∷ keyword_only_walks a (args expr_tree (drop (i + 1) xs))
+    keyword_some b h = ap (λ ys. keyword_only_walks a (args expr_tree ys)) (place_next xs i d x is lt) ∙ a_keyword x x.default b (args expr_tree (drop (i + 1) xs)) h

@@ -1,7 +1,8 @@
 -- What stands at a place of a list of nodes, and what follows it.
-use Rattle.std.proofs.Common.{◌≡◌, ℕ, suc, ◌+◌, ◌<◌, ◌≤◌, ◌⊎◌, inl, inr, List, [], ◌∷◌, length, drop, get_or, Option, None, Some, refl, sym, ap, ◌∙◌, arith}
+use Rattle.std.proofs.Common.{◌≡◌, ℕ, ◌+◌, ◌<◌, ◌≤◌, ◌⊎◌, inl, inr, List, [], ◌∷◌, length, drop, get_or, Option, None, Some, refl, sym, ap, ◌∙◌, arith}
 use Rattle.std.proofs.lemmas.List.{length-drop}
 use Rattle.std.proofs.Math.Seq.{drop-cons}
+pub use Rattle.py_base.proofs.Numbers.{suc_is_plus_one}
 use Rattle.py_tree.specs.declared.expressions.Expr.{Expr}
 use Rattle.py_tree.specs.declared.expressions.KeywordOf.{KeywordOf}
 use Rattle.py_tree.specs.View.{expr_tree, exprs, keywords, opt_exprs}
@@ -13,16 +14,14 @@ use Rattle.py_interp.specs.declared.around.Around.{Around}
 use Rattle.py_interp.specs.Doing.{Doing, KeywordWalks, values_in}
 use Rattle.py_interp.specs.Walks.{all_walks, key_walks, keyword_walks, value_walks, walk_expr, walks}
 
-pub one_more : (i : ℕ) → suc i ≡ i + 1
-one_more i = omega arith
-
 module _ {A : Type 0} where
   -- what is left from a place on
-  pub next : (xs : List A) (i : ℕ) (d x : A) → x ≡ get_or xs i d → i < length xs → drop i xs ≡ x ∷ drop (i + 1) xs
-  next xs i d x is lt = drop-cons xs i d lt ∙ ap (λ j. get_or xs i d ∷ drop j xs) (one_more i) ∙ ap (λ y. y ∷ drop (i + 1) xs) (sym is)
+  pub place_next : (xs : List A) (i : ℕ) (d x : A) → x ≡ get_or xs i d → i < length xs → drop i xs ≡ x ∷ drop (i + 1) xs
+  place_next xs i d x is lt = drop-cons xs i d lt ∙ ap (λ j. get_or xs i d ∷ drop j xs) (suc_is_plus_one i) ∙ ap (λ y. y ∷ drop (i + 1) xs) (sym is)
 
-pub walks_at : (a : Around) (xs : List Expr) (i : ℕ) (d x : Expr) → x ≡ get_or xs i d → i < length xs → all_walks a (exprs expr_tree (drop i xs)) ≡ walks a (expr_tree x) ∷ all_walks a (exprs expr_tree (drop (i + 1) xs))
-walks_at a xs i d x is lt = ap (λ ys. all_walks a (exprs expr_tree ys)) (next xs i d x is lt)
+pub walks_at : (a : Around) (xs : List Expr) (i : ℕ) (d x : Expr) → x ≡ get_or xs i d → i < length xs
+    → all_walks a (exprs expr_tree (drop i xs)) ≡ walks a (expr_tree x) ∷ all_walks a (exprs expr_tree (drop (i + 1) xs))
+walks_at a xs i d x is lt = ap (λ ys. all_walks a (exprs expr_tree ys)) (place_next xs i d x is lt)
 
 -- ---- keywords
 
@@ -35,23 +34,25 @@ one_keyword : (a : Around) (arg : Option (List ℕ)) (e : tree.Expr) (ks : tree.
 one_keyword a None e ks = refl
 one_keyword a (Some name) e ks = refl
 
-pub keywords_at : (a : Around) (xs : List (KeywordOf Expr)) (i : ℕ) (d x : KeywordOf Expr) → x ≡ get_or xs i d → i < length xs → keyword_walks a (keywords expr_tree (drop i xs)) ≡ keyword_of x.arg (walk_expr a (expr_tree x.value)) ∷ keyword_walks a (keywords expr_tree (drop (i + 1) xs))
-keywords_at a xs i d x is lt = ap (λ ys. keyword_walks a (keywords expr_tree ys)) (next xs i d x is lt) ∙ one_keyword a x.arg (expr_tree x.value) (keywords expr_tree (drop (i + 1) xs))
+pub keywords_at : (a : Around) (xs : List (KeywordOf Expr)) (i : ℕ) (d x : KeywordOf Expr) → x ≡ get_or xs i d → i < length xs
+    → keyword_walks a (keywords expr_tree (drop i xs)) ≡ keyword_of x.arg (walk_expr a (expr_tree x.value)) ∷ keyword_walks a (keywords expr_tree (drop (i + 1) xs))
+keywords_at a xs i d x is lt = ap (λ ys. keyword_walks a (keywords expr_tree ys)) (place_next xs i d x is lt) ∙ one_keyword a x.arg (expr_tree x.value) (keywords expr_tree (drop (i + 1) xs))
 
 values_next : (arg : Option (List ℕ)) (e : Doing (Value Known)) (ks : KeywordWalks) → values_in (keyword_of arg e ∷ ks) ≡ e ∷ values_in ks
 values_next None e ks = refl
 values_next (Some name) e ks = refl
 
-pub keyword_values_at : (a : Around) (xs : List (KeywordOf Expr)) (i : ℕ) (d x : KeywordOf Expr) → x ≡ get_or xs i d → i < length xs → values_in (keyword_walks a (keywords expr_tree (drop i xs))) ≡ walk_expr a (expr_tree x.value) ∷ values_in (keyword_walks a (keywords expr_tree (drop (i + 1) xs)))
+pub keyword_values_at : (a : Around) (xs : List (KeywordOf Expr)) (i : ℕ) (d x : KeywordOf Expr) → x ≡ get_or xs i d → i < length xs
+    → values_in (keyword_walks a (keywords expr_tree (drop i xs))) ≡ walk_expr a (expr_tree x.value) ∷ values_in (keyword_walks a (keywords expr_tree (drop (i + 1) xs)))
 keyword_values_at a xs i d x is lt = ap values_in (keywords_at a xs i d x is lt) ∙ values_next x.arg (walk_expr a (expr_tree x.value)) (keyword_walks a (keywords expr_tree (drop (i + 1) xs)))
 
 -- ---- the entries of a dict display
 
-abbrev pub Entries : Type 0
-Entries = List (Element (Doing (Value Known) × Doing (Value Known)) (Doing (Value Known)))
+abbrev pub PlaceEntries : Type 0
+PlaceEntries = List (Element (Doing (Value Known) × Doing (Value Known)) (Doing (Value Known)))
 
 -- the entries of these keys and values
-abbrev pub entries : Around → List (Option Expr) → List Expr → Entries
+abbrev pub entries : Around → List (Option Expr) → List Expr → PlaceEntries
 entries a ks vs = pairs (key_walks a (opt_exprs expr_tree ks)) (value_walks a (exprs expr_tree vs))
 
 abbrev pub entry_of : Around → Option Expr → Expr → Element (Doing (Value Known) × Doing (Value Known)) (Doing (Value Known))
@@ -62,25 +63,26 @@ one_entry : (a : Around) (k : Option Expr) (v : Expr) (ks : List (Option Expr)) 
 one_entry a None v ks vs = refl
 one_entry a (Some k) v ks vs = refl
 
-pub entries_at : (a : Around) (ks : List (Option Expr)) (vs : List Expr) (i : ℕ) (c k : Option Expr) (d v : Expr) → k ≡ get_or ks i c → v ≡ get_or vs i d → i < length ks → i < length vs → entries a (drop i ks) (drop i vs) ≡ entry_of a k v ∷ entries a (drop (i + 1) ks) (drop (i + 1) vs)
+pub entries_at : (a : Around) (ks : List (Option Expr)) (vs : List Expr) (i : ℕ) (c k : Option Expr) (d v : Expr) → k ≡ get_or ks i c → v ≡ get_or vs i d
+    → i < length ks → i < length vs → entries a (drop i ks) (drop i vs) ≡ entry_of a k v ∷ entries a (drop (i + 1) ks) (drop (i + 1) vs)
 entries_at a ks vs i c k d v p q m n =
-    ap (λ js. entries a js (drop i vs)) (next ks i c k p m)
-    ∙ ap (λ ws. entries a (k ∷ drop (i + 1) ks) ws) (next vs i d v q n)
+    ap (λ js. entries a js (drop i vs)) (place_next ks i c k p m)
+    ∙ ap (λ ws. entries a (k ∷ drop (i + 1) ks) ws) (place_next vs i d v q n)
     ∙ one_entry a k v (drop (i + 1) ks) (drop (i + 1) vs)
 
-no_values : (a : Around) (ks : List (Option Expr)) → entries a ks [] ≡ []
-no_values a [] = refl
-no_values a (k ∷ ks) = refl
+place_no_values : (a : Around) (ks : List (Option Expr)) → entries a ks [] ≡ []
+place_no_values a [] = refl
+place_no_values a (k ∷ ks) = refl
 
 module _ {A : Type 0} where
-  none_left : (ys : List A) → length ys ≡ 0 → ys ≡ []
-  none_left [] e = refl
-  none_left (y ∷ ys) e = absurd (omega (arith, e))
+  place_none_left : (ys : List A) → length ys ≡ 0 → ys ≡ []
+  place_none_left [] e = refl
+  place_none_left (y ∷ ys) e = absurd (omega (arith, e))
 
   over : (xs : List A) (i : ℕ) → length xs ≤ i → drop i xs ≡ []
-  over xs i h = none_left (drop i xs) (let e = length-drop i xs in omega (arith, e, h))
+  over xs i h = place_none_left (drop i xs) (let e = length-drop i xs in omega (arith, e, h))
 
--- no entry is left behind the last key or the last value
+-- no entry is left after the last key or the last value
 pub entries_over : (a : Around) (ks : List (Option Expr)) (vs : List Expr) (i n : ℕ) → n ≤ i → (n ≡ length ks) ⊎ (n ≡ length vs) → entries a (drop i ks) (drop i vs) ≡ []
 entries_over a ks vs i n h (inl e) = ap (λ js. entries a js (drop i vs)) (over ks i (omega (arith, h, e)))
-entries_over a ks vs i n h (inr e) = ap (λ ws. entries a (drop i ks) ws) (over vs i (omega (arith, h, e))) ∙ no_values a (drop i ks)
+entries_over a ks vs i n h (inr e) = ap (λ ws. entries a (drop i ks) ws) (over vs i (omega (arith, h, e))) ∙ place_no_values a (drop i ks)

@@ -5,15 +5,15 @@ use Rattle.py_bytecode.specs.Values.{Value, Constant, Fine, then_get, truth_of}
 use Rattle.py_answers.specs.Told.{Known}
 use Rattle.py_interp.specs.Doing.{Doing, add_map, close_pairs}
 
--- a value behind others
+-- a value after others
 abbrev pub get_behind : List (Value Known) → Doing (Value Known) → Doing (List (Value Known))
 get_behind done e w = then_get (e w) (λ x w1. Fine (done ++ x ∷ []) w1)
 
--- a value and its name behind others
+-- a value and its name after others
 abbrev pub get_named : List (Value Known) → (name : List ℕ) → Doing (Value Known) → Doing (List (Value Known))
 get_named done name e w = then_get (e w) (λ x w1. Fine (done ++ Constant (const.str name) ∷ x ∷ []) w1)
 
--- a key and its value behind others
+-- a key and its value after others
 abbrev pub get_pair : List (Value Known) → (key value : Doing (Value Known)) → Doing (List (Value Known))
 get_pair done k e w = then_get (k w) (λ x w1. then_get (e w1) (λ y w2. Fine (done ++ x ∷ y ∷ []) w2))
 

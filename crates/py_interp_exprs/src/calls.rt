@@ -1,7 +1,7 @@
 //! Calls.
 ghost use Rattle.std.specs.Prelude.{◌≡◌, ◌∷◌, ◌++◌, [], ◌||◌, length, IfErr, IfOk};
-ghost use Rattle.py_bytecode.specs.Values.{Operates, ask_for, given};
-ghost use Rattle.py_emission_parts.specs.TableParts.{any, counted, named};
+ghost use Rattle.py_bytecode.specs.Values.{Operates, ask_for, given_values};
+ghost use Rattle.py_emission_parts.specs.TableParts.{any, counted_operation, named_operation};
 ghost use Rattle.py_tree.specs.View.{call_tree, expr_tree, exprs, keywords as keyword_trees};
 ghost use Rattle.py_answers.specs.Log.{Gets, world_of};
 ghost use Rattle.py_answers.specs.Told.{value_of, values_of};
@@ -20,8 +20,8 @@ use py_answers::{Halt, Log, Operand, Operation, StepValue};
 use py_base::{List, Text};
 use py_bytecode::Instruction;
 use py_interp::Around;
-use py_interp_values::operands::{one, push, three};
-use py_interp_values::operations::{counted, does, numbered};
+use py_interp::operands::{one, push, three};
+use py_interp::operations::{counted, does, numbered};
 use py_tree::{Expr, ExprCall, Keyword};
 use std::alloc::Global;
 
@@ -74,7 +74,7 @@ fn walk_callee(log: &mut Log<'_>, around: Around, func: &Expr) -> Result<Vec<Ste
 
 // The three values of a method.
 fn load_method(log: &mut Log<'_>, value: StepValue, name: &Text) -> Result<Vec<StepValue>, Halt>
-    ensures { Gets (λ v. values_of v.items) result (world_of log.new) (ask_for (Operates (named Instruction.LoadMethod name.now) (value_of value ∷ [])) (Some 3) (world_of log.old)) }
+    ensures { Gets (λ v. values_of v.items) result (world_of log.new) (ask_for (Operates (named_operation Instruction.LoadMethod name.now) (value_of value ∷ [])) (Some 3) (world_of log.old)) }
 {
     let operands = List::from_vec(one(log.alloc, value)?);
     let operation = Operation {
@@ -87,7 +87,7 @@ fn load_method(log: &mut Log<'_>, value: StepValue, name: &Text) -> Result<Vec<S
 
 // The three values of an answer.
 fn three_of(alloc: Global, answer: u32) -> Result<Vec<StepValue>, Halt>
-    ensures ok { IfOk result (λ v. values_of v.items ≡ given 3 answer 0) }
+    ensures ok { IfOk result (λ v. values_of v.items ≡ given_values 3 answer 0) }
     ensures err { IfErr result (λ h. h ≡ Halt.OutOfMemory) }
 {
     three(
@@ -126,7 +126,7 @@ pub fn call_placed(
     values: Vec<StepValue>,
     keywords: &[Keyword],
 ) -> Result<StepValue, Halt>
-    ensures { (around : Around) → let ks = keyword_walks around (keyword_trees expr_tree keywords.now) in Gets value_of result (world_of log.new) (does (counted (placed_call method ks) (length (values_of values.items))) (values_of callee.items ++ (values_of values.items ++ name_tuple ks)) (world_of log.old)) }
+    ensures { (around : Around) → let ks = keyword_walks around (keyword_trees expr_tree keywords.now) in Gets value_of result (world_of log.new) (does (counted_operation (placed_call method ks) (length (values_of values.items))) (values_of callee.items ++ (values_of values.items ++ name_tuple ks)) (world_of log.old)) }
 {
     let names = names_given(log.alloc, keywords)?;
     let operation = counted(placed_call(method, keywords), values.len())?;
@@ -183,7 +183,7 @@ pub fn call_packed(
     joined: Vec<StepValue>,
     keywords: &[Keyword],
 ) -> Result<StepValue, Halt>
-    ensures { (around : Around) → Gets value_of result (world_of log.new) (does (counted (packed_call method) (any (keyword_walks around (keyword_trees expr_tree keywords.now)))) (values_of callee.items ++ value_of tuple ∷ values_of joined.items) (world_of log.old)) }
+    ensures { (around : Around) → Gets value_of result (world_of log.new) (does (counted_operation (packed_call method) (any (keyword_walks around (keyword_trees expr_tree keywords.now)))) (values_of callee.items ++ value_of tuple ∷ values_of joined.items) (world_of log.old)) }
 {
     let operation = numbered(packed_call(method), map_count(keywords));
     let mut operands = callee;

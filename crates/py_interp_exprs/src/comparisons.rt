@@ -4,7 +4,7 @@ ghost use Rattle.py_tree.specs.View.{compare_tree, expr_tree, exprs};
 ghost use Rattle.py_emission_parts.specs.TableParts.{comparison_operation};
 ghost use Rattle.py_answers.specs.Log.{Gets, world_of};
 ghost use Rattle.py_answers.specs.Told.{value_of};
-ghost use Rattle.py_interp.specs.Doing.{comparable, compared, does, links};
+ghost use Rattle.py_interp.specs.Doing.{comparable, comparison_of, does, links};
 ghost use Rattle.py_interp.specs.Walks.{all_walks, walk_expr};
 ghost use Rattle.py_interp_exprs.specs.Parts.{get_truth};
 
@@ -12,9 +12,9 @@ use crate::conditions::Asked;
 use crate::expressions::walk_expression;
 use py_answers::{Halt, Log, StepValue};
 use py_interp::Around;
-use py_interp_values::constants::none;
-use py_interp_values::operands::copy_value;
-use py_interp_values::operations::{comparison, does_two, truth};
+use py_interp::constants::none;
+use py_interp::operands::copy_value;
+use py_interp::operations::{comparison, does_two, truth};
 use py_tree::{CmpOp, Expr, ExprCompare};
 
 #[cycle(walk)]
@@ -43,7 +43,7 @@ fn walk_compared(
     ops: &[CmpOp],
     others: &[Expr],
 ) -> Result<StepValue, Halt>
-    ensures { Gets value_of result (world_of log.new) (compared (walk_expr around (expr_tree left.now)) ops.now (all_walks around (exprs expr_tree others.now)) (world_of log.old)) }
+    ensures { Gets value_of result (world_of log.new) (comparison_of (walk_expr around (expr_tree left.now)) ops.now (all_walks around (exprs expr_tree others.now)) (world_of log.old)) }
 {
     if !is_comparable(ops, others) {
         return Ok(none());

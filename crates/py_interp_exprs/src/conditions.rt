@@ -2,7 +2,7 @@
 ghost use Rattle.std.specs.Prelude.{◌≡◌};
 ghost use Rattle.py_bytecode.specs.Values.{then_get, truth_of};
 ghost use Rattle.py_tree.specs.View.{bool_op_tree, expr_tree, exprs, unary_op_tree};
-ghost use Rattle.py_emission_parts.specs.TableParts.{deciding};
+ghost use Rattle.py_emission_parts.specs.TableParts.{deciding_truth};
 ghost use Rattle.py_answers.specs.Log.{Gets, world_of};
 ghost use Rattle.py_answers.specs.Told.{value_of};
 ghost use Rattle.py_interp.specs.Doing.{shorts, tests};
@@ -12,8 +12,8 @@ ghost use Rattle.py_interp_exprs.specs.Parts.{get_truth};
 use crate::expressions::{walk_expression, walk_unary_op};
 use py_answers::{Halt, Log, StepValue};
 use py_interp::Around;
-use py_interp_values::constants::none;
-use py_interp_values::operations::truth;
+use py_interp::constants::none;
+use py_interp::operations::truth;
 use py_tree::{BoolOp, Expr, ExprBoolOp, ExprUnaryOp, UnaryOp};
 
 /// A value and its truth.
@@ -25,7 +25,7 @@ pub(crate) struct Asked {
 
 // The truth at which a value decides.
 fn deciding(op: BoolOp) -> bool
-    ensures { result ≡ deciding op }
+    ensures { result ≡ deciding_truth op }
 {
     match op {
         BoolOp::And => false,

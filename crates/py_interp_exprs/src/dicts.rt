@@ -13,8 +13,8 @@ use crate::expressions::walk_expression;
 use crate::groups::close_pairs;
 use py_answers::{Halt, Log, StepValue};
 use py_interp::Around;
-use py_interp_values::operands::push;
-use py_interp_values::operations::add_map;
+use py_interp::operands::push;
+use py_interp::operations::add_map;
 use py_tree::{Expr, ExprDict};
 
 #[cycle(walk)]
@@ -67,7 +67,7 @@ fn pair_count(keys: &[Option<Expr>], values: &[Expr]) -> usize
     if count < most { count } else { most }
 }
 
-// Gets a key and its value behind others.
+// Gets a key and its value after others.
 #[cycle(walk)]
 fn walk_pair(
     log: &mut Log<'_>,

@@ -12,7 +12,7 @@ use crate::expressions::walk_expression;
 use crate::groups::close_run;
 use py_answers::{Halt, Log, StepValue};
 use py_interp::Around;
-use py_interp_values::operands::push;
+use py_interp::operands::push;
 use py_tree::Expr;
 
 /// Whether an element is starred.
@@ -53,7 +53,7 @@ pub fn walk_all(log: &mut Log<'_>, around: Around, items: &[Expr]) -> Result<Vec
     Ok(values)
 }
 
-/// Gets the value of an expression behind others.
+/// Gets the value of an expression after others.
 ///
 /// # Errors
 /// What ends the run, or OutOfMemory.

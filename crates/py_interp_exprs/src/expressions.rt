@@ -5,7 +5,7 @@ ghost use Rattle.py_bytecode.specs.Objects as object;
 ghost use Rattle.py_emission.specs.Texts.{texts_of};
 ghost use Rattle.py_answers.specs.Log.{Gets, world_of};
 ghost use Rattle.py_answers.specs.Told.{value_of};
-ghost use Rattle.py_interp.specs.Doing.{get_or, iterator, joined};
+ghost use Rattle.py_interp.specs.Doing.{get_or, iterator, joined_value};
 ghost use Rattle.py_interp.specs.Walks.{all_walks, opt_walk, walk_expr};
 
 use crate::calls::walk_call;
@@ -20,10 +20,10 @@ use crate::texts::whole_text;
 use py_answers::{Halt, Log, Operand, Operation, StepValue};
 use py_bytecode::Instruction;
 use py_interp::Around;
-use py_interp_values::constants::{empty_text, literal, none};
-use py_interp_values::names::name_value;
-use py_interp_values::operands::copy_value;
-use py_interp_values::operations::{bare, build, does_one, does_two, numbered};
+use py_interp::constants::{empty_text, literal, none};
+use py_interp::names::name_value;
+use py_interp::operands::copy_value;
+use py_interp::operations::{bare, build, does_one, does_two, numbered};
 use py_node_values::operators::{case_of, conversion_case_of, unary_case_of};
 use py_tree::{
     Expr, ExprAttribute, ExprBinOp, ExprFormattedValue, ExprIfExp, ExprJoinedStr, ExprNamedExpr,
@@ -201,7 +201,7 @@ fn walk_joined_str(log: &mut Log<'_>, around: Around, e: &ExprJoinedStr) -> Resu
 // Gets the parts of an f-string joined, or where each is a text, the one text.
 #[cycle(walk)]
 fn walk_joined(log: &mut Log<'_>, around: Around, parts: &[Expr]) -> Result<StepValue, Halt>
-    ensures { Gets value_of result (world_of log.new) (joined (texts_of (exprs expr_tree parts.now)) (all_walks around (exprs expr_tree parts.now)) (world_of log.old)) }
+    ensures { Gets value_of result (world_of log.new) (joined_value (texts_of (exprs expr_tree parts.now)) (all_walks around (exprs expr_tree parts.now)) (world_of log.old)) }
 {
     if let Some(text) = whole_text(log.alloc, parts)? {
         return Ok(text);

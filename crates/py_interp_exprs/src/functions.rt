@@ -16,8 +16,8 @@ use py_answers::{Halt, Log, StepValue};
 use py_base::Text;
 use py_bytecode::Instruction;
 use py_interp::Around;
-use py_interp_values::constants::none;
-use py_interp_values::operations::{bare, does_one, does_two, numbered};
+use py_interp::constants::none;
+use py_interp::operations::{bare, does_one, does_two, numbered};
 use py_tree::{ArgWithDefault, Arguments, Comprehension, ExprLambda};
 use std::alloc::Global;
 
@@ -106,7 +106,7 @@ fn walk_positionals(
     walk_positional(log, around, values, params.args.as_slice())
 }
 
-// Gets the defaults of some parameters behind others.
+// Gets the defaults of some parameters after others.
 #[cycle(walk)]
 fn walk_positional(
     log: &mut Log<'_>,

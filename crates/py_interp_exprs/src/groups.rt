@@ -7,10 +7,10 @@ ghost use Rattle.py_interp.specs.Doing.{close_map, close_pairs, close_run, join_
 
 use py_answers::{Halt, Log, StepValue};
 use py_bytecode::Instruction;
-use py_interp_values::operands::{one, push};
-use py_interp_values::operations::{add_map, build, build_map};
+use py_interp::operands::{one, push};
+use py_interp::operations::{add_map, build, build_map};
 
-/// Groups with a tuple of a run behind them, where the run is not empty.
+/// Groups with a tuple of a run after them, where the run is not empty.
 ///
 /// # Errors
 /// What ends the run, or OutOfMemory.
@@ -30,7 +30,7 @@ pub fn close_run(
     Ok(groups)
 }
 
-/// Maps with one of a run of so many keys and values behind them, where the run is not empty.
+/// Maps with one of a run of so many keys and values after them, where the run is not empty.
 ///
 /// # Errors
 /// What ends the run, or OutOfMemory.

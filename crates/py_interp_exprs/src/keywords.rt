@@ -18,8 +18,8 @@ use py_answers::{Halt, Log, StepValue};
 use py_base::{List, Text};
 use py_bytecode::ConstantData;
 use py_interp::Around;
-use py_interp_values::constants::text;
-use py_interp_values::operands::{one, push};
+use py_interp::constants::text;
+use py_interp::operands::{one, push};
 use py_tree::{Expr, Keyword};
 use std::alloc::{AllocError, Global};
 
@@ -35,7 +35,7 @@ pub fn has_map(keywords: &[Keyword]) -> bool
     false
 }
 
-/// Gets the values of keywords behind others.
+/// Gets the values of keywords after others.
 ///
 /// # Errors
 /// What ends the run, or OutOfMemory.
@@ -127,7 +127,7 @@ pub fn walk_maps(
     close_map(log, maps, count, run)
 }
 
-/// Gets a value, and puts it with its name behind others.
+/// Gets a value, and puts it with its name after others.
 #[cycle(walk)]
 pub(crate) fn walk_named(
     log: &mut Log<'_>,

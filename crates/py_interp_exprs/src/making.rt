@@ -1,4 +1,4 @@
-//! Functions that are made, and values put behind others.
+//! Functions that are made, and values put after others.
 ghost use Rattle.std.specs.Prelude.{◌≡◌, ◌++◌, IfErr, OnOk};
 ghost use Rattle.py_answers.specs.Log.{Gets, world_of};
 ghost use Rattle.py_answers.specs.Told.{value_of, values_of};
@@ -7,11 +7,11 @@ ghost use Rattle.py_interp.specs.Doing.{make};
 use py_answers::{Halt, Log, StepValue};
 use py_base::Text;
 use py_bytecode::Instruction;
-use py_interp_values::constants::text;
-use py_interp_values::operands::push;
-use py_interp_values::operations::{does, numbered};
+use py_interp::constants::text;
+use py_interp::operands::push;
+use py_interp::operations::{does, numbered};
 
-/// Puts values behind others.
+/// Puts values after others.
 ///
 /// # Errors
 /// OutOfMemory alone.

@@ -1,14 +1,14 @@
 //! Targets.
 ghost use Rattle.std.specs.Prelude.{◌≡◌, ◌<◌, ◌+◌, ◌*◌, ◌^◌, length, true, IfErr, IfOk};
-ghost use Rattle.py_bytecode.specs.Values.{given};
-ghost use Rattle.py_meaning.specs.ExprFaults.{starring};
+ghost use Rattle.py_bytecode.specs.Values.{given_values};
+ghost use Rattle.py_meaning.specs.ExprFaults.{as_elements};
 ghost use Rattle.py_emission_parts.specs.Elements.{after_star, before_star};
-ghost use Rattle.py_emission_parts.specs.TableParts.{counted as with_count, unpacking};
+ghost use Rattle.py_emission_parts.specs.TableParts.{counted_operation as with_count, unpack_operation};
 ghost use Rattle.py_tree.specs.View.{attribute_tree, expr_tree, exprs, subscript_tree};
 ghost use Rattle.py_answers.specs.Log.{Gets, operation_of, world_of};
 ghost use Rattle.py_answers.specs.Told.{value_of};
 ghost use Rattle.py_interp.specs.Doing.{put_each};
-ghost use Rattle.py_interp.specs.Walks.{all_targets, target_walks, unpacked, walk_target};
+ghost use Rattle.py_interp.specs.Walks.{all_targets, target_walks, unpack_to, walk_target};
 ghost use Rattle.py_interp_exprs.specs.Starred.{any_starred};
 
 use crate::elements::{has_star, is_star};
@@ -17,9 +17,9 @@ use py_answers::{Halt, Log, Operand, Operation, StepValue};
 use py_base::List;
 use py_bytecode::Instruction;
 use py_interp::Around;
-use py_interp_values::names::store;
-use py_interp_values::operands::{one, three, two};
-use py_interp_values::operations::{bare, counted, does_none};
+use py_interp::names::store;
+use py_interp::operands::{one, three, two};
+use py_interp::operations::{bare, counted, does_none};
 use py_tree::{Expr, ExprAttribute, ExprSubscript};
 
 /// Gives a value to an expression as a target.
@@ -82,7 +82,7 @@ fn put_subscript(
 // Unpacks a value to as many targets.
 #[cycle(walk)]
 fn unpack(log: &mut Log<'_>, around: Around, elts: &[Expr], value: StepValue) -> Result<(), Halt>
-    ensures { Gets (λ u. u) result (world_of log.new) (unpacked (exprs expr_tree elts.now) (all_targets around (exprs expr_tree elts.now)) (value_of value) (world_of log.old)) }
+    ensures { Gets (λ u. u) result (world_of log.new) (unpack_to (exprs expr_tree elts.now) (all_targets around (exprs expr_tree elts.now)) (value_of value) (world_of log.old)) }
 {
     let operation = unpacking(elts)?;
     let operands = List::from_vec(one(log.alloc, value)?);
@@ -97,7 +97,7 @@ fn unpack(log: &mut Log<'_>, around: Around, elts: &[Expr], value: StepValue) ->
 #[cycle(walk)]
 fn put_each(log: &mut Log<'_>, around: Around, elts: &[Expr], answer: u32) -> Result<(), Halt>
     requires { length elts.now < 2 ^ 32 }
-    ensures { Gets (λ u. u) result (world_of log.new) (put_each (all_targets around (exprs expr_tree elts.now)) (given (length elts.now) answer 0) (world_of log.old)) }
+    ensures { Gets (λ u. u) result (world_of log.new) (put_each (all_targets around (exprs expr_tree elts.now)) (given_values (length elts.now) answer 0) (world_of log.old)) }
 {
     let mut index = 0;
     for elt in elts {
@@ -121,7 +121,7 @@ fn put_element(log: &mut Log<'_>, around: Around, elt: &Expr, value: StepValue) 
 
 // How values are unpacked to targets: to as many, or with a list of those that are left over.
 fn unpacking(elts: &[Expr]) -> Result<Operation<'static>, Halt>
-    ensures ok { IfOk result (λ o. operation_of o ≡ unpacking (starring (exprs expr_tree elts.now))) }
+    ensures ok { IfOk result (λ o. operation_of o ≡ unpack_operation (as_elements (exprs expr_tree elts.now))) }
     ensures err { IfErr result (λ h. h ≡ Halt.OutOfMemory) }
 {
     if has_star(elts) {
@@ -147,7 +147,7 @@ fn unpacking_around(before: usize, after: usize) -> Result<Operation<'static>, H
 
 // How many stand before the first that is starred.
 fn before_star(elts: &[Expr]) -> usize
-    ensures { result ≡ before_star (starring (exprs expr_tree elts.now)) }
+    ensures { result ≡ before_star (as_elements (exprs expr_tree elts.now)) }
 {
     let mut before = 0;
     for elt in elts {
@@ -162,7 +162,7 @@ fn before_star(elts: &[Expr]) -> usize
 // How many stand after the first that is starred.
 fn after_star(elts: &[Expr]) -> usize
     requires { any_starred (exprs expr_tree elts.now) ≡ true }
-    ensures { result ≡ after_star (starring (exprs expr_tree elts.now)) }
+    ensures { result ≡ after_star (as_elements (exprs expr_tree elts.now)) }
 {
     elts.len() - before_star(elts) - 1
 }

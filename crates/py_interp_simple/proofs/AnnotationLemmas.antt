@@ -60,7 +60,8 @@ half_more : (run : List (Value Known)) (x y : Value Known) → length (run ++ x 
 half_more run x y = omega (arith, length-append run (x ∷ y ∷ []))
 
 -- the map of names and values, which take turns, has half as many pairs
-maps_of : (run : List (Value Known)) (ks : KeywordWalks) (w : World Known) → AreNamed ks → get_maps [] (length run / 2) run ks w ≡ then_get (get_notes run ks w) (λ r w1. close_map [] (length r / 2) r w1)
+maps_of : (run : List (Value Known)) (ks : KeywordWalks) (w : World Known) → AreNamed ks
+    → get_maps [] (length run / 2) run ks w ≡ then_get (get_notes run ks w) (λ r w1. close_map [] (length r / 2) r w1)
 maps_of run [] w h = refl
 maps_of run (Single p ∷ ks) w h =
     then_same (p.1 w) (λ x w1. get_maps [] (suc (length run / 2)) (run ++ Constant (const.str p.0) ∷ x ∷ []) ks w1) (λ x w1. then_get (get_notes (run ++ Constant (const.str p.0) ∷ x ∷ []) ks w1) (λ r w2. close_map [] (length r / 2) r w2))
@@ -68,10 +69,11 @@ maps_of run (Single p ∷ ks) w h =
     ∙ sym (assoc (p.1 w) (λ x w1. get_notes (run ++ Constant (const.str p.0) ∷ x ∷ []) ks w1) (λ r w1. close_map [] (length r / 2) r w1))
 maps_of run (Spread e ∷ ks) w h = absurd h
 
-pub notes_map : (a : Around) (p : tree.Arguments) (returns : tree.OptExpr) (w : World Known) → get_maps [] 0 [] (note_walks a p returns) w ≡ then_get (get_notes [] (note_walks a p returns) w) (λ r w1. close_map [] (length r / 2) r w1)
+pub notes_map : (a : Around) (p : tree.Arguments) (returns : tree.OptExpr) (w : World Known)
+    → get_maps [] 0 [] (note_walks a p returns) w ≡ then_get (get_notes [] (note_walks a p returns) w) (λ r w1. close_map [] (length r / 2) r w1)
 notes_map a p returns w = maps_of [] (note_walks a p returns) w (notes_named a p returns)
 
--- the parts of the annotations of parameters, one behind the other
+-- the parts of the annotations of parameters, one after the other
 pub params_joined : (run : List (Value Known)) (a : Around) (posonly args kwonly : tree.Args) (vararg kwarg : tree.OptArg) (w : World Known) →
     get_notes run (param_notes a (tree.arguments posonly args vararg kwonly kwarg)) w
     ≡ then_get (get_notes run (arg_notes a posonly) w) (λ r w1. then_get (get_notes r (arg_notes a args) w1) (λ s w2. then_get (get_notes s (arg_notes a kwonly) w2) (λ t w3. then_get (get_notes t (opt_arg_note a vararg) w3) (λ u w4. get_notes u (opt_arg_note a kwarg) w4))))

@@ -1,4 +1,4 @@
--- Functions that are made, and what is made in a hidden scope.
+-- Functions that are made, and what is made in a type-parameter scope.
 use Rattle.std.proofs.Common.{◌≡◌, ◌++◌, ℕ, List, [], ◌∷◌, Bool, length, true, false, Option, Some, None, refl, append_assoc}
 use Rattle.std.specs.Prelude.{◌↔◌, nat_eq}
 use Rattle.py_tree.specs.Tree as tree
@@ -12,27 +12,29 @@ use Rattle.py_interp.specs.Doing.{Doing}
 use Rattle.py_interp.specs.Statements.{alias_value, define, define_class}
 use Rattle.py_interp.specs.Walks.{default_walks}
 
-itself : {A : Type 0} (g : Got Known A) → g ≡ then_get g (λ x w. Fine x w)
-itself (Fine x w) = refl
-itself (Raises e w) = refl
-itself (Stops es) = refl
+function_definition_itself : {A : Type 0} (g : Got Known A) → g ≡ then_get g (λ x w. Fine x w)
+function_definition_itself (Fine x w) = refl
+function_definition_itself (Raises e w) = refl
+function_definition_itself (Stops es) = refl
 
 -- a function is made before its docstring is stored
 pub documented : (doc : Option (List ℕ)) (f : Doing (Value Known)) (w : World Known) → document doc f w ≡ then_get (f w) (λ v w1. document doc (λ w2. Fine v w2) w1)
-documented None f w = itself (f w)
+documented None f w = function_definition_itself (f w)
 documented (Some text) f w = refl
 
--- the name of a hidden scope, as it is written
+-- the name of a type-parameter scope, as it is written
 pub name_within : (xs name ys : List ℕ) → (xs ++ name) ++ ys ≡ xs ++ (name ++ ys)
 name_within xs name ys = append_assoc xs name ys
 
--- what has type parameters is made in a hidden scope
+-- what has type parameters is made in a type-parameter scope
 module _ (a : Around) (name : List ℕ) (w : World Known) where
-  pub function_hidden : (params : tree.Arguments) (body : tree.Stmts) (returns : tree.OptExpr) (xs : List TypeParam) (b : Bool) → ((b ≡ true) ↔ (xs ≡ [])) → b ≡ false → define a name params body returns (type_params xs) w ≡ call_hidden name (default_walks a params) w
+  pub function_hidden : (params : tree.Arguments) (body : tree.Stmts) (returns : tree.OptExpr) (xs : List TypeParam) (b : Bool) → ((b ≡ true) ↔ (xs ≡ []))
+      → b ≡ false → define a name params body returns (type_params xs) w ≡ call_hidden name (default_walks a params) w
   function_hidden params body returns [] b p q = let t = p.1 refl in absurd cc
   function_hidden params body returns (x ∷ xs) b p q = refl
 
-  pub class_hidden : (bases : tree.Exprs) (ks : tree.Keywords) (xs : List TypeParam) (b : Bool) → ((b ≡ true) ↔ (xs ≡ [])) → b ≡ false → define_class a name bases ks (type_params xs) w ≡ call_hidden name no_defaults w
+  pub class_hidden : (bases : tree.Exprs) (ks : tree.Keywords) (xs : List TypeParam) (b : Bool) → ((b ≡ true) ↔ (xs ≡ [])) → b ≡ false
+      → define_class a name bases ks (type_params xs) w ≡ call_hidden name no_defaults w
   class_hidden bases ks [] b p q = let t = p.1 refl in absurd cc
   class_hidden bases ks (x ∷ xs) b p q = refl
 

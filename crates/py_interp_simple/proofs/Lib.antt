@@ -3,3 +3,4 @@ pub mod DecoratorLemmas
 pub mod AnnotationLemmas
 pub mod ClassCalls
 pub mod FunctionDefinitionLemmas
+pub mod DropLemmas

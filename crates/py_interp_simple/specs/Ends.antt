@@ -20,7 +20,7 @@ flow_of (Flow.Return v) w = Leaves (Returns (It (value_of v))) w
 abbrev pub goes_on : Unit {0} → World Known → Ended Known
 goes_on u w = Normal w
 
--- a part of a run answers how it ends, in this world: how says it of what is answered; want of memory is free
+-- a part of a run answers how it ends, in this world: how says it of what is answered; out of memory is free
 abbrev pub Ends : {X : Type 0} → (how : X → World Known → Ended Known) → Result X Halt → World Known → Ended Known → Type 0
 Ends how (Ok x) w ended = ended ≡ how x w
 Ends how (Err (Halt.Raised n)) w ended = ended ≡ throws (Given n 0) w

@@ -8,7 +8,7 @@ use Rattle.py_bytecode.specs.declared.instruction.Instruction.TheVariants as op
 use Rattle.py_bytecode.specs.Objects as const
 use Rattle.py_bytecode.specs.Values.{Value, Constant, Fine, then_get}
 use Rattle.py_emission_parts.specs.Elements.{Single, Spread}
-use Rattle.py_emission_parts.specs.TableParts.{counted}
+use Rattle.py_emission_parts.specs.TableParts.{counted_operation}
 use Rattle.py_answers.specs.Told.{Known}
 use Rattle.py_interp.specs.declared.around.Around.{Around}
 use Rattle.py_interp.specs.Acting.{decorate}
@@ -27,9 +27,9 @@ class_value a s = decorate (value_walks a (exprs expr_tree s.decorator_list)) (d
 -- decorators are called one with what the next gives, the last with the value
 abbrev pub called_by : List (Value Known) → Value Known → Doing (Value Known)
 called_by [] v w = Fine v w
-called_by (x ∷ xs) v w = then_get (called_by xs v w) (λ y w1. does (counted op.CallFunctionPositional 1) (x ∷ y ∷ []) w1)
+called_by (x ∷ xs) v w = then_get (called_by xs v w) (λ y w1. does (counted_operation op.CallFunctionPositional 1) (x ∷ y ∷ []) w1)
 
--- the names and values of annotations, behind others
+-- the names and values of annotations, after others
 abbrev pub get_notes : (run : List (Value Known)) → KeywordWalks → Doing (List (Value Known))
 get_notes run [] w = Fine run w
 get_notes run (Single p ∷ ks) w = then_get (p.1 w) (λ x w1. get_notes (run ++ Constant (const.str p.0) ∷ x ∷ []) ks w1)

@@ -1,7 +1,7 @@
 //! Expressions as statements, and assignments.
 ghost use Rattle.std.specs.Prelude.{◌≡◌, codes};
 ghost use Rattle.py_tree.specs.View.{attribute_tree, expr_tree, exprs, name_tree, opt_box, subscript_tree};
-ghost use Rattle.py_emission_parts.specs.TableParts.{inplace, named};
+ghost use Rattle.py_emission_parts.specs.TableParts.{inplace, named_operation};
 ghost use Rattle.py_bytecode.specs.Values.{then_do};
 ghost use Rattle.py_answers.specs.Log.{Gets, operation_of, world_of};
 ghost use Rattle.py_answers.specs.Told.{value_of};
@@ -11,17 +11,18 @@ ghost use Rattle.py_interp.specs.Statements.{annotate, augment_walk, declare_wal
 ghost use Rattle.py_interp.specs.Walks.{walk_expr, walk_target};
 ghost use Rattle.py_interp_simple.specs.Ends.{Ends, flow_of, goes_on};
 
+use crate::dropped::walk_dropped;
 use crate::flow::Flow;
 use crate::notes::walk_note;
 use py_answers::{Halt, Log, Operand, Operation, StepValue};
 use py_bytecode::Instruction;
 use py_interp::Around;
+use py_interp::constants::text;
+use py_interp::names::{load, name_value, store};
+use py_interp::operands::{copy_value, three, two};
+use py_interp::operations::{bare, does_none, does_one, does_two, numbered};
 use py_interp_exprs::functions::fixed_name;
 use py_interp_exprs::{walk_expression, walk_target};
-use py_interp_values::constants::text;
-use py_interp_values::names::{load, name_value, store};
-use py_interp_values::operands::{copy_value, three, two};
-use py_interp_values::operations::{bare, does_none, does_one, does_two, numbered};
 use py_node_values::operators::case_of;
 use py_tree::{
     Expr, ExprAttribute, ExprName, ExprSubscript, Operator, StmtAnnAssign, StmtAssign,
@@ -35,7 +36,7 @@ use py_tree::{
 pub fn walk_expr_statement(log: &mut Log<'_>, around: Around, value: &Expr) -> Result<Flow, Halt>
     ensures { Ends flow_of result (world_of log.new) (into (walk_expr around (expr_tree value.now)) drop_it (world_of log.old)) }
 {
-    let _value = walk_expression(log, around, value)?;
+    walk_dropped(log, around, value)?;
     Ok(Flow::Normal)
 }
 
@@ -167,7 +168,7 @@ fn change(op: Operator) -> Operation<'static>
 
 // An operation with a name.
 fn named(op: Instruction, name: &Text) -> Operation<'_>
-    ensures { operation_of result ≡ named op name.now }
+    ensures { operation_of result ≡ named_operation op name.now }
 {
     Operation {
         op,

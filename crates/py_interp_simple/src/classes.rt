@@ -22,15 +22,15 @@ use py_answers::{Halt, Log, StepValue};
 use py_base::Text;
 use py_bytecode::Instruction;
 use py_interp::Around;
+use py_interp::constants::text;
+use py_interp::names::store;
+use py_interp::operands::{one, two};
+use py_interp::operations::{bare, build, does};
 use py_interp_exprs::calls::{call_packed, call_placed};
 use py_interp_exprs::elements::{has_star, is_star, walk_behind};
 use py_interp_exprs::functions::make_child;
 use py_interp_exprs::groups::{close_run, join_maps};
 use py_interp_exprs::keywords::{has_map, walk_keyword_values, walk_maps};
-use py_interp_values::constants::text;
-use py_interp_values::names::store;
-use py_interp_values::operands::{one, two};
-use py_interp_values::operations::{bare, build, does};
 use py_tree::{Expr, Keyword, StmtClassDef};
 
 /// Defines a class.
@@ -58,7 +58,7 @@ pub fn walk_class(log: &mut Log<'_>, around: Around, s: &StmtClassDef) -> Result
     call_decorators(log, decorators, class)
 }
 
-// With type parameters a class is built in a hidden scope.
+// With type parameters a class is built in a type-parameter scope.
 fn define(log: &mut Log<'_>, around: Around, s: &StmtClassDef) -> Result<StepValue, Halt>
     ensures { Gets value_of result (world_of log.new) (define_class around s.now.name (exprs expr_tree s.now.bases) (keyword_trees expr_tree s.now.keywords) (type_params s.now.type_params) (world_of log.old)) }
 {
@@ -140,7 +140,7 @@ fn class_parts(log: &mut Log<'_>, name: &Text) -> Result<Vec<StepValue>, Halt>
     two(log.alloc, function, name)
 }
 
-// Gets the values of bases behind others.
+// Gets the values of bases after others.
 fn walk_bases(
     log: &mut Log<'_>,
     around: Around,
@@ -190,7 +190,7 @@ fn walk_args(
     build(log, Instruction::BuildTuple, values)
 }
 
-// A tuple of the function and the name of a class, and behind it the groups of its bases.
+// A tuple of the function and the name of a class, and after it the groups of its bases.
 fn walk_groups(
     log: &mut Log<'_>,
     around: Around,

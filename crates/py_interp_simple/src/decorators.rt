@@ -1,7 +1,7 @@
 //! Decorators.
 ghost use Rattle.std.specs.Prelude.{[], ◌∷◌};
 ghost use Rattle.py_bytecode.specs.declared.instruction.Instruction.TheVariants as op;
-ghost use Rattle.py_emission_parts.specs.TableParts.{counted};
+ghost use Rattle.py_emission_parts.specs.TableParts.{counted_operation};
 ghost use Rattle.py_tree.specs.View.{expr_tree, exprs};
 ghost use Rattle.py_answers.specs.Log.{Gets, world_of};
 ghost use Rattle.py_answers.specs.Told.{value_of, values_of};
@@ -12,8 +12,8 @@ ghost use Rattle.py_interp_simple.specs.Parts.{called_by};
 use py_answers::{Halt, Log, StepValue};
 use py_bytecode::Instruction;
 use py_interp::Around;
+use py_interp::operations::{does_two, numbered};
 use py_interp_exprs::elements::walk_all;
-use py_interp_values::operations::{does_two, numbered};
 use py_tree::Expr;
 
 /// Gets decorators in order.
@@ -31,7 +31,7 @@ pub(crate) fn walk_decorators(
     walk_all(log, around, decorators)
 }
 
-/// Calls decorators, each with what the one behind it gives, and the last with a value.
+/// Calls decorators, each with what the one after it gives, and the last with a value.
 ///
 /// # Errors
 /// What ends the run, or OutOfMemory.
@@ -56,7 +56,7 @@ fn call_decorator(
     decorator: StepValue,
     value: StepValue,
 ) -> Result<StepValue, Halt>
-    ensures { Gets value_of result (world_of log.new) (does (counted op.CallFunctionPositional 1) (value_of decorator ∷ value_of value ∷ []) (world_of log.old)) }
+    ensures { Gets value_of result (world_of log.new) (does (counted_operation op.CallFunctionPositional 1) (value_of decorator ∷ value_of value ∷ []) (world_of log.old)) }
 {
     let operation = numbered(Instruction::CallFunctionPositional, 1);
     does_two(log, operation, decorator, value)

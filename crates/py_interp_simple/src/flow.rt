@@ -7,7 +7,7 @@ use py_answers::StepValue;
 /// How a statement ends that raises nothing and that nothing stops.
 #[derive(Drop)]
 pub enum Flow {
-    /// What stands behind it is next.
+    /// What stands after it is next.
     Normal,
     /// The innermost loop ends.
     Break,
@@ -18,7 +18,7 @@ pub enum Flow {
 }
 
 impl Flow {
-    /// Whether what stands behind is next.
+    /// Whether what stands after is next.
     pub fn is_normal(&self) -> bool
         ensures { result ≡ is_normal self.now }
     {

@@ -21,13 +21,13 @@ use py_answers::{Halt, Log, Operand, Operation, StepValue};
 use py_base::Text;
 use py_bytecode::Instruction;
 use py_interp::Around;
+use py_interp::constants::text;
+use py_interp::names::store;
+use py_interp::operands::{copy_value, two};
+use py_interp::operations::does_none;
 use py_interp_exprs::functions::fixed_name;
 use py_interp_exprs::making::{append, make};
 use py_interp_exprs::{Defaults, walk_defaults};
-use py_interp_values::constants::text;
-use py_interp_values::names::store;
-use py_interp_values::operands::{copy_value, two};
-use py_interp_values::operations::does_none;
 use py_tree::{StmtFunctionDef, Stmts};
 use std::alloc::Global;
 
@@ -64,7 +64,7 @@ pub fn walk_function(
     call_decorators(log, decorators, function)
 }
 
-// With type parameters a function is made in a hidden scope.
+// With type parameters a function is made in a type-parameter scope.
 fn define(log: &mut Log<'_>, around: Around, s: &StmtFunctionDef) -> Result<StepValue, Halt>
     ensures { Gets value_of result (world_of log.new) (define around s.now.name (arguments expr_tree s.now.args.value) (stmts stmt_tree s.now.body) (opt_box expr_tree s.now.returns) (type_params s.now.type_params) (world_of log.old)) }
 {

@@ -1,7 +1,7 @@
-//! The hidden scopes of type parameters.
+//! The type-parameter scopes of type parameters.
 ghost use Rattle.std.specs.Prelude.{[], ◌∷◌, ◌++◌, ◌+◌, ◌≡◌, length, IfErr, IfOk};
 ghost use Rattle.py_bytecode.specs.declared.instruction.Instruction.TheVariants as op;
-ghost use Rattle.py_emission_parts.specs.TableParts.{counted};
+ghost use Rattle.py_emission_parts.specs.TableParts.{counted_operation};
 ghost use Rattle.py_tree.specs.View.{arguments, expr_tree};
 ghost use Rattle.py_emission_parts.specs.Within.{hidden_name};
 ghost use Rattle.py_answers.specs.Log.{Gets, world_of};
@@ -14,14 +14,14 @@ use py_answers::{Halt, Log, StepValue};
 use py_base::Text;
 use py_bytecode::Instruction;
 use py_interp::Around;
+use py_interp::operands::one;
+use py_interp::operations::{counted, does, does_one, numbered};
 use py_interp_exprs::making::{append, make};
 use py_interp_exprs::{Defaults, walk_defaults};
-use py_interp_values::operands::one;
-use py_interp_values::operations::{counted, does, does_one, numbered};
 use py_tree::Arguments;
 use std::alloc::{AllocError, Global};
 
-/// Makes the function of a hidden scope, and calls it with no defaults.
+/// Makes the function of a type-parameter scope, and calls it with no defaults.
 ///
 /// # Errors
 /// What ends the run, or OutOfMemory.
@@ -33,7 +33,7 @@ pub(crate) fn call_bare(log: &mut Log<'_>, name: &Text) -> Result<StepValue, Hal
     does_one(log, operation, function)
 }
 
-/// Makes the function of a hidden scope, and calls it with the defaults of parameters.
+/// Makes the function of a type-parameter scope, and calls it with the defaults of parameters.
 ///
 /// # Errors
 /// What ends the run, or OutOfMemory.
@@ -52,7 +52,7 @@ pub(crate) fn call_with_defaults(
 
 // Calls a function with defaults.
 fn call_with(log: &mut Log<'_>, function: StepValue, defaults: Defaults) -> Result<StepValue, Halt>
-    ensures { let p = values_of defaults.positional.items in let q = values_of defaults.keyword.items in Gets value_of result (world_of log.new) (does (counted op.CallFunctionPositional (length p + length q)) (value_of function ∷ (p ++ q)) (world_of log.old)) }
+    ensures { let p = values_of defaults.positional.items in let q = values_of defaults.keyword.items in Gets value_of result (world_of log.new) (does (counted_operation op.CallFunctionPositional (length p + length q)) (value_of function ∷ (p ++ q)) (world_of log.old)) }
 {
     let Defaults {
         positional: mut parts,
@@ -65,7 +65,7 @@ fn call_with(log: &mut Log<'_>, function: StepValue, defaults: Defaults) -> Resu
     does(log, operation, operands)
 }
 
-// Makes the function of the hidden scope around what has this name.
+// Makes the function of the type-parameter scope around what has this name.
 fn make_hidden(log: &mut Log<'_>, name: &Text) -> Result<StepValue, Halt>
     ensures { Gets value_of result (world_of log.new) (make 0 [] [] (hidden_name name.now) (world_of log.old)) }
 {
@@ -73,7 +73,7 @@ fn make_hidden(log: &mut Log<'_>, name: &Text) -> Result<StepValue, Halt>
     make(log, 0, Vec::new(log.alloc), Vec::new(log.alloc), &full)
 }
 
-// The name of the hidden scope around what has this name.
+// The name of the type-parameter scope around what has this name.
 fn hidden_text(alloc: Global, name: &str) -> Result<Text, Halt>
     ensures ok { IfOk result (λ full. full ≡ hidden_name name.now) }
     ensures err { IfErr result (λ h. h ≡ Halt.OutOfMemory) }

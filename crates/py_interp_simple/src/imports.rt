@@ -4,9 +4,9 @@ ghost use Rattle.py_bytecode.specs.declared.instruction.Instruction.TheVariants 
 ghost use Rattle.py_bytecode.specs.Objects as object;
 ghost use Rattle.py_bytecode.specs.Values as values;
 ghost use Rattle.py_bytecode.specs.Values.{Bare, Operates, for_none, operation, then_get};
-ghost use Rattle.py_emission_parts.specs.TableParts.{named};
+ghost use Rattle.py_emission_parts.specs.TableParts.{named_operation};
 ghost use Rattle.py_bytecode.specs.View.{constant};
-ghost use Rattle.py_emission.specs.Imports.{asked, asked_all, further_segments, import_name, package_name, taken_name};
+ghost use Rattle.py_emission.specs.Imports.{asked_tuple, asked_all, further_segments, import_name, package_name, taken_name};
 ghost use Rattle.py_answers.specs.Log.{Gets, world_of};
 ghost use Rattle.py_answers.specs.Told.{value_of};
 ghost use Rattle.py_interp.specs.Acting.{get_attributes, get_module, import_all, import_from, import_value, into, store, take_each};
@@ -17,10 +17,10 @@ use crate::flow::Flow;
 use py_answers::{Halt, Log, Operand, Operation, StepValue};
 use py_base::Text;
 use py_bytecode::{ConstantData, Instruction};
+use py_interp::names::store;
+use py_interp::operands::{copy_value, one};
+use py_interp::operations::{bare, does_none, does_one, does_two};
 use py_interp_exprs::functions::fixed_name;
-use py_interp_values::names::store;
-use py_interp_values::operands::{copy_value, one};
-use py_interp_values::operations::{bare, does_none, does_one, does_two};
 use py_node_values::paths::{
     asked_names, behind_dot, first_segment, has_star, name_taken, single_name,
 };
@@ -97,7 +97,7 @@ fn load_segments(log: &mut Log<'_>, path: &str, outermost: StepValue) -> Result<
 }
 
 fn load_segment(log: &mut Log<'_>, segment: &str, object: StepValue) -> Result<StepValue, Halt>
-    ensures { Gets value_of result (world_of log.new) (does (named op.LoadAttr segment.now) (value_of object ∷ []) (world_of log.old)) }
+    ensures { Gets value_of result (world_of log.new) (does (named_operation op.LoadAttr segment.now) (value_of object ∷ []) (world_of log.old)) }
 {
     let name = fixed_name(log.alloc, segment)?;
     let operation = Operation {
@@ -195,7 +195,7 @@ fn import_star(log: &mut Log<'_>, s: &StmtImportFrom) -> Result<(), Halt>
 
 // Imports some names of a module, and stores each.
 fn import_some(log: &mut Log<'_>, s: &StmtImportFrom) -> Result<(), Halt>
-    ensures { Ends goes_on result (world_of log.new) (into (import_value s.now.«module» s.now.level (asked s.now.names)) (take_each s.now.names) (world_of log.old)) }
+    ensures { Ends goes_on result (world_of log.new) (into (import_value s.now.«module» s.now.level (asked_tuple s.now.names)) (take_each s.now.names) (world_of log.old)) }
 {
     let names = some_asked(log.alloc, s.names.as_slice())?;
     let module = import_module(log, &s.module, s.level, names)?;
@@ -214,7 +214,7 @@ fn take_each(log: &mut Log<'_>, names: &[Alias], source: &StepValue) -> Result<(
 }
 
 fn take(log: &mut Log<'_>, alias: &Alias, source: &StepValue) -> Result<(), Halt>
-    ensures { Gets (λ u. u) result (world_of log.new) (then_get (does (named op.ImportFrom alias.now.name) (value_of source.now ∷ []) (world_of log.old)) (λ x w1. store (taken_name alias.now) x w1)) }
+    ensures { Gets (λ u. u) result (world_of log.new) (then_get (does (named_operation op.ImportFrom alias.now.name) (value_of source.now ∷ []) (world_of log.old)) (λ x w1. store (taken_name alias.now) x w1)) }
 {
     let copied = copy_value(log.alloc, source)?;
     let operation = Operation {
@@ -239,7 +239,7 @@ fn all_asked(alloc: Global) -> Result<ConstantData, Halt>
 
 // The tuple of the names that a module is asked for.
 fn some_asked(alloc: Global, names: &[Alias]) -> Result<ConstantData, Halt>
-    ensures ok { IfOk result (λ c. constant c ≡ asked names.now) }
+    ensures ok { IfOk result (λ c. constant c ≡ asked_tuple names.now) }
     ensures err { IfErr result (λ h. h ≡ Halt.OutOfMemory) }
 {
     match asked_names(alloc, names) {

@@ -7,6 +7,7 @@ mod bodies;
 mod classes;
 mod decorators;
 mod deletes;
+mod dropped;
 mod flow;
 mod functions;
 mod hidden;

@@ -14,11 +14,11 @@ use py_answers::{Halt, Log, StepValue};
 use py_base::Text;
 use py_bytecode::ConstantData;
 use py_interp::Around;
+use py_interp::constants::{none, text};
+use py_interp::operands::push;
 use py_interp_exprs::functions::fixed_name;
 use py_interp_exprs::groups::close_map;
 use py_interp_exprs::walk_expression;
-use py_interp_values::constants::{none, text};
-use py_interp_values::operands::push;
 use py_tree::{Arg, ArgWithDefault, Arguments, Expr};
 use std::alloc::Global;
 
@@ -67,7 +67,7 @@ pub(crate) fn walk_notes(
 }
 
 // The map of names and values, which take turns; none where there are none.
-#[tactic(auto, using(py_interp_values::proofs::Lengths::lengths))]
+#[tactic(auto, using(py_interp::proofs::Lengths::lengths))]
 fn map_of(log: &mut Log<'_>, notes: Vec<StepValue>) -> Result<Vec<StepValue>, Halt>
     ensures { let run = values_of notes.items in Gets (λ v. values_of v.items) result (world_of log.new) (close_map [] (length run / 2) run (world_of log.old)) }
 {
@@ -90,7 +90,7 @@ fn get_notes(
     walk_param_notes(log, around, notes, params)
 }
 
-// The names and values of the annotations of parameters, behind others.
+// The names and values of the annotations of parameters, after others.
 #[tactic(auto, using(crate::proofs::AnnotationLemmas::params_joined))]
 fn walk_param_notes(
     log: &mut Log<'_>,
@@ -146,7 +146,7 @@ fn walk_opt_arg_note(
     }
 }
 
-// The name and the value of an annotation behind others, where there is one.
+// The name and the value of an annotation after others, where there is one.
 fn walk_opt_note(
     log: &mut Log<'_>,
     around: Around,

@@ -4,10 +4,10 @@ ghost use Rattle.py_tree.specs.Tree as tree;
 ghost use Rattle.py_tree.specs.View.{expr_tree, opt_box};
 ghost use Rattle.py_bytecode.specs.declared.instruction.Instruction.TheVariants as op;
 ghost use Rattle.py_bytecode.specs.Values.{Number, Operates, Value, Fine, for_none, operation, then_get};
-ghost use Rattle.py_control.specs.Form.{reraised};
+ghost use Rattle.py_control.specs.Form.{reraise_end};
 ghost use Rattle.py_answers.specs.Log.{Gets, world_of};
 ghost use Rattle.py_answers.specs.Told.{Known, value_of, values_of};
-ghost use Rattle.py_emission_parts.specs.TableParts.{counted};
+ghost use Rattle.py_emission_parts.specs.TableParts.{counted_operation};
 ghost use Rattle.py_interp.specs.Doing.{does};
 ghost use Rattle.py_interp.specs.Acting.{load, throw};
 ghost use Rattle.py_interp.specs.Statements.{assert_walk, assertion, raise_walk, return_walk};
@@ -18,12 +18,12 @@ use py_answers::{Halt, Log, StepValue};
 use py_base::List;
 use py_bytecode::Instruction;
 use py_interp::Around;
+use py_interp::constants::none;
+use py_interp::names::load;
+use py_interp::operands::{one, two};
+use py_interp::operations::{does_one, does_two, numbered};
 use py_interp_exprs::functions::fixed_name;
 use py_interp_exprs::{walk_expression, walk_test};
-use py_interp_values::constants::none;
-use py_interp_values::names::load;
-use py_interp_values::operands::{one, two};
-use py_interp_values::operations::{does_one, does_two, numbered};
 use py_tree::{Expr, StmtAssert, StmtRaise};
 
 /// Raises an exception, or the one that is handled again.
@@ -58,7 +58,7 @@ fn raise_one(
 
 // Raises the exception that is handled again, where there is one.
 fn raise_again(log: &mut Log<'_>, slot: Option<u32>) -> Result<(), Halt>
-    ensures { Ends goes_on result (world_of log.new) (reraised (slot_of slot) (world_of log.old)) }
+    ensures { Ends goes_on result (world_of log.new) (reraise_end (slot_of slot) (world_of log.old)) }
 {
     if let Some(exception) = slot {
         return Err(Halt::Raised(exception));
@@ -144,7 +144,7 @@ fn assertion(
 
 // The exception of an assertion without a message.
 fn bare_assertion(log: &mut Log<'_>) -> Result<StepValue, Halt>
-    ensures { Gets value_of result (world_of log.new) (then_get (load (codes "AssertionError") (world_of log.old)) (λ f w1. does (counted op.CallFunctionPositional 0) (f ∷ []) w1)) }
+    ensures { Gets value_of result (world_of log.new) (then_get (load (codes "AssertionError") (world_of log.old)) (λ f w1. does (counted_operation op.CallFunctionPositional 0) (f ∷ []) w1)) }
 {
     let error = load_assertion(log)?;
     let operation = numbered(Instruction::CallFunctionPositional, 0);

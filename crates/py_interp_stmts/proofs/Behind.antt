@@ -1,4 +1,4 @@
--- What is done behind a part that has ended in some way.
+-- What is done after a part that has ended in some way.
 use Rattle.std.proofs.Common.{◌≡◌, ℕ, [], ◌∷◌, Bool, true, false, Option, Result, Ok, Err, refl, sym, ap, ◌∙◌}
 use Rattle.py_bytecode.specs.Objects as const
 use Rattle.py_bytecode.specs.Values.{exit_with, Value, Constant, Given, It, World, Operates, Ended, Leave, Breaks, Continues, Returns, Throws, Normal, Leaves, Halts, choose, for_one, on_ended, then_do, throws, truth_of, use_it}
@@ -8,17 +8,17 @@ use Rattle.py_answers.specs.Told.{Known, value_of}
 use Rattle.py_interp.specs.Acting.{Acting}
 use Rattle.py_interp_simple.specs.declared.flow.Flow.{Flow}
 use Rattle.py_interp_simple.specs.Ends.{Ends, flow_of, goes_on, is_normal, slot_of}
-use Rattle.py_interp_simple.proofs.Endings.{Halted, do_halts, other_leaves, same, use_assoc}
-use Rattle.py_interp_stmts.specs.Leaving.{exit_truth, exited}
+use Rattle.py_interp_simple.proofs.Endings.{Halted, do_halts, other_leaves, ending_same, use_assoc}
+use Rattle.py_interp_stmts.specs.Leaving.{exit_truth, exit_end}
 use Rattle.py_interp_stmts.specs.Over.{in_hand_of, is_over}
 
--- ---- a last part
+-- ---- a finally block
 
--- a last part, which sees the exception that is in hand, and what follows it
+-- a finally block, which sees the exception that is in hand, and what follows it
 abbrev pub finished : Ended Known → (last : Option (Value Known) → Acting) → (slot : Option (Value Known)) → Ended Known
 finished end last slot = on_ended end (λ w. last slot w) (λ r w. then_do (last (in_hand r slot) w) (λ w1. Leaves r w1)) Halts
 
--- what goes on behind a last part that ends so
+-- what goes on after a finally block that ends so
 abbrev pub goes_last : Result Flow Halt → Ended Known → Ended Known
 goes_last (Ok Flow.Normal) g = g
 goes_last (Ok Flow.Break) g = then_do g (λ w. Leaves Breaks w)
@@ -29,26 +29,28 @@ goes_last (Err Halt.Stopped) g = g
 goes_last (Err Halt.OutOfMemory) g = g
 
 module _ (last : Option (Value Known) → Acting) (slot : Option ℕ) (w : World Known) where
-  abbrev behind : Ended Known → Ended Known
-  behind end = finished end last (slot_of slot)
+  abbrev follows_behind : Ended Known → Ended Known
+  follows_behind end = finished end last (slot_of slot)
 
-  pub finished_is : (ended : Result Flow Halt) (end : Ended Known) → is_over ended ≡ false → Ends flow_of ended w end → finished end last (slot_of slot) ≡ goes_last ended (last (slot_of (in_hand_of ended slot)) w)
-  finished_is (Ok Flow.Normal) end o e = ap behind e
-  finished_is (Ok Flow.Break) end o e = ap behind e
-  finished_is (Ok Flow.Continue) end o e = ap behind e
-  finished_is (Ok (Flow.Return v)) end o e = ap behind e
-  finished_is (Err (Halt.Raised n)) end o e = ap behind e
+  pub finished_is : (ended : Result Flow Halt) (end : Ended Known) → is_over ended ≡ false → Ends flow_of ended w end
+      → finished end last (slot_of slot) ≡ goes_last ended (last (slot_of (in_hand_of ended slot)) w)
+  finished_is (Ok Flow.Normal) end o e = ap follows_behind e
+  finished_is (Ok Flow.Break) end o e = ap follows_behind e
+  finished_is (Ok Flow.Continue) end o e = ap follows_behind e
+  finished_is (Ok (Flow.Return v)) end o e = ap follows_behind e
+  finished_is (Err (Halt.Raised n)) end o e = ap follows_behind e
   finished_is (Err Halt.Stopped) end o e = absurd cc
   finished_is (Err Halt.OutOfMemory) end o e = absurd cc
 
 -- a run that is over does nothing more
-pub over_stays : (ended : Result Flow Halt) (w : World Known) (end : Ended Known) (n : Acting) (k : Leave Known → Acting) → is_over ended ≡ true → Ends flow_of ended w end → Ends flow_of ended w (on_ended end n k Halts)
-over_stays (Ok f) w end n k o e = absurd cc
-over_stays (Err (Halt.Raised m)) w end n k o e = absurd cc
-over_stays (Err Halt.Stopped) w end n k o e = ap (λ g. on_ended g n k Halts) e
-over_stays (Err Halt.OutOfMemory) w end n k o e = tt
+pub behind_over_stays : (ended : Result Flow Halt) (w : World Known) (end : Ended Known) (n : Acting) (k : Leave Known → Acting) → is_over ended ≡ true
+    → Ends flow_of ended w end → Ends flow_of ended w (on_ended end n k Halts)
+behind_over_stays (Ok f) w end n k o e = absurd cc
+behind_over_stays (Err (Halt.Raised m)) w end n k o e = absurd cc
+behind_over_stays (Err Halt.Stopped) w end n k o e = ap (λ g. on_ended g n k Halts) e
+behind_over_stays (Err Halt.OutOfMemory) w end n k o e = tt
 
--- the last part halts
+-- the finally block halts
 pub last_halts : (ended : Result Flow Halt) (h : Halt) (w : World Known) (g : Ended Known) → Halted h w g → Halted h w (goes_last ended g)
 last_halts (Ok Flow.Normal) h w g e = e
 last_halts (Ok Flow.Break) h w g e = do_halts goes_on h w g (λ w1. Leaves Breaks w1) e
@@ -85,15 +87,15 @@ flow_is_normal Flow.Continue w e = absurd cc
 flow_is_normal (Flow.Return v) w e = absurd cc
 
 module _ (last : Option (Value Known) → Acting) (slot : Option ℕ) (w : World Known) (ended : Result Flow Halt) (end : Ended Known) (o : is_over ended ≡ false) (e : Ends flow_of ended w end) (x : Option ℕ) (p : x ≡ in_hand_of ended slot) (w1 : World Known) where
-  -- the last part is done while this exception is handled
+  -- the finally block is done while this exception is handled
   done_last : finished end last (slot_of slot) ≡ goes_last ended (last (slot_of x) w)
   done_last = finished_is last slot w ended end o e ∙ ap (λ y. goes_last ended (last (slot_of y) w)) (sym p)
 
   pub finally_halts : (h : Halt) → Halted h w1 (last (slot_of x) w) → Halted h w1 (finished end last (slot_of slot))
-  finally_halts h b = same goes_on (Err h) w1 (finished end last (slot_of slot)) (goes_last ended (last (slot_of x) w)) done_last (last_halts ended h w1 (last (slot_of x) w) b)
+  finally_halts h b = ending_same goes_on (Err h) w1 (finished end last (slot_of slot)) (goes_last ended (last (slot_of x) w)) done_last (last_halts ended h w1 (last (slot_of x) w) b)
 
   pub finally_normal : (f : Flow) → last (slot_of x) w ≡ flow_of f w1 → is_normal f ≡ true → Ends flow_of ended w1 (finished end last (slot_of slot))
-  finally_normal f b n = same flow_of ended w1 (finished end last (slot_of slot)) (goes_last ended (last (slot_of x) w)) done_last (last_normal ended w1 (last (slot_of x) w) o (b ∙ flow_is_normal f w1 n))
+  finally_normal f b n = ending_same flow_of ended w1 (finished end last (slot_of slot)) (goes_last ended (last (slot_of x) w)) done_last (last_normal ended w1 (last (slot_of x) w) o (b ∙ flow_is_normal f w1 n))
 
   pub finally_leaves : (f : Flow) → last (slot_of x) w ≡ flow_of f w1 → is_normal f ≡ false → finished end last (slot_of slot) ≡ flow_of f w1
   finally_leaves f b n = done_last ∙ last_leaves ended f w1 (last (slot_of x) w) n b
@@ -103,15 +105,15 @@ module _ (last : Option (Value Known) → Acting) (slot : Option ℕ) (w : World
 exit_is : (x e : Value Known) (ends : Bool → Acting) (w : World Known) → exit_run x e ends w ≡ use_it (exit_truth x e w) ends
 exit_is x e ends w = sym (use_assoc (for_one (Operates exit_with (x ∷ e ∷ [])) w) truth_of ends)
 
-pub exited_flow : (x : Value Known) (f : Flow) (w : World Known) → exited x (flow_of f w) ≡ use_it (exit_truth x (Constant const.none) w) (λ t w1. flow_of f w1)
+pub exited_flow : (x : Value Known) (f : Flow) (w : World Known) → exit_end x (flow_of f w) ≡ use_it (exit_truth x (Constant const.none) w) (λ t w1. flow_of f w1)
 exited_flow x Flow.Normal w = exit_is x (Constant const.none) (λ t w1. Normal w1) w
 exited_flow x Flow.Break w = exit_is x (Constant const.none) (λ t w1. Leaves Breaks w1) w
 exited_flow x Flow.Continue w = exit_is x (Constant const.none) (λ t w1. Leaves Continues w1) w
 exited_flow x (Flow.Return v) w = exit_is x (Constant const.none) (λ t w1. Leaves (Returns (It (value_of v))) w1) w
 
-pub exited_raised : (x e : Value Known) (w : World Known) → exited x (throws e w) ≡ use_it (exit_truth x e w) (λ t w1. choose t (Normal w1) (throws e w1))
+pub exited_raised : (x e : Value Known) (w : World Known) → exit_end x (throws e w) ≡ use_it (exit_truth x e w) (λ t w1. choose t (Normal w1) (throws e w1))
 exited_raised x e w = exit_is x e (λ t w1. choose t (Normal w1) (Leaves (Throws e) w1)) w
 
 -- the exit of a body that has ended so, called with None
-pub leaves_flow : (x v : Value Known) (f : Flow) (w : World Known) (end : Ended Known) → v ≡ Constant const.none → end ≡ flow_of f w → exited x end ≡ use_it (exit_truth x v w) (λ t w1. flow_of f w1)
-leaves_flow x v f w end p e = ap (exited x) e ∙ exited_flow x f w ∙ ap (λ u. use_it (exit_truth x u w) (λ t w1. flow_of f w1)) (sym p)
+pub leaves_flow : (x v : Value Known) (f : Flow) (w : World Known) (end : Ended Known) → v ≡ Constant const.none → end ≡ flow_of f w → exit_end x end ≡ use_it (exit_truth x v w) (λ t w1. flow_of f w1)
+leaves_flow x v f w end p e = ap (exit_end x) e ∙ exited_flow x f w ∙ ap (λ u. use_it (exit_truth x u w) (λ t w1. flow_of f w1)) (sym p)

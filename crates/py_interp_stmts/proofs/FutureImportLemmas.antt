@@ -10,7 +10,7 @@ use Rattle.py_answers.specs.Told.{Known}
 use Rattle.py_interp.specs.declared.around.Around.{Around}
 use Rattle.py_interp.specs.Acting.{Acting, import_from}
 use Rattle.py_interp.specs.Statements.{after_future, behind_futures}
-use Rattle.py_interp_exprs.proofs.Places.{next}
+use Rattle.py_interp_exprs.proofs.Places.{place_next}
 use Rattle.py_interp_stmts.specs.Opened.{future}
 
 module _ (follow : Around → tree.Stmts → Acting) where
@@ -22,19 +22,19 @@ module _ (follow : Around → tree.Stmts → Acting) where
   pub future_at : (a : Around) (xs : List Stmt) (i : ℕ) (d x : Stmt) (s : StmtImportFrom) (w : World Known) → x ≡ get_or xs i d → i < length xs → future_of (stmt_tree x) ≡ Some (future s) →
       behind_futures follow a (stmts stmt_tree (drop i xs)) w ≡ then_do (import_from s.«module» s.names s.level w) (behind_futures follow (after_future (future s) a) (stmts stmt_tree (drop (i + 1) xs)))
   future_at a xs i d x s w is lt e =
-      ap (λ ys. behind_futures follow a (stmts stmt_tree ys) w) (next xs i d x is lt)
+      ap (λ ys. behind_futures follow a (stmts stmt_tree ys) w) (place_next xs i d x is lt)
       ∙ turn a (stmt_tree x) (stmts stmt_tree (drop (i + 1) xs)) (Some (future s)) w e
 
-  pub none_at : (a : Around) (xs : List Stmt) (i : ℕ) (d x : Stmt) (w : World Known) → x ≡ get_or xs i d → i < length xs → future_of (stmt_tree x) ≡ None →
+  pub future_import_none_at : (a : Around) (xs : List Stmt) (i : ℕ) (d x : Stmt) (w : World Known) → x ≡ get_or xs i d → i < length xs → future_of (stmt_tree x) ≡ None →
       behind_futures follow a (stmts stmt_tree (drop i xs)) w ≡ follow a (stmts stmt_tree (drop i xs)) w
-  none_at a xs i d x w is lt e =
-      ap (λ ys. behind_futures follow a (stmts stmt_tree ys) w) (next xs i d x is lt)
+  future_import_none_at a xs i d x w is lt e =
+      ap (λ ys. behind_futures follow a (stmts stmt_tree ys) w) (place_next xs i d x is lt)
       ∙ turn a (stmt_tree x) (stmts stmt_tree (drop (i + 1) xs)) None w e
-      ∙ ap (λ ys. follow a (stmts stmt_tree ys) w) (sym (next xs i d x is lt))
+      ∙ ap (λ ys. follow a (stmts stmt_tree ys) w) (sym (place_next xs i d x is lt))
 
-  pub none_left : (a : Around) (xs : List Stmt) (w : World Known) → xs ≡ [] → behind_futures follow a (stmts stmt_tree xs) w ≡ follow a (stmts stmt_tree xs) w
-  none_left a [] w e = refl
-  none_left a (x ∷ xs) w e = absurd cc
+  pub future_import_none_left : (a : Around) (xs : List Stmt) (w : World Known) → xs ≡ [] → behind_futures follow a (stmts stmt_tree xs) w ≡ follow a (stmts stmt_tree xs) w
+  future_import_none_left a [] w e = refl
+  future_import_none_left a (x ∷ xs) w e = absurd cc
 
   -- the same, whatever stands beyond the end
   pub future_from : (a : Around) (xs : List Stmt) (i : ℕ) (s : StmtImportFrom) (w : World Known) → ((d : Stmt) → future_of (stmt_tree (get_or xs i d)) ≡ Some (future s)) → i < length xs →

@@ -11,17 +11,17 @@ use Rattle.py_interp.specs.Acting.{Acting}
 use Rattle.py_interp.specs.Doing.{Doing}
 use Rattle.py_interp_simple.specs.declared.flow.Flow.{Flow}
 use Rattle.py_interp_simple.specs.Ends.{Ends, after_loop, flow_of, goes_again}
-use Rattle.py_interp_simple.proofs.Endings.{Halted, same}
+use Rattle.py_interp_simple.proofs.Endings.{Halted, ending_same}
 
 -- what follows a turn that has ended so
 abbrev pub then_turn : Ended Known → Acting → Ended Known
 then_turn g again = on_ended g again (λ r w. after_turn r w again) Halts
 
-pub goes_on : (f : Flow) (again : Acting) (w : World Known) → goes_again f ≡ true → then_turn (flow_of f w) again ≡ again w
-goes_on Flow.Normal again w e = refl
-goes_on Flow.Break again w e = absurd cc
-goes_on Flow.Continue again w e = refl
-goes_on (Flow.Return v) again w e = absurd cc
+pub loop_turn_goes_on : (f : Flow) (again : Acting) (w : World Known) → goes_again f ≡ true → then_turn (flow_of f w) again ≡ again w
+loop_turn_goes_on Flow.Normal again w e = refl
+loop_turn_goes_on Flow.Break again w e = absurd cc
+loop_turn_goes_on Flow.Continue again w e = refl
+loop_turn_goes_on (Flow.Return v) again w e = absurd cc
 
 pub ends_loop : (f : Flow) (again : Acting) (w : World Known) → goes_again f ≡ false → then_turn (flow_of f w) again ≡ flow_of (after_loop f) w
 ends_loop Flow.Normal again w e = absurd cc
@@ -31,7 +31,7 @@ ends_loop (Flow.Return v) again w e = refl
 
 -- the same of a turn that has ended so
 pub went_on : (f : Flow) (g : Ended Known) (again : Acting) (w : World Known) → g ≡ flow_of f w → goes_again f ≡ true → then_turn g again ≡ again w
-went_on f g again w e p = ap (λ q. then_turn q again) e ∙ goes_on f again w p
+went_on f g again w e p = ap (λ q. then_turn q again) e ∙ loop_turn_goes_on f again w p
 
 pub left_loop : (f : Flow) (g : Ended Known) (again : Acting) (w : World Known) → g ≡ flow_of f w → goes_again f ≡ false → then_turn g again ≡ flow_of (after_loop f) w
 left_loop f g again w e p = ap (λ q. then_turn q again) e ∙ ends_loop f again w p
@@ -42,17 +42,18 @@ turn_halts how (Halt.Raised n) w g again e = ap (λ q. then_turn q again) e
 turn_halts how Halt.Stopped w g again e = ap (λ q. then_turn q again) e
 turn_halts how Halt.OutOfMemory w g again e = tt
 
-pub turn_halted : {X : Type 0} (how : X → World Known → Ended Known) (r : Result X Halt) (h : Halt) (w : World Known) (whole g : Ended Known) (again : Acting) → r ≡ Err h → whole ≡ then_turn g again → Halted h w g → Ends how r w whole
-turn_halted how r h w whole g again e p b = subst (λ q. Ends how q w whole) (sym e) (same how (Err h) w whole (then_turn g again) p (turn_halts how h w g again b))
+pub turn_halted : {X : Type 0} (how : X → World Known → Ended Known) (r : Result X Halt) (h : Halt) (w : World Known) (whole g : Ended Known) (again : Acting)
+    → r ≡ Err h → whole ≡ then_turn g again → Halted h w g → Ends how r w whole
+turn_halted how r h w whole g again e p b = subst (λ q. Ends how q w whole) (sym e) (ending_same how (Err h) w whole (then_turn g again) p (turn_halts how h w g again b))
 
 -- a turn for each answer, and one more
 pub one_turn_more : (answers : List Answer) → suc (length (answers_of answers)) ≡ length answers + 1
 one_turn_more answers = let m = length-map answers answer_of in omega (arith, m)
 
 -- what is not some is none
-pub none_of : {A : Type 0} (o : Option A) → ((x : A) → o ≡ Some x → ⊥) → o ≡ None
-none_of None h = refl
-none_of (Some x) h = absurd (h x refl)
+pub loop_turn_none_of : {A : Type 0} (o : Option A) → ((x : A) → o ≡ Some x → ⊥) → o ≡ None
+loop_turn_none_of None h = refl
+loop_turn_none_of (Some x) h = absurd (h x refl)
 
 less : (n : ℕ) → suc n - 1 ≡ n
 less n = omega arith
@@ -63,14 +64,14 @@ module _ (test : Doing Bool) (body orelse : Acting) where
   one_turn (suc n) w h = ap (λ m. use_it (test w) (λ c w1. choose c (then_turn (body w1) (turns m test body orelse)) (orelse w1))) (sym (less n))
 
   -- the test holds, or not
-  chosen : (n : ℕ) (w w1 : World Known) (b : Bool) → 0 < n → test w ≡ Fine b w1 → turns n test body orelse w ≡ choose b (then_turn (body w1) (turns (n - 1) test body orelse)) (orelse w1)
-  chosen n w w1 b h e = one_turn n w h ∙ ap (λ g. use_it g (λ c w2. choose c (then_turn (body w2) (turns (n - 1) test body orelse)) (orelse w2))) e
+  loop_turn_chosen : (n : ℕ) (w w1 : World Known) (b : Bool) → 0 < n → test w ≡ Fine b w1 → turns n test body orelse w ≡ choose b (then_turn (body w1) (turns (n - 1) test body orelse)) (orelse w1)
+  loop_turn_chosen n w w1 b h e = one_turn n w h ∙ ap (λ g. use_it g (λ c w2. choose c (then_turn (body w2) (turns (n - 1) test body orelse)) (orelse w2))) e
 
   pub turn_true : (n : ℕ) (w w1 : World Known) (b : Bool) → 0 < n → test w ≡ Fine b w1 → b ≡ true → turns n test body orelse w ≡ then_turn (body w1) (turns (n - 1) test body orelse)
-  turn_true n w w1 b h e p = chosen n w w1 b h e ∙ ap (λ c. choose c (then_turn (body w1) (turns (n - 1) test body orelse)) (orelse w1)) p
+  turn_true n w w1 b h e p = loop_turn_chosen n w w1 b h e ∙ ap (λ c. choose c (then_turn (body w1) (turns (n - 1) test body orelse)) (orelse w1)) p
 
   pub turn_false : (n : ℕ) (w w1 : World Known) (b : Bool) → 0 < n → test w ≡ Fine b w1 → b ≡ false → turns n test body orelse w ≡ orelse w1
-  turn_false n w w1 b h e p = chosen n w w1 b h e ∙ ap (λ c. choose c (then_turn (body w1) (turns (n - 1) test body orelse)) (orelse w1)) p
+  turn_false n w w1 b h e p = loop_turn_chosen n w w1 b h e ∙ ap (λ c. choose c (then_turn (body w1) (turns (n - 1) test body orelse)) (orelse w1)) p
 
   pub no_turn : (n : ℕ) (w : World Known) → n ≡ 0 → turns n test body orelse w ≡ Halts w.events
   no_turn n w e = ap (λ m. turns m test body orelse w) e

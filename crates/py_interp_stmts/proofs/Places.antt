@@ -12,42 +12,43 @@ use Rattle.py_answers.specs.Told.{Known}
 use Rattle.py_interp.specs.declared.around.Around.{Around}
 use Rattle.py_interp.specs.Statements.{handlers_walk, stmt_walk, stmts_walk}
 use Rattle.py_interp.specs.Walks.{walk_expr}
-use Rattle.py_interp_exprs.proofs.Places.{next}
+use Rattle.py_interp_exprs.proofs.Places.{place_next}
 use Rattle.py_interp_simple.proofs.Endings.{use_assoc}
-use Rattle.py_interp_stmts.specs.Catching.{handled, takes}
+use Rattle.py_interp_stmts.specs.Catching.{handler_run, takes}
 
 pub stmts_at : (a : Around) (xs : List Stmt) (i : ℕ) (d x : Stmt) (slot : Option (Value Known)) (w : World Known) → x ≡ get_or xs i d → i < length xs →
     stmts_walk a (stmts stmt_tree (drop i xs)) slot w ≡ then_do (stmt_walk a (stmt_tree x) slot w) (stmts_walk a (stmts stmt_tree (drop (i + 1) xs)) slot)
-stmts_at a xs i d x slot w is lt = ap (λ ys. stmts_walk a (stmts stmt_tree ys) slot w) (next xs i d x is lt)
+stmts_at a xs i d x slot w is lt = ap (λ ys. stmts_walk a (stmts stmt_tree ys) slot w) (place_next xs i d x is lt)
 
 -- a use of the truth of what is got
-use_twice : {A : Type 0} (g : Got Known A) (f : A → World Known → Got Known (Value Known)) (k : Bool → World Known → Ended Known) → use_it (then_get g (λ v w1. then_get (f v w1) truth_of)) k ≡ use_it g (λ v w1. use_it (f v w1) (λ m w2. use_it (truth_of m w2) k))
+use_twice : {A : Type 0} (g : Got Known A) (f : A → World Known → Got Known (Value Known)) (k : Bool → World Known → Ended Known)
+    → use_it (then_get g (λ v w1. then_get (f v w1) truth_of)) k ≡ use_it g (λ v w1. use_it (f v w1) (λ m w2. use_it (truth_of m w2) k))
 use_twice (Fine v w1) f k = use_assoc (f v w1) truth_of k
 use_twice (Raises e w) f k = refl
 use_twice (Stops es) f k = refl
 
 -- the first handler takes the exception, or it goes to the others
 first_handler : (a : Around) (type : tree.OptExpr) (name : Option (List ℕ)) (body : tree.Stmts) (rest : tree.Handlers) (e : Value Known) (w : World Known) →
-    handlers_walk a (tree.more_handlers type name body rest) e w ≡ use_it (takes a type e w) (λ c w1. choose c (handled a type name body e w1) (handlers_walk a rest e w1))
+    handlers_walk a (tree.more_handlers type name body rest) e w ≡ use_it (takes a type e w) (λ c w1. choose c (handler_run a type name body e w1) (handlers_walk a rest e w1))
 first_handler a tree.no_expr name body rest e w = refl
 first_handler a (tree.some_expr t) name body rest e w =
-    sym (use_twice (walk_expr a t w) (λ v w1. for_one (Operates match_exception (e ∷ v ∷ [])) w1) (λ c w1. choose c (handled a (tree.some_expr t) name body e w1) (handlers_walk a rest e w1)))
+    sym (use_twice (walk_expr a t w) (λ v w1. for_one (Operates match_exception (e ∷ v ∷ [])) w1) (λ c w1. choose c (handler_run a (tree.some_expr t) name body e w1) (handlers_walk a rest e w1)))
 
 pub handlers_at : (a : Around) (xs : List (ExceptHandlerOf Stmt)) (i : ℕ) (d x : ExceptHandlerOf Stmt) (e : Value Known) (w : World Known) → x ≡ get_or xs i d → i < length xs →
     handlers_walk a (handlers stmt_tree (drop i xs)) e w
-    ≡ use_it (takes a (opt_box expr_tree x.type_) e w) (λ c w1. choose c (handled a (opt_box expr_tree x.type_) x.name (stmts stmt_tree x.body) e w1) (handlers_walk a (handlers stmt_tree (drop (i + 1) xs)) e w1))
+    ≡ use_it (takes a (opt_box expr_tree x.type_) e w) (λ c w1. choose c (handler_run a (opt_box expr_tree x.type_) x.name (stmts stmt_tree x.body) e w1) (handlers_walk a (handlers stmt_tree (drop (i + 1) xs)) e w1))
 handlers_at a xs i d x e w is lt =
-    ap (λ ys. handlers_walk a (handlers stmt_tree ys) e w) (next xs i d x is lt)
+    ap (λ ys. handlers_walk a (handlers stmt_tree ys) e w) (place_next xs i d x is lt)
     ∙ first_handler a (opt_box expr_tree x.type_) x.name (stmts stmt_tree x.body) (handlers stmt_tree (drop (i + 1) xs)) e w
 
 -- the truth decides
-pub taken : (g : Got Known Bool) (b : Bool) (w : World Known) (so other : World Known → Ended Known) → g ≡ Fine b w → b ≡ true → use_it g (λ c w1. choose c (so w1) (other w1)) ≡ so w
-taken g b w so other e p = ap (λ q. use_it q (λ c w1. choose c (so w1) (other w1))) e ∙ ap (λ c. choose c (so w) (other w)) p
+pub place_taken : (g : Got Known Bool) (b : Bool) (w : World Known) (so other : World Known → Ended Known) → g ≡ Fine b w → b ≡ true → use_it g (λ c w1. choose c (so w1) (other w1)) ≡ so w
+place_taken g b w so other e p = ap (λ q. use_it q (λ c w1. choose c (so w1) (other w1))) e ∙ ap (λ c. choose c (so w) (other w)) p
 
-pub passed : (g : Got Known Bool) (b : Bool) (w : World Known) (so other : World Known → Ended Known) → g ≡ Fine b w → b ≡ false → use_it g (λ c w1. choose c (so w1) (other w1)) ≡ other w
-passed g b w so other e p = ap (λ q. use_it q (λ c w1. choose c (so w1) (other w1))) e ∙ ap (λ c. choose c (so w) (other w)) p
+pub place_passed : (g : Got Known Bool) (b : Bool) (w : World Known) (so other : World Known → Ended Known) → g ≡ Fine b w → b ≡ false → use_it g (λ c w1. choose c (so w1) (other w1)) ≡ other w
+place_passed g b w so other e p = ap (λ q. use_it q (λ c w1. choose c (so w1) (other w1))) e ∙ ap (λ c. choose c (so w) (other w)) p
 
--- a `try` without a last part, and one with it
+-- a `try` without a finally block, and one with it
 pub no_final : (a : Around) (s : StmtTryOf Stmt) (slot : Option (Value Known)) (w : World Known) → s.finalbody ≡ [] →
     stmt_walk a (try_tree s) slot w ≡ try_run (stmts_walk a (stmts stmt_tree s.body) slot) (handlers_walk a (handlers stmt_tree s.handlers)) (stmts_walk a (stmts stmt_tree s.orelse) slot) w
 no_final a s slot w e = ap (λ xs. stmt_walk a (tree.Try s.location (stmts stmt_tree s.body) (handlers stmt_tree s.handlers) (stmts stmt_tree s.orelse) (stmts stmt_tree xs)) slot w) e

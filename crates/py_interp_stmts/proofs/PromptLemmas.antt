@@ -9,26 +9,27 @@ use Rattle.py_emission.specs.Predicates.{none as no_statement}
 use Rattle.py_answers.specs.Told.{Known}
 use Rattle.py_interp.specs.declared.around.Around.{Around}
 use Rattle.py_interp.specs.Acting.{import_from}
-use Rattle.py_interp.specs.Statements.{after_future, printed, prompt_walk, single_walk, stmt_walk}
+use Rattle.py_interp.specs.Statements.{after_future, printed_then, prompt_walk, single_walk, stmt_walk}
 use Rattle.py_interp.specs.Walks.{walk_expr}
-use Rattle.py_interp_stmts.specs.Prompted.{prompted, value_in}
+use Rattle.py_interp_stmts.specs.Prompted.{prompt_rest, value_in}
 
 -- whether no statement is left
-pub none_left : (xs : List Stmt) → no_statement (stmts stmt_tree xs) ≡ nat_eq (length xs) 0
-none_left [] = refl
-none_left (x ∷ xs) = go (length xs)
+pub prompt_none_left : (xs : List Stmt) → no_statement (stmts stmt_tree xs) ≡ nat_eq (length xs) 0
+prompt_none_left [] = refl
+prompt_none_left (x ∷ xs) = go (length xs)
   where
     go : (n : ℕ) → false ≡ nat_eq (suc n) 0
     go n = let h : suc n ≢ 0 = (λ e. absurd (omega (arith, e))) in sym (search (rules, h))
 
 module _ (a : Around) (ss : tree.Stmts) (w : World Known) where
   -- an expression
-  pub value_prompted : (o : Bool) (s : tree.Stmt) (e : tree.Expr) → value_in s ≡ Some e → prompted o a (tree.more_stmts s ss) w ≡ printed (no_statement ss) (walk_expr a e) (prompted o a ss) w
-  value_prompted true (tree.StmtExpr at v) e p = ap (λ x. printed (no_statement ss) (walk_expr a x) (prompted true a ss) w) (some_same v e p)
+  pub value_prompted : (o : Bool) (s : tree.Stmt) (e : tree.Expr) → value_in s ≡ Some e
+      → prompt_rest o a (tree.more_stmts s ss) w ≡ printed_then (no_statement ss) (walk_expr a e) (prompt_rest o a ss) w
+  value_prompted true (tree.StmtExpr at v) e p = ap (λ x. printed_then (no_statement ss) (walk_expr a x) (prompt_rest true a ss) w) (some_same v e p)
     where
       some_same : (x y : tree.Expr) → Some x ≡ Some y → x ≡ y
       some_same x y q = cc
-  value_prompted false (tree.StmtExpr at v) e p = ap (λ x. printed (no_statement ss) (walk_expr a x) (prompted false a ss) w) (some_same v e p)
+  value_prompted false (tree.StmtExpr at v) e p = ap (λ x. printed_then (no_statement ss) (walk_expr a x) (prompt_rest false a ss) w) (some_same v e p)
     where
       some_same : (x y : tree.Expr) → Some x ≡ Some y → x ≡ y
       some_same x y q = cc
@@ -39,7 +40,8 @@ module _ (a : Around) (ss : tree.Stmts) (w : World Known) where
   other_single (tree.StmtExpr at v) p = absurd cc
   other_single s p = refl
 
-  pub future_prompted : (s : tree.Stmt) (f : Future) → value_in s ≡ None → future_of s ≡ Some f → prompt_walk a (tree.more_stmts s ss) w ≡ then_do (import_from f.path f.names f.level w) (prompt_walk (after_future f a) ss)
+  pub future_prompted : (s : tree.Stmt) (f : Future) → value_in s ≡ None → future_of s ≡ Some f
+      → prompt_walk a (tree.more_stmts s ss) w ≡ then_do (import_from f.path f.names f.level w) (prompt_walk (after_future f a) ss)
   future_prompted (tree.StmtExpr at v) f p q = absurd cc
   future_prompted s f p q = ap (λ (x : Option Future). elim x [ None ↦ single_walk a (tree.more_stmts s ss) w | Some g ↦ then_do (import_from g.path g.names g.level w) (prompt_walk (after_future g a) ss) ]) q
 

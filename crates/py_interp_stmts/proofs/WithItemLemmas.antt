@@ -1,7 +1,7 @@
 -- What enters items, and what leaves them.
 use Rattle.std.proofs.Common.{◌≡◌, ℕ, ◌+◌, ◌<◌, List, [], ◌∷◌, ◌++◌, length, drop, get_or, Result, Ok, Err, refl, sym, ap, ◌∙◌, subst}
 use Rattle.py_bytecode.specs.Values.{enter_with, for_two, Value, Given, World, Event, Operates, Got, Fine, Ended, Halts, use_it}
-use Rattle.py_control.specs.Form.{assigned, with_run}
+use Rattle.py_control.specs.Form.{assign_then, with_run}
 use Rattle.py_answers.specs.declared.log.Halt.{Halt}
 use Rattle.py_answers.specs.Log.{Gets}
 use Rattle.py_answers.specs.Told.{Known}
@@ -13,28 +13,28 @@ use Rattle.py_interp.specs.Acting.{Acting}
 use Rattle.py_interp.specs.Doing.{Doing}
 use Rattle.py_interp.specs.Statements.{item_walk, with_walk}
 use Rattle.py_interp.specs.Walks.{walk_expr}
-use Rattle.py_interp_exprs.proofs.ContinuationLemmas.{Ends as Stopping}
-use Rattle.py_interp_exprs.proofs.Places.{next}
-use Rattle.py_interp_stmts.specs.Leaving.{Enters, exited, left_all}
+use Rattle.py_interp_exprs.proofs.ContinuationLemmas.{ContinuationEnds as Stopping}
+use Rattle.py_interp_exprs.proofs.Places.{place_next}
+use Rattle.py_interp_stmts.specs.Leaving.{Enters, exit_end, left_all}
 
--- the item at a place, and those behind it
-pub items_at : (a : Around) (xs : List (WithItemOf Expr)) (i : ℕ) (d x : WithItemOf Expr) (body : Acting) (w : World Known) → x ≡ get_or xs i d → i < length xs →
-    with_walk a (with_items (drop i xs)) body w ≡ with_run (walk_expr a (expr_tree x.context_expr.value)) (assigned (item_walk a (opt_box expr_tree x.optional_vars)) (with_walk a (with_items (drop (i + 1) xs)) body)) w
-items_at a xs i d x body w is lt = ap (λ ys. with_walk a (with_items ys) body w) (next xs i d x is lt)
+-- the item at a place, and those after it
+pub with_item_items_at : (a : Around) (xs : List (WithItemOf Expr)) (i : ℕ) (d x : WithItemOf Expr) (body : Acting) (w : World Known) → x ≡ get_or xs i d → i < length xs →
+    with_walk a (with_items (drop i xs)) body w ≡ with_run (walk_expr a (expr_tree x.context_expr.value)) (assign_then (item_walk a (opt_box expr_tree x.optional_vars)) (with_walk a (with_items (drop (i + 1) xs)) body)) w
+with_item_items_at a xs i d x body w is lt = ap (λ ys. with_walk a (with_items ys) body w) (place_next xs i d x is lt)
 
 -- one more is left first
-pub left_more : (xs : List ℕ) (n : ℕ) (end : Ended Known) → left_all (xs ++ n ∷ []) end ≡ left_all xs (exited (Given n 0) end)
+pub left_more : (xs : List ℕ) (n : ℕ) (end : Ended Known) → left_all (xs ++ n ∷ []) end ≡ left_all xs (exit_end (Given n 0) end)
 left_more [] n end = refl
-left_more (x ∷ xs) n end = ap (exited (Given x 0)) (left_more xs n end)
+left_more (x ∷ xs) n end = ap (exit_end (Given x 0)) (left_more xs n end)
 
 -- a run that is over leaves nothing
 pub left_halts : (xs : List ℕ) (es : List (Event Known)) → left_all xs (Halts es) ≡ Halts es
 left_halts [] es = refl
-left_halts (x ∷ xs) es = ap (exited (Given x 0)) (left_halts xs es)
+left_halts (x ∷ xs) es = ap (exit_end (Given x 0)) (left_halts xs es)
 
 -- what is done with what an item gets, and with what entering it gives
 abbrev pub entered : (body : Value Known → Acting) → (Value Known × Value Known) → Acting
-entered body xu w = exited xu.0 (body xu.1 w)
+entered body xu w = exit_end xu.0 (body xu.1 w)
 
 abbrev pub managed : (body : Value Known → Acting) → Value Known → Acting
 managed body v w = use_it (for_two (Operates enter_with (v ∷ [])) w) (entered body)
@@ -43,30 +43,36 @@ managed body v w = use_it (for_two (Operates enter_with (v ∷ [])) w) (entered 
 pub with_got : (item : Doing (Value Known)) (body : Value Known → Acting) (w w1 : World Known) (v : Value Known) → item w ≡ Fine v w1 → with_run item body w ≡ managed body v w1
 with_got item body w w1 v e = ap (λ g. use_it g (managed body)) e
 
-pub with_entered : (item : Doing (Value Known)) (body : Value Known → Acting) (w w1 w2 : World Known) (v : Value Known) (xu : Value Known × Value Known) → item w ≡ Fine v w1 → for_two (Operates enter_with (v ∷ [])) w1 ≡ Fine xu w2 → with_run item body w ≡ exited xu.0 (body xu.1 w2)
+pub with_entered : (item : Doing (Value Known)) (body : Value Known → Acting) (w w1 w2 : World Known) (v : Value Known) (xu : Value Known × Value Known)
+    → item w ≡ Fine v w1 → for_two (Operates enter_with (v ∷ [])) w1 ≡ Fine xu w2 → with_run item body w ≡ exit_end xu.0 (body xu.1 w2)
 with_entered item body w w1 w2 v xu e f = with_got item body w w1 v e ∙ ap (λ g. use_it g (entered body)) f
 
 -- a part ends by getting something
-pub enters_last : (r : Result (Unit {0}) Halt) (w : World Known) (xs : List ℕ) (whole : Acting → Ended Known) (g : Got Known (Unit {0})) → Gets (λ u. u) r w g → ((body : Acting) → whole body ≡ left_all xs (use_it g (λ d w1. body w1))) → Enters r w xs whole
+pub enters_last : (r : Result (Unit {0}) Halt) (w : World Known) (xs : List ℕ) (whole : Acting → Ended Known) (g : Got Known (Unit {0})) → Gets (λ u. u) r w g
+    → ((body : Acting) → whole body ≡ left_all xs (use_it g (λ d w1. body w1))) → Enters r w xs whole
 enters_last (Ok u) w xs whole g h e = λ body. e body ∙ ap (λ q. left_all xs (use_it q (λ d w1. body w1))) h
 enters_last (Err (Halt.Raised n)) w xs whole g h e = λ body. e body ∙ ap (λ q. left_all xs (use_it q (λ d w1. body w1))) h
 enters_last (Err Halt.Stopped) w xs whole g h e = λ body. e body ∙ ap (λ q. left_all xs (use_it q (λ d w1. body w1))) h ∙ left_halts xs w.events
 enters_last (Err Halt.OutOfMemory) w xs whole g h e = tt
 
 -- what halts in a part halts the whole
-enters_halts : {A : Type 0} (h : Halt) (w : World Known) (xs : List ℕ) (whole : Acting → Ended Known) (g : Got Known A) (k : Acting → A → World Known → Ended Known) → ((body : Acting) → whole body ≡ left_all xs (use_it g (k body))) → Stopping h w g → Enters (Err h) w xs whole
+enters_halts : {A : Type 0} (h : Halt) (w : World Known) (xs : List ℕ) (whole : Acting → Ended Known) (g : Got Known A) (k : Acting → A → World Known → Ended Known)
+    → ((body : Acting) → whole body ≡ left_all xs (use_it g (k body))) → Stopping h w g → Enters (Err h) w xs whole
 enters_halts (Halt.Raised n) w xs whole g k e b = λ body. e body ∙ ap (λ q. left_all xs (use_it q (k body))) b
 enters_halts Halt.Stopped w xs whole g k e b = λ body. e body ∙ ap (λ q. left_all xs (use_it q (k body))) b ∙ left_halts xs w.events
 enters_halts Halt.OutOfMemory w xs whole g k e b = tt
 
-pub enters_halted : {A : Type 0} (r : Result (Unit {0}) Halt) (h : Halt) (w : World Known) (xs : List ℕ) (whole : Acting → Ended Known) (g : Got Known A) (k : Acting → A → World Known → Ended Known) → r ≡ Err h → ((body : Acting) → whole body ≡ left_all xs (use_it g (k body))) → Stopping h w g → Enters r w xs whole
+pub enters_halted : {A : Type 0} (r : Result (Unit {0}) Halt) (h : Halt) (w : World Known) (xs : List ℕ) (whole : Acting → Ended Known) (g : Got Known A) (k : Acting → A → World Known → Ended Known)
+    → r ≡ Err h → ((body : Acting) → whole body ≡ left_all xs (use_it g (k body))) → Stopping h w g → Enters r w xs whole
 enters_halted r h w xs whole g k e p b = subst (λ q. Enters q w xs whole) (sym e) (enters_halts h w xs whole g k p b)
 
--- the same where others stand behind the part
-halts_behind : (h : Halt) (w : World Known) (xs : List ℕ) (whole other : Acting → Ended Known) (f : Acting → Acting) → ((body : Acting) → whole body ≡ other (f body)) → Enters (Err h) w xs other → Enters (Err h) w xs whole
+-- the same where others stand after the part
+halts_behind : (h : Halt) (w : World Known) (xs : List ℕ) (whole other : Acting → Ended Known) (f : Acting → Acting)
+    → ((body : Acting) → whole body ≡ other (f body)) → Enters (Err h) w xs other → Enters (Err h) w xs whole
 halts_behind (Halt.Raised n) w xs whole other f e b = λ body. e body ∙ b (f body)
 halts_behind Halt.Stopped w xs whole other f e b = λ body. e body ∙ b (f body)
 halts_behind Halt.OutOfMemory w xs whole other f e b = tt
 
-pub halted_behind : (r : Result (Unit {0}) Halt) (h : Halt) (w : World Known) (xs : List ℕ) (whole other : Acting → Ended Known) (f : Acting → Acting) → r ≡ Err h → ((body : Acting) → whole body ≡ other (f body)) → Enters (Err h) w xs other → Enters r w xs whole
+pub halted_behind : (r : Result (Unit {0}) Halt) (h : Halt) (w : World Known) (xs : List ℕ) (whole other : Acting → Ended Known) (f : Acting → Acting)
+    → r ≡ Err h → ((body : Acting) → whole body ≡ other (f body)) → Enters (Err h) w xs other → Enters r w xs whole
 halted_behind r h w xs whole other f e p b = subst (λ q. Enters q w xs whole) (sym e) (halts_behind h w xs whole other f p b)

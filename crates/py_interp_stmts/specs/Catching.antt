@@ -2,7 +2,7 @@
 use Rattle.std.specs.Prelude.{ℕ, List, [], ◌∷◌, Bool, true, Option, Some}
 use Rattle.py_tree.specs.Tree as tree
 use Rattle.py_bytecode.specs.Values.{match_exception, Value, Operates, Fine, then_get, for_one, truth_of}
-use Rattle.py_control.specs.Form.{assigned}
+use Rattle.py_control.specs.Form.{assign_then}
 use Rattle.py_answers.specs.Told.{Known}
 use Rattle.py_interp.specs.declared.around.Around.{Around}
 use Rattle.py_interp.specs.Acting.{Acting, put_name, unname}
@@ -16,6 +16,6 @@ takes a tree.no_expr e w = Fine true w
 takes a (tree.some_expr t) e w = then_get (walk_expr a t w) (λ v w1. then_get (for_one (Operates match_exception (e ∷ v ∷ [])) w1) truth_of)
 
 -- its body; one without a type has no name
-abbrev pub handled : Around → (type : tree.OptExpr) → (name : Option (List ℕ)) → (body : tree.Stmts) → Value Known → Acting
-handled a tree.no_expr name body e w = stmts_walk a body (Some e) w
-handled a (tree.some_expr t) name body e w = assigned (put_name name) (unname name (stmts_walk a body) (Some e)) e w
+abbrev pub handler_run : Around → (type : tree.OptExpr) → (name : Option (List ℕ)) → (body : tree.Stmts) → Value Known → Acting
+handler_run a tree.no_expr name body e w = stmts_walk a body (Some e) w
+handler_run a (tree.some_expr t) name body e w = assign_then (put_name name) (unname name (stmts_walk a body) (Some e)) e w

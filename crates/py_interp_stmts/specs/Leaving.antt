@@ -13,13 +13,13 @@ abbrev pub exit_truth : (exit exception : Value Known) → Doing Bool
 exit_truth x e w = then_get (for_one (Operates exit_with (x ∷ e ∷ [])) w) truth_of
 
 -- how a `with` ends whose body ends so
-abbrev pub exited : (exit : Value Known) → Ended Known → Ended Known
-exited x ended = on_ended ended (λ w. exit_run x (Constant const.none) (λ t w1. Normal w1) w) (λ r w. exit_leave x r w) Halts
+abbrev pub exit_end : (exit : Value Known) → Ended Known → Ended Known
+exit_end x ended = on_ended ended (λ w. exit_run x (Constant const.none) (λ t w1. Normal w1) w) (λ r w. exit_leave x r w) Halts
 
 -- what was entered is left, the last one first; the numbers of the answers that have the exits
 abbrev pub left_all : (exits : List ℕ) → Ended Known → Ended Known
 left_all [] ended = ended
-left_all (n ∷ ns) ended = exited (Given n 0) (left_all ns ended)
+left_all (n ∷ ns) ended = exit_end (Given n 0) (left_all ns ended)
 
 -- a part enters: the whole is, whatever the body, what leaves those that were entered
 abbrev pub Enters : Result (Unit {0}) Halt → World Known → (exits : List ℕ) → (whole : Acting → Ended Known) → Type 0

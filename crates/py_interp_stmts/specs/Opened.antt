@@ -14,5 +14,5 @@ abbrev pub future : StmtImportFrom → Future
 future s = record { at = s.location; path = s.«module»; names = s.names; level = s.level }
 
 -- what follows of these statements
-abbrev pub opened : (follow : Around → tree.Stmts → Acting) → List Stmt → Opening → Acting
-opened follow body o w = follow o.around (stmts stmt_tree (drop o.count body)) w
+abbrev pub opened_rest : (follow : Around → tree.Stmts → Acting) → List Stmt → Opening → Acting
+opened_rest follow body o w = follow o.around (stmts stmt_tree (drop o.count body)) w

@@ -1,4 +1,4 @@
--- How a part of a body has ended, behind which something else is done.
+-- How a part of a body has ended, after which something else is done.
 use Rattle.std.specs.Prelude.{ℕ, Bool, true, false, Option, Some, Result, Ok, Err}
 use Rattle.py_bytecode.specs.Values.{World, Ended, Leaves, Halts, on_ended, then_do}
 use Rattle.py_answers.specs.declared.log.Halt.{Halt}

@@ -16,10 +16,10 @@ value_in (tree.StmtExpr at value) = Some value
 value_in other = None
 
 -- future imports may stand among them, or not any more
-abbrev pub prompted : (opening : Bool) → Around → tree.Stmts → Acting
-prompted true a ss w = prompt_walk a ss w
-prompted false a ss w = single_walk a ss w
+abbrev pub prompt_rest : (opening : Bool) → Around → tree.Stmts → Acting
+prompt_rest true a ss w = prompt_walk a ss w
+prompt_rest false a ss w = single_walk a ss w
 
 -- others follow a statement
-abbrev pub followed : Prompt → tree.Stmts → Flow → World Known → Ended Known
-followed p ss f w = then_do (flow_of f w) (prompted p.opening p.around ss)
+abbrev pub followed_end : Prompt → tree.Stmts → Flow → World Known → Ended Known
+followed_end p ss f w = then_do (flow_of f w) (prompt_rest p.opening p.around ss)

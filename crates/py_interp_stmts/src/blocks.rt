@@ -7,7 +7,7 @@ ghost use Rattle.py_answers.specs.Log.{world_of};
 ghost use Rattle.py_answers.specs.Told.{value_of};
 ghost use Rattle.py_interp.specs.Doing.{none};
 ghost use Rattle.py_interp.specs.Walks.{walk_expr};
-ghost use Rattle.py_interp.specs.Statements.{behind_futures, block_walk, last_walk, returned, stmt_walk};
+ghost use Rattle.py_interp.specs.Statements.{behind_futures, block_walk, last_walk, stored_return, stmt_walk};
 ghost use Rattle.py_interp_simple.specs.Ends.{Ends, flow_of};
 ghost use Rattle.py_interp_simple.specs.Parts.{class_value, function_value};
 
@@ -16,11 +16,11 @@ use crate::statements::{walk_statement, walk_statements};
 use py_answers::{Halt, Log, StepValue};
 use py_base::Text;
 use py_interp::Around;
+use py_interp::constants::none;
+use py_interp::names::store;
+use py_interp::operands::copy_value;
 use py_interp_exprs::walk_expression;
 use py_interp_simple::{Flow, walk_class, walk_function};
-use py_interp_values::constants::none;
-use py_interp_values::names::store;
-use py_interp_values::operands::copy_value;
 use py_tree::{Expr, Stmt, StmtClassDef, StmtFunctionDef};
 
 /// Walks future imports and the block that follows them.
@@ -80,14 +80,14 @@ pub(crate) fn return_expression(
 }
 
 fn return_function(log: &mut Log<'_>, around: Around, s: &StmtFunctionDef) -> Result<Flow, Halt>
-    ensures { Ends flow_of result (world_of log.new) (returned (function_value around s.now) s.now.name (world_of log.old)) }
+    ensures { Ends flow_of result (world_of log.new) (stored_return (function_value around s.now) s.now.name (world_of log.old)) }
 {
     let function = walk_function(log, around, s)?;
     store_returned(log, &s.name, function)
 }
 
 fn return_class(log: &mut Log<'_>, around: Around, s: &StmtClassDef) -> Result<Flow, Halt>
-    ensures { Ends flow_of result (world_of log.new) (returned (class_value around s.now) s.now.name (world_of log.old)) }
+    ensures { Ends flow_of result (world_of log.new) (stored_return (class_value around s.now) s.now.name (world_of log.old)) }
 {
     let class = walk_class(log, around, s)?;
     store_returned(log, &s.name, class)
@@ -95,7 +95,7 @@ fn return_class(log: &mut Log<'_>, around: Around, s: &StmtClassDef) -> Result<F
 
 // What is stored is returned too.
 fn store_returned(log: &mut Log<'_>, name: &Text, value: StepValue) -> Result<Flow, Halt>
-    ensures { Ends flow_of result (world_of log.new) (returned (λ w. Fine (value_of value) w) name.now (world_of log.old)) }
+    ensures { Ends flow_of result (world_of log.new) (stored_return (λ w. Fine (value_of value) w) name.now (world_of log.old)) }
 {
     let kept = copy_value(log.alloc, &value)?;
     store(log, name, value)?;

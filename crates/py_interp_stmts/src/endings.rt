@@ -1,4 +1,4 @@
-//! How a part of a body has ended, behind which something else is done.
+//! How a part of a body has ended, after which something else is done.
 ghost use Rattle.std.specs.Prelude.{◌≡◌};
 ghost use Rattle.py_interp_stmts.specs.Over.{in_hand_of, is_over};
 

@@ -11,7 +11,7 @@ ghost use Rattle.py_interp.specs.declared.around.Around.{Around as Around1};
 ghost use Rattle.py_interp.specs.Acting.{Acting};
 ghost use Rattle.py_interp.specs.Statements.{after_future, behind_futures};
 ghost use Rattle.py_interp_simple.specs.Ends.{Ends};
-ghost use Rattle.py_interp_stmts.specs.Opened.{future, opened};
+ghost use Rattle.py_interp_stmts.specs.Opened.{future, opened_rest};
 
 use py_answers::{Halt, Log};
 use py_interp::Around;
@@ -19,7 +19,7 @@ use py_interp_simple::import_names;
 use py_name_uses::names::{is_future, names_annotations};
 use py_tree::{Stmt, StmtImportFrom};
 
-/// What stands around the statements behind future imports, and how many stand before them.
+/// What stands around the statements after future imports, and how many stand before them.
 #[derive(Clone, Copy)]
 pub struct Opening {
     pub around: Around,
@@ -35,7 +35,7 @@ pub(crate) fn walk_futures(
     around: Around,
     body: &[Stmt],
 ) -> Result<Opening, Halt>
-    ensures opens { (follow : Around1 → tree.Stmts → Acting) → Ends (opened follow body.now) result (world_of log.new) (behind_futures follow around (stmts stmt_tree body.now) (world_of log.old)) }
+    ensures opens { (follow : Around1 → tree.Stmts → Acting) → Ends (opened_rest follow body.now) result (world_of log.new) (behind_futures follow around (stmts stmt_tree body.now) (world_of log.old)) }
     ensures within { IfOk result (λ o. o.count ≤ length body.now) }
 {
     let mut around = around;
@@ -48,7 +48,7 @@ pub(crate) fn walk_futures(
     Ok(Opening { around, count })
 }
 
-/// What stands around the statements behind a future import.
+/// What stands around the statements after a future import.
 pub(crate) fn after_future(around: Around, s: &StmtImportFrom) -> Around
     ensures { result ≡ after_future (future s.now) around }
 {

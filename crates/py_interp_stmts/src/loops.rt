@@ -2,7 +2,7 @@
 ghost use Rattle.std.specs.Prelude.{suc, length};
 ghost use Rattle.py_tree.specs.View.{expr_tree, for_tree, stmt_tree, stmts, while_tree};
 ghost use Rattle.py_bytecode.specs.Values.{Given, next_of};
-ghost use Rattle.py_control.specs.Form.{assigned, rounds};
+ghost use Rattle.py_control.specs.Form.{assign_then, rounds};
 ghost use Rattle.py_answers.specs.Log.{Gets, next_given, world_of};
 ghost use Rattle.py_answers.specs.Told.{value_of};
 ghost use Rattle.py_interp.specs.Statements.{stmt_walk, stmts_walk};
@@ -13,10 +13,10 @@ use crate::statements::walk_statements;
 use py_answers::{Halt, Log, StepValue};
 use py_bytecode::Instruction;
 use py_interp::Around;
+use py_interp::operands::copy_value;
+use py_interp::operations::{bare, does_one};
 use py_interp_exprs::{walk_expression, walk_target, walk_test};
 use py_interp_simple::Flow;
-use py_interp_values::operands::copy_value;
-use py_interp_values::operations::{bare, does_one};
 use py_tree::{StmtFor, StmtWhile};
 
 /// Walks a body while a test holds, and then an else part.
@@ -67,7 +67,7 @@ fn walk_rounds(
     iterator: &StepValue,
     slot: Option<u32>,
 ) -> Result<Flow, Halt>
-    ensures { Ends flow_of result (world_of log.new) (rounds (suc (length (world_of log.old).answers)) (value_of iterator.now) (assigned (walk_target around (expr_tree s.now.target.value)) (stmts_walk around (stmts stmt_tree s.now.body) (slot_of slot))) (stmts_walk around (stmts stmt_tree s.now.orelse) (slot_of slot)) (world_of log.old)) }
+    ensures { Ends flow_of result (world_of log.new) (rounds (suc (length (world_of log.old).answers)) (value_of iterator.now) (assign_then (walk_target around (expr_tree s.now.target.value)) (stmts_walk around (stmts stmt_tree s.now.body) (slot_of slot))) (stmts_walk around (stmts stmt_tree s.now.orelse) (slot_of slot)) (world_of log.old)) }
 {
     let mut left = log.answers.len() + 1;
     while left > 0 {
@@ -100,7 +100,7 @@ fn walk_round(
     answer: u32,
     slot: Option<u32>,
 ) -> Result<Flow, Halt>
-    ensures { Ends flow_of result (world_of log.new) (assigned (walk_target around (expr_tree s.now.target.value)) (stmts_walk around (stmts stmt_tree s.now.body) (slot_of slot)) (Given answer 0) (world_of log.old)) }
+    ensures { Ends flow_of result (world_of log.new) (assign_then (walk_target around (expr_tree s.now.target.value)) (stmts_walk around (stmts stmt_tree s.now.body) (slot_of slot)) (Given answer 0) (world_of log.old)) }
 {
     let value = StepValue::Given { answer, index: 0 };
     walk_target(log, around, &s.target, value)?;

@@ -7,21 +7,21 @@ ghost use Rattle.py_answers.specs.Log.{Gets, world_of};
 ghost use Rattle.py_answers.specs.Told.{value_of};
 ghost use Rattle.py_bytecode.specs.Values.{then_do};
 ghost use Rattle.py_interp.specs.Acting.{Acting};
-ghost use Rattle.py_interp.specs.Statements.{print, printed, prompt_walk};
+ghost use Rattle.py_interp.specs.Statements.{print, printed_then, prompt_walk};
 ghost use Rattle.py_interp.specs.Walks.{walk_expr};
 ghost use Rattle.py_interp_simple.specs.Ends.{Ends, flow_of};
-ghost use Rattle.py_interp_stmts.specs.Prompted.{followed, prompted, value_in};
+ghost use Rattle.py_interp_stmts.specs.Prompted.{followed_end, prompt_rest, value_in};
 
 use crate::futures::{after_future, as_future};
 use crate::statements::walk_statement;
 use py_answers::{Halt, Log, StepValue};
 use py_bytecode::Instruction;
 use py_interp::Around;
+use py_interp::constants::none;
+use py_interp::operands::{copy_value, one};
+use py_interp::operations::{bare, does_none};
 use py_interp_exprs::walk_expression;
 use py_interp_simple::{Flow, import_names};
-use py_interp_values::constants::none;
-use py_interp_values::operands::{copy_value, one};
-use py_interp_values::operations::{bare, does_none};
 use py_tree::{Expr, Stmt};
 
 /// What stands around the next statement, and whether future imports may still stand there.
@@ -60,7 +60,7 @@ fn walk_entered(
     statement: &Stmt,
     last: bool,
 ) -> Result<Flow, Halt>
-    ensures { (ss : tree.Stmts) → no_statement ss ≡ last → Ends (followed prompt.new ss) result (world_of log.new) (prompted prompt.old.opening prompt.old.around (tree.more_stmts (stmt_tree statement.now) ss) (world_of log.old)) }
+    ensures { (ss : tree.Stmts) → no_statement ss ≡ last → Ends (followed_end prompt.new ss) result (world_of log.new) (prompt_rest prompt.old.opening prompt.old.around (tree.more_stmts (stmt_tree statement.now) ss) (world_of log.old)) }
 {
     if let Some(value) = value_in(statement) {
         return walk_printed(log, prompt.around, value, last);
@@ -90,7 +90,7 @@ fn value_in(statement: &Stmt) -> Option<&Expr>
 
 // Prints a value, and returns the last.
 fn walk_printed(log: &mut Log<'_>, around: Around, value: &Expr, last: bool) -> Result<Flow, Halt>
-    ensures { (rest : Acting) → Ends (λ f w. then_do (flow_of f w) rest) result (world_of log.new) (printed last (walk_expr around (expr_tree value.now)) rest (world_of log.old)) }
+    ensures { (rest : Acting) → Ends (λ f w. then_do (flow_of f w) rest) result (world_of log.new) (printed_then last (walk_expr around (expr_tree value.now)) rest (world_of log.old)) }
 {
     let value = walk_expression(log, around, value)?;
     if !last {

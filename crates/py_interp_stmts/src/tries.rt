@@ -1,15 +1,15 @@
-//! `try`, its handlers and its last part.
+//! `try`, its handlers and its finally block.
 ghost use Rattle.std.specs.Prelude.{Some};
 ghost use Rattle.py_tree.specs.View.{expr_tree, handlers as handler_trees, opt_box, stmt_tree, stmts, try_tree};
 ghost use Rattle.py_bytecode.specs.Values.{Ended, Given, then_do};
-ghost use Rattle.py_control.specs.Form.{assigned, finally_run, try_run};
+ghost use Rattle.py_control.specs.Form.{assign_then, finally_run, try_run};
 ghost use Rattle.py_answers.specs.Log.{Gets, world_of};
 ghost use Rattle.py_answers.specs.Told.{Known};
 ghost use Rattle.py_interp.specs.Acting.{constant, into, put_name, remove, store, unname};
 ghost use Rattle.py_interp.specs.Statements.{handlers_walk, stmt_walk, stmts_walk};
 ghost use Rattle.py_bytecode.specs.Objects as object;
 ghost use Rattle.py_interp_simple.specs.Ends.{Ends, flow_of, goes_on, slot_of};
-ghost use Rattle.py_interp_stmts.specs.Catching.{handled, takes};
+ghost use Rattle.py_interp_stmts.specs.Catching.{handler_run, takes};
 ghost use Rattle.py_interp_stmts.specs.Over.{do_last};
 
 use crate::endings::{in_hand, is_over};
@@ -18,14 +18,14 @@ use py_answers::{Halt, Log, StepValue};
 use py_base::Text;
 use py_bytecode::Instruction;
 use py_interp::Around;
+use py_interp::constants::none;
+use py_interp::names::store;
+use py_interp::operations::{does_two, numbered};
 use py_interp_exprs::walk_expression;
 use py_interp_simple::Flow;
-use py_interp_values::constants::none;
-use py_interp_values::names::store;
-use py_interp_values::operations::{does_two, numbered};
 use py_tree::{ExceptHandler, Expr, Stmt, StmtTry};
 
-/// Walks a body, what handles its exceptions, an else part, and a last part on every way out.
+/// Walks a body, what handles its exceptions, an else part, and a finally block on every way out.
 #[cycle(walk)]
 pub(crate) fn walk_try(
     log: &mut Log<'_>,
@@ -41,7 +41,7 @@ pub(crate) fn walk_try(
     walk_finally(log, around, s, slot)
 }
 
-// All but the last part, and then the last part.
+// All but the finally block, and then the finally block.
 #[cycle(walk)]
 fn walk_finally(
     log: &mut Log<'_>,
@@ -136,7 +136,7 @@ fn walk_handler(
     handler: &ExceptHandler,
     exception: u32,
 ) -> Result<Flow, Halt>
-    ensures { Ends flow_of result (world_of log.new) (handled around (opt_box expr_tree handler.now.type_) handler.now.name (stmts stmt_tree handler.now.body) (Given exception 0) (world_of log.old)) }
+    ensures { Ends flow_of result (world_of log.new) (handler_run around (opt_box expr_tree handler.now.type_) handler.now.name (stmts stmt_tree handler.now.body) (Given exception 0) (world_of log.old)) }
 {
     match &handler.type_ {
         None => walk_statements(log, around, handler.body.as_slice(), Some(exception)),
@@ -159,7 +159,7 @@ fn walk_bound(
     body: &[Stmt],
     exception: u32,
 ) -> Result<Flow, Halt>
-    ensures { Ends flow_of result (world_of log.new) (assigned (put_name name.now) (unname name.now (stmts_walk around (stmts stmt_tree body.now)) (Some (Given exception 0))) (Given exception 0) (world_of log.old)) }
+    ensures { Ends flow_of result (world_of log.new) (assign_then (put_name name.now) (unname name.now (stmts_walk around (stmts stmt_tree body.now)) (Some (Given exception 0))) (Given exception 0) (world_of log.old)) }
 {
     match name {
         None => walk_statements(log, around, body, Some(exception)),
@@ -176,7 +176,7 @@ fn walk_named(
     body: &[Stmt],
     exception: u32,
 ) -> Result<Flow, Halt>
-    ensures { Ends flow_of result (world_of log.new) (assigned (put_name (Some name.now)) (unname (Some name.now) (stmts_walk around (stmts stmt_tree body.now)) (Some (Given exception 0))) (Given exception 0) (world_of log.old)) }
+    ensures { Ends flow_of result (world_of log.new) (assign_then (put_name (Some name.now)) (unname (Some name.now) (stmts_walk around (stmts stmt_tree body.now)) (Some (Given exception 0))) (Given exception 0) (world_of log.old)) }
 {
     let raised = StepValue::Given {
         answer: exception,

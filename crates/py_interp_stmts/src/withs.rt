@@ -2,24 +2,24 @@
 ghost use Rattle.std.specs.Prelude.{◌≡◌, ◌∷◌, ◌++◌, [], IfErr, OnOk};
 ghost use Rattle.py_tree.specs.View.{expr_tree, opt_box, with_items, with_tree};
 ghost use Rattle.py_bytecode.specs.Values.{Ended, Given, Operates, enter_with, for_two, throws};
-ghost use Rattle.py_control.specs.Form.{assigned, with_run};
+ghost use Rattle.py_control.specs.Form.{assign_then, with_run};
 ghost use Rattle.py_answers.specs.Log.{Gets, world_of};
 ghost use Rattle.py_answers.specs.Told.{Known, value_of};
 ghost use Rattle.py_interp.specs.Statements.{item_walk, stmt_walk, with_walk};
 ghost use Rattle.py_interp.specs.Walks.{walk_expr};
 ghost use Rattle.py_interp_simple.specs.Ends.{Ends, flow_of, slot_of};
-ghost use Rattle.py_interp_stmts.specs.Leaving.{Enters, exit_truth, exited, left_all};
+ghost use Rattle.py_interp_stmts.specs.Leaving.{Enters, exit_truth, exit_end, left_all};
 
 use crate::statements::walk_statements;
 use py_answers::{Halt, Log, StepValue};
 use py_base::List;
 use py_bytecode::Instruction;
 use py_interp::Around;
+use py_interp::constants::none;
+use py_interp::operands::one;
+use py_interp::operations::{bare, does_two};
 use py_interp_exprs::{walk_expression, walk_target};
 use py_interp_simple::Flow;
-use py_interp_values::constants::none;
-use py_interp_values::operands::one;
-use py_interp_values::operations::{bare, does_two};
 use py_tree::{Expr, StmtWith, WithItem};
 
 /// Enters items, walks a body, and leaves the items, the last one first.
@@ -44,7 +44,7 @@ pub(crate) fn walk_with(
     }
 }
 
-// Enters items, and puts the numbers of the answers that have their exits behind others, as far as it comes.
+// Enters items, and puts the numbers of the answers that have their exits after others, as far as it comes.
 fn enter_items(
     log: &mut Log<'_>,
     around: Around,
@@ -66,7 +66,7 @@ fn enter_item(
     item: &WithItem,
     exits: &mut Vec<u32>,
 ) -> Result<(), Halt>
-    ensures { Enters result (world_of log.new) exits.new.items (λ body. left_all exits.old.items (with_run (walk_expr around (expr_tree item.now.context_expr.value)) (assigned (item_walk around (opt_box expr_tree item.now.optional_vars)) body) (world_of log.old))) }
+    ensures { Enters result (world_of log.new) exits.new.items (λ body. left_all exits.old.items (with_run (walk_expr around (expr_tree item.now.context_expr.value)) (assign_then (item_walk around (opt_box expr_tree item.now.optional_vars)) body) (world_of log.old))) }
 {
     let manager = walk_expression(log, around, &item.context_expr)?;
     let answer = enter(log, manager)?;
@@ -124,7 +124,7 @@ fn leave_all(log: &mut Log<'_>, exits: Vec<u32>, ended: Result<Flow, Halt>) -> R
 
 // Leaves what the answer of this number gave, on the way out that is in hand. An exception ends there where the exit says so.
 fn leave(log: &mut Log<'_>, exit: u32, ended: Result<Flow, Halt>) -> Result<Flow, Halt>
-    ensures { (end : Ended Known) → Ends flow_of ended (world_of log.old) end → Ends flow_of result (world_of log.new) (exited (Given exit 0) end) }
+    ensures { (end : Ended Known) → Ends flow_of ended (world_of log.old) end → Ends flow_of result (world_of log.new) (exit_end (Given exit 0) end) }
 {
     match ended {
         Ok(flow) => {
@@ -138,7 +138,7 @@ fn leave(log: &mut Log<'_>, exit: u32, ended: Result<Flow, Halt>) -> Result<Flow
 }
 
 fn leave_raised(log: &mut Log<'_>, exit: u32, answer: u32) -> Result<Flow, Halt>
-    ensures { Ends flow_of result (world_of log.new) (exited (Given exit 0) (throws (Given answer 0) (world_of log.old))) }
+    ensures { Ends flow_of result (world_of log.new) (exit_end (Given exit 0) (throws (Given answer 0) (world_of log.old))) }
 {
     let exception = StepValue::Given { answer, index: 0 };
     if exit_with(log, exit, exception)? {

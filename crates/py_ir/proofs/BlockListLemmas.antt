@@ -17,7 +17,10 @@ pub record Flattening (level : ℕ) (blocks : List Block) (cs : List ℕ) (k : �
   pub each : (j : ℕ) → j < k → get_or starts (get_or cs j 0) 0 ≡ length (flat level (map plain blocks) (take j cs))
   pub within : All (λ s. s ≤ length items) starts
 
-pub flat_step : (level : ℕ) (blocks : List Block) (cs : List ℕ) (k : ℕ) (items items1 : List InstructionInfo) (starts : List ℕ) (len : ℕ) (xs : List InstructionInfo) → IsChain (map plain blocks) cs → Flattening level blocks cs k items starts → k < length cs → get_or cs k 0 < length blocks → xs ≡ (get_or blocks (get_or cs k 0) empty_block).instructions → len ≡ length items → items1 ≡ items ++ body level xs → Flattening level blocks cs (k + 1) items1 (set starts (get_or cs k 0) len)
+pub flat_step : (level : ℕ) (blocks : List Block) (cs : List ℕ) (k : ℕ) (items items1 : List InstructionInfo) (starts : List ℕ) (len : ℕ) (xs : List InstructionInfo)
+    → IsChain (map plain blocks) cs → Flattening level blocks cs k items starts → k < length cs → get_or cs k 0 < length blocks
+    → xs ≡ (get_or blocks (get_or cs k 0) empty_block).instructions → len ≡ length items → items1 ≡ items ++ body level xs
+    → Flattening level blocks cs (k + 1) items1 (set starts (get_or cs k 0) len)
 flat_step level blocks cs k items items1 starts len xs chain h lt inside eb el ei = record { items_are = all; long = length-set starts (get_or cs k 0) len ∙ h.long; each = each; within = within }
   where
     is : body level (blk (map plain blocks) (get_or cs k 0)).items ≡ body level xs
@@ -38,7 +41,8 @@ flat_step level blocks cs k items items1 starts len xs chain h lt inside eb el e
     within : All (λ s. s ≤ length items1) (set starts (get_or cs k 0) len)
     within = All-set (λ s. s ≤ length items1) starts (get_or cs k 0) len (omega (arith, el, longer)) (All-weaker (λ s. s ≤ length items) (λ s. s ≤ length items1) (λ s l. omega (arith, l, longer)) starts h.within)
 
-pub flat_done : (level : ℕ) (blocks : List Block) (cs : List ℕ) (k : ℕ) (items : List InstructionInfo) (starts : List ℕ) → IsChain (map plain blocks) cs → Flattening level blocks cs k items starts → length cs ≤ k → IsFlattened level (map plain blocks) cs starts items
+pub flat_done : (level : ℕ) (blocks : List Block) (cs : List ℕ) (k : ℕ) (items : List InstructionInfo) (starts : List ℕ) → IsChain (map plain blocks) cs
+    → Flattening level blocks cs k items starts → length cs ≤ k → IsFlattened level (map plain blocks) cs starts items
 flat_done level blocks cs k items starts chain h l = record {
   is_chain = chain;
   starts_at = record { long = h.long ∙ sym (length-map blocks plain); each = λ j m. h.each j (omega arith) };

@@ -20,7 +20,8 @@ first_push : (cs : List ℕ) (n : ℕ) → slice_get cs 0 ≡ Some 0 → slice_g
 first_push [] n h = absurd (cc)
 first_push (c ∷ cs) n h = h
 
-pub path_push : (bs : List Blk) (cs : List ℕ) (b n : ℕ) → IsPath bs (cs ++ b ∷ []) → (blk bs b).next ≡ Some n → n < length bs → ((k : ℕ) → k < length (cs ++ b ∷ []) → get_or (cs ++ b ∷ []) k 0 ≢ n) → IsPath bs ((cs ++ b ∷ []) ++ n ∷ [])
+pub path_push : (bs : List Blk) (cs : List ℕ) (b n : ℕ) → IsPath bs (cs ++ b ∷ []) → (blk bs b).next ≡ Some n → n < length bs
+    → ((k : ℕ) → k < length (cs ++ b ∷ []) → get_or (cs ++ b ∷ []) k 0 ≢ n) → IsPath bs ((cs ++ b ∷ []) ++ n ∷ [])
 path_push bs cs b n h e lt new = record { first = first_push (cs ++ b ∷ []) n h.first; inside = All-push (λ c. c < length bs) (cs ++ b ∷ []) n h.inside lt; follows = follows; distinct = distinct }
   where
     long : length (cs ++ b ∷ []) ≡ length cs + 1

@@ -8,7 +8,7 @@ use Rattle.std.proofs.lemmas.Option.{same_Some, get_or_from_slice_get}
 use Rattle.py_dataflow.specs.declared.info.InstructionInfo.{InstructionInfo}
 use Rattle.py_ir.specs.declared.blocks.Block.{Block}
 use Rattle.py_ir.specs.Chain.{Blk, blk, block_number, plain, IsChain}
-use Rattle.py_ir.specs.BlockList.{BlockList, IsChainOf, IsOutside, block_at, block_idx, empty_block, empty_blocks, extended, led, leading_to, with_items}
+use Rattle.py_ir.specs.BlockList.{BlockList, IsChainOf, IsOutside, block_at, block_idx, empty_block, empty_blocks, with_appended, with_chain_block, leading_to, with_items}
 use Rattle.py_ir.proofs.ChainOrderLemmas.{blk_plain}
 
 -- the blocks up to a place of the chain are placed
@@ -30,8 +30,8 @@ record Led (given : List Block) (cs : List ℕ) (k : ℕ) (v : BlockList) : Type
 abbrev joined_to : BlockList → ℕ → Block
 joined_to v n = leading_to (get_or v.blocks v.current.0 empty_block) (block_idx n)
 
-number_of : (n m : ℕ) → block_number n ≡ Some m → n ≡ m
-number_of n m e = go (nat_eq n 0xffff_ffff) e
+chained_number_of : (n m : ℕ) → block_number n ≡ Some m → n ≡ m
+chained_number_of n m e = go (nat_eq n 0xffff_ffff) e
   where
     go : (b : Bool) → (if b then None else Some n) ≡ Some m → n ≡ m
     go true h = absurd (cc)
@@ -48,8 +48,8 @@ module _ (given : List Block) (cs : List ℕ) (chain : IsChain (map plain given)
   pub in_given : (k : ℕ) → k < length cs → get_or cs k 0 < length given
   in_given k l = let i = chain.path.inside k 0 l in let n = length-map given plain in omega (arith, i, n)
 
-  apart : (j k : ℕ) → j < k → k < length cs → get_or cs j 0 ≢ get_or cs k 0
-  apart j k l m = chain.path.distinct j k 0 l m
+  chained_apart : (j k : ℕ) → j < k → k < length cs → get_or cs j 0 ≢ get_or cs k 0
+  chained_apart j k l m = chain.path.distinct j k 0 l m
 
   next_of : (k : ℕ) → k < length cs → (blk (map plain given) (get_or cs k 0)).next ≡ block_number (get_or given (get_or cs k 0) empty_block).next.0
   next_of k l = ap (λ (b : Blk). b.next) (blk_plain given (get_or cs k 0) empty_block (in_given k l))
@@ -57,7 +57,7 @@ module _ (given : List Block) (cs : List ℕ) (chain : IsChain (map plain given)
   -- the next of a block is the one after it in the chain
   led_back : (k : ℕ) → k + 1 < length cs → leading_to (get_or given (get_or cs k 0) empty_block) (block_idx (get_or cs (k + 1) 0)) ≡ get_or given (get_or cs k 0) empty_block
   led_back k l =
-      let e : (get_or given (get_or cs k 0) empty_block).next.0 ≡ get_or cs (k + 1) 0 = number_of (get_or given (get_or cs k 0) empty_block).next.0 (get_or cs (k + 1) 0) (sym (next_of k (omega arith)) ∙ chain.path.follows k l) in
+      let e : (get_or given (get_or cs k 0) empty_block).next.0 ≡ get_or cs (k + 1) 0 = chained_number_of (get_or given (get_or cs k 0) empty_block).next.0 (get_or cs (k + 1) 0) (sym (next_of k (omega arith)) ∙ chain.path.follows k l) in
       ap (λ n. leading_to (get_or given (get_or cs k 0) empty_block) (block_idx n)) (sym e)
 
   last_back : (k : ℕ) → k + 1 ≡ length cs → leading_to (get_or given (get_or cs k 0) empty_block) (block_idx 0xffff_ffff) ≡ get_or given (get_or cs k 0) empty_block
@@ -76,14 +76,14 @@ module _ (given : List Block) (cs : List ℕ) (chain : IsChain (map plain given)
   }
 
   module _ (k : ℕ) (v : BlockList) (h : Placed given cs k v) (l : k < length cs) where
-    pub out : 0 < k → IsOutside v (get_or cs k 0)
-    out some = record {
+    pub chained_out : 0 < k → IsOutside v (get_or cs k 0)
+    chained_out some = record {
       made = (let i = in_given k l in let n = h.long in omega (arith, i, n));
-      other = λ e. apart (k - 1) k (omega arith) l (sym (e ∙ h.current));
-      no_next = ap (λ (b : Block). b.next) (h.outside (get_or cs k 0) (in_given k l) (λ j m. apart j k m l));
+      other = λ e. chained_apart (k - 1) k (omega arith) l (sym (e ∙ h.current));
+      no_next = ap (λ (b : Block). b.next) (h.outside (get_or cs k 0) (in_given k l) (λ j m. chained_apart j k m l));
     }
 
-  is_led : (k : ℕ) (v : BlockList) → Placed given cs k v → k < length cs → Led given cs k (led v k (block_idx (get_or cs k 0)))
+  is_led : (k : ℕ) (v : BlockList) → Placed given cs k v → k < length cs → Led given cs k (with_chain_block v k (block_idx (get_or cs k 0)))
   is_led zero v h l = record {
     long = h.long;
     current = h.current;
@@ -95,10 +95,10 @@ module _ (given : List Block) (cs : List ℕ) (chain : IsChain (map plain given)
     long = length-set v.blocks v.current.0 (joined_to v (get_or cs (suc m) 0)) ∙ h.long;
     current = refl;
     inside = λ j a. elim (cases_lt j m) [
-      | inl b ↦ get_or-set_other v.blocks v.current.0 (get_or cs j 0) (joined_to v (get_or cs (suc m) 0)) empty_block (λ e. apart j m b (omega arith) (e ∙ cur)) ∙ h.inside j (omega arith)
+      | inl b ↦ get_or-set_other v.blocks v.current.0 (get_or cs j 0) (joined_to v (get_or cs (suc m) 0)) empty_block (λ e. chained_apart j m b (omega arith) (e ∙ cur)) ∙ h.inside j (omega arith)
       | inr b ↦ (let q : m ≡ j = omega arith in subst (λ i. get_or (set v.blocks v.current.0 (joined_to v (get_or cs (suc m) 0))) (get_or cs i 0) empty_block ≡ get_or given (get_or cs i 0) empty_block) q at_m)
     ];
-    here = get_or-set_other v.blocks v.current.0 (get_or cs (suc m) 0) (joined_to v (get_or cs (suc m) 0)) empty_block (λ e. apart m (suc m) (omega arith) l (sym (e ∙ cur))) ∙ h.outside (get_or cs (suc m) 0) (in_given (suc m) l) (λ j o. apart j (suc m) o l);
+    here = get_or-set_other v.blocks v.current.0 (get_or cs (suc m) 0) (joined_to v (get_or cs (suc m) 0)) empty_block (λ e. chained_apart m (suc m) (omega arith) l (sym (e ∙ cur))) ∙ h.outside (get_or cs (suc m) 0) (in_given (suc m) l) (λ j o. chained_apart j (suc m) o l);
     outside = λ b a n. get_or-set_other v.blocks v.current.0 b (joined_to v (get_or cs (suc m) 0)) empty_block (λ e. n m (omega arith) (sym (e ∙ cur))) ∙ h.outside b a (λ j o. n j (omega arith));
   }
     where
@@ -122,27 +122,29 @@ module _ (given : List Block) (cs : List ℕ) (chain : IsChain (map plain given)
           ∙ ap (λ b. leading_to b (block_idx (get_or cs (suc m) 0))) was_last
           ∙ subst (λ j. leading_to (get_or given (get_or cs m 0) empty_block) (block_idx (get_or cs j 0)) ≡ get_or given (get_or cs m 0) empty_block) one_more (led_back m (omega arith))
 
-  pub placed_more : (k : ℕ) (v : BlockList) → Placed given cs k v → k < length cs → (xs : List InstructionInfo) → xs ≡ (get_or given (get_or cs k 0) empty_block).instructions → Placed given cs (k + 1) (extended (led v k (block_idx (get_or cs k 0))) xs)
-  placed_more k v h l xs ex = grown (led v k (block_idx (get_or cs k 0))) (is_led k v h l)
+  pub placed_more : (k : ℕ) (v : BlockList) → Placed given cs k v → k < length cs → (xs : List InstructionInfo)
+      → xs ≡ (get_or given (get_or cs k 0) empty_block).instructions
+      → Placed given cs (k + 1) (with_appended (with_chain_block v k (block_idx (get_or cs k 0))) xs)
+  placed_more k v h l xs ex = grown (with_chain_block v k (block_idx (get_or cs k 0))) (is_led k v h l)
     where
-      grown : (w : BlockList) → Led given cs k w → Placed given cs (k + 1) (extended w xs)
+      grown : (w : BlockList) → Led given cs k w → Placed given cs (k + 1) (with_appended w xs)
       grown w g = record {
         long = length-set w.blocks w.current.0 (with_items (get_or w.blocks w.current.0 empty_block) xs) ∙ g.long;
         current = g.current ∙ ap (λ j. get_or cs j 0) k_is;
-        inside = λ j a. other (get_or cs j 0) (λ e. apart j k (omega arith) l (e ∙ g.current)) ∙ g.inside j (omega arith);
-        last = λ _. subst (λ j. block_at (extended w xs) (get_or cs j 0) ≡ leading_to (get_or given (get_or cs j 0) empty_block) (block_idx 0xffff_ffff)) k_is at_k;
+        inside = λ j a. other (get_or cs j 0) (λ e. chained_apart j k (omega arith) l (e ∙ g.current)) ∙ g.inside j (omega arith);
+        last = λ _. subst (λ j. block_at (with_appended w xs) (get_or cs j 0) ≡ leading_to (get_or given (get_or cs j 0) empty_block) (block_idx 0xffff_ffff)) k_is at_k;
         outside = λ b a n. other b (λ e. n k (omega arith) (sym (e ∙ g.current))) ∙ g.outside b a n;
       }
         where
           k_is : k ≡ k + 1 - 1
           k_is = omega arith
 
-          other : (b : ℕ) → b ≢ w.current.0 → block_at (extended w xs) b ≡ block_at w b
+          other : (b : ℕ) → b ≢ w.current.0 → block_at (with_appended w xs) b ≡ block_at w b
           other b n = get_or-set_other w.blocks w.current.0 b (with_items (get_or w.blocks w.current.0 empty_block) xs) empty_block n
 
-          at_k : block_at (extended w xs) (get_or cs k 0) ≡ leading_to (get_or given (get_or cs k 0) empty_block) (block_idx 0xffff_ffff)
+          at_k : block_at (with_appended w xs) (get_or cs k 0) ≡ leading_to (get_or given (get_or cs k 0) empty_block) (block_idx 0xffff_ffff)
           at_k =
-              ap (λ b. block_at (extended w xs) b) (sym g.current)
+              ap (λ b. block_at (with_appended w xs) b) (sym g.current)
               ∙ get_or-set_same w.blocks w.current.0 (with_items (get_or w.blocks w.current.0 empty_block) xs) empty_block (let i = in_given k l in let n = g.long in let c = g.current in omega (arith, i, n, c))
               ∙ ap (λ b. with_items (get_or w.blocks b empty_block) xs) g.current
               ∙ ap (λ b. with_items b xs) g.here

@@ -9,7 +9,8 @@ use Rattle.py_ir.specs.declared.checks.TableLens.{TableLens}
 use Rattle.py_ir.specs.Checks.{Fails, operand_fits}
 
 module _ (inside : List Bool) (l : TableLens) (x : InstructionInfo) where
-  pub none_fails : (x.target.0 ≢ 0xffff_ffff → slice_index_or inside x.target.0 false ≡ true) → (is_jump x.instr ≡ true → x.target.0 ≢ 0xffff_ffff) → (x.target.0 ≢ 0xffff_ffff → is_jump x.instr ≡ true) → is_prefix x.instr ≡ false → operand_fits l x ≡ true → (check : Check) → ¬ Fails check inside l x
+  pub none_fails : (x.target.0 ≢ 0xffff_ffff → slice_index_or inside x.target.0 false ≡ true) → (is_jump x.instr ≡ true → x.target.0 ≢ 0xffff_ffff)
+      → (x.target.0 ≢ 0xffff_ffff → is_jump x.instr ≡ true) → is_prefix x.instr ≡ false → operand_fits l x ≡ true → (check : Check) → ¬ Fails check inside l x
   none_fails stands given needed plain fits Check.TargetOutside h = true≢false (sym (stands h.0) ∙ h.1)
   none_fails stands given needed plain fits Check.JumpWithoutTarget h = given h.1 h.0
   none_fails stands given needed plain fits Check.TargetOnOther h = true≢false (sym (needed h.0) ∙ h.1)

@@ -1,7 +1,7 @@
 -- The whole code object: the tables that its operands name are the given ones.
 use Rattle.std.proofs.Common.{◌≡◌, ℕ, ◌<◌, ◌^◌, inl, inr, arith, List, [], ◌∷◌, ◌++◌, length, map, refl, sym, ap, ◌∙◌, subst}
 use Rattle.py_bytecode.specs.declared.code.CodeObject.{CodeObject}
-use Rattle.py_bytecode.specs.Objects.{Const, Object, listed, consts_of, object_of}
+use Rattle.py_bytecode.specs.Objects.{Const, Object, const_list, consts_of, object_of}
 use Rattle.py_bytecode.specs.Values.{Answer}
 use Rattle.py_bytecode.specs.Machine.{fuel, limited_machine, start}
 use Rattle.py_bytecode.specs.Decode.{Tables, tables}
@@ -19,32 +19,32 @@ use Rattle.py_base.specs.declared.location.SourceLocation.{SourceLocation}
 use Rattle.py_bytecode.specs.declared.operand.CodeUnit.{CodeUnit}
 use Rattle.std.proofs.lemmas.Bool.{cases_lt}
 
-pub listed_is : (cs : List Const) → listed (consts_of cs) ≡ cs
-listed_is [] = refl
-listed_is (c ∷ cs) = ap (λ ds. c ∷ ds) (listed_is cs)
+pub code_table_listed_is : (cs : List Const) → const_list (consts_of cs) ≡ cs
+code_table_listed_is [] = refl
+code_table_listed_is (c ∷ cs) = ap (λ ds. c ∷ ds) (code_table_listed_is cs)
 
-made : List Const → (names varnames cellvars freevars : List (List ℕ)) → Tables
-made constants names varnames cellvars freevars = record { constants = constants; names = names; varnames = varnames; cells = cellvars ++ freevars }
+code_table_made : List Const → (names varnames cellvars freevars : List (List ℕ)) → Tables
+code_table_made constants names varnames cellvars freevars = record { constants = constants; names = names; varnames = varnames; cells = cellvars ++ freevars }
 
 plain_object : CodeObject → Object
 plain_object code = object_of (head_of code) (constants_of code.constants)
 
 tables_same : (info : CodeInfo) (code : CodeObject) → IsGiven info code → tables (plain_object code) ≡ tables_of info
-unfolding made plain_object
+unfolding code_table_made plain_object
 tables_same info code s =
-    ap (λ cs. made cs code.names code.varnames code.cellvars code.freevars) (listed_is (map constant code.constants) ∙ ap (map constant) s.constants)
-    ∙ ap (λ ns. made (map constant info.constants) ns code.varnames code.cellvars code.freevars) s.names
-    ∙ ap (λ vs. made (map constant info.constants) info.name_cache vs code.cellvars code.freevars) s.varnames
-    ∙ ap (λ cs. made (map constant info.constants) info.name_cache info.varname_cache cs code.freevars) s.cellvars
-    ∙ ap (λ fs. made (map constant info.constants) info.name_cache info.varname_cache info.cellvar_cache fs) s.freevars
+    ap (λ cs. code_table_made cs code.names code.varnames code.cellvars code.freevars) (code_table_listed_is (map constant code.constants) ∙ ap (map constant) s.constants)
+    ∙ ap (λ ns. code_table_made (map constant info.constants) ns code.varnames code.cellvars code.freevars) s.names
+    ∙ ap (λ vs. code_table_made (map constant info.constants) info.name_cache vs code.cellvars code.freevars) s.varnames
+    ∙ ap (λ cs. code_table_made (map constant info.constants) info.name_cache info.varname_cache cs code.freevars) s.cellvars
+    ∙ ap (λ fs. code_table_made (map constant info.constants) info.name_cache info.varname_cache info.cellvar_cache fs) s.freevars
 
 module _ (level : ℕ) (info : CodeInfo) (code : CodeObject) (s : IsGiven info code) (l : IsLaid (tables_of info) level (map plain info.blocks) code.instructions code.locations code.max_stackdepth) where
   laid : IsLaid (tables (plain_object code)) level (map plain info.blocks) code.instructions code.locations code.max_stackdepth
   laid = subst (λ (t : Tables). IsLaid t level (map plain info.blocks) code.instructions code.locations code.max_stackdepth) (sym (tables_same info code s)) l
 
-  is_sound : sound (object code)
+  code_table_is_sound : sound (object code)
   unfolding plain_object
-  is_sound = subst (λ (o : Object). sound o) (sym (object_is code)) laid.sound
+  code_table_is_sound = subst (λ (o : Object). sound o) (sym (object_is code)) laid.sound
 
   runs_plain : (answers : List Answer) → machine (plain_object code) answers ≡ runs_of info (length code.instructions) answers
   unfolding plain_object
@@ -55,15 +55,18 @@ module _ (level : ℕ) (info : CodeInfo) (code : CodeObject) (s : IsGiven info c
   runs_same answers = ap (λ (o : Object). machine o answers) (object_is code) ∙ runs_plain answers
 
   pub is_final : IsFinal level info code
-  is_final = record { given = s; laid = l; sound = is_sound; runs = runs_same }
+  is_final = record { given = s; laid = l; sound = code_table_is_sound; runs = runs_same }
 
-at_units : (level : ℕ) (info : CodeInfo) (code : CodeObject) (units : List CodeUnit) (locations : List SourceLocation) (depth : ℕ) → IsFilled info units locations depth code → IsLaid (tables_of info) level (map plain info.blocks) units locations depth → IsLaid (tables_of info) level (map plain info.blocks) code.instructions code.locations code.max_stackdepth
+at_units : (level : ℕ) (info : CodeInfo) (code : CodeObject) (units : List CodeUnit) (locations : List SourceLocation) (depth : ℕ)
+    → IsFilled info units locations depth code → IsLaid (tables_of info) level (map plain info.blocks) units locations depth
+    → IsLaid (tables_of info) level (map plain info.blocks) code.instructions code.locations code.max_stackdepth
 at_units level info code units locations depth f l =
     subst (λ us. IsLaid (tables_of info) level (map plain info.blocks) us code.locations code.max_stackdepth) (sym f.units_are)
     (subst (λ ls. IsLaid (tables_of info) level (map plain info.blocks) units ls code.max_stackdepth) (sym f.locations_are)
     (subst (λ d. IsLaid (tables_of info) level (map plain info.blocks) units locations d) (sym f.depth_is) l))
 
-pub finals : (level : ℕ) (info : CodeInfo) (code : CodeObject) (units : List CodeUnit) (locations : List SourceLocation) (depth : ℕ) → IsLaid (tables_of info) level (map plain info.blocks) units locations depth → IsFilled info units locations depth code → IsFinal level info code
+pub finals : (level : ℕ) (info : CodeInfo) (code : CodeObject) (units : List CodeUnit) (locations : List SourceLocation) (depth : ℕ)
+    → IsLaid (tables_of info) level (map plain info.blocks) units locations depth → IsFilled info units locations depth code → IsFinal level info code
 finals level info code units locations depth l f = is_final level info code f.given (at_units level info code units locations depth f l)
 
 pub few_varnames : (level : ℕ) (info : CodeInfo) → NoneBefore 10 (tables_of info) level (map plain info.blocks) → length info.varname_cache < 2 ^ 31

@@ -5,6 +5,7 @@ use Rattle.std.specs.List.{Contains}
 use Rattle.std.proofs.lemmas.Bool.{cases_lt}
 use Rattle.std.proofs.lemmas.List.{get_or_past, get_or_default}
 use Rattle.std.proofs.lemmas.Option.{slice_get_within, get_or_from_slice_get}
+use Rattle.py_base.proofs.Booleans.{not_true_is_false}
 use Rattle.py_base.specs.declared.location.SourceLocation.{SourceLocation}
 use Rattle.py_bytecode.specs.declared.operand.CodeUnit.{CodeUnit}
 use Rattle.py_bytecode.specs.Machine.{machine}
@@ -12,7 +13,7 @@ use Rattle.py_bytecode.specs.Decode.{Tables}
 use Rattle.py_bytecode.specs.Units.{is_prefix, fetch_unit}
 use Rattle.py_dataflow.specs.declared.info.InstructionInfo.{InstructionInfo}
 use Rattle.py_dataflow.specs.declared.known.Refused.{Refused as Walked}
-use Rattle.py_dataflow.specs.Walks.{seen, UnevenHeights, HeightOutOfRange, BlockMismatch, Sound, IsDepth}
+use Rattle.py_dataflow.specs.Walks.{seen_instr, UnevenHeights, HeightOutOfRange, BlockMismatch, Sound, IsDepth}
 use Rattle.py_dataflow.specs.Flat.{is_jump, named_place, look_at, IsCode, IsLinked}
 use Rattle.py_dataflow.proofs.InstructionViewLemmas.{Decodes}
 use Rattle.py_dataflow.proofs.NeverWrong.{unlimited}
@@ -27,7 +28,7 @@ use Rattle.py_ir.specs.declared.checks.Check.{Check}
 use Rattle.py_ir.specs.declared.error.FinalizeError.{FinalizeError}
 use Rattle.py_ir.specs.Chain.{Blk, IsChain, BrokenChain, StartsAt, flat}
 use Rattle.py_ir.specs.Checks.{lens_of, operand_fits, NowhereFails, FailsAt, rank}
-use Rattle.py_ir.specs.Refusals.{block_look, block_start, capped, ItemAt, WalkAt, LeavesLast, TooWide, TooLong, Holds, order, NoneBefore, Refused}
+use Rattle.py_ir.specs.Refusals.{block_look, block_start, capped_place, ItemAt, WalkAt, LeavesLast, TooWide, TooLong, Holds, order, NoneBefore, Refused}
 use Rattle.py_ir.specs.Located.{check_error, walk_error, NamesCheck, ListRefused}
 use Rattle.py_ir.specs.Finished.{RunsAsBlocks, IsLaid}
 use Rattle.py_ir.proofs.OperandRangeLemmas.{in_range}
@@ -35,13 +36,9 @@ use Rattle.py_ir.proofs.Unique.{no_blocks, not_broken, one_chain}
 use Rattle.py_ir.proofs.Clear.{Condition, item_not, item_is}
 use Rattle.py_ir.proofs.Walked as walked
 
-not_false : (b : Bool) → (b ≡ false → ⊥) → b ≡ true
-not_false true h = refl
-not_false false h = absurd (h refl)
-
-not_true : (b : Bool) → (b ≡ true → ⊥) → b ≡ false
-not_true true h = absurd (h refl)
-not_true false h = refl
+flat_block_not_false : (b : Bool) → (b ≡ false → ⊥) → b ≡ true
+flat_block_not_false true h = refl
+flat_block_not_false false h = absurd (h refl)
 
 map_on : {A B : Type 0} (f g : A → B) (xs : List A) → ((j : ℕ) (x : A) → slice_get xs j ≡ Some x → f x ≡ g x) → map f xs ≡ map g xs
 map_on f g [] h = refl
@@ -95,7 +92,7 @@ rank_low Check.TargetOnOther = omega arith
 rank_low Check.PrefixGiven = omega arith
 rank_low Check.OperandOutside = omega arith
 
-pub holds_check : (t : Tables) (level : ℕ) (bs : List Blk) (c : Check) (b i : ℕ) → ItemAt level bs b (capped i) (Condition c (lens_of t)) → Holds t level bs (check_error c b i)
+pub holds_check : (t : Tables) (level : ℕ) (bs : List Blk) (c : Check) (b i : ℕ) → ItemAt level bs b (capped_place i) (Condition c (lens_of t)) → Holds t level bs (check_error c b i)
 holds_check t level bs Check.TargetOutside b i h = h
 holds_check t level bs Check.JumpWithoutTarget b i h = h
 holds_check t level bs Check.TargetOnOther b i h = h
@@ -103,14 +100,15 @@ holds_check t level bs Check.PrefixGiven b i h = h
 holds_check t level bs Check.OperandOutside b i h = h
 
 module _ (t : Tables) (level : ℕ) (bs : List Blk) (cs starts : List ℕ) (chain : IsChain bs cs) (short : length cs ≤ length bs) (at : StartsAt level bs cs starts) (inside : List Bool) (ins : (c : ℕ) → get_or inside c false ≡ true → Contains cs c) (mk : (k : ℕ) → k < length cs → get_or inside (get_or cs k 0) false ≡ true) (long : length inside ≡ length bs) where
-  abbrev items : List InstructionInfo
-  items = flat level bs cs
+  abbrev flat_block_items : List InstructionInfo
+  flat_block_items = flat level bs cs
 
   abbrev lens : TableLens
   lens = lens_of t
 
   -- a check that fails is refused
-  pub check_refused : (c : Check) (place : ℕ) (e : FinalizeError) → NamesCheck cs starts c place e → FailsAt c inside lens items place → ((d : Check) → rank d < rank c → NowhereFails d inside lens items) → Refused t level bs e
+  pub check_refused : (c : Check) (place : ℕ) (e : FinalizeError) → NamesCheck cs starts c place e → FailsAt c inside lens flat_block_items place
+      → ((d : Check) → rank d < rank c → NowhereFails d inside lens flat_block_items) → Refused t level bs e
   check_refused c place e nm f earlier =
       let held : Holds t level bs (check_error c nm.block nm.index) = holds_check t level bs c nm.block nm.index (item_is t level bs cs starts chain short at inside ins mk lens c place nm.block nm.index f nm.located) in
       let o : order (check_error c nm.block nm.index) ≡ 2 + rank c = order_check c nm.block nm.index in
@@ -125,40 +123,42 @@ module _ (t : Tables) (level : ℕ) (bs : List Blk) (cs starts : List ℕ) (chai
       }) in
       subst (Refused t level bs) (sym nm.is) (held, subst (λ n. NoneBefore n t level bs) (sym o) none)
 
-  module _ (fine : (c : Check) → NowhereFails c inside lens items) where
+  module _ (fine : (c : Check) → NowhereFails c inside lens flat_block_items) where
     nowhere : (c : Check) → (b p : ℕ) → ¬ ItemAt level bs b p (Condition c lens)
     nowhere c = item_not t level bs cs starts chain short at inside ins mk lens c (fine c)
 
-    target_inside : (k : ℕ) (d : InstructionInfo) → k < length items → is_jump (get_or items k d).instr ≡ true → ((get_or items k d).target.0 ≢ 0xffff_ffff) × (get_or inside (get_or items k d).target.0 false ≡ true)
-    target_inside k d l j =
-        let some : (get_or items k d).target.0 ≢ 0xffff_ffff = λ e. fine Check.JumpWithoutTarget k d l (e, j) in
-        (some, not_false (get_or inside (get_or items k d).target.0 false) (λ f. fine Check.TargetOutside k d l (some, f)))
+    flat_block_target_inside : (k : ℕ) (d : InstructionInfo) → k < length flat_block_items → is_jump (get_or flat_block_items k d).instr ≡ true
+        → ((get_or flat_block_items k d).target.0 ≢ 0xffff_ffff) × (get_or inside (get_or flat_block_items k d).target.0 false ≡ true)
+    flat_block_target_inside k d l j =
+        let some : (get_or flat_block_items k d).target.0 ≢ 0xffff_ffff = λ e. fine Check.JumpWithoutTarget k d l (e, j) in
+        (some, flat_block_not_false (get_or inside (get_or flat_block_items k d).target.0 false) (λ f. fine Check.TargetOutside k d l (some, f)))
 
-    within : (n : ℕ) → (n < length inside) ⊎ (get_or inside n false ≡ false)
-    within n = elim (cases_lt n (length inside)) [ inl h ↦ inl h | inr h ↦ inr (get_or_past inside n false h) ]
+    flat_block_within : (n : ℕ) → (n < length inside) ⊎ (get_or inside n false ≡ false)
+    flat_block_within n = elim (cases_lt n (length inside)) [ inl h ↦ inl h | inr h ↦ inr (get_or_past inside n false h) ]
 
-    pub is_code : All (λ s. s ≤ length items) starts → IsCode starts items
+    pub is_code : All (λ s. s ≤ length flat_block_items) starts → IsCode starts flat_block_items
     is_code w = record { starts_within = w; linked = linked }
       where
-        linked : (k : ℕ) (d : InstructionInfo) → k < length items → IsLinked (length starts) (get_or items k d)
+        linked : (k : ℕ) (d : InstructionInfo) → k < length flat_block_items → IsLinked (length starts) (get_or flat_block_items k d)
         linked k d l = record {
-          whole = not_true (is_prefix (get_or items k d).instr) (λ p. fine Check.PrefixGiven k d l p);
-          target = λ j. elim (within (get_or items k d).target.0) [ inl h ↦ (let s = at.long in omega (arith, h, long, s)) | inr f ↦ absurd (let q : true ≡ false = sym (target_inside k d l j).1 ∙ f in cc) ];
+          whole = not_true_is_false (is_prefix (get_or flat_block_items k d).instr) (λ p. fine Check.PrefixGiven k d l p);
+          target = λ j. elim (flat_block_within (get_or flat_block_items k d).target.0) [ inl h ↦ (let s = at.long in omega (arith, h, long, s)) | inr f ↦ absurd (let q : true ≡ false = sym (flat_block_target_inside k d l j).1 ∙ f in cc) ];
         }
 
-    pub decodes : Decodes t starts items
-    decodes k x e =
-        let l = slice_get_within items k x e in
-        let q : get_or items k x ≡ x = get_or_from_slice_get items k x x e in
+    pub flat_block_decodes : Decodes t starts flat_block_items
+    flat_block_decodes k x e =
+        let l = slice_get_within flat_block_items k x e in
+        let q : get_or flat_block_items k x ≡ x = get_or_from_slice_get flat_block_items k x x e in
         in_range t (named_place starts x) x.instr x.arg.0
-        (subst (λ (y : InstructionInfo). operand_fits lens y ≡ true) q (not_false (operand_fits lens (get_or items k x)) (λ f. fine Check.OperandOutside k x l f)))
-        (subst (λ (y : InstructionInfo). is_prefix y.instr ≡ false) q (not_true (is_prefix (get_or items k x).instr) (λ f. fine Check.PrefixGiven k x l f)))
+        (subst (λ (y : InstructionInfo). operand_fits lens y ≡ true) q (flat_block_not_false (operand_fits lens (get_or flat_block_items k x)) (λ f. fine Check.OperandOutside k x l f)))
+        (subst (λ (y : InstructionInfo). is_prefix y.instr ≡ false) q (not_true_is_false (is_prefix (get_or flat_block_items k x).instr) (λ f. fine Check.PrefixGiven k x l f)))
 
-    pub linked : (j : ℕ) (x : InstructionInfo) → slice_get items j ≡ Some x → is_jump x.instr ≡ true → (x.target.0 ≢ 0xffff_ffff) × ((k : ℕ) × (k < length cs) × (get_or cs k 0 ≡ x.target.0))
+    pub linked : (j : ℕ) (x : InstructionInfo) → slice_get flat_block_items j ≡ Some x → is_jump x.instr ≡ true
+        → (x.target.0 ≢ 0xffff_ffff) × ((k : ℕ) × (k < length cs) × (get_or cs k 0 ≡ x.target.0))
     linked j x e h =
-        let l = slice_get_within items j x e in
-        let q : get_or items j x ≡ x = get_or_from_slice_get items j x x e in
-        let i = target_inside j x l (subst (λ (y : InstructionInfo). is_jump y.instr ≡ true) (sym q) h) in
+        let l = slice_get_within flat_block_items j x e in
+        let q : get_or flat_block_items j x ≡ x = get_or_from_slice_get flat_block_items j x x e in
+        let i = flat_block_target_inside j x l (subst (λ (y : InstructionInfo). is_jump y.instr ≡ true) (sym q) h) in
         let c = ins x.target.0 (subst (λ (y : InstructionInfo). get_or inside y.target.0 false ≡ true) q i.1) in
         (subst (λ (y : InstructionInfo). y.target.0 ≢ 0xffff_ffff) q i.0, (c.0, c.1, get_or_default cs c.0 0 x.target.0 c.1 ∙ c.2))
 
@@ -177,7 +177,7 @@ module _ (t : Tables) (level : ℕ) (bs : List Blk) (cs starts : List ℕ) (chai
     long_refused h = (h, clear 7 (λ l. absurd (omega arith)) (λ l. absurd (omega arith)) (λ l. absurd (omega arith)))
 
     -- the starts of blocks outside the chain set no width
-    need_same : (starts1 : List ℕ) → StartsAt level bs cs starts1 → (j : ℕ) (x : InstructionInfo) → slice_get items j ≡ Some x → need_of starts1 x ≡ need_of starts x
+    need_same : (starts1 : List ℕ) → StartsAt level bs cs starts1 → (j : ℕ) (x : InstructionInfo) → slice_get flat_block_items j ≡ Some x → need_of starts1 x ≡ need_of starts x
     need_same starts1 at1 j x e = go (is_jump x.instr) refl
       where
         go : (b : Bool) → is_jump x.instr ≡ b → (if b then Jump (named_place starts1 x) else Fixed (units_for x.arg.0)) ≡ (if b then Jump (named_place starts x) else Fixed (units_for x.arg.0))
@@ -188,27 +188,28 @@ module _ (t : Tables) (level : ℕ) (bs : List Blk) (cs starts : List ℕ) (chai
             ap Jump (subst (λ c. get_or starts1 c 0 ≡ get_or starts c 0) l.1.2 q)
         go false h = refl
 
-    narrow : (cs1 starts1 : List ℕ) → IsChain bs cs1 → StartsAt level bs cs1 starts1 → widths.TooManyUnits (needs_of starts1 (flat level bs cs1)) → widths.TooManyUnits (needs_of starts items)
+    narrow : (cs1 starts1 : List ℕ) → IsChain bs cs1 → StartsAt level bs cs1 starts1 → widths.TooManyUnits (needs_of starts1 (flat level bs cs1))
+        → widths.TooManyUnits (needs_of starts flat_block_items)
     narrow cs1 starts1 c1 a1 h =
         let e : cs1 ≡ cs = one_chain bs cs1 cs c1 chain in
         let a2 : StartsAt level bs cs starts1 = subst (λ z. StartsAt level bs z starts1) e a1 in
-        let h1 : widths.TooManyUnits (needs_of starts1 items) = subst (λ z. widths.TooManyUnits (needs_of starts1 (flat level bs z))) e h in
-        subst widths.TooManyUnits (map_on (need_of starts1) (need_of starts) items (need_same starts1 a2)) h1
+        let h1 : widths.TooManyUnits (needs_of starts1 flat_block_items) = subst (λ z. widths.TooManyUnits (needs_of starts1 (flat level bs z))) e h in
+        subst widths.TooManyUnits (map_on (need_of starts1) (need_of starts) flat_block_items (need_same starts1 a2)) h1
 
     -- what is made of a list whose walks are sound
-    module _ (d : ℕ) (low : d < 2 ^ 32) (code : IsCode starts items) (range : InRange items) (ok : Sound (look_at starts items) 0 (d + 1)) (dep : IsDepth (look_at starts items) 0 d) (units : List CodeUnit) (locations : List SourceLocation) (done : IsAssembled starts items units locations) where
-      ok1 : Sound (look_at starts items) 0 (suc d)
-      ok1 = let e : d + 1 ≡ suc d = omega arith in subst (Sound (look_at starts items) 0) e ok
+    module _ (d : ℕ) (low : d < 2 ^ 32) (code : IsCode starts flat_block_items) (range : InRange flat_block_items) (ok : Sound (look_at starts flat_block_items) 0 (d + 1)) (dep : IsDepth (look_at starts flat_block_items) 0 d) (units : List CodeUnit) (locations : List SourceLocation) (done : IsAssembled starts flat_block_items units locations) where
+      ok1 : Sound (look_at starts flat_block_items) 0 (suc d)
+      ok1 = let e : d + 1 ≡ suc d = omega arith in subst (Sound (look_at starts flat_block_items) 0) e ok
 
-      sound_units : Sound (λ p. seen (fetch_unit t units p)) 0 (suc d)
-      sound_units = subst (λ us. Sound (λ p. seen (fetch_unit t us p)) 0 (suc d)) (sym done.units_are) (units_sound starts items done.widths code range done.least.fits t decodes (suc d) ok1)
+      sound_units : Sound (λ p. seen_instr (fetch_unit t units p)) 0 (suc d)
+      sound_units = subst (λ us. Sound (λ p. seen_instr (fetch_unit t us p)) 0 (suc d)) (sym done.units_are) (units_sound starts flat_block_items done.widths code range done.least.fits t flat_block_decodes (suc d) ok1)
 
-      runs : RunsAsBlocks t bs units d
-      runs fuel w =
+      flat_block_runs : RunsAsBlocks t bs units d
+      flat_block_runs fuel w =
           unlimited (fetch_unit t units) 0 (suc d) sound_units (unit_proper t units) d refl fuel w
           ∙ ap (λ us. machine (fetch_unit t us) fuel 0 w) done.units_are
-          ∙ units_run starts items done.widths code range done.least.fits t decodes (suc d) ok1 fuel w
-          ∙ walked.blocks_run t level bs cs starts chain short at linked decodes (suc d) ok1 fuel w
+          ∙ units_run starts flat_block_items done.widths code range done.least.fits t flat_block_decodes (suc d) ok1 fuel w
+          ∙ walked.blocks_run t level bs cs starts chain short at linked flat_block_decodes (suc d) ok1 fuel w
 
       pub is_laid : IsLaid t level bs units locations d
       is_laid = record {
@@ -217,19 +218,19 @@ module _ (t : Tables) (level : ℕ) (bs : List Blk) (cs starts : List ℕ) (chai
         is_chain = chain;
         starts_at = at;
         assembled = done;
-        is_depth = walked.blocks_depth t level bs cs starts chain short at linked decodes d dep;
-        unit_depth = subst (λ us. IsDepth (λ p. seen (fetch_unit t us p)) 0 d) (sym done.units_are) (units_depth starts items done.widths code range done.least.fits t decodes (suc d) ok1 d dep);
+        is_depth = walked.blocks_depth t level bs cs starts chain short at linked flat_block_decodes d dep;
+        unit_depth = subst (λ us. IsDepth (λ p. seen_instr (fetch_unit t us p)) 0 d) (sym done.units_are) (units_depth starts flat_block_items done.widths code range done.least.fits t flat_block_decodes (suc d) ok1 d dep);
         sound = sound_units;
-        runs = runs;
+        runs = flat_block_runs;
       }
 
     module _ (tables_fit : ¬ TooLong lens) where
-      walks_clear : (limit : ℕ) → limit ≤ 2 ^ 32 → Sound (look_at starts items) 0 limit → WalksClear t bs
+      walks_clear : (limit : ℕ) → limit ≤ 2 ^ 32 → Sound (look_at starts flat_block_items) 0 limit → WalksClear t bs
       walks_clear limit l ok = record {
-        end = walked.end_clear t level bs cs starts chain short at linked decodes limit l ok;
-        even = walked.even_clear t level bs cs starts chain short at linked decodes limit l ok;
-        range = walked.range_clear t level bs cs starts chain short at linked decodes limit l ok;
-        match = walked.match_clear t level bs cs starts chain short at linked decodes limit l ok;
+        end = walked.end_clear t level bs cs starts chain short at linked flat_block_decodes limit l ok;
+        even = walked.even_clear t level bs cs starts chain short at linked flat_block_decodes limit l ok;
+        range = walked.range_clear t level bs cs starts chain short at linked flat_block_decodes limit l ok;
+        match = walked.match_clear t level bs cs starts chain short at linked flat_block_decodes limit l ok;
       }
 
       before_walk : (r : Walked) (last b i : ℕ) → NoneBefore (order (walk_error r last b i)) t level bs
@@ -239,21 +240,21 @@ module _ (t : Tables) (level : ℕ) (bs : List Blk) (cs starts : List ℕ) (chai
       before_walk Walked.BlockMismatch last b i = clear 8 (λ _. tables_fit) (λ l. absurd (omega arith)) (λ l. absurd (omega arith))
       before_walk Walked.OutOfMemory last b i = (memory_refused t level bs).1
 
-      pub list_refused : (e : FinalizeError) → ListRefused cs starts items e → Refused t level bs e
+      pub list_refused : (e : FinalizeError) → ListRefused cs starts flat_block_items e → Refused t level bs e
       list_refused e (inl m) = subst (Refused t level bs) (sym m) (memory_refused t level bs)
       list_refused e (inr (inl w)) =
           let nm = w.names in
           subst (Refused t level bs) (sym nm.is)
-          (walked.walk_holds t level bs cs starts chain short at linked decodes w.refused w.place nm.block nm.index nm.located w.refusal, before_walk w.refused (get_or cs (length cs - 1) 0) nm.block nm.index)
+          (walked.walk_holds t level bs cs starts chain short at linked flat_block_decodes w.refused w.place nm.block nm.index nm.located w.refusal, before_walk w.refused (get_or cs (length cs - 1) 0) nm.block nm.index)
       list_refused e (inr (inr u)) = subst (Refused t level bs) (sym u.is) (
         record { chain = cs; starts = starts; is_chain = chain; starts_at = at; too_many = u.too_many },
         clear 9 (λ _. tables_fit) (λ _. walks_clear u.limit u.low u.sound) (λ l. absurd (omega arith)),
       )
 
-      pub all_clear : (d : ℕ) → d < 2 ^ 32 → Sound (look_at starts items) 0 (d + 1) → ¬ widths.TooManyUnits (needs_of starts items) → NoneBefore 10 t level bs
+      pub all_clear : (d : ℕ) → d < 2 ^ 32 → Sound (look_at starts flat_block_items) 0 (d + 1) → ¬ widths.TooManyUnits (needs_of starts flat_block_items) → NoneBefore 10 t level bs
       all_clear d low ok few =
           let e : d + 1 ≡ suc d = omega arith in
-          clear 10 (λ _. tables_fit) (λ _. walks_clear (suc d) (omega arith) (subst (Sound (look_at starts items) 0) e ok)) (λ _ h. few (narrow h.chain h.starts h.is_chain h.starts_at h.too_many))
+          clear 10 (λ _. tables_fit) (λ _. walks_clear (suc d) (omega arith) (subst (Sound (look_at starts flat_block_items) 0) e ok)) (λ _ h. few (narrow h.chain h.starts h.is_chain h.starts_at h.too_many))
 
 pub chain_some : (bs : List Blk) (cs : List ℕ) → IsChain bs cs → 0 < length cs
 chain_some bs cs chain = slice_get_within cs 0 0 chain.path.first

@@ -14,33 +14,34 @@ pub flat_last : (level : ℕ) (bs : List Blk) (cs : List ℕ) (c : ℕ) → flat
 flat_last level bs cs c = flat_map-append (λ b. body level (blk bs b).items) cs (c ∷ []) ∙ ap (λ l. flat level bs cs ++ l) (append-nil (body level (blk bs c).items))
 
 module _ (bs ds : List Blk) (cs : List ℕ) (c : ℕ) (path : IsPath bs (cs ++ c ∷ [])) (long : length bs ≤ length ds) (same : (b : ℕ) → b ≢ c → blk bs b ≡ blk ds b) where
-  abbrev all : List ℕ
-  all = cs ++ c ∷ []
+  abbrev kept_all : List ℕ
+  kept_all = cs ++ c ∷ []
 
-  others : (k : ℕ) → k < length cs → get_or all k 0 ≢ c
-  others k l = λ e. path.distinct k (length cs) 0 l (let a = length_push cs c in omega (arith, a)) (e ∙ sym (get_or_push cs c 0 (length cs) refl))
+  kept_others : (k : ℕ) → k < length cs → get_or kept_all k 0 ≢ c
+  kept_others k l = λ e. path.distinct k (length cs) 0 l (let a = length_push cs c in omega (arith, a)) (e ∙ sym (get_or_push cs c 0 (length cs) refl))
 
-  pub path_kept : IsPath ds all
+  pub path_kept : IsPath ds kept_all
   path_kept = record {
     first = path.first;
-    inside = All-weaker (λ b. b < length bs) (λ b. b < length ds) (λ b l. omega (arith, l, long)) all path.inside;
-    follows = λ k l. ap (λ (b : Blk). b.next) (sym (same (get_or all k 0) (others k (let a = length_push cs c in omega (arith, a, l))))) ∙ path.follows k l;
+    inside = All-weaker (λ b. b < length bs) (λ b. b < length ds) (λ b l. omega (arith, l, long)) kept_all path.inside;
+    follows = λ k l. ap (λ (b : Blk). b.next) (sym (same (get_or kept_all k 0) (kept_others k (let a = length_push cs c in omega (arith, a, l))))) ∙ path.follows k l;
     distinct = path.distinct;
   }
 
   agree : (level : ℕ) → All (λ b. body level (blk ds b).items ≡ body level (blk bs b).items) cs
-  agree level = All-from_get_or (λ b. body level (blk ds b).items ≡ body level (blk bs b).items) cs 0 (λ i l. ap (λ (b : Blk). body level b.items) (sym (same (get_or cs i 0) (subst (λ b. b ≢ c) (get_or_append_left cs (c ∷ []) 0 i l) (others i l)))))
+  agree level = All-from_get_or (λ b. body level (blk ds b).items ≡ body level (blk bs b).items) cs 0 (λ i l. ap (λ (b : Blk). body level b.items) (sym (same (get_or cs i 0) (subst (λ b. b ≢ c) (get_or_append_left cs (c ∷ []) 0 i l) (kept_others i l)))))
 
   pub flat_kept : (level : ℕ) → flat level ds cs ≡ flat level bs cs
   flat_kept level = flat_agree (λ b. body level (blk ds b).items) (λ b. body level (blk bs b).items) cs (agree level)
 
-  pub front_kept : (level k : ℕ) → k ≤ length cs → flat level ds (take k all) ≡ flat level bs (take k all)
+  pub front_kept : (level k : ℕ) → k ≤ length cs → flat level ds (take k kept_all) ≡ flat level bs (take k kept_all)
   front_kept level k l =
       let e = take-append-le k cs (c ∷ []) l in
       ap (flat level ds) e ∙ flat_agree (λ b. body level (blk ds b).items) (λ b. body level (blk bs b).items) (take k cs) (All-take (λ b. body level (blk ds b).items ≡ body level (blk bs b).items) k cs (agree level)) ∙ ap (flat level bs) (sym e)
 
-  pub starts_kept : (level : ℕ) (starts starts1 : List ℕ) → length starts1 ≡ length ds → ((b : ℕ) → b < length bs → get_or starts1 b 0 ≡ get_or starts b 0) → StartsAt level bs all starts → StartsAt level ds all starts1
+  pub starts_kept : (level : ℕ) (starts starts1 : List ℕ) → length starts1 ≡ length ds → ((b : ℕ) → b < length bs → get_or starts1 b 0 ≡ get_or starts b 0)
+      → StartsAt level bs kept_all starts → StartsAt level ds kept_all starts1
   starts_kept level starts starts1 el es h = record {
     long = el;
-    each = λ k l. es (get_or all k 0) (path.inside k 0 l) ∙ h.each k l ∙ ap length (sym (front_kept level k (let a = length_push cs c in omega (arith, a, l))));
+    each = λ k l. es (get_or kept_all k 0) (path.inside k 0 l) ∙ h.each k l ∙ ap length (sym (front_kept level k (let a = length_push cs c in omega (arith, a, l))));
   }

@@ -9,7 +9,7 @@ use Rattle.py_ir.specs.declared.flat.Span.{Span}
 use Rattle.py_ir.specs.Chain.{Blk, blk, block_number, flat, IsChain, StartsAt}
 use Rattle.py_ir.specs.Spans.{blks_of, Follows}
 use Rattle.py_ir.proofs.Short.{chain_short}
-use Rattle.py_ir.proofs.SpanLemmas.{blk_is, length-blks, within}
+use Rattle.py_ir.proofs.SpanLemmas.{blk_is, length-blks, span_within}
 use Rattle.py_ir.proofs.Unique.{one_chain}
 
 module _ (xs : List InstructionInfo) (ss : List Span) (c : ℕ) (h : Follows xs ss c) (cs : List ℕ) (chain : IsChain (blks_of xs ss) cs) where
@@ -19,11 +19,11 @@ module _ (xs : List InstructionInfo) (ss : List Span) (c : ℕ) (h : Follows xs 
   pub list_is : xs ≡ flat 0 (blks_of xs ss) cs
   list_is = h.list ∙ ap (flat 0 (blks_of xs ss)) same_chain
 
-  low : All (λ s. s ≤ length xs) (map (λ (s : Span). s.first) ss)
-  low = All-map (λ s. s ≤ length xs) (λ (s : Span). s.first) ss (λ k d l. let o = h.ordered k d l in let w = within xs ss c h k d l in omega (arith, o, w))
+  listed_low : All (λ s. s ≤ length xs) (map (λ (s : Span). s.first) ss)
+  listed_low = All-map (λ s. s ≤ length xs) (λ (s : Span). s.first) ss (λ k d l. let o = h.ordered k d l in let w = span_within xs ss c h k d l in omega (arith, o, w))
 
   pub starts_are : StartsAt 0 (blks_of xs ss) cs (map (λ (s : Span). s.first) ss) × All (λ s. s ≤ length (flat 0 (blks_of xs ss) cs)) (map (λ (s : Span). s.first) ss)
-  starts_are = (subst (λ ds. StartsAt 0 (blks_of xs ss) ds (map (λ (s : Span). s.first) ss)) same_chain h.starts_at, subst (λ (zs : List InstructionInfo). All (λ s. s ≤ length zs) (map (λ (s : Span). s.first) ss)) list_is low)
+  starts_are = (subst (λ ds. StartsAt 0 (blks_of xs ss) ds (map (λ (s : Span). s.first) ss)) same_chain h.starts_at, subst (λ (zs : List InstructionInfo). All (λ s. s ≤ length zs) (map (λ (s : Span). s.first) ss)) list_is listed_low)
 
 -- the chain is followed as far as a block
 pub record Going (bs : List Blk) (cs : List ℕ) (block : ℕ) : Type 0 where
@@ -38,17 +38,17 @@ going_first bs [] h = absurd (let f = h.path.first in cc)
 going_first bs (c ∷ cs) h = let q : c ≡ 0 = same_Some c 0 h.path.first in record { rest = cs; is_chain = subst (λ b. IsChain bs (b ∷ cs)) q h }
 
 module _ (bs : List Blk) (cs : List ℕ) (block : ℕ) (h : Going bs cs block) where
-  longer : length cs < length (cs ++ block ∷ h.rest)
-  longer = let a = length_append_cons cs block h.rest in omega (arith, a)
+  listed_longer : length cs < length (cs ++ block ∷ h.rest)
+  listed_longer = let a = length_append_cons cs block h.rest in omega (arith, a)
 
-  here : (d : ℕ) → get_or (cs ++ block ∷ h.rest) (length cs) d ≡ block
-  here d = get_or_at cs block h.rest d (length cs) refl
+  listed_here : (d : ℕ) → get_or (cs ++ block ∷ h.rest) (length cs) d ≡ block
+  listed_here d = get_or_at cs block h.rest d (length cs) refl
 
   pub going_inside : block < length bs
-  going_inside = let i = h.is_chain.path.inside (length cs) 0 longer in let e = here 0 in omega (arith, i, e)
+  going_inside = let i = h.is_chain.path.inside (length cs) 0 listed_longer in let e = listed_here 0 in omega (arith, i, e)
 
   pub going_fewer : length cs < length bs
-  going_fewer = let s = chain_short bs (cs ++ block ∷ h.rest) h.is_chain in let l = longer in omega (arith, s, l)
+  going_fewer = let s = chain_short bs (cs ++ block ∷ h.rest) h.is_chain in let l = listed_longer in omega (arith, s, l)
 
   pub going_ends : (blk bs block).next ≡ None → IsChain bs (cs ++ block ∷ [])
   going_ends e = ended h.rest h.is_chain

@@ -8,7 +8,7 @@ use Rattle.py_bytecode.specs.Table.{row_of, bits_of}
 use Rattle.py_bytecode.specs.Objects.{Object}
 use Rattle.py_bytecode.specs.Values.{Bare, Number, Named, operation, It, Cells, Load, Store, Delete, Fast, ByName, Global, Deref, ClassDeref}
 use Rattle.py_bytecode.specs.Machine.{Instr, Push, Access, Operate, MakeFunction, Import, Append, Unpack, Nop, Pop, Rotate2, Rotate3, Duplicate, Duplicate2, SetupLoop, PopBlock, ReturnValue, ReturnConst, PopException, EnterFinally, EndFinally, WithCleanupStart, WithCleanupFinish}
-use Rattle.py_bytecode.specs.Decode.{Tables, value_of, for_some, raising, instr_of}
+use Rattle.py_bytecode.specs.Decode.{Tables, value_of, for_some, raise_instr, instr_of}
 use Rattle.py_bytecode.specs.Units.{is_prefix}
 use Rattle.py_ir.specs.Checks.{lens_of, in_kind}
 
@@ -109,7 +109,7 @@ module _ {P : Type 0} where
   in_range t p op.EndFinally n h e = if_there (nat_lt n 1) EndFinally h
   in_range t p op.WithCleanupStart n h e = if_there (nat_lt n 1) WithCleanupStart h
   in_range t p op.WithCleanupFinish n h e = if_there (nat_lt n 1) WithCleanupFinish h
-  in_range t p op.Raise n h e = if_there (nat_lt n 3) (raising n) h
+  in_range t p op.Raise n h e = if_there (nat_lt n 3) (raise_instr n) h
   in_range t p op.ReturnValue n h e = if_there (nat_lt n 1) ReturnValue h
   in_range t p op.ExtendedArg n h e = absurd (cc)
   in_range t p op.JumpIfTrue n h e = λ z. absurd (cc)

@@ -30,11 +30,13 @@ cut_get (y ∷ xs) i x h = go ((row_of y.instr).leaves) i h (λ j e. cut_get xs 
     go false zero h r = h
     go false (suc i) h r = r i h
 
-pub cut_goes_on : (xs : List InstructionInfo) (i : ℕ) (x : InstructionInfo) → slice_get (cut xs) i ≡ Some x → (row_of x.instr).leaves ≡ false → (suc i < length (cut xs)) ⊎ ((suc i ≡ length xs) × (length xs ≡ length (cut xs)))
+pub cut_goes_on : (xs : List InstructionInfo) (i : ℕ) (x : InstructionInfo) → slice_get (cut xs) i ≡ Some x → (row_of x.instr).leaves ≡ false
+    → (suc i < length (cut xs)) ⊎ ((suc i ≡ length xs) × (length xs ≡ length (cut xs)))
 cut_goes_on [] i x h l = absurd (cc)
 cut_goes_on (y ∷ xs) i x h l = go ((row_of y.instr).leaves) refl i h (λ j e. cut_goes_on xs j x e l)
   where
-    step : (j : ℕ) → (suc j < length (cut xs)) ⊎ ((suc j ≡ length xs) × (length xs ≡ length (cut xs))) → (suc (suc j) < suc (length (cut xs))) ⊎ ((suc (suc j) ≡ suc (length xs)) × (suc (length xs) ≡ suc (length (cut xs))))
+    step : (j : ℕ) → (suc j < length (cut xs)) ⊎ ((suc j ≡ length xs) × (length xs ≡ length (cut xs)))
+        → (suc (suc j) < suc (length (cut xs))) ⊎ ((suc (suc j) ≡ suc (length xs)) × (suc (length xs) ≡ suc (length (cut xs))))
     step j (inl a) = inl (omega arith)
     step j (inr a) = inr (ap suc a.0, ap suc a.1)
 
@@ -46,7 +48,9 @@ cut_goes_on (y ∷ xs) i x h l = go ((row_of y.instr).leaves) refl i h (λ j e. 
         some true = omega arith
         some false = omega arith
 
-    go : (b : Bool) → (row_of y.instr).leaves ≡ b → (i : ℕ) → slice_get (if b then y ∷ [] else (y ∷ cut xs)) i ≡ Some x → ((j : ℕ) → slice_get (cut xs) j ≡ Some x → (suc j < length (cut xs)) ⊎ ((suc j ≡ length xs) × (length xs ≡ length (cut xs)))) → (suc i < length (if b then y ∷ [] else (y ∷ cut xs))) ⊎ ((suc i ≡ suc (length xs)) × (suc (length xs) ≡ length (if b then y ∷ [] else (y ∷ cut xs))))
+    go : (b : Bool) → (row_of y.instr).leaves ≡ b → (i : ℕ) → slice_get (if b then y ∷ [] else (y ∷ cut xs)) i ≡ Some x
+        → ((j : ℕ) → slice_get (cut xs) j ≡ Some x → (suc j < length (cut xs)) ⊎ ((suc j ≡ length xs) × (length xs ≡ length (cut xs))))
+        → (suc i < length (if b then y ∷ [] else (y ∷ cut xs))) ⊎ ((suc i ≡ suc (length xs)) × (suc (length xs) ≡ length (if b then y ∷ [] else (y ∷ cut xs))))
     go true e zero h r = let q : y ≡ x = some_same y x h in let o : (row_of y.instr).leaves ≡ false = subst (λ (z : InstructionInfo). (row_of z.instr).leaves ≡ false) (sym q) l in absurd (let w : true ≡ false = sym e ∙ o in cc)
     go true e (suc i) h r = absurd (cc)
     go false e zero h r = at_zero xs
@@ -80,7 +84,8 @@ pub length-body : (level : ℕ) (xs : List InstructionInfo) → length (body lev
 length-body zero xs = omega arith
 length-body (suc level) xs = length-cut xs
 
-pub body_goes_on : (level : ℕ) (xs : List InstructionInfo) (i : ℕ) (x : InstructionInfo) → slice_get (body level xs) i ≡ Some x → (row_of x.instr).leaves ≡ false → (suc i < length (body level xs)) ⊎ ((suc i ≡ length xs) × (length xs ≡ length (body level xs)))
+pub body_goes_on : (level : ℕ) (xs : List InstructionInfo) (i : ℕ) (x : InstructionInfo) → slice_get (body level xs) i ≡ Some x
+    → (row_of x.instr).leaves ≡ false → (suc i < length (body level xs)) ⊎ ((suc i ≡ length xs) × (length xs ≡ length (body level xs)))
 body_goes_on zero xs i x h l = let w = slice_get_within xs i x h in elim (cases_lt (suc i) (length xs)) [ inl a ↦ inl a | inr a ↦ inr (omega (arith, w), refl) ]
 body_goes_on (suc level) xs i x h l = cut_goes_on xs i x h l
 

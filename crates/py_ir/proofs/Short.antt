@@ -23,13 +23,13 @@ unfolding marks
 unmarked n k [] l h = get_or-replicate n k false false l
 unmarked n k (c ∷ cs) l h = get_or-set_other (marks n cs) c k true false (All-head (λ c. k ≢ c) c cs h) ∙ unmarked n k cs l (All-tail (λ c. k ≢ c) c cs h)
 
-counted : (n : ℕ) (cs : List ℕ) → All (λ c. c < n) cs → AllPairs (λ b c. b ≢ c) cs → length cs + count_by not (marks n cs) ≡ n
+short_counted : (n : ℕ) (cs : List ℕ) → All (λ c. c < n) cs → AllPairs (λ b c. b ≢ c) cs → length cs + count_by not (marks n cs) ≡ n
 unfolding marks
-counted n [] i d = let s = sum_by-replicate (λ x. cond (not x) 1 0) n false in omega (arith, s)
-counted n (c ∷ cs) i d =
+short_counted n [] i d = let s = sum_by-replicate (λ x. cond (not x) 1 0) n false in omega (arith, s)
+short_counted n (c ∷ cs) i d =
     let lt = All-head (λ c. c < n) c cs i in
     let m = length-marks n cs in
-    let h = counted n cs (All-tail (λ c. c < n) c cs i) (λ a b x l k. d (suc a) (suc b) x (omega arith) (omega arith)) in
+    let h = short_counted n cs (All-tail (λ c. c < n) c cs i) (λ a b x l k. d (suc a) (suc b) x (omega arith) (omega arith)) in
     let u = unmarked n c cs lt (λ k x l. d 0 (suc k) x (omega arith) (omega arith)) in
     let one : ℕ = 1 in
     let o : cond (not (get_or (marks n cs) c false)) one 0 ≡ one = ap (λ x. cond (not x) one 0) u in
@@ -37,4 +37,4 @@ counted n (c ∷ cs) i d =
     omega (arith, h, o, s)
 
 pub chain_short : (bs : List Blk) (cs : List ℕ) → IsChain bs cs → length cs ≤ length bs
-chain_short bs cs h = let c = counted (length bs) cs h.path.inside h.path.distinct in omega (arith, c)
+chain_short bs cs h = let c = short_counted (length bs) cs h.path.inside h.path.distinct in omega (arith, c)

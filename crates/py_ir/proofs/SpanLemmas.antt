@@ -27,8 +27,8 @@ pub blk_past : (bs : List Blk) (b : ℕ) → length bs ≤ b → blk bs b ≡ re
 blk_past bs b l = ap blk_of (slice_get_past bs b l)
 
 -- a part that goes to the end
-pub rest_is : (xs : List InstructionInfo) (s : Span) → s.after ≡ length xs → (block_of xs s).instructions ≡ drop s.first xs
-rest_is xs s e = ap (λ n. take (n - s.first) (drop s.first xs)) e ∙ take_rest xs s.first
+pub span_rest_is : (xs : List InstructionInfo) (s : Span) → s.after ≡ length xs → (block_of xs s).instructions ≡ drop s.first xs
+span_rest_is xs s e = ap (λ n. take (n - s.first) (drop s.first xs)) e ∙ take_rest xs s.first
 
 -- a part of the front
 pub part_kept : (xs ys : List InstructionInfo) (s : Span) → s.first ≤ s.after → s.after ≤ length xs → block_of (xs ++ ys) s ≡ block_of xs s
@@ -58,14 +58,14 @@ module _ (xs ys : List InstructionInfo) (ss ts : List Span) (c : ℕ) (long : le
   ]
 
 module _ (xs : List InstructionInfo) (ss : List Span) (c : ℕ) (h : Follows xs ss c) where
-  pub made : c < length ss
-  made = let a = length_push h.before c in let l = h.is_chain.path.inside (length h.before) 0 (omega (arith, a)) in let e = get_or_push h.before c 0 (length h.before) refl in let n = length-blks xs ss in omega (arith, l, e, n)
+  pub span_made : c < length ss
+  span_made = let a = length_push h.before c in let l = h.is_chain.path.inside (length h.before) 0 (omega (arith, a)) in let e = get_or_push h.before c 0 (length h.before) refl in let n = length-blks xs ss in omega (arith, l, e, n)
 
   pub starts_low : (d : Span) → (get_or ss c d).first ≤ length xs
-  starts_low d = let o = h.ordered c d made in let f = h.full d in omega (arith, o, f)
+  starts_low d = let o = h.ordered c d span_made in let f = h.full d in omega (arith, o, f)
 
-  pub within : (b : ℕ) (d : Span) → b < length ss → (get_or ss b d).after ≤ length xs
-  within b d l = elim (cases_eq b c) [
+  pub span_within : (b : ℕ) (d : Span) → b < length ss → (get_or ss b d).after ≤ length xs
+  span_within b d l = elim (cases_eq b c) [
     | inl q ↦ (let f = h.full d in let e = ap (λ n. (get_or ss n d).after) q in omega (arith, e, f))
     | inr n ↦ (let e = h.early b d l n in let s = starts_low d in omega (arith, e, s))
   ]

@@ -12,8 +12,8 @@ use Rattle.py_ir.specs.Chain.{Blk, blk, body, flat, plain, IsChain, StartsAt}
 use Rattle.py_ir.specs.Flattened.{IsFlattened, SameChain}
 use Rattle.py_ir.proofs.Kept.{flat_agree}
 
-pub itself : (bs : List Blk) → SameChain bs bs
-itself bs = record { long = refl; chain = λ cs h. h; blocks = λ cs h i d l. refl }
+pub taken_itself : (bs : List Blk) → SameChain bs bs
+taken_itself bs = record { long = refl; chain = λ cs h. h; blocks = λ cs h i d l. refl }
 
 pub same_flattened : (level : ℕ) (bs ds : List Blk) (cs starts : List ℕ) (items : List InstructionInfo) → SameChain bs ds → IsFlattened level ds cs starts items → IsFlattened level bs cs starts items
 same_flattened level bs ds cs starts items s f = record {
@@ -30,7 +30,8 @@ same_flattened level bs ds cs starts items s f = record {
     agree = All-weaker (λ b. blk bs b ≡ blk ds b) (λ b. body level (blk ds b).items ≡ body level (blk bs b).items) (λ b e. ap (λ (x : Blk). body level x.items) (sym e)) cs (s.blocks cs f.is_chain)
 
 -- the list as it is kept
-pub whole_flattened : (bs : List Blk) (cs starts starts1 : List ℕ) (items : List InstructionInfo) → IsChain bs cs → StartsAt 0 bs cs starts × All (λ s. s ≤ length (flat 0 bs cs)) starts → starts1 ≡ starts → items ≡ flat 0 bs cs → IsFlattened 0 bs cs starts1 items
+pub whole_flattened : (bs : List Blk) (cs starts starts1 : List ℕ) (items : List InstructionInfo) → IsChain bs cs
+    → StartsAt 0 bs cs starts × All (λ s. s ≤ length (flat 0 bs cs)) starts → starts1 ≡ starts → items ≡ flat 0 bs cs → IsFlattened 0 bs cs starts1 items
 whole_flattened bs cs starts starts1 items chain at es ei = record {
   is_chain = chain;
   starts_at = subst (StartsAt 0 bs cs) (sym es) at.0;
@@ -38,7 +39,8 @@ whole_flattened bs cs starts starts1 items chain at es ei = record {
   within = subst (λ (ns : List ℕ). All (λ s. s ≤ length items) ns) (sym es) (subst (λ (zs : List InstructionInfo). All (λ s. s ≤ length zs) starts) (sym ei) at.1);
 }
 
-pub cut_flattened : (level : ℕ) (bs : List Blk) (cs starts starts1 : List ℕ) (items items1 : List InstructionInfo) → starts1 ≡ starts → items1 ≡ items → IsFlattened level bs cs starts items → IsFlattened level bs cs starts1 items1
+pub cut_flattened : (level : ℕ) (bs : List Blk) (cs starts starts1 : List ℕ) (items items1 : List InstructionInfo) → starts1 ≡ starts → items1 ≡ items
+    → IsFlattened level bs cs starts items → IsFlattened level bs cs starts1 items1
 cut_flattened level bs cs starts starts1 items items1 es ei f = subst (λ ns. IsFlattened level bs cs ns items1) (sym es) (subst (IsFlattened level bs cs starts) (sym ei) f)
 
 chain_agree : (bs ds : List Blk) (cs : List ℕ) → length bs ≡ length ds → ((k : ℕ) → k < length cs → blk bs (get_or cs k 0) ≡ blk ds (get_or cs k 0)) → IsChain bs cs → IsChain ds cs

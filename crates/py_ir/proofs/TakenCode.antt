@@ -53,13 +53,14 @@ module _ (level : ℕ) (info : CodeInfo) (flat : FlatCode) (t : IsTaken info fla
   abbrev bs : List Blk
   bs = map plain info.blocks
 
-  tables_are : tables_of (info_of flat) ≡ tables_of info
-  tables_are = ap tables_of t.others
+  taken_code_tables_are : tables_of (info_of flat) ≡ tables_of info
+  taken_code_tables_are = ap tables_of t.others
 
   pub same_chain : SameChain bs (map plain flat.body.blocks)
   same_chain = same_of info.blocks flat.body t.blocks
 
-  filled_back : (units : List CodeUnit) (locations : List SourceLocation) (depth : ℕ) (code : CodeObject) → IsFilled (info_of flat) units locations depth code → IsFilled info units locations depth code
+  filled_back : (units : List CodeUnit) (locations : List SourceLocation) (depth : ℕ) (code : CodeObject) → IsFilled (info_of flat) units locations depth code
+      → IsFilled info units locations depth code
   filled_back units locations depth code f = record {
     given = given_back info flat.body code (subst (λ (i : CodeInfo). IsGiven i code) t.others f.given);
     units_are = f.units_are;
@@ -67,11 +68,12 @@ module _ (level : ℕ) (info : CodeInfo) (flat : FlatCode) (t : IsTaken info fla
     depth_is = f.depth_is;
   }
 
-  pub taken_final : (code : CodeObject) (units : List CodeUnit) (locations : List SourceLocation) (depth : ℕ) → IsLaid (tables_of (info_of flat)) level bs units locations depth → IsFilled (info_of flat) units locations depth code → IsFinal level info code
-  taken_final code units locations depth l f = finals level info code units locations depth (subst (λ (z : Tables). IsLaid z level bs units locations depth) tables_are l) (filled_back units locations depth code f)
+  pub taken_final : (code : CodeObject) (units : List CodeUnit) (locations : List SourceLocation) (depth : ℕ)
+      → IsLaid (tables_of (info_of flat)) level bs units locations depth → IsFilled (info_of flat) units locations depth code → IsFinal level info code
+  taken_final code units locations depth l f = finals level info code units locations depth (subst (λ (z : Tables). IsLaid z level bs units locations depth) taken_code_tables_are l) (filled_back units locations depth code f)
 
   pub taken_clear : NoneBefore 10 (tables_of (info_of flat)) level bs → NoneBefore 10 (tables_of info) level bs
-  taken_clear n = subst (λ (z : Tables). NoneBefore 10 z level bs) tables_are n
+  taken_clear n = subst (λ (z : Tables). NoneBefore 10 z level bs) taken_code_tables_are n
 
   pub taken_refused : (e : FinalizeError) → Refused (tables_of (info_of flat)) level bs e → Refused (tables_of info) level bs e
-  taken_refused e r = subst (λ (z : Tables). Refused z level bs e) tables_are r
+  taken_refused e r = subst (λ (z : Tables). Refused z level bs e) taken_code_tables_are r

@@ -6,14 +6,14 @@ use Rattle.std.proofs.lemmas.Option.{same_Some, slice_get_within, get_or_from_sl
 use Rattle.py_ir.specs.Chain.{Blk, blk, IsPath, IsChain, BrokenChain}
 
 module _ (bs : List Blk) (cs : List ℕ) (chain : IsChain bs cs) where
-  first_of : (ps : List ℕ) → IsPath bs ps → get_or ps 0 0 ≡ 0
-  first_of ps h = get_or_from_slice_get ps 0 0 0 h.first
+  unique_first_of : (ps : List ℕ) → IsPath bs ps → get_or ps 0 0 ≡ 0
+  unique_first_of ps h = get_or_from_slice_get ps 0 0 0 h.first
 
   -- a path goes along the chain
-  along : (ps : List ℕ) → IsPath bs ps → (k : ℕ) → k < length ps → (k < length cs) × (get_or ps k 0 ≡ get_or cs k 0)
-  along ps h zero l = (slice_get_within cs 0 0 chain.path.first, first_of ps h ∙ sym (first_of cs chain.path))
-  along ps h (suc k) l =
-      let i = along ps h k (omega arith) in
+  unique_along : (ps : List ℕ) → IsPath bs ps → (k : ℕ) → k < length ps → (k < length cs) × (get_or ps k 0 ≡ get_or cs k 0)
+  unique_along ps h zero l = (slice_get_within cs 0 0 chain.path.first, unique_first_of ps h ∙ sym (unique_first_of cs chain.path))
+  unique_along ps h (suc k) l =
+      let i = unique_along ps h k (omega arith) in
       let e : k + 1 ≡ suc k = omega arith in
       let n : (blk bs (get_or cs k 0)).next ≡ Some (get_or ps (k + 1) 0) = ap (λ c. (blk bs c).next) (sym i.1) ∙ h.follows k (omega arith) in
       elim (cases_lt (k + 1) (length cs)) [
@@ -23,7 +23,7 @@ module _ (bs : List Blk) (cs : List ℕ) (chain : IsChain bs cs) where
 
   short_of : (ps : List ℕ) → IsPath bs ps → length ps ≤ length cs
   short_of ps h = elim (cases_lt 0 (length ps)) [
-    | inl l ↦ let a = (along ps h (length ps - 1) (omega arith)).0 in omega (arith, a)
+    | inl l ↦ let a = (unique_along ps h (length ps - 1) (omega arith)).0 in omega (arith, a)
     | inr l ↦ omega arith
   ]
 
@@ -32,7 +32,7 @@ module _ (bs : List Blk) (cs : List ℕ) (chain : IsChain bs cs) where
       let ps : List ℕ = r.path in
       let l : 0 < length ps = slice_get_within ps 0 0 r.leads_here.first in
       let k : ℕ = length ps - 1 in
-      let a = along ps r.leads_here k (omega arith) in
+      let a = unique_along ps r.leads_here k (omega arith) in
       let n : (blk bs (get_or cs k 0)).next ≡ Some r.next = ap (λ c. (blk bs c).next) (sym a.1 ∙ r.here) ∙ r.next_is in
       elim (cases_lt (k + 1) (length cs)) [
         | inl m ↦
@@ -42,7 +42,7 @@ module _ (bs : List Blk) (cs : List ℕ) (chain : IsChain bs cs) where
               | inr c ↦
                   let j : ℕ = c.0 in
                   let jl = c.1 in
-                  let aj = along ps r.leads_here j c.1 in
+                  let aj = unique_along ps r.leads_here j c.1 in
                   let e : get_or cs j 0 ≡ get_or cs (k + 1) 0 = sym aj.1 ∙ get_or_default ps j 0 r.next c.1 ∙ c.2 ∙ sym q in
                   chain.path.distinct j (k + 1) 0 (omega (arith, jl)) m e
             ]
@@ -59,4 +59,4 @@ pub one_chain : (bs : List Blk) (cs ds : List ℕ) → IsChain bs cs → IsChain
 one_chain bs cs ds c d =
     let l1 = short_of bs cs c ds d.path in
     let l2 = short_of bs ds d cs c.path in
-    ext_get_or 0 cs ds (omega (arith, l1, l2)) (λ k l. (along bs ds d cs c.path k l).1)
+    ext_get_or 0 cs ds (omega (arith, l1, l2)) (λ k l. (unique_along bs ds d cs c.path k l).1)

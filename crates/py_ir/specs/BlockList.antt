@@ -40,26 +40,26 @@ abbrev pub leading_to : Block → BlockIdx → Block
 leading_to b next = record { instructions = b.instructions; next = next }
 
 -- the instructions are last in the current block
-abbrev pub extended : BlockList → List InstructionInfo → BlockList
-extended v xs = with_current v (with_items (current_block v) xs)
+abbrev pub with_appended : BlockList → List InstructionInfo → BlockList
+with_appended v xs = with_current v (with_items (current_block v) xs)
 
-abbrev pub pushed : BlockList → InstructionInfo → BlockList
-pushed v x = extended v (x ∷ [])
+abbrev pub with_item : BlockList → InstructionInfo → BlockList
+with_item v x = with_appended v (x ∷ [])
 
 abbrev pub last_item : BlockList → Option InstructionInfo
 last_item v = slice_get (current_block v).instructions (length (current_block v).instructions - 1)
 
 -- the current block has lost its last instruction
-abbrev pub popped : BlockList → BlockList
-popped v = with_current v (without_last (current_block v))
+abbrev pub without_last_item : BlockList → BlockList
+without_last_item v = with_current v (without_last (current_block v))
 
 -- one empty block more
 abbrev pub with_new_block : BlockList → BlockList
 with_new_block v = record { blocks = v.blocks ++ empty_block ∷ []; current = v.current }
 
 -- the block is next after the current one, and is current
-abbrev pub placed : BlockList → BlockIdx → BlockList
-placed v b = record { blocks = slice_set v.blocks v.current.0 (leading_to (current_block v) b); current = b }
+abbrev pub with_next_block : BlockList → BlockIdx → BlockList
+with_next_block v b = record { blocks = slice_set v.blocks v.current.0 (leading_to (current_block v) b); current = b }
 
 -- the block is made, and no block of the chain
 pub record IsOutside (v : BlockList) (b : ℕ) : Type 0 where
@@ -79,9 +79,9 @@ abbrev pub empty_blocks : ℕ → BlockList
 empty_blocks count = record { blocks = replicate count empty_block; current = block_idx 0 }
 
 -- the block at a place of the chain is current; the first is so from the start
-abbrev pub led : BlockList → (at : ℕ) → BlockIdx → BlockList
-led v zero b = v
-led v (suc at) b = placed v b
+abbrev pub with_chain_block : BlockList → (at : ℕ) → BlockIdx → BlockList
+with_chain_block v zero b = v
+with_chain_block v (suc at) b = with_next_block v b
 
 -- the blocks outside the chain are emptied, and the last of the chain is current
 pub record IsChainOf (given : List Block) (kept : BlockList) : Type 0 where

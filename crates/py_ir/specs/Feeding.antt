@@ -1,5 +1,5 @@
 -- What the table of constants feeds its hasher of a constant: whatever stands in it, to any depth. Of a code the places of its units
--- are fed too, since codes at different places often differ in nothing else; of a code within, which each code around it feeds again,
+-- are fed too, since codes at different places often differ in nothing else; of a nested code, which each code around it feeds again,
 -- they are not.
 use Rattle.std.specs.Prelude.{Bool, [], ◌++◌}
 use Rattle.std.specs.Hash.{HashWrites}

@@ -10,7 +10,7 @@ use Rattle.py_bytecode.specs.Machine.{machine, limited_machine}
 use Rattle.py_bytecode.specs.Decode.{Tables}
 use Rattle.py_bytecode.specs.Units.{fetch_unit}
 use Rattle.py_bytecode.specs.Blocks.{fetch_block}
-use Rattle.py_dataflow.specs.Walks.{seen, Sound, IsDepth}
+use Rattle.py_dataflow.specs.Walks.{seen_instr, Sound, IsDepth}
 use Rattle.py_layout.specs.Written.{IsAssembled}
 use Rattle.py_ir.specs.Chain.{Blk, IsChain, StartsAt, flat, coded_blocks}
 use Rattle.py_ir.specs.Refusals.{block_look, block_start}
@@ -27,8 +27,8 @@ pub record IsLaid (t : Tables) (level : ℕ) (bs : List Blk) (units : List CodeU
   pub starts_at : StartsAt level bs chain starts
   pub assembled : IsAssembled starts (flat level bs chain) units locations
   pub is_depth : IsDepth (block_look t bs) (block_start bs) depth
-  pub unit_depth : IsDepth (λ p. seen (fetch_unit t units p)) 0 depth
-  pub sound : Sound (λ p. seen (fetch_unit t units p)) 0 (suc depth)
+  pub unit_depth : IsDepth (λ p. seen_instr (fetch_unit t units p)) 0 depth
+  pub sound : Sound (λ p. seen_instr (fetch_unit t units p)) 0 (suc depth)
   pub runs : RunsAsBlocks t bs units depth
 
 -- some cell is a parameter

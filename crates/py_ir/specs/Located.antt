@@ -9,7 +9,7 @@ use Rattle.py_layout.specs.Widths as widths
 use Rattle.py_layout.specs.Written.{needs_of}
 use Rattle.py_ir.specs.declared.checks.Check.{Check}
 use Rattle.py_ir.specs.declared.error.FinalizeError.{FinalizeError}
-use Rattle.py_ir.specs.Refusals.{capped}
+use Rattle.py_ir.specs.Refusals.{capped_place}
 
 -- the block is the last of the chain that starts at the place or before it
 pub record IsLocated (cs starts : List ℕ) (place b i : ℕ) : Type 0 where
@@ -21,18 +21,18 @@ pub record IsLocated (cs starts : List ℕ) (place b i : ℕ) : Type 0 where
 
 -- the error that a check has at a block and an index
 abbrev pub check_error : Check → (b i : ℕ) → FinalizeError
-check_error Check.TargetOutside b i = FinalizeError.TargetOutside b (capped i)
-check_error Check.JumpWithoutTarget b i = FinalizeError.JumpWithoutTarget b (capped i)
-check_error Check.TargetOnOther b i = FinalizeError.TargetOnOther b (capped i)
-check_error Check.PrefixGiven b i = FinalizeError.PrefixGiven b (capped i)
-check_error Check.OperandOutside b i = FinalizeError.OperandOutside b (capped i)
+check_error Check.TargetOutside b i = FinalizeError.TargetOutside b (capped_place i)
+check_error Check.JumpWithoutTarget b i = FinalizeError.JumpWithoutTarget b (capped_place i)
+check_error Check.TargetOnOther b i = FinalizeError.TargetOnOther b (capped_place i)
+check_error Check.PrefixGiven b i = FinalizeError.PrefixGiven b (capped_place i)
+check_error Check.OperandOutside b i = FinalizeError.OperandOutside b (capped_place i)
 
 -- the error that a refused walk has at a block and an index, or where the last block is this one
 abbrev pub walk_error : Walked → (last b i : ℕ) → FinalizeError
 walk_error Walked.NoEnd last b i = FinalizeError.NoEnd last
-walk_error Walked.UnevenHeights last b i = FinalizeError.UnevenHeights b (capped i)
-walk_error Walked.HeightOutOfRange last b i = FinalizeError.HeightOutOfRange b (capped i)
-walk_error Walked.BlockMismatch last b i = FinalizeError.BlockMismatch b (capped i)
+walk_error Walked.UnevenHeights last b i = FinalizeError.UnevenHeights b (capped_place i)
+walk_error Walked.HeightOutOfRange last b i = FinalizeError.HeightOutOfRange b (capped_place i)
+walk_error Walked.BlockMismatch last b i = FinalizeError.BlockMismatch b (capped_place i)
 walk_error Walked.OutOfMemory last b i = FinalizeError.OutOfMemory
 
 -- the error tells the check at the place

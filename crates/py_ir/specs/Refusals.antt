@@ -3,10 +3,10 @@ use Rattle.std.specs.Prelude.{◌≡◌, ◌≢◌, ℕ, ◌-◌, ◌<◌, ◌�
 use Rattle.std.specs.List.{Contains}
 use Rattle.py_bytecode.specs.Decode.{Tables}
 use Rattle.py_bytecode.specs.Units.{is_prefix}
-use Rattle.py_bytecode.specs.Blocks.{Place, Of, settled, fetch_block}
+use Rattle.py_bytecode.specs.Blocks.{Place, Of, settled_place, fetch_block}
 use Rattle.py_dataflow.specs.declared.info.InstructionInfo.{InstructionInfo}
 use Rattle.py_dataflow.specs.Flat.{is_jump}
-use Rattle.py_dataflow.specs.Walks.{Seen, seen, LeavesEnd, UnevenHeights, HeightOutOfRange, BlockMismatch}
+use Rattle.py_dataflow.specs.Walks.{Seen, seen_instr, LeavesEnd, UnevenHeights, HeightOutOfRange, BlockMismatch}
 use Rattle.py_layout.specs.Widths as widths
 use Rattle.py_layout.specs.Written.{needs_of}
 use Rattle.py_ir.specs.declared.checks.TableLens.{TableLens}
@@ -16,14 +16,14 @@ use Rattle.py_ir.specs.Checks.{lens_of, operand_fits}
 
 -- what a walk over the blocks sees, and where it begins
 abbrev pub block_look : Tables → List Blk → Place → Option (Seen Place)
-block_look t bs p = seen (fetch_block t (coded_blocks bs) p)
+block_look t bs p = seen_instr (fetch_block t (coded_blocks bs) p)
 
 abbrev pub block_start : List Blk → Place
-block_start bs = settled (coded_blocks bs) (Of 0 0)
+block_start bs = settled_place (coded_blocks bs) (Of 0 0)
 
 -- the place that an error carries
-abbrev pub capped : ℕ → ℕ
-capped i = if nat_lt i 0xffff_ffff then i else 0xffff_ffff
+abbrev pub capped_place : ℕ → ℕ
+capped_place i = if nat_lt i 0xffff_ffff then i else 0xffff_ffff
 
 -- an instruction of the chain, after the cut, of which this holds, at the place that an error carries
 pub record ItemAt (level : ℕ) (bs : List Blk) (b place : ℕ) (P : List ℕ → InstructionInfo → Type 0) : Type 0 where
@@ -31,7 +31,7 @@ pub record ItemAt (level : ℕ) (bs : List Blk) (b place : ℕ) (P : List ℕ �
   pub is_chain : IsChain bs chain
   pub in_chain : Contains chain b
   pub index : ℕ
-  pub carried : place ≡ capped index
+  pub carried : place ≡ capped_place index
   pub item : InstructionInfo
   pub stands : slice_get (body level (blk bs b).items) index ≡ Some item
   pub holds : P chain item
@@ -39,7 +39,7 @@ pub record ItemAt (level : ℕ) (bs : List Blk) (b place : ℕ) (P : List ℕ �
 -- a place of a walk of which this holds, as an error carries it
 pub record WalkAt (b place : ℕ) (P : Place → Type 0) : Type 0 where
   pub index : ℕ
-  pub carried : place ≡ capped index
+  pub carried : place ≡ capped_place index
   pub holds : P (Of b index)
 
 -- a walk leaves the last block of the chain
@@ -78,7 +78,7 @@ Holds t level bs (FinalizeError.BlockMismatch b p) = WalkAt b p (BlockMismatch (
 Holds t level bs FinalizeError.TooManyUnits = TooWide level bs
 Holds t level bs FinalizeError.OutOfMemory = Unit {0}
 
--- the order of the refusals; the four on walks stand together, and want of memory says nothing of the others
+-- the order of the refusals; the four on walks stand together, and out of memory says nothing of the others
 abbrev pub order : FinalizeError → ℕ
 order FinalizeError.NoBlocks = 0
 order (FinalizeError.BrokenChain b) = 1

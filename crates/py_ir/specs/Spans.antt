@@ -26,8 +26,8 @@ abbrev pub block_list : Inside → BlockList
 block_list f = block_list_of f.items.items f.spans.items f.current
 
 -- a block that is not placed
-abbrev pub unplaced : Span
-unplaced = record { first = 0; after = 0; next = block_idx 0xffff_ffff }
+abbrev pub unplaced_span : Span
+unplaced_span = record { first = 0; after = 0; next = block_idx 0xffff_ffff }
 
 -- the chain goes along the list, and ends at the current block
 pub record Follows (xs : List InstructionInfo) (ss : List Span) (current : ℕ) : Type 0 where
@@ -35,7 +35,7 @@ pub record Follows (xs : List InstructionInfo) (ss : List Span) (current : ℕ) 
   pub is_chain : IsChain (blks_of xs ss) (before ++ current ∷ [])
   pub starts_at : StartsAt 0 (blks_of xs ss) (before ++ current ∷ []) (map (λ s. s.first) ss)
   pub list : xs ≡ flat 0 (blks_of xs ss) (before ++ current ∷ [])
-  pub outside : (b : ℕ) (d : Span) → b < length ss → ¬ Contains (before ++ current ∷ []) b → slice_index_or ss b d ≡ unplaced
+  pub outside : (b : ℕ) (d : Span) → b < length ss → ¬ Contains (before ++ current ∷ []) b → slice_index_or ss b d ≡ unplaced_span
   pub ordered : All (λ s. s.first ≤ s.after) ss
   pub early : (b : ℕ) (d : Span) → b < length ss → b ≢ current → (slice_index_or ss b d).after ≤ (slice_index_or ss current d).first
   pub few : length ss ≤ 0xffff_ffff

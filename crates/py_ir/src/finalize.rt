@@ -11,7 +11,7 @@ ghost use Rattle.py_ir.specs.BlockList.{IsWhole};
 ghost use Rattle.py_ir.specs.Chain.{Blk, IsChain, plain};
 ghost use Rattle.py_ir.specs.Flattened.{Flattened, IsFlattened, SameChain};
 ghost use Rattle.py_ir.specs.Checks.{lens_of};
-ghost use Rattle.py_ir.specs.Refusals.{Refused, NoneBefore, TooLong, capped};
+ghost use Rattle.py_ir.specs.Refusals.{Refused, NoneBefore, TooLong, capped_place};
 ghost use Rattle.py_ir.specs.Located.{IsLocated, ListRefused, NamesCheck, NamesWalk};
 ghost use Rattle.py_ir.specs.Finished.{IsLaid};
 
@@ -67,7 +67,7 @@ fn locate(chain: &[u32], starts: &[usize], place: usize) -> Position
 
 // The place that an error carries.
 fn carried(index: usize) -> u32
-    ensures { result ≡ capped index }
+    ensures { result ≡ capped_place index }
 {
     if index < 0xffff_ffff {
         index as u32

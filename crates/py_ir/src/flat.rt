@@ -2,7 +2,7 @@
 ghost use Rattle.std.specs.Prelude.{ℕ, ◌≡◌, ◌<◌, ◌≤◌, All, IfOk, List as ListOf, OnErr, OnOk, length, map};
 ghost use Rattle.std.specs.Option.{option_copied};
 ghost use Rattle.py_ir.specs.Chain.{IsChain, StartsAt, flat, plain};
-ghost use Rattle.py_ir.specs.BlockList.{IsOutside, block_at, IsWhole, extended, last_item, one_block, placed, popped, pushed, with_new_block};
+ghost use Rattle.py_ir.specs.BlockList.{IsOutside, block_at, IsWhole, with_appended, last_item, one_block, with_next_block, without_last_item, with_item, with_new_block};
 
 use crate::{BlockIdx, InstructionInfo};
 use std::alloc::{AllocError, Global};
@@ -80,7 +80,7 @@ impl FlatBlocks {
     /// There is no memory for it; nothing has changed.
     pub fn push(&mut self, info: InstructionInfo) -> Result<(), AllocError>
         ensures whole { IsWhole self.old }
-        ensures ok { OnOk result (self.new ≡ pushed self.old info) }
+        ensures ok { OnOk result (self.new ≡ with_item self.old info) }
         ensures err { OnErr result (self.new ≡ self.old) }
     {
         self.items.push(info)?;
@@ -89,9 +89,9 @@ impl FlatBlocks {
         Ok(())
     }
 
-    /// Puts instructions last in the current block, in order. For want of memory nothing changes.
+    /// Puts instructions last in the current block, in order. For out of memory nothing changes.
     pub(crate) fn extend_from_slice(&mut self, infos: &[InstructionInfo]) -> Result<(), AllocError>
-        ensures ok { OnOk result (self.new ≡ extended self.old infos.now) }
+        ensures ok { OnOk result (self.new ≡ with_appended self.old infos.now) }
         ensures err { OnErr result (self.new ≡ self.old) }
     {
         self.items.extend_from_slice(infos)?;
@@ -116,7 +116,7 @@ impl FlatBlocks {
     pub fn pop(&mut self) -> Option<InstructionInfo>
         ensures whole { IsWhole self.old }
         ensures last { result ≡ last_item self.old }
-        ensures left { self.new ≡ popped self.old }
+        ensures left { self.new ≡ without_last_item self.old }
         ensures kept { IsWhole self.new }
     {
         let current = self.spans[self.current.0 as usize];
@@ -158,7 +158,7 @@ impl FlatBlocks {
     pub fn place(&mut self, block: BlockIdx)
         requires { IsWhole self.old → IsOutside self.old block.0 }
         ensures whole { IsWhole self.old }
-        ensures placed { self.new ≡ placed self.old block }
+        ensures placed { self.new ≡ with_next_block self.old block }
     {
         let first = self.items.len();
         self.spans[self.current.0 as usize].next = block;

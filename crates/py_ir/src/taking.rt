@@ -3,7 +3,7 @@ ghost use Rattle.std.specs.Prelude.{ℕ, ◌≡◌, ◌<◌, IfErr, IfOk, OnOk, 
 ghost use Rattle.py_bytecode.specs.Decode.{Tables};
 ghost use Rattle.py_ir.specs.Chain.{IsChain, plain};
 ghost use Rattle.py_ir.specs.Refusals.{Refused, order};
-ghost use Rattle.py_ir.specs.BlockList.{IsChainOf, IsOutside, empty_blocks, led};
+ghost use Rattle.py_ir.specs.BlockList.{IsChainOf, IsOutside, empty_blocks, with_chain_block};
 
 use crate::chain::{ChainError, chain_of};
 use crate::{Block, BlockIdx, FinalizeError, FlatBlocks};
@@ -24,7 +24,7 @@ fn many_blocks(alloc: Global, count: usize) -> Result<FlatBlocks, AllocError>
 // The block at a place of the chain becomes current. The first is so from the start.
 fn lead(blocks: &mut FlatBlocks, at: usize, block: BlockIdx)
     requires { 0 < at → IsOutside blocks.old block.0 }
-    ensures { blocks.new ≡ led blocks.old at block }
+    ensures { blocks.new ≡ with_chain_block blocks.old at block }
 {
     if at > 0 {
         blocks.place(block);

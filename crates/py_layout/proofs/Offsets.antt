@@ -30,13 +30,13 @@ pub width_for-within : (a : ℕ) → a < 2 ^ 32 → width_for a ≤ 4
 width_for-within a h = grind (arith, nat_tests)
 
 -- so many units hold it
-pub holds : (n w : ℕ) → width_for n ≤ w → w ≤ 4 → n < 256 ^ w
-holds n zero h l = let p = width_for-pos n in absurd (omega (arith, p, h))
-holds n (suc zero) h l = grind (arith, nat_tests)
-holds n (suc (suc zero)) h l = grind (arith, nat_tests)
-holds n (suc (suc (suc zero))) h l = grind (arith, nat_tests)
-holds n (suc (suc (suc (suc zero)))) h l = grind (arith, nat_tests)
-holds n (suc (suc (suc (suc (suc w))))) h l = absurd (omega arith)
+pub offset_holds : (n w : ℕ) → width_for n ≤ w → w ≤ 4 → n < 256 ^ w
+offset_holds n zero h l = let p = width_for-pos n in absurd (omega (arith, p, h))
+offset_holds n (suc zero) h l = grind (arith, nat_tests)
+offset_holds n (suc (suc zero)) h l = grind (arith, nat_tests)
+offset_holds n (suc (suc (suc zero))) h l = grind (arith, nat_tests)
+offset_holds n (suc (suc (suc (suc zero)))) h l = grind (arith, nat_tests)
+offset_holds n (suc (suc (suc (suc (suc w))))) h l = absurd (omega arith)
 
 -- the units of an operand
 pub size-pos : (a : ℕ) → 1 ≤ units_for a

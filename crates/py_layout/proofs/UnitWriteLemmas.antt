@@ -17,33 +17,35 @@ use Rattle.py_layout.specs.declared.widths.Need.TheVariants.{Fixed, Jump}
 use Rattle.py_layout.specs.Widths.{Chosen, IsWidth, IsNeed, Offsets, offset}
 use Rattle.py_layout.proofs.Offsets.{size-pos, size-within}
 use Rattle.py_bytecode.specs.Operands.{units_for}
-use Rattle.py_layout.specs.Written.{located, unit, units_of, need_of, needs_of, operand_at, operand_in, written}
+use Rattle.py_layout.specs.Written.{unit_locations, unit, units_of, need_of, needs_of, operand_at, operand_in, written_units}
 
-pub written_more : (f : InstructionInfo → ℕ) (xs : List InstructionInfo) (ws : List ℕ) (k : ℕ) (d : InstructionInfo) → k < length xs → length ws ≡ length xs → written f (take (k + 1) xs) (take (k + 1) ws) ≡ written f (take k xs) (take k ws) ++ units_of (get_or xs k d).instr (f (get_or xs k d)) (get_or ws k 0)
+pub written_more : (f : InstructionInfo → ℕ) (xs : List InstructionInfo) (ws : List ℕ) (k : ℕ) (d : InstructionInfo) → k < length xs → length ws ≡ length xs
+    → written_units f (take (k + 1) xs) (take (k + 1) ws) ≡ written_units f (take k xs) (take k ws) ++ units_of (get_or xs k d).instr (f (get_or xs k d)) (get_or ws k 0)
 written_more f [] ws k d lt e = absurd (omega arith)
 written_more f (x ∷ xs) [] k d lt e = absurd (omega arith)
 written_more f (x ∷ xs) (w ∷ ws) zero d lt e = append-nil (units_of x.instr (f x) w)
 written_more f (x ∷ xs) (w ∷ ws) (suc k) d lt e =
-    let i : written f (take (suc k) xs) (take (suc k) ws) ≡ written f (take k xs) (take k ws) ++ units_of (get_or xs k d).instr (f (get_or xs k d)) (get_or ws k 0) = rw (← add-one) (written_more f xs ws k d (omega arith) (omega arith)) in
-    rw add-one (ap (λ us. units_of x.instr (f x) w ++ us) i ∙ sym (append_assoc (units_of x.instr (f x) w) (written f (take k xs) (take k ws)) (units_of (get_or xs k d).instr (f (get_or xs k d)) (get_or ws k 0))))
+    let i : written_units f (take (suc k) xs) (take (suc k) ws) ≡ written_units f (take k xs) (take k ws) ++ units_of (get_or xs k d).instr (f (get_or xs k d)) (get_or ws k 0) = rw (← add-one) (written_more f xs ws k d (omega arith) (omega arith)) in
+    rw add-one (ap (λ us. units_of x.instr (f x) w ++ us) i ∙ sym (append_assoc (units_of x.instr (f x) w) (written_units f (take k xs) (take k ws)) (units_of (get_or xs k d).instr (f (get_or xs k d)) (get_or ws k 0))))
 
 -- with what stands before a place cut off
-pub written_drop : (f : InstructionInfo → ℕ) (xs : List InstructionInfo) (ws : List ℕ) (k : ℕ) → length ws ≡ length xs → drop (offset ws k) (written f xs ws) ≡ written f (drop k xs) (drop k ws)
+pub written_drop : (f : InstructionInfo → ℕ) (xs : List InstructionInfo) (ws : List ℕ) (k : ℕ) → length ws ≡ length xs
+    → drop (offset ws k) (written_units f xs ws) ≡ written_units f (drop k xs) (drop k ws)
 written_drop f xs ws zero e = refl
 written_drop f [] [] (suc k) e = refl
 written_drop f [] (w ∷ ws) (suc k) e = absurd (omega arith)
 written_drop f (x ∷ xs) [] (suc k) e = absurd (omega arith)
 written_drop f (x ∷ xs) (w ∷ ws) (suc k) e =
-    let us = units_of x.instr (f x) w ++ written f xs ws in
+    let us = units_of x.instr (f x) w ++ written_units f xs ws in
     let s : offset (w ∷ ws) (suc k) ≡ w + offset ws k = sum_by-cons (λ n. n) w (take k ws) in
-    ap (λ n. drop n us) s ∙ sym (drop-drop (offset ws k) w us) ∙ ap (drop (offset ws k)) (drop_at (units_of x.instr (f x) w) (written f xs ws) w (length-units_of x.instr (f x) w)) ∙ written_drop f xs ws k (omega arith)
+    ap (λ n. drop n us) s ∙ sym (drop-drop (offset ws k) w us) ∙ ap (drop (offset ws k)) (drop_at (units_of x.instr (f x) w) (written_units f xs ws) w (length-units_of x.instr (f x) w)) ∙ written_drop f xs ws k (omega arith)
 
-pub length-written : (f : InstructionInfo → ℕ) (xs : List InstructionInfo) (ws : List ℕ) → length ws ≡ length xs → length (written f xs ws) ≡ sum ws
+pub length-written : (f : InstructionInfo → ℕ) (xs : List InstructionInfo) (ws : List ℕ) → length ws ≡ length xs → length (written_units f xs ws) ≡ sum ws
 length-written f [] [] e = refl
 length-written f [] (w ∷ ws) e = absurd (omega arith)
 length-written f (x ∷ xs) [] e = absurd (omega arith)
 length-written f (x ∷ xs) (w ∷ ws) e =
-    length-append (units_of x.instr (f x) w) (written f xs ws) ∙ ap (λ n. n + length (written f xs ws)) (length-units_of x.instr (f x) w) ∙ ap (λ n. w + n) (length-written f xs ws (omega arith)) ∙ sym (sum_by-cons (λ n. n) w ws)
+    length-append (units_of x.instr (f x) w) (written_units f xs ws) ∙ ap (λ n. n + length (written_units f xs ws)) (length-units_of x.instr (f x) w) ∙ ap (λ n. w + n) (length-written f xs ws (omega arith)) ∙ sym (sum_by-cons (λ n. n) w ws)
 
 operand_cases : (b : Bool) (p q r : ℕ) → (b ≡ true → q ≡ p) → (if b then p else r) ≡ (if b then q else r)
 operand_cases true p q r h = sym (h refl)
@@ -63,19 +65,23 @@ pub target_within : (starts : List ℕ) (n t : ℕ) → All (λ s. s ≤ n) star
 target_within starts n t h = elim (cases_lt t (length starts)) [ inl l ↦ h t 0 l | inr l ↦ let z = get_or_past starts t 0 l in omega (arith, z) ]
 
 -- the least widths fix a width of one to four for each instruction
-pub chosen_within : (starts : List ℕ) (items : List InstructionInfo) (ws : List ℕ) (k : ℕ) (d : InstructionInfo) → Chosen (needs_of starts items) ws → k < length items → (1 ≤ get_or ws k 0) × (get_or ws k 0 ≤ 4)
+pub chosen_within : (starts : List ℕ) (items : List InstructionInfo) (ws : List ℕ) (k : ℕ) (d : InstructionInfo) → Chosen (needs_of starts items) ws
+    → k < length items → (1 ≤ get_or ws k 0) × (get_or ws k 0 ≤ 4)
 chosen_within starts items ws k d c lt =
     let l : k < length (needs_of starts items) = omega (arith, length-map items (need_of starts)) in
     let g : get_or (needs_of starts items) k (need_of starts d) ≡ need_of starts (get_or items k d) = get_or-map (need_of starts) items k d (need_of starts d) lt in
     width_within starts (get_or items k d) (get_or ws k 0) (subst (λ n. IsWidth n (get_or ws k 0)) g (c.each k (need_of starts d) l))
 
-pub write_step : (starts offsets : List ℕ) (items : List InstructionInfo) (ws : List ℕ) (k : ℕ) (d : InstructionInfo) (us us1 : List CodeUnit) (v : ℕ) → IsCode starts items → Offsets ws offsets → length ws ≡ length items → k < length items → us ≡ written (operand_in starts ws) (take k items) (take k ws) → v ≡ operand_at starts offsets (get_or items k d) → us1 ≡ us ++ units_of (get_or items k d).instr v (get_or ws k 0) → us1 ≡ written (operand_in starts ws) (take (k + 1) items) (take (k + 1) ws)
+pub write_step : (starts offsets : List ℕ) (items : List InstructionInfo) (ws : List ℕ) (k : ℕ) (d : InstructionInfo) (us us1 : List CodeUnit) (v : ℕ)
+    → IsCode starts items → Offsets ws offsets → length ws ≡ length items → k < length items
+    → us ≡ written_units (operand_in starts ws) (take k items) (take k ws) → v ≡ operand_at starts offsets (get_or items k d)
+    → us1 ≡ us ++ units_of (get_or items k d).instr v (get_or ws k 0) → us1 ≡ written_units (operand_in starts ws) (take (k + 1) items) (take (k + 1) ws)
 write_step starts offsets items ws k d us us1 v code o long lt e ev e1 =
     let x = get_or items k d in
     let t : named_place starts x ≤ length ws = let w = target_within starts (length items) x.target.0 code.starts_within in omega (arith, w, long) in
     let q : v ≡ operand_in starts ws x = ev ∙ same_operand starts offsets ws x o t in
     e1 ∙ ap (λ l. l ++ units_of x.instr v (get_or ws k 0)) e
-    ∙ ap (λ n. written (operand_in starts ws) (take k items) (take k ws) ++ units_of x.instr n (get_or ws k 0)) q
+    ∙ ap (λ n. written_units (operand_in starts ws) (take k items) (take k ws) ++ units_of x.instr n (get_or ws k 0)) q
     ∙ sym (written_more (operand_in starts ws) items ws k d lt long)
 
 pub units_of_more : (op : Instruction) (operand left : ℕ) → 1 < left → units_of op operand left ≡ unit ExtendedArg (operand / 256 ^ (left - 1) % 256) ∷ units_of op operand (left - 1)
@@ -83,13 +89,15 @@ units_of_more op operand zero h = absurd (omega arith)
 units_of_more op operand (suc zero) h = absurd (omega arith)
 units_of_more op operand (suc (suc w)) h = let e : suc (suc w) - 1 ≡ suc w = omega arith in subst (λ n. units_of op operand (suc (suc w)) ≡ unit ExtendedArg (operand / 256 ^ n % 256) ∷ units_of op operand n) (sym e) refl
 
-pub put_step : (op : Instruction) (operand left : ℕ) (us us1 old : List CodeUnit) (byte : ℕ) (all : List CodeUnit) → 1 < left → byte ≡ operand / 256 ^ (left - 1) % 256 → us1 ≡ us ++ unit ExtendedArg byte ∷ [] → us ++ units_of op operand left ≡ all → us1 ++ units_of op operand (left - 1) ≡ all
+pub put_step : (op : Instruction) (operand left : ℕ) (us us1 old : List CodeUnit) (byte : ℕ) (all : List CodeUnit) → 1 < left
+    → byte ≡ operand / 256 ^ (left - 1) % 256 → us1 ≡ us ++ unit ExtendedArg byte ∷ [] → us ++ units_of op operand left ≡ all
+    → us1 ++ units_of op operand (left - 1) ≡ all
 put_step op operand left us us1 old byte all lt eb e h =
     let rest = units_of op operand (left - 1) in
     ap (λ l. l ++ rest) e ∙ append_assoc us (unit ExtendedArg byte ∷ []) rest ∙ ap (λ b. us ++ (unit ExtendedArg b ∷ rest)) eb ∙ ap (λ l. us ++ l) (sym (units_of_more op operand left lt)) ∙ h
 
-pub long : (starts : List ℕ) (items : List InstructionInfo) (ws : List ℕ) → Chosen (needs_of starts items) ws → length ws ≡ length items
-long starts items ws c = c.long ∙ length-map items (need_of starts)
+pub unit_write_long : (starts : List ℕ) (items : List InstructionInfo) (ws : List ℕ) → Chosen (needs_of starts items) ws → length ws ≡ length items
+unit_write_long starts items ws c = c.long ∙ length-map items (need_of starts)
 
 need_is : (starts : List ℕ) (n : ℕ) (x : InstructionInfo) → All (λ s. s ≤ n) starts → IsNeed n (need_of starts x)
 need_is starts n x h = need_if (is_jump x.instr) (named_place starts x) x.arg.0 n (target_within starts n x.target.0 h)
@@ -102,14 +110,17 @@ pub needs_are : (starts : List ℕ) (items : List InstructionInfo) → IsCode st
 needs_are starts items code = All-map (IsNeed (length (needs_of starts items))) (need_of starts) items (λ k d lt. need_is starts (length (needs_of starts items)) (get_or items k d) (subst (λ n. All (λ s. s ≤ n) starts) (sym (length-map items (need_of starts))) code.starts_within))
 
 -- the same of locations
-pub located_more : (xs : List InstructionInfo) (ws : List ℕ) (k : ℕ) (d : InstructionInfo) → k < length xs → length ws ≡ length xs → located (take (k + 1) xs) (take (k + 1) ws) ≡ located (take k xs) (take k ws) ++ replicate (get_or ws k 0) (get_or xs k d).location
+pub located_more : (xs : List InstructionInfo) (ws : List ℕ) (k : ℕ) (d : InstructionInfo) → k < length xs → length ws ≡ length xs
+    → unit_locations (take (k + 1) xs) (take (k + 1) ws) ≡ unit_locations (take k xs) (take k ws) ++ replicate (get_or ws k 0) (get_or xs k d).location
 located_more [] ws k d lt e = absurd (omega arith)
 located_more (x ∷ xs) [] k d lt e = absurd (omega arith)
 located_more (x ∷ xs) (w ∷ ws) zero d lt e = append-nil (replicate w x.location)
 located_more (x ∷ xs) (w ∷ ws) (suc k) d lt e =
-    let i : located (take (suc k) xs) (take (suc k) ws) ≡ located (take k xs) (take k ws) ++ replicate (get_or ws k 0) (get_or xs k d).location = rw (← add-one) (located_more xs ws k d (omega arith) (omega arith)) in
-    rw add-one (ap (λ us. replicate w x.location ++ us) i ∙ sym (append_assoc (replicate w x.location) (located (take k xs) (take k ws)) (replicate (get_or ws k 0) (get_or xs k d).location)))
+    let i : unit_locations (take (suc k) xs) (take (suc k) ws) ≡ unit_locations (take k xs) (take k ws) ++ replicate (get_or ws k 0) (get_or xs k d).location = rw (← add-one) (located_more xs ws k d (omega arith) (omega arith)) in
+    rw add-one (ap (λ us. replicate w x.location ++ us) i ∙ sym (append_assoc (replicate w x.location) (unit_locations (take k xs) (take k ws)) (replicate (get_or ws k 0) (get_or xs k d).location)))
 
-pub locate_step : (items : List InstructionInfo) (ws : List ℕ) (k : ℕ) (x : InstructionInfo) (ls ls1 : List SourceLocation) → length ws ≡ length items → k < length items → x ≡ get_or items k x → ls ≡ located (take k items) (take k ws) → ls1 ≡ ls ++ replicate (get_or ws k 0) x.location → ls1 ≡ located (take (k + 1) items) (take (k + 1) ws)
+pub locate_step : (items : List InstructionInfo) (ws : List ℕ) (k : ℕ) (x : InstructionInfo) (ls ls1 : List SourceLocation) → length ws ≡ length items
+    → k < length items → x ≡ get_or items k x → ls ≡ unit_locations (take k items) (take k ws) → ls1 ≡ ls ++ replicate (get_or ws k 0) x.location
+    → ls1 ≡ unit_locations (take (k + 1) items) (take (k + 1) ws)
 locate_step items ws k x ls ls1 l lt is e e1 =
-    e1 ∙ ap (λ z. z ++ replicate (get_or ws k 0) x.location) e ∙ ap (λ (z : InstructionInfo). located (take k items) (take k ws) ++ replicate (get_or ws k 0) z.location) is ∙ sym (located_more items ws k x lt l)
+    e1 ∙ ap (λ z. z ++ replicate (get_or ws k 0) x.location) e ∙ ap (λ (z : InstructionInfo). unit_locations (take k items) (take k ws) ++ replicate (get_or ws k 0) z.location) is ∙ sym (located_more items ws k x lt l)

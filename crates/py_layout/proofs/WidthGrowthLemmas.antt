@@ -26,8 +26,9 @@ wanted_reaches (Fixed n) old offsets v o i h = tt
 wanted_reaches (Jump p) old offsets v o i h = let q : width_for (get_or offsets p 0) ≡ width_for (offset old p) = ap width_for (o.each p i) in omega (arith, q, h)
 
 module _ (needs : List Need) (old offsets : List ℕ) (o : Offsets old offsets) (el : length old ≡ length needs) where
-  pub kept : (ws : List ℕ) (k : ℕ) (g : Bool) (x : Need) → Growing needs old ws k g → k < length needs → x ≡ get_or needs k x → IsNeed (length needs) x → wanted_at offsets x ≤ get_or ws k 0 → Growing needs old ws (k + 1) g
-  kept ws k g x h lt e i le = record { chosen = h.chosen; least = h.least; same = h.same; reaches = go; more = h.more; no_less = h.no_less }
+  pub width_growth_kept : (ws : List ℕ) (k : ℕ) (g : Bool) (x : Need) → Growing needs old ws k g → k < length needs → x ≡ get_or needs k x
+      → IsNeed (length needs) x → wanted_at offsets x ≤ get_or ws k 0 → Growing needs old ws (k + 1) g
+  width_growth_kept ws k g x h lt e i le = record { chosen = h.chosen; least = h.least; same = h.same; reaches = go; more = h.more; no_less = h.no_less }
     where
       go : g ≡ false → (j : ℕ) (d : Need) → j < k + 1 → Reaches old (get_or needs j d) (get_or old j 0)
       go gf j d jl = elim (cases_lt j k) [
@@ -42,7 +43,8 @@ module _ (needs : List Need) (old offsets : List ℕ) (o : Offsets old offsets) 
             subst (λ n. Reaches old (get_or needs n d) (get_or old n 0)) jk r1
       ]
 
-  pub widened : (ws : List ℕ) (k : ℕ) (g : Bool) (x : Need) (w : ℕ) → Growing needs old ws k g → k < length needs → x ≡ get_or needs k x → IsNeed (length needs) x → IsWidth x w → w ≡ wanted_at offsets x → get_or ws k 0 < w → Growing needs old (set ws k w) (k + 1) true
+  pub widened : (ws : List ℕ) (k : ℕ) (g : Bool) (x : Need) (w : ℕ) → Growing needs old ws k g → k < length needs → x ≡ get_or needs k x
+      → IsNeed (length needs) x → IsWidth x w → w ≡ wanted_at offsets x → get_or ws k 0 < w → Growing needs old (set ws k w) (k + 1) true
   widened ws k g x w h lt e i iw ew more = record {
     chosen = record { long = length-set ws k w ∙ h.chosen.long; each = each };
     least = least;

@@ -30,5 +30,5 @@ width_bound count (Jump p) v i h = h.1
 pub chosen_bound : (needs : List Need) (ws : List ℕ) → All (IsNeed (length needs)) needs → Chosen needs ws → sum ws ≤ 4 * length needs
 chosen_bound needs ws i c = let b = sum_by-le (λ n. n) 4 ws (All-from_get_or (λ n. n ≤ 4) ws 0 (λ k h. let h1 : k < length needs = omega (arith, c.long) in width_bound (length needs) (get_or needs k (Jump 0)) (get_or ws k 0) (i k (Jump 0) h1) (c.each k (Jump 0) h1))) in omega (arith, b, c.long)
 
-pub too_many : (needs : List Need) (ws : List ℕ) → Chosen needs ws → ((others : List ℕ) → Fits needs others → AtMost ws others) → 2 ^ 32 ≤ sum ws → TooManyUnits needs
-too_many needs ws c least h others f = let l : length ws ≡ length others = c.long ∙ sym f.chosen.long in let s = sum-le ws others (least others f) l in omega (arith, s, h)
+pub width_round_too_many : (needs : List Need) (ws : List ℕ) → Chosen needs ws → ((others : List ℕ) → Fits needs others → AtMost ws others) → 2 ^ 32 ≤ sum ws → TooManyUnits needs
+width_round_too_many needs ws c least h others f = let l : length ws ≡ length others = c.long ∙ sym f.chosen.long in let s = sum-le ws others (least others f) l in omega (arith, s, h)

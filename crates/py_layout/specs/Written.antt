@@ -37,16 +37,16 @@ abbrev pub operand_at : List ℕ → List ℕ → InstructionInfo → ℕ
 operand_at starts offsets x = if is_jump x.instr then slice_index offsets (named_place starts x) else x.arg.0
 
 -- each instruction in its width
-abbrev pub written : (InstructionInfo → ℕ) → List InstructionInfo → List ℕ → List CodeUnit
-written operand [] ws = []
-written operand (x ∷ xs) [] = []
-written operand (x ∷ xs) (w ∷ ws) = units_of x.instr (operand x) w ++ written operand xs ws
+abbrev pub written_units : (InstructionInfo → ℕ) → List InstructionInfo → List ℕ → List CodeUnit
+written_units operand [] ws = []
+written_units operand (x ∷ xs) [] = []
+written_units operand (x ∷ xs) (w ∷ ws) = units_of x.instr (operand x) w ++ written_units operand xs ws
 
 -- the location of each unit: that of its instruction
-abbrev pub located : List InstructionInfo → List ℕ → List SourceLocation
-located [] ws = []
-located (x ∷ xs) [] = []
-located (x ∷ xs) (w ∷ ws) = replicate w x.location ++ located xs ws
+abbrev pub unit_locations : List InstructionInfo → List ℕ → List SourceLocation
+unit_locations [] ws = []
+unit_locations (x ∷ xs) [] = []
+unit_locations (x ∷ xs) (w ∷ ws) = replicate w x.location ++ unit_locations xs ws
 
 -- an instruction with its whole operand
 pub record Decoded : Type 0 where
@@ -68,8 +68,8 @@ reads operand x = record { op = x.instr; operand = operand x }
 pub record IsAssembled (starts : List ℕ) (items : List InstructionInfo) (units : List CodeUnit) (locations : List SourceLocation) : Type 0 where
   pub widths : List ℕ
   pub least : Least (needs_of starts items) widths
-  pub units_are : units ≡ written (operand_in starts widths) items widths
-  pub locations_are : locations ≡ located items widths
+  pub units_are : units ≡ written_units (operand_in starts widths) items widths
+  pub locations_are : locations ≡ unit_locations items widths
   pub decodes : decode 0 units ≡ map (reads (operand_in starts widths)) items
 
 -- operands are below 2 ^ 32

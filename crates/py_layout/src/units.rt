@@ -3,7 +3,7 @@ ghost use Rattle.std.specs.Prelude.{◌≡◌, ◌+◌, ◌<◌, ◌≤◌, ◌�
 ghost use Rattle.py_bytecode.specs.Operands.{byte_of};
 ghost use Rattle.py_dataflow.specs.Flat.{IsCode, IsLinked};
 ghost use Rattle.py_layout.specs.Widths.{Chosen, IsNeed, Offsets, TooManyUnits};
-ghost use Rattle.py_layout.specs.Written.{InRange, IsAssembled, located, need_of, needs_of, operand_at, operand_in, units_of, written};
+ghost use Rattle.py_layout.specs.Written.{InRange, IsAssembled, unit_locations, need_of, needs_of, operand_at, operand_in, units_of, written_units};
 
 use crate::widths::{LayoutError, Need, lay_out, width_of};
 use py_base::SourceLocation;
@@ -133,7 +133,7 @@ fn write_units(
     requires offsets { Offsets widths.now offsets.now }
     requires empty { units.old.items ≡ [] }
     requires room { sum widths.now ≤ vec_capacity units.old }
-    ensures items { units.new.items ≡ written (operand_in starts.now widths.now) items.now widths.now }
+    ensures items { units.new.items ≡ written_units (operand_in starts.now widths.now) items.now widths.now }
 {
     for (k, item) in items.iter().enumerate() {
         put_all(units, item.instr, operand(starts, offsets, item), widths[k]);
@@ -145,7 +145,7 @@ fn write_locations(items: &[InstructionInfo], widths: &[u8], locations: &mut Vec
     requires long { length widths.now ≡ length items.now }
     requires empty { locations.old.items ≡ [] }
     requires room { sum widths.now ≤ vec_capacity locations.old }
-    ensures items { locations.new.items ≡ located items.now widths.now }
+    ensures items { locations.new.items ≡ unit_locations items.now widths.now }
 {
     for (k, item) in items.iter().enumerate() {
         put_locations(locations, &item.location, widths[k]);

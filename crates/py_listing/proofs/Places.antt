@@ -6,8 +6,8 @@ use Rattle.std.proofs.lemmas.Fmt.{IsAscii-decimal, length-decimal-le}
 use Rattle.std.proofs.lemmas.Str.{IsAscii-append, IsUtf8-from_ascii}
 use Rattle.std.proofs.lemmas.Str.Ascii.{IsAscii-cons, IsAscii-nil}
 
-pub short : (n : ℕ) → n < 2 ^ 64 → length (decimal n) ≤ 20
-short n h = length-decimal-le 20 n (omega arith) (omega (arith, h)) h
+pub place_short : (n : ℕ) → n < 2 ^ 64 → length (decimal n) ≤ 20
+place_short n h = length-decimal-le 20 n (omega arith) (omega (arith, h)) h
 
 pub places_utf8 : (at row column : ℕ) → at < 2 ^ 64 → row < 2 ^ 64 → column < 2 ^ 64 → IsUtf8 (decimal at ++ (codes " " ++ (decimal row ++ (codes ":" ++ (decimal column ++ codes " ")))))
 places_utf8 at row column a r k =

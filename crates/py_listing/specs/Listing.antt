@@ -36,14 +36,14 @@ abbrev mutual
   constant_text (obj.str t) = quote t
   constant_text (obj.bytes bs) = quote_bytes bs
   constant_text (obj.integer z) = signed_decimal z
-  constant_text (obj.tuple cs) = codes "(" ++ joined cs ++ tuple_end cs
+  constant_text (obj.tuple cs) = codes "(" ++ joined_constants cs ++ tuple_end cs
   constant_text obj.ellipsis = codes "Ellipsis"
   constant_text (obj.code o) = code_text o
 
   -- joined by commas
-  pub joined : Consts → List ℕ
-  joined obj.no_consts = []
-  joined (obj.more_consts c cs) = constant_text c ++ after_comma cs
+  pub joined_constants : Consts → List ℕ
+  joined_constants obj.no_consts = []
+  joined_constants (obj.more_consts c cs) = constant_text c ++ after_comma cs
 
   -- each after a comma
   pub after_comma : Consts → List ℕ
@@ -63,7 +63,7 @@ head_line h =
 -- a table has no line where it is empty
 unfoldable pub constants_line : Consts → List ℕ
 constants_line obj.no_consts = []
-constants_line (obj.more_consts c cs) = codes "constants: " ++ joined (obj.more_consts c cs) ++ codes "\n"
+constants_line (obj.more_consts c cs) = codes "constants: " ++ joined_constants (obj.more_consts c cs) ++ codes "\n"
 
 unfoldable pub names_line : (word : List ℕ) → List (List ℕ) → List ℕ
 names_line word [] = []
@@ -136,12 +136,12 @@ abbrev pub whole_operand : (high : ℕ) → CodeUnit → ℕ
 whole_operand high u = (high * 256 + u.arg) % 2 ^ 32
 
 -- what the next unit's operand begins with
-abbrev pub carried : (high : ℕ) → CodeUnit → ℕ
-carried high u = if is_prefix u.op then whole_operand high u else 0
+abbrev pub carried_operand : (high : ℕ) → CodeUnit → ℕ
+carried_operand high u = if is_prefix u.op then whole_operand high u else 0
 
 abbrev pub unit_lines : Object → (at high : ℕ) → List CodeUnit → List ℕ
 unit_lines o at high [] = []
-unit_lines o at high (u ∷ us) = unit_line o at (whole_operand high u) u ++ unit_lines o (suc at) (carried high u) us
+unit_lines o at high (u ∷ us) = unit_line o at (whole_operand high u) u ++ unit_lines o (suc at) (carried_operand high u) us
 
 -- without the codes among the constants
 abbrev pub own_lines : Head → Consts → List ℕ

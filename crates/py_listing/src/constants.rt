@@ -1,6 +1,6 @@
 //! Constants as a listing writes them.
 ghost use Rattle.std.specs.Prelude.{◌≡◌, ◌++◌, string_bytes, OnOk};
-ghost use Rattle.py_listing.specs.Listing.{code_text, constant_text, joined, separator, tuple_end};
+ghost use Rattle.py_listing.specs.Listing.{code_text, constant_text, joined_constants, separator, tuple_end};
 ghost use Rattle.py_bytecode.specs.Objects.{tuple};
 ghost use Rattle.py_bytecode.specs.View.{constant, constants_of, object};
 
@@ -77,7 +77,7 @@ pub fn push_separator(out: &mut String, i: usize) -> Result<(), AllocError>
 /// There is no memory for it.
 #[cycle(constant_text)]
 pub fn push_joined(out: &mut String, elements: &[ConstantData]) -> Result<(), AllocError>
-    ensures { OnOk result (string_bytes out.new ≡ string_bytes out.old ++ joined (constants_of elements.now)) }
+    ensures { OnOk result (string_bytes out.new ≡ string_bytes out.old ++ joined_constants (constants_of elements.now)) }
 {
     for (i, item) in elements.iter().enumerate() {
         push_separator(out, i)?;

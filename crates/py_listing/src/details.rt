@@ -1,4 +1,4 @@
-//! What a listing writes behind an operand, and the end of the line.
+//! What a listing writes after an operand, and the end of the line.
 ghost use Rattle.std.specs.Prelude.{◌≡◌, ◌++◌, codes, decimal, slice_get, string_bytes, OnOk};
 ghost use Rattle.py_listing.specs.Listing.{case_text, constant_text, detail, entry};
 ghost use Rattle.py_quote.specs.Quote.{quote};

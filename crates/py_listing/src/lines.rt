@@ -2,7 +2,7 @@
 ghost use Rattle.std.specs.Prelude.{◌≡◌, ◌++◌, ◌%◌, ◌+◌, ◌*◌, ◌^◌, ℕ, ℤ, List, codes, decimal, slice_get, string_bytes, OnOk};
 ghost use Rattle.std.specs.Fmt.{signed_decimal};
 ghost use Rattle.std.specs.List.{join_by};
-ghost use Rattle.py_listing.specs.Listing.{byte_text, carried, cells_line, constants_line, head_line, joined, line_number, names_line, place_text, unit_line, unit_lines, whole_operand};
+ghost use Rattle.py_listing.specs.Listing.{byte_text, carried_operand, cells_line, constants_line, head_line, joined_constants, line_number, names_line, place_text, unit_line, unit_lines, whole_operand};
 ghost use Rattle.py_quote.specs.Quote.{quote};
 ghost use Rattle.py_bytecode.specs.View.{constants_of, head_of, object};
 
@@ -77,7 +77,7 @@ pub fn push_constants(out: &mut String, constants: &[ConstantData]) -> Result<()
 }
 
 fn push_all_constants(out: &mut String, constants: &[ConstantData]) -> Result<(), AllocError>
-    ensures { OnOk result (string_bytes out.new ≡ string_bytes out.old ++ (codes "constants: " ++ joined (constants_of constants.now) ++ codes "\n")) }
+    ensures { OnOk result (string_bytes out.new ≡ string_bytes out.old ++ (codes "constants: " ++ joined_constants (constants_of constants.now) ++ codes "\n")) }
 {
     push_text(out, "constants: ")?;
     push_joined(out, constants)?;
@@ -160,7 +160,7 @@ fn whole_of(high: u32, unit: CodeUnit) -> u32
 
 /// What the next unit's operand begins with.
 fn carry(whole: u32, unit: CodeUnit) -> u32
-    ensures { (high : ℕ) → whole ≡ whole_operand high unit → result ≡ carried high unit }
+    ensures { (high : ℕ) → whole ≡ whole_operand high unit → result ≡ carried_operand high unit }
 {
     match unit.op {
         Instruction::ExtendedArg => whole,

@@ -4,7 +4,7 @@ ghost use Rattle.std.specs.Prelude.{◌≡◌, ◌+◌, ◌≤◌, ◌∷◌, �
 use itoa::write_digits;
 use std::alloc::AllocError;
 
-/// Bytes for three numbers of up to 20 digits, with a mark behind each.
+/// Bytes for three numbers of up to 20 digits, with a mark after each.
 const ROOM: usize = 63;
 
 /// Appends an offset, a row and a column, as `12 3:4 `.
@@ -29,7 +29,7 @@ fn write_places(buffer: &mut [u8; ROOM], at: usize, row: u32, column: u32) -> us
     write_marked(buffer, end, at as u64, b' ')
 }
 
-/// Writes a number and a mark behind it so that they end at `end`, and gives where they begin.
+/// Writes a number and a mark after it so that they end at `end`, and gives where they begin.
 fn write_marked(buffer: &mut [u8], end: usize, number: u64, mark: u8) -> usize
     requires room { 21 ≤ end }
     requires within { end ≤ length buffer.old }

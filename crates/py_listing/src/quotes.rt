@@ -6,7 +6,7 @@ use py_quote::{is_escaped, push_quote};
 use std::alloc::AllocError;
 
 /// Appends a text in quotes after a space, and the line's end. A text whose bytes stand for themselves is appended as it
-/// is, with what stands around it.
+/// is, with its context.
 ///
 /// # Errors
 /// There is no memory for it.

@@ -1,4 +1,4 @@
-//! Texts and numbers, put behind a text.
+//! Texts and numbers, put after a text.
 ghost use Rattle.std.specs.Prelude.{◌≡◌, ◌<◌, [], ◌∷◌, ◌++◌, string_bytes, OnOk};
 
 use itoa::{Buffer, Integer};

@@ -36,8 +36,8 @@ abbrev pub when : Bool → Fault → List Fault
 when b f = if b then f ∷ [] else []
 
 -- a node that is not compiled yet, whatever stands within it
-abbrev pub unsupported : SourceLocation → List Fault
-unsupported at = fault_at error.NotImplementedYet at ∷ []
+abbrev pub unsupported_fault : SourceLocation → List Fault
+unsupported_fault at = fault_at error.NotImplementedYet at ∷ []
 
 -- a change of `__debug__`
 abbrev pub debug_faults : (text : List ℕ) → SourceLocation → (name : List ℕ) → List Fault
@@ -54,9 +54,9 @@ abbrev pub as_element : tree.Expr → Element tree.Expr tree.Expr
 as_element (tree.Starred at value) = Spread value
 as_element other = Single other
 
-abbrev pub starring : tree.Exprs → List (Element tree.Expr tree.Expr)
-starring tree.no_exprs = []
-starring (tree.more_exprs e es) = as_element e ∷ starring es
+abbrev pub as_elements : tree.Exprs → List (Element tree.Expr tree.Expr)
+as_elements tree.no_exprs = []
+as_elements (tree.more_exprs e es) = as_element e ∷ as_elements es
 
 -- too many targets aside of the first star, which stands at the list, or a second star, which stands where the store begins
 abbrev pub star_faults : (list store : SourceLocation) → List (Element tree.Expr tree.Expr) → List Fault
@@ -186,8 +186,8 @@ abbrev mutual
   faults_to b p (tree.Name at id) = both (debug_faults no_assignment p id)
   faults_to b p (tree.Attribute at value attr) = both (debug_faults no_assignment p attr ++ (faults_in b value).value)
   faults_to b p (tree.Subscript at value slice) = both ((faults_in b value).value ++ (faults_in b slice).value)
-  faults_to b p (tree.List at elts) = both (star_faults at p (starring elts) ++ all_faults_to b p elts)
-  faults_to b p (tree.Tuple at elts) = both (star_faults at p (starring elts) ++ all_faults_to b p elts)
+  faults_to b p (tree.List at elts) = both (star_faults at p (as_elements elts) ++ all_faults_to b p elts)
+  faults_to b p (tree.Tuple at elts) = both (star_faults at p (as_elements elts) ++ all_faults_to b p elts)
   faults_to b p (tree.Starred at value) = record { alone = fault_at (error.SyntaxError lone_star) p ∷ []; element = (faults_to b p value).alone }
   faults_to b p other = both (fault_at (error.Assign (python_name other)) p ∷ [])
 

@@ -23,7 +23,7 @@ use Rattle.py_tree.specs.declared.statements.Alias.{Alias}
 use Rattle.py_emission.specs.Imports.{from_future, import_name, taken_name, takes_all}
 use Rattle.py_emission.specs.Futures.{Future, future_of, is_feature, postpones}
 use Rattle.py_meaning.specs.Scanned.{scan_faults}
-use Rattle.py_meaning.specs.ExprFaults.{Fault, all_faults, assign_faults, augment_faults, debug_faults, declared_faults, default_faults, deletes_faults, elements, expr_faults, exprs_faults, fault_at, faults_to, in_order, keyword_faults, keyword_values, opt_expr_faults, parameter_faults, unsupported, when}
+use Rattle.py_meaning.specs.ExprFaults.{Fault, all_faults, assign_faults, augment_faults, debug_faults, declared_faults, default_faults, deletes_faults, elements, expr_faults, exprs_faults, fault_at, faults_to, in_order, keyword_faults, keyword_values, opt_expr_faults, parameter_faults, unsupported_fault, when}
 
 -- a fault of the whole tree, where it is at fault
 abbrev pub whole : Fault → ℕ → ℕ → List Fault
@@ -106,7 +106,7 @@ future_faults b f = feature_faults f.at f.names ++ names_faults b f.at f.names
 
 -- an f-string has no text
 abbrev pub text_faults : SourceLocation → Option (List ℕ) → List Fault
-text_faults p None = unsupported p
+text_faults p None = unsupported_fault p
 text_faults p (Some text) = []
 
 -- an annotation, before which the code leaves off there
@@ -142,17 +142,17 @@ notes_faults postponed b p (tree.arguments posonly args vararg kwonly kwarg) ret
     opt_note_faults postponed b p returns
     ++ (args_note_faults postponed b p posonly ++ (args_note_faults postponed b p args ++ (args_note_faults postponed b p kwonly ++ (opt_arg_note_faults postponed b p vararg ++ opt_arg_note_faults postponed b p kwarg))))
 
--- a type parameter, which stands in a hidden scope: its bound, and the name that it is stored under
+-- a type parameter, which stands in a type-parameter scope: its bound, and the name that it is stored under
 abbrev pub param_faults : SourceLocation → tree.TypeParam → List Fault
 param_faults p (tree.TypeVar at name bound) = opt_expr_faults true bound ++ debug_faults no_assignment (last_of p (some_of (opt_end bound))) name
-param_faults p other = unsupported (tree.type_param_location other)
+param_faults p other = unsupported_fault (tree.type_param_location other)
 
 -- type parameters, before which the code leaves off there
 abbrev pub params_faults : SourceLocation → tree.TypeParams → List Fault
 params_faults p tree.no_type_params = []
 params_faults p (tree.more_type_params t ts) = param_faults p t ++ params_faults (last_of p (param_end t)) ts
 
--- within a hidden scope all is in a function
+-- within a type-parameter scope all is in a function
 abbrev pub within_params : (in_function : Bool) → tree.TypeParams → Bool
 within_params b tree.no_type_params = b
 within_params b (tree.more_type_params t ts) = true
@@ -215,13 +215,13 @@ abbrev mutual
   stmt_faults c b (tree.Break at) = only_in_loop b error.InvalidBreak at
   stmt_faults c b (tree.Continue at) = only_in_loop b error.InvalidContinue at
   stmt_faults c b (tree.Pass at) = []
-  stmt_faults c b other = unsupported (tree.stmt_location other)
+  stmt_faults c b other = unsupported_fault (tree.stmt_location other)
 
   pub stmts_faults : Setting → (in_loop : Bool) → tree.Stmts → List Fault
   stmts_faults c b tree.no_stmts = []
   stmts_faults c b (tree.more_stmts s ss) = stmt_faults c b s ++ stmts_faults c b ss
 
-  -- the statements of a scope within, but a docstring; they stand in no loop
+  -- the statements of a nested scope, but a docstring; they stand in no loop
   pub rest_faults : Setting → tree.Stmts → List Fault
   rest_faults c tree.no_stmts = []
   rest_faults c (tree.more_stmts s ss) = but_doc (stmt_text s) (stmts_faults c false ss) (stmt_faults c false s ++ stmts_faults c false ss)
@@ -235,11 +235,11 @@ abbrev mutual
 abbrev pub first_setting : (level : ℕ) → Setting
 first_setting l = record { level = l; in_function = false; postponed = false }
 
--- how the statements behind a future import are read
+-- how the statements after a future import are read
 abbrev pub setting_after : Future → Setting → Setting
 setting_after f c = if postpones f then record c { postponed = true } else c
 
--- future imports, and the statements behind them
+-- future imports, and the statements after them
 abbrev pub faults_behind : Setting → tree.Stmts → List Fault
 faults_behind c tree.no_stmts = []
 faults_behind c (tree.more_stmts s ss) = elim (future_of s) [
@@ -268,11 +268,11 @@ compile_faults m l (tree.Expression value) = expr_faults false value
 compile_faults m l other = unsupported_tree ∷ []
 
 -- a shape that no tree of a program has
-abbrev pub malformed : List Malformed → List Fault
-malformed [] = []
-malformed (m ∷ ms) = record { error = error.MalformedTree m; location = None } ∷ malformed ms
+abbrev pub malformed_faults : List Malformed → List Fault
+malformed_faults [] = []
+malformed_faults (m ∷ ms) = record { error = error.MalformedTree m; location = None } ∷ malformed_faults ms
 
 -- nesting, then size, then shapes, then what is wrong with names and scopes, then with the nodes that are compiled
 abbrev pub faults : tree.Mod → Mode → (level : ℕ) → List Fault
 faults t mode level =
-    whole too_deep (2 ^ 10) (nesting t) ++ whole too_large (2 ^ 22) (size_of t) ++ malformed (shapes t mode) ++ scan_faults t ++ compile_faults mode level t
+    whole too_deep (2 ^ 10) (nesting t) ++ whole too_large (2 ^ 22) (size_of t) ++ malformed_faults (shapes t mode) ++ scan_faults t ++ compile_faults mode level t

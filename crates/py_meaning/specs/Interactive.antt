@@ -16,39 +16,39 @@ use Rattle.py_meaning.specs.Table.{after, expr_form}
 use Rattle.py_meaning.specs.TableStmts.{stmt_form}
 
 -- a value is printed
-abbrev pub printing : Target
-printing = GPut (operation op.PrintExpr Bare) VNone
+abbrev pub print_target : Target
+print_target = GPut (operation op.PrintExpr Bare) VNone
 
 -- an expression at a prompt is printed, and the last is returned too
-abbrev pub printed : (last : Bool) → VForm → (rest : SForm) → SForm
-printed true f rest = SReturn (VKeep f None printing)
-printed false f rest = SThen (SInto f printing) rest
+abbrev pub printed_form : (last : Bool) → VForm → (rest : SForm) → SForm
+printed_form true f rest = SReturn (VKeep f None print_target)
+printed_form false f rest = SThen (SInto f print_target) rest
 
--- statements at a prompt behind others; only an expression that stands there itself is printed
+-- statements at a prompt after others; only an expression that stands there itself is printed
 abbrev pub single_form : Context → (next : ℕ) → tree.Stmts → SForm
 single_form c n tree.no_stmts = SReturn (VConst const.none)
-single_form c n (tree.more_stmts (tree.StmtExpr at value) ss) = printed (none ss) (expr_form c n value) (single_form c (after c n value) ss)
+single_form c n (tree.more_stmts (tree.StmtExpr at value) ss) = printed_form (none ss) (expr_form c n value) (single_form c (after c n value) ss)
 single_form c n (tree.more_stmts s ss) = SThen (stmt_form c n s) (single_form c (after_stmt c n s) ss)
 
 -- statements at a prompt; future imports stand before all but expressions
 abbrev pub prompt_form : Context → (next : ℕ) → tree.Stmts → SForm
 prompt_form c n tree.no_stmts = SReturn (VConst const.none)
-prompt_form c n (tree.more_stmts (tree.StmtExpr at value) ss) = printed (none ss) (expr_form c n value) (prompt_form c (after c n value) ss)
+prompt_form c n (tree.more_stmts (tree.StmtExpr at value) ss) = printed_form (none ss) (expr_form c n value) (prompt_form c (after c n value) ss)
 prompt_form c n (tree.more_stmts s ss) = elim (future_of s) [
   | None ↦ single_form c n (tree.more_stmts s ss)
   | Some f ↦ SThen (future_form c f) (prompt_form (after_future f c) n ss)
 ]
 
 -- what a definition stores is returned too
-abbrev pub returned : SForm → SForm
-returned (SAt at (SInto f t)) = SAt at (SReturn (VKeep f None t))
-returned f = SThen f (SReturn (VConst const.none))
+abbrev pub returned_form : SForm → SForm
+returned_form (SAt at (SInto f t)) = SAt at (SReturn (VKeep f None t))
+returned_form f = SThen f (SReturn (VConst const.none))
 
 -- the last statement of a block gives its value, or None
 abbrev pub last_form : Context → (next : ℕ) → tree.Stmt → SForm
 last_form c n (tree.StmtExpr at value) = SAt at (SReturn (expr_form c n value))
-last_form c n (tree.FunctionDef at name params body decorators returns generic) = returned (stmt_form c n (tree.FunctionDef at name params body decorators returns generic))
-last_form c n (tree.ClassDef at name bases keywords body decorators generic) = returned (stmt_form c n (tree.ClassDef at name bases keywords body decorators generic))
+last_form c n (tree.FunctionDef at name params body decorators returns generic) = returned_form (stmt_form c n (tree.FunctionDef at name params body decorators returns generic))
+last_form c n (tree.ClassDef at name bases keywords body decorators generic) = returned_form (stmt_form c n (tree.ClassDef at name bases keywords body decorators generic))
 last_form c n other = SThen (stmt_form c n other) (SReturn (VConst const.none))
 
 -- statements whose last value is given

@@ -7,12 +7,12 @@ use Rattle.py_bytecode.specs.Objects as const
 use Rattle.py_bytecode.specs.Values.{operation, Bare}
 use Rattle.py_scope_counts.specs.Counts.{scopes_in, scopes_in_all, scopes_in_opt, scopes_in_args, scopes_in_clauses, scopes_in_defaults}
 use Rattle.py_emission_parts.specs.Within.{comprehension_inside, lambda_inside}
-use Rattle.py_emission_parts.specs.Context.{Context, head_of, mangled}
+use Rattle.py_emission_parts.specs.Context.{Context, head_of, mangled_by}
 use Rattle.py_emission_parts.specs.Elements.{Element, Single, Spread, Function, Method, pairs}
 use Rattle.py_emission.specs.Texts.{texts_of}
 use Rattle.py_control.specs.Form.{VForm, VConst, VOp, VMake, VChoice, VKeep, VAt, VLoad, VNone, VMore, TForm, TTruth, FixedFast, Resolved, Target, GDrop, GStore, GPut, SReturn, Clauses, CLast, CEach, Filters, NoFilter, MoreFilter, MkScope}
-use Rattle.py_emission_parts.specs.TableParts.{ExprForms, Keywords, TargetForms, binary, bool_forms, call_form, compare_form, constant_of, conversion_case, counted, dict_form, display, elements, joined_form, name_form, named, no_operand, plain_target, slice_form, tested, unary_forms, unpacked_to, value_or, values}
-use Rattle.py_meaning.specs.TableScopes.{Defaults, called_at_once, default_flags, default_parts, gathered, generated, iterator}
+use Rattle.py_emission_parts.specs.TableParts.{ExprForms, Keywords, TargetForms, binary, bool_forms, call_form, compare_form, constant_of, conversion_case, counted_operation, dict_form, display, elements, joined_form, name_form, named_operation, no_operand, plain_target, slice_form, tested_form, unary_forms, unpacked_to, value_or, values}
+use Rattle.py_meaning.specs.TableScopes.{Defaults, called_at_once, default_flags, default_parts, gather_form, generate_form, iterator}
 
 -- the number after the scopes of these
 abbrev pub after : Context → ℕ → tree.Expr → ℕ
@@ -34,7 +34,7 @@ after_args c n args = n + scopes_in_args c.postponed args
 abbrev pub after_defaults : Context → ℕ → tree.Arguments → ℕ
 after_defaults c n params = n + scopes_in_defaults c.postponed params
 
--- after the clauses of a comprehension but the first iterable, which is scanned behind them
+-- after the clauses of a comprehension but the first iterable, which is scanned after them
 abbrev pub after_clauses : Context → ℕ → tree.Generators → ℕ
 after_clauses c n tree.no_generators = n
 after_clauses c n (tree.more_generators target iter ifs is_async gs) = after_all c (after c n target) ifs + scopes_in_clauses c.postponed gs
@@ -60,56 +60,56 @@ but_first_value tree.no_exprs = tree.no_exprs
 but_first_value (tree.more_exprs e es) = es
 
 -- what stands for an expression that is not compiled yet, or never is, which no code has
-abbrev pub unsupported : SourceLocation → ExprForms
-unsupported at = tested (VAt at no_operand)
+abbrev pub unsupported_forms : SourceLocation → ExprForms
+unsupported_forms at = tested_form (VAt at no_operand)
 
 abbrev mutual
   pub expr_forms : Context → (next : ℕ) → tree.Expr → ExprForms
   expr_forms c n (tree.BoolOp at o operands) = bool_forms at o (all_forms c n operands)
-  expr_forms c n (tree.NamedExpr at target value) = tested (VAt at (VKeep (expr_forms c n value).value None (target_forms c (after c n value) target).alone))
-  expr_forms c n (tree.BinOp at left o right) = tested (VAt at (VOp (binary o) (VMore (expr_forms c n left).value (VMore (expr_forms c (after c n left) right).value VNone))))
+  expr_forms c n (tree.NamedExpr at target value) = tested_form (VAt at (VKeep (expr_forms c n value).value None (target_forms c (after c n value) target).alone))
+  expr_forms c n (tree.BinOp at left o right) = tested_form (VAt at (VOp (binary o) (VMore (expr_forms c n left).value (VMore (expr_forms c (after c n left) right).value VNone))))
   expr_forms c n (tree.UnaryOp at o operand) = unary_forms at o (expr_forms c n operand)
   expr_forms c n (tree.Lambda at params body) =
       let d = default_forms c n params in let m = after_defaults c n params in let i = lambda_inside c m in
-      tested (VAt at (VMake (default_flags d) (default_parts d VNone) (MkScope (head_of i) (SReturn (expr_forms i (suc m) body).value)) (codes "<lambda>") VNone))
+      tested_form (VAt at (VMake (default_flags d) (default_parts d VNone) (MkScope (head_of i) (SReturn (expr_forms i (suc m) body).value)) (codes "<lambda>") VNone))
   expr_forms c n (tree.IfExp at t body orelse) =
-      tested (VAt at (VChoice (expr_forms c n t).test (expr_forms c (after c n t) body).value (expr_forms c (after c (after c n t) body) orelse).value))
-  expr_forms c n (tree.Dict at keys others) = tested (VAt at (dict_form (pairs (key_forms c n keys others) (value_forms c n keys others))))
-  expr_forms c n (tree.Set at elts) = tested (VAt at (display op.BuildSet op.BuildSetUnpack (elements (all_forms c n elts))))
+      tested_form (VAt at (VChoice (expr_forms c n t).test (expr_forms c (after c n t) body).value (expr_forms c (after c (after c n t) body) orelse).value))
+  expr_forms c n (tree.Dict at keys others) = tested_form (VAt at (dict_form (pairs (key_forms c n keys others) (value_forms c n keys others))))
+  expr_forms c n (tree.Set at elts) = tested_form (VAt at (display op.BuildSet op.BuildSetUnpack (elements (all_forms c n elts))))
   expr_forms c n (tree.ListComp at elt gs) =
       let i = comprehension_inside c n in let m = after_clauses c (suc n) gs in
-      tested (VAt at (called_at_once (codes "<listcomp>") (MkScope (head_of i) (gathered op.BuildList op.ListAppend (clause_forms i (suc n) gs) (VMore (expr_forms i m elt).value VNone))) (first_iterable c (after c m elt) gs)))
+      tested_form (VAt at (called_at_once (codes "<listcomp>") (MkScope (head_of i) (gather_form op.BuildList op.ListAppend (clause_forms i (suc n) gs) (VMore (expr_forms i m elt).value VNone))) (first_iterable c (after c m elt) gs)))
   expr_forms c n (tree.SetComp at elt gs) =
       let i = comprehension_inside c n in let m = after_clauses c (suc n) gs in
-      tested (VAt at (called_at_once (codes "<setcomp>") (MkScope (head_of i) (gathered op.BuildSet op.SetAdd (clause_forms i (suc n) gs) (VMore (expr_forms i m elt).value VNone))) (first_iterable c (after c m elt) gs)))
+      tested_form (VAt at (called_at_once (codes "<setcomp>") (MkScope (head_of i) (gather_form op.BuildSet op.SetAdd (clause_forms i (suc n) gs) (VMore (expr_forms i m elt).value VNone))) (first_iterable c (after c m elt) gs)))
   expr_forms c n (tree.DictComp at key value gs) =
       let i = comprehension_inside c n in let m = after_clauses c (suc n) gs in
-      tested (VAt at (called_at_once (codes "<dictcomp>") (MkScope (head_of i) (gathered op.BuildMap op.MapAdd (clause_forms i (suc n) gs) (VMore (expr_forms i m key).value (VMore (expr_forms i (after c m key) value).value VNone)))) (first_iterable c (after c (after c m key) value) gs)))
+      tested_form (VAt at (called_at_once (codes "<dictcomp>") (MkScope (head_of i) (gather_form op.BuildMap op.MapAdd (clause_forms i (suc n) gs) (VMore (expr_forms i m key).value (VMore (expr_forms i (after c m key) value).value VNone)))) (first_iterable c (after c (after c m key) value) gs)))
   expr_forms c n (tree.GeneratorExp at elt gs) =
       let i = comprehension_inside c n in let m = after_clauses c (suc n) gs in
-      tested (VAt at (called_at_once (codes "<genexpr>") (MkScope (head_of i) (generated (clause_forms i (suc n) gs) (expr_forms i m elt).value)) (first_iterable c (after c m elt) gs)))
-  expr_forms c n (tree.Await at value) = unsupported at
-  expr_forms c n (tree.Yield at value) = tested (VAt at (VOp (operation op.YieldValue Bare) (VMore (value_or const.none (opt_form c n value)) VNone)))
-  expr_forms c n (tree.YieldFrom at value) = tested (VAt at (VOp (operation op.YieldFrom Bare) (VMore (iterator (expr_forms c n value).value) (VMore (VConst const.none) VNone))))
-  expr_forms c n (tree.Compare at left ops others) = tested (VAt at (compare_form (expr_forms c n left).value ops (all_forms c (after c n left) others)))
+      tested_form (VAt at (called_at_once (codes "<genexpr>") (MkScope (head_of i) (generate_form (clause_forms i (suc n) gs) (expr_forms i m elt).value)) (first_iterable c (after c m elt) gs)))
+  expr_forms c n (tree.Await at value) = unsupported_forms at
+  expr_forms c n (tree.Yield at value) = tested_form (VAt at (VOp (operation op.YieldValue Bare) (VMore (value_or const.none (opt_form c n value)) VNone)))
+  expr_forms c n (tree.YieldFrom at value) = tested_form (VAt at (VOp (operation op.YieldFrom Bare) (VMore (iterator (expr_forms c n value).value) (VMore (VConst const.none) VNone))))
+  expr_forms c n (tree.Compare at left ops others) = tested_form (VAt at (compare_form (expr_forms c n left).value ops (all_forms c (after c n left) others)))
   expr_forms c n (tree.Call at func args keywords) =
-      tested (VAt at (call_form (expr_forms c n func).callee (elements (all_forms c (after c n func) args)) (keyword_forms c (after_all c (after c n func) args) keywords)))
+      tested_form (VAt at (call_form (expr_forms c n func).callee (elements (all_forms c (after c n func) args)) (keyword_forms c (after_all c (after c n func) args) keywords)))
   expr_forms c n (tree.FormattedValue at value conversion spec) =
-      tested (VAt at (VOp (counted op.FormatValue (conversion_case conversion)) (VMore (expr_forms c n value).value (VMore (value_or (const.str []) (opt_form c (after c n value) spec)) VNone))))
-  expr_forms c n (tree.JoinedStr at parts) = tested (VAt at (joined_form (texts_of parts) (values (all_forms c n parts))))
-  expr_forms c n (tree.Constant at value) = tested (VAt at (VConst (constant_of value)))
+      tested_form (VAt at (VOp (counted_operation op.FormatValue (conversion_case conversion)) (VMore (expr_forms c n value).value (VMore (value_or (const.str []) (opt_form c (after c n value) spec)) VNone))))
+  expr_forms c n (tree.JoinedStr at parts) = tested_form (VAt at (joined_form (texts_of parts) (values (all_forms c n parts))))
+  expr_forms c n (tree.Constant at value) = tested_form (VAt at (VConst (constant_of value)))
   expr_forms c n (tree.Attribute at value attr) =
-      let f = VAt at (VOp (named op.LoadAttr (mangled c attr)) (VMore (expr_forms c n value).value VNone)) in
-      record { value = f; test = TTruth f; element = Single f; callee = Method (mangled c attr) (expr_forms c n value).value }
-  expr_forms c n (tree.Subscript at value slice) = tested (VAt at (VOp (operation op.Subscript Bare) (VMore (expr_forms c n value).value (VMore (expr_forms c (after c n value) slice).value VNone))))
+      let f = VAt at (VOp (named_operation op.LoadAttr (mangled_by c attr)) (VMore (expr_forms c n value).value VNone)) in
+      record { value = f; test = TTruth f; element = Single f; callee = Method (mangled_by c attr) (expr_forms c n value).value }
+  expr_forms c n (tree.Subscript at value slice) = tested_form (VAt at (VOp (operation op.Subscript Bare) (VMore (expr_forms c n value).value (VMore (expr_forms c (after c n value) slice).value VNone))))
   expr_forms c n (tree.Starred at value) =
       let f = VAt at (expr_forms c n value).value in
       record { value = f; test = TTruth f; element = Spread (expr_forms c n value).value; callee = Function f }
-  expr_forms c n (tree.Name at id) = tested (VAt at (name_form c.level id (mangled c id)))
-  expr_forms c n (tree.List at elts) = tested (VAt at (display op.BuildList op.BuildListUnpack (elements (all_forms c n elts))))
-  expr_forms c n (tree.Tuple at elts) = tested (VAt at (display op.BuildTuple op.BuildTupleUnpack (elements (all_forms c n elts))))
+  expr_forms c n (tree.Name at id) = tested_form (VAt at (name_form c.level id (mangled_by c id)))
+  expr_forms c n (tree.List at elts) = tested_form (VAt at (display op.BuildList op.BuildListUnpack (elements (all_forms c n elts))))
+  expr_forms c n (tree.Tuple at elts) = tested_form (VAt at (display op.BuildTuple op.BuildTupleUnpack (elements (all_forms c n elts))))
   expr_forms c n (tree.Slice at lower upper step) =
-      tested (VAt at (slice_form (opt_form c n lower) (opt_form c (after_opt c n lower) upper) (opt_form c (after_opt c (after_opt c n lower) upper) step)))
+      tested_form (VAt at (slice_form (opt_form c n lower) (opt_form c (after_opt c n lower) upper) (opt_form c (after_opt c (after_opt c n lower) upper) step)))
 
   -- each after the scopes of those before
   pub all_forms : Context → (next : ℕ) → tree.Exprs → List ExprForms
@@ -181,8 +181,8 @@ abbrev mutual
 
   -- an expression as a target
   pub target_forms : Context → (next : ℕ) → tree.Expr → TargetForms
-  target_forms c n (tree.Name at id) = plain_target (GStore Resolved (mangled c id))
-  target_forms c n (tree.Attribute at value attr) = plain_target (GPut (named op.StoreAttr (mangled c attr)) (VMore (expr_forms c n value).value VNone))
+  target_forms c n (tree.Name at id) = plain_target (GStore Resolved (mangled_by c id))
+  target_forms c n (tree.Attribute at value attr) = plain_target (GPut (named_operation op.StoreAttr (mangled_by c attr)) (VMore (expr_forms c n value).value VNone))
   target_forms c n (tree.Subscript at value slice) = plain_target (GPut (operation op.StoreSubscript Bare) (VMore (expr_forms c n value).value (VMore (expr_forms c (after c n value) slice).value VNone)))
   target_forms c n (tree.List at elts) = plain_target (unpacked_to (all_targets c n elts))
   target_forms c n (tree.Tuple at elts) = plain_target (unpacked_to (all_targets c n elts))

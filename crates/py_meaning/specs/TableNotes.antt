@@ -3,7 +3,7 @@ use Rattle.std.specs.Prelude.{ℕ, ◌+◌, ◌++◌, List, [], ◌∷◌, Optio
 use Rattle.py_tree.specs.Tree as tree
 use Rattle.py_scope_counts.specs.Counts.{scopes_in_arg, scopes_in_notes, scopes_in_opt_arg, scopes_in_returns}
 use Rattle.py_bytecode.specs.Objects as const
-use Rattle.py_emission_parts.specs.Context.{Context, mangled}
+use Rattle.py_emission_parts.specs.Context.{Context, mangled_by}
 use Rattle.py_annotation_text.specs.Annotation.{annotation}
 use Rattle.py_control.specs.Form.{VForm, VConst}
 use Rattle.py_meaning.specs.Table.{expr_form}
@@ -24,7 +24,7 @@ opt_note c n name (tree.some_expr e) = (name, note_form c n e) ∷ []
 
 -- the annotation of a parameter, under its mangled name
 abbrev pub arg_note : Context → (next : ℕ) → tree.Arg → List (List ℕ × VForm)
-arg_note c n (tree.arg at name annotation) = opt_note c n (mangled c name) annotation
+arg_note c n (tree.arg at name annotation) = opt_note c n (mangled_by c name) annotation
 
 -- that of a parameter that may be missing
 abbrev pub opt_arg_note : Context → (next : ℕ) → tree.OptArg → List (List ℕ × VForm)

@@ -6,7 +6,7 @@ use Rattle.py_bytecode.specs.Objects as const
 use Rattle.py_bytecode.specs.Values.{operation, Bare}
 use Rattle.py_control.specs.Form.{VForm, VConst, VLoad, VOp, VMake, VKeep, VForms, VNone, VMore, FixedByName, FixedGlobal, GStore, GUnder, SForm, SSkip, SThen, SDo, SInto, SReturn, SClassEnd, SGather, SGenerate, Clauses, Scope}
 use Rattle.py_emission_parts.specs.Within.{doc_const, some_flag}
-use Rattle.py_emission_parts.specs.TableParts.{built, counted, map_of, named, some_built}
+use Rattle.py_emission_parts.specs.TableParts.{built_form, counted_operation, map_of, named_operation, some_built}
 
 -- the defaults of a function: of the positional parameters, and of those that are keywords only, by their names
 pub record Defaults : Type 0 where
@@ -19,21 +19,21 @@ default_flags d = some_flag 0x08 d.positional + some_flag 0x04 d.keyword
 
 -- a tuple and a map, where there are any
 abbrev pub default_parts : Defaults → VForms → VForms
-default_parts d rest = some_built (built op.BuildTuple) d.positional (some_built map_of d.keyword rest)
+default_parts d rest = some_built (built_form op.BuildTuple) d.positional (some_built map_of d.keyword rest)
 
 -- a docstring is stored to the function
-abbrev pub documented : Option (List ℕ) → VForm → VForm
-documented None f = f
-documented (Some text) f = VKeep f None (GUnder (named op.StoreAttr (codes "__doc__")) (VConst (const.str text)))
+abbrev pub documented_form : Option (List ℕ) → VForm → VForm
+documented_form None f = f
+documented_form (Some text) f = VKeep f None (GUnder (named_operation op.StoreAttr (codes "__doc__")) (VConst (const.str text)))
 
 -- a function of these flags and parts, with its annotations by name
 abbrev pub function_form : (flags : ℕ) → VForms → Scope → (name : List ℕ) → (notes : List (List ℕ × VForm)) → (doc : Option (List ℕ)) → VForm
-function_form flags parts s name notes doc = documented doc (VMake (flags + some_flag 0x02 notes) parts s name (some_built map_of notes VNone))
+function_form flags parts s name notes doc = documented_form doc (VMake (flags + some_flag 0x02 notes) parts s name (some_built map_of notes VNone))
 
 -- each decorator is called with what those after it give
-abbrev pub decorated : List VForm → VForm → VForm
-decorated [] f = f
-decorated (d ∷ ds) f = VOp (counted op.CallFunctionPositional 1) (VMore d (VMore (decorated ds f) VNone))
+abbrev pub decorated_form : List VForm → VForm → VForm
+decorated_form [] f = f
+decorated_form (d ∷ ds) f = VOp (counted_operation op.CallFunctionPositional 1) (VMore d (VMore (decorated_form ds f) VNone))
 
 -- room for annotations, where there are any
 abbrev pub setup_form : Bool → SForm
@@ -56,13 +56,13 @@ abbrev pub iterator : VForm → VForm
 iterator f = VOp (operation op.GetIter Bare) (VMore f VNone)
 
 -- the scope of a comprehension adds each element to a collection
-abbrev pub gathered : (build append : Instruction) → Clauses → VForms → SForm
-gathered build append cs fs = SGather (counted build 0) cs (operation append Bare) fs
+abbrev pub gather_form : (build append : Instruction) → Clauses → VForms → SForm
+gather_form build append cs fs = SGather (counted_operation build 0) cs (operation append Bare) fs
 
 -- a generator gives each element, and returns None
-abbrev pub generated : Clauses → VForm → SForm
-generated cs f = SThen (SGenerate cs (VOp (operation op.YieldValue Bare) (VMore f VNone))) (SReturn (VConst const.none))
+abbrev pub generate_form : Clauses → VForm → SForm
+generate_form cs f = SThen (SGenerate cs (VOp (operation op.YieldValue Bare) (VMore f VNone))) (SReturn (VConst const.none))
 
 -- a comprehension is a function that is called at once, with the iterator of a value
 abbrev pub called_at_once : (name : List ℕ) → Scope → (iterable : VForm) → VForm
-called_at_once name s iterable = VOp (counted op.CallFunctionPositional 1) (VMore (VMake 0 VNone s name VNone) (VMore (iterator iterable) VNone))
+called_at_once name s iterable = VOp (counted_operation op.CallFunctionPositional 1) (VMore (VMake 0 VNone s name VNone) (VMore (iterator iterable) VNone))

@@ -12,33 +12,33 @@ use Rattle.py_control.specs.Form.{Scope}
 use Rattle.py_emission_parts.specs.Context.{inside}
 use Rattle.py_meaning.specs.Meaning.{body, meaning}
 
-abbrev at : ℕ → SourceLocation
-at column = record { row = 1; column = column }
+abbrev meaning_sample_at : ℕ → SourceLocation
+meaning_sample_at column = record { row = 1; column = column }
 
-abbrev sum_called : tree.Mod
-sum_called =
-    tree.Module (tree.more_stmts (tree.StmtExpr (at 1) (tree.Call (at 1) (tree.Name (at 1) (codes "f")) (tree.more_exprs (tree.BinOp (at 3) (tree.Name (at 3) (codes "a")) Add (tree.Constant (at 7) (literal.Int (pos 1)))) tree.no_exprs) tree.no_keywords)) tree.no_stmts)
+abbrev meaning_sample_sum_called : tree.Mod
+meaning_sample_sum_called =
+    tree.Module (tree.more_stmts (tree.StmtExpr (meaning_sample_at 1) (tree.Call (meaning_sample_at 1) (tree.Name (meaning_sample_at 1) (codes "f")) (tree.more_exprs (tree.BinOp (meaning_sample_at 3) (tree.Name (meaning_sample_at 3) (codes "a")) Add (tree.Constant (meaning_sample_at 7) (literal.Int (pos 1)))) tree.no_exprs) tree.no_keywords)) tree.no_stmts)
 
-abbrev loads : List ℕ → Event Scope
-loads n = Accesses Unsaid Load n 0 []
+abbrev meaning_sample_loads : List ℕ → Event Scope
+meaning_sample_loads n = Accesses Unsaid Load n 0 []
 
-abbrev adds : Event Scope
-adds = Operates (operation op.BinaryOperation (Number 0)) (Given 1 0 ∷ Constant (const.integer (pos 1)) ∷ [])
+abbrev meaning_sample_adds : Event Scope
+meaning_sample_adds = Operates (operation op.BinaryOperation (Number 0)) (Given 1 0 ∷ Constant (const.integer (pos 1)) ∷ [])
 
-abbrev calls : Event Scope
-calls = Operates (operation op.CallFunctionPositional (Number 1)) (Given 0 0 ∷ Given 2 0 ∷ [])
+abbrev meaning_sample_calls : Event Scope
+meaning_sample_calls = Operates (operation op.CallFunctionPositional (Number 1)) (Given 0 0 ∷ Given 2 0 ∷ [])
 
 -- each operation gives a value
-given_all : meaning (body [] sum_called Exec 0) (Gives 1 ∷ Gives 1 ∷ Gives 1 ∷ Gives 1 ∷ []) ≡ ran (loads (codes "f") ∷ loads (codes "a") ∷ adds ∷ calls ∷ []) (Returned (It (Constant const.none)))
+meaning_sample_given_all : meaning (body [] meaning_sample_sum_called Exec 0) (Gives 1 ∷ Gives 1 ∷ Gives 1 ∷ Gives 1 ∷ []) ≡ ran (meaning_sample_loads (codes "f") ∷ meaning_sample_loads (codes "a") ∷ meaning_sample_adds ∷ meaning_sample_calls ∷ []) (Returned (It (Constant const.none)))
 unfolding inside
-given_all = refl
+meaning_sample_given_all = refl
 
 -- the second load raises
-load_raises : meaning (body [] sum_called Exec 0) (Gives 1 ∷ Raised ∷ []) ≡ ran (loads (codes "f") ∷ loads (codes "a") ∷ []) (RaisedOut (Given 1 0))
+meaning_sample_load_raises : meaning (body [] meaning_sample_sum_called Exec 0) (Gives 1 ∷ Raised ∷ []) ≡ ran (meaning_sample_loads (codes "f") ∷ meaning_sample_loads (codes "a") ∷ []) (RaisedOut (Given 1 0))
 unfolding inside
-load_raises = refl
+meaning_sample_load_raises = refl
 
 -- no answer
-no_answer : meaning (body [] sum_called Exec 0) [] ≡ ran (loads (codes "f") ∷ []) Stopped
+meaning_sample_no_answer : meaning (body [] meaning_sample_sum_called Exec 0) [] ≡ ran (meaning_sample_loads (codes "f") ∷ []) Stopped
 unfolding inside
-no_answer = refl
+meaning_sample_no_answer = refl

@@ -19,27 +19,28 @@ use Rattle.py_control.specs.CodeRuns.{instrs, place_of}
 use Rattle.py_control.specs.Code.{Item, body_code}
 use Rattle.py_control.specs.Form.{Scope}
 use Rattle.py_control.specs.Places.{instr_over}
-use Rattle.py_emission_parts.specs.Children.{code_head}
+use Rattle.py_emission_parts.specs.Running.{code_head}
 use Rattle.py_emission_parts.specs.Within.{Shape}
 use Rattle.py_emission_parts.specs.Context.{Context, outermost}
 use Rattle.py_emission_parts.specs.Emitting.{Outcome, Done, TooWide, Refused}
-use Rattle.py_emission_parts.specs.Sealed.{sealed}
-use Rattle.py_emission.specs.EmissionMods.{emitted}
-use Rattle.py_meaning_samples.proofs.SampleTools.{at}
+use Rattle.py_emission_parts.specs.Sealed.{assembled_object}
+use Rattle.py_emission.specs.EmissionMods.{emission_outcome}
+use Rattle.py_meaning_samples.proofs.SampleTools.{source_place}
 
-abbrev pub symbol : List ℕ → SymbolScope → (flags : ℕ) → Symbol
-symbol name scope flags = record { name = name; scope = scope; flags = record { 0 = flags } }
+abbrev pub object_tool_symbol : List ℕ → SymbolScope → (flags : ℕ) → Symbol
+object_tool_symbol name scope flags = record { name = name; scope = scope; flags = record { 0 = flags } }
 
 abbrev pub entry : SymbolTableType → List Symbol → (next : ℕ) → ScopeEntry
 entry typ symbols next = record { typ = typ; symbols = symbols; next = next }
 
-abbrev pub unit : Instruction → ℕ → CodeUnit
-unit i n = record { op = i; arg = n }
+abbrev pub object_tool_unit : Instruction → ℕ → CodeUnit
+object_tool_unit i n = record { op = i; arg = n }
 
 abbrev path : List ℕ
 path = codes "m.py"
 
-abbrev pub sealed_as : (depth : ℕ) → (cell2arg : Option (List ℤ)) → (flags pos args kw line : ℕ) → (name : List ℕ) → List CodeUnit → List SourceLocation → (names varnames cells frees : List (List ℕ)) → List Const → Object
+abbrev pub sealed_as : (depth : ℕ) → (cell2arg : Option (List ℤ)) → (flags pos args kw line : ℕ) → (name : List ℕ) → List CodeUnit → List SourceLocation
+    → (names varnames cells frees : List (List ℕ)) → List Const → Object
 sealed_as depth cell2arg flags pos args kw line name units locations names varnames cells frees constants = object_of (record {
   flags = flags;
   posonlyarg_count = pos;
@@ -63,18 +64,18 @@ module_shape = record { flags = 1; posonlyarg_count = 0; arg_count = 0; kwonlyar
 
 -- the code object, and the number of the next scope, where all is emitted
 abbrev object_in : Context → Outcome → Option (Object × ℕ)
-object_in c (Done s) = Some (sealed c.level (code_head c module_shape (at 1 1)) s, s.next)
+object_in c (Done s) = Some (assembled_object c.level (code_head c module_shape (source_place 1 1)) s, s.next)
 object_in c TooWide = None
 object_in c (Refused e p) = None
 
 abbrev pub object_in_mode : List ScopeEntry → tree.Mod → Mode → (level : ℕ) → Option (Object × ℕ)
-object_in_mode scopes t m level = let c = outermost level path scopes in object_in c (emitted t m c)
+object_in_mode scopes t m level = let c = outermost level path scopes in object_in c (emission_outcome t m c)
 
 -- of a tree that is compiled alike in every mode
 abbrev pub object_emitted : List ScopeEntry → tree.Mod → (level : ℕ) → Option (Object × ℕ)
 object_emitted scopes t level = object_in_mode scopes t Exec level
 
--- without the scopes within
+-- without the nested scopes
 abbrev decoded : Tables → CodeUnit → Option (Instr ℕ ℕ)
 decoded t u = option_map (instr_over (λ o. 0) (λ p. p)) (instr_of t (Some u.arg) u.op u.arg)
 

@@ -8,8 +8,8 @@ use Rattle.py_emission_parts.specs.Context.{Context, outermost}
 use Rattle.py_base.specs.Messages.{message}
 use Rattle.py_meaning.specs.ExprFaults.{Fault}
 
-abbrev pub at : (row column : ℕ) → SourceLocation
-at r c = record { row = r; column = c }
+abbrev pub source_place : (row column : ℕ) → SourceLocation
+source_place r c = record { row = r; column = c }
 
 -- a module of whose names nothing is known, so each is looked up by name
 abbrev pub unscoped : (level : ℕ) → Context
@@ -22,7 +22,7 @@ pub record Line : Type 0 where
   pub location : SourceLocation
 
 abbrev pub line : Instruction → (operand row column : ℕ) → Line
-line i n r c = record { instruction = i; operand = n; location = at r c }
+line i n r c = record { instruction = i; operand = n; location = source_place r c }
 
 -- what is emitted, with the names, the names of the code's own and the constants
 pub record Lines : Type 0 where
@@ -57,6 +57,6 @@ lines_in (Done s) = Some (record { lines = lines_of s.steps s.steps; names = s.n
 lines_in TooWide = None
 lines_in (Refused e p) = None
 
-abbrev pub told : List Fault → List (List ℕ × Option SourceLocation)
-told [] = []
-told (f ∷ fs) = (message f.error, f.location) ∷ told fs
+abbrev pub sample_tool_told : List Fault → List (List ℕ × Option SourceLocation)
+sample_tool_told [] = []
+sample_tool_told (f ∷ fs) = (message f.error, f.location) ∷ sample_tool_told fs

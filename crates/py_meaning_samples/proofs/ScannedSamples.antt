@@ -16,19 +16,19 @@ use Rattle.py_base.specs.declared.errors.CodegenErrorType.TheVariants as error
 use Rattle.py_meaning.specs.ExprFaults.{fault_at}
 use Rattle.py_meaning.specs.Faults.{faults}
 use Rattle.py_meaning.specs.Scanned.{scopes_of}
-use Rattle.py_meaning_samples.proofs.SampleTools.{at}
+use Rattle.py_meaning_samples.proofs.SampleTools.{source_place}
 
-abbrev symbol : (name : List ℕ) → SymbolScope → (flags : ℕ) → Symbol
-symbol name s flags = record { name = name; scope = s; flags = record { 0 = flags } }
+abbrev scanned_sample_symbol : (name : List ℕ) → SymbolScope → (flags : ℕ) → Symbol
+scanned_sample_symbol name s flags = record { name = name; scope = s; flags = record { 0 = flags } }
 
-abbrev one : tree.Stmt → tree.Stmts
-one s = tree.more_stmts s tree.no_stmts
+abbrev scanned_sample_one : tree.Stmt → tree.Stmts
+scanned_sample_one s = tree.more_stmts s tree.no_stmts
 
 abbrev one_expr : tree.Expr → tree.Exprs
 one_expr e = tree.more_exprs e tree.no_exprs
 
-abbrev no_arguments : tree.Arguments
-no_arguments = tree.arguments tree.no_args tree.no_args tree.no_arg tree.no_args tree.no_arg
+abbrev scanned_sample_no_arguments : tree.Arguments
+scanned_sample_no_arguments = tree.arguments tree.no_args tree.no_args tree.no_arg tree.no_args tree.no_arg
 
 -- def f():
 --     global g
@@ -37,23 +37,23 @@ no_arguments = tree.arguments tree.no_args tree.no_args tree.no_arg tree.no_args
 -- del g
 abbrev declares : tree.Mod
 declares =
-    tree.Module (tree.more_stmts (tree.FunctionDef (at 1 1) (codes "f") no_arguments (one (tree.Global (at 2 5) (codes "g" ∷ []))) tree.no_exprs tree.no_expr tree.no_type_params)
-    (tree.more_stmts (tree.Assign (at 3 1) (one_expr (tree.Name (at 3 1) (codes "g"))) (tree.Name (at 3 5) (codes "h")))
-    (tree.more_stmts (tree.StmtExpr (at 4 1) (tree.Call (at 4 1) (tree.Name (at 4 1) (codes "f")) (one_expr (tree.Name (at 4 3) (codes "g"))) tree.no_keywords))
-    (one (tree.Delete (at 5 1) (one_expr (tree.Name (at 5 5) (codes "g"))))))))
+    tree.Module (tree.more_stmts (tree.FunctionDef (source_place 1 1) (codes "f") scanned_sample_no_arguments (scanned_sample_one (tree.Global (source_place 2 5) (codes "g" ∷ []))) tree.no_exprs tree.no_expr tree.no_type_params)
+    (tree.more_stmts (tree.Assign (source_place 3 1) (one_expr (tree.Name (source_place 3 1) (codes "g"))) (tree.Name (source_place 3 5) (codes "h")))
+    (tree.more_stmts (tree.StmtExpr (source_place 4 1) (tree.Call (source_place 4 1) (tree.Name (source_place 4 1) (codes "f")) (one_expr (tree.Name (source_place 4 3) (codes "g"))) tree.no_keywords))
+    (scanned_sample_one (tree.Delete (source_place 5 1) (one_expr (tree.Name (source_place 5 5) (codes "g"))))))))
 
 -- a table, with those that it holds in the list
 flat_of : (x : SymbolTable-F SymbolTable) (k : ℕ) → flat_table (roll-SymbolTable x) k ≡ flat_step (map-SymbolTable SymbolTable (ℕ → List ScopeEntry) flat_table x) k
 flat_of x k = ap (λ (f : ℕ → List ScopeEntry). f k) (fold-roll-SymbolTable (ℕ → List ScopeEntry) flat_step x)
 
 abbrev of_f : SymbolTable-F SymbolTable
-of_f = record { name = codes "f"; typ = kind.Function; line_number = 1; is_nested = false; symbols = symbol (codes "g") scope.GlobalExplicit 0x0 ∷ []; sub_tables = [] }
+of_f = record { name = codes "f"; typ = kind.Function; line_number = 1; is_nested = false; symbols = scanned_sample_symbol (codes "g") scope.GlobalExplicit 0x0 ∷ []; sub_tables = [] }
 
 abbrev of_module : SymbolTable-F SymbolTable
-of_module = record { name = codes "top"; typ = kind.Module; line_number = 0; is_nested = false; symbols = symbol (codes "f") scope.Local 0x3 ∷ symbol (codes "h") scope.Unknown 0x1 ∷ symbol (codes "g") scope.GlobalExplicit 0x3 ∷ []; sub_tables = roll-SymbolTable of_f ∷ [] }
+of_module = record { name = codes "top"; typ = kind.Module; line_number = 0; is_nested = false; symbols = scanned_sample_symbol (codes "f") scope.Local 0x3 ∷ scanned_sample_symbol (codes "h") scope.Unknown 0x1 ∷ scanned_sample_symbol (codes "g") scope.GlobalExplicit 0x3 ∷ []; sub_tables = roll-SymbolTable of_f ∷ [] }
 
-declared_scopes : scopes_of declares ≡ record { typ = kind.Module; symbols = symbol (codes "f") scope.Local 0x3 ∷ symbol (codes "h") scope.Unknown 0x1 ∷ symbol (codes "g") scope.GlobalExplicit 0x3 ∷ []; next = 2 } ∷ record { typ = kind.Function; symbols = symbol (codes "g") scope.GlobalExplicit 0x0 ∷ []; next = 2 } ∷ []
-declared_scopes = flat_of of_module 0 ∙ ap (λ (xs : List ScopeEntry). record { typ = kind.Module; symbols = symbol (codes "f") scope.Local 0x3 ∷ symbol (codes "h") scope.Unknown 0x1 ∷ symbol (codes "g") scope.GlobalExplicit 0x3 ∷ []; next = 1 + length (xs ++ []) } ∷ (xs ++ [])) (flat_of of_f 1)
+declared_scopes : scopes_of declares ≡ record { typ = kind.Module; symbols = scanned_sample_symbol (codes "f") scope.Local 0x3 ∷ scanned_sample_symbol (codes "h") scope.Unknown 0x1 ∷ scanned_sample_symbol (codes "g") scope.GlobalExplicit 0x3 ∷ []; next = 2 } ∷ record { typ = kind.Function; symbols = scanned_sample_symbol (codes "g") scope.GlobalExplicit 0x0 ∷ []; next = 2 } ∷ []
+declared_scopes = flat_of of_module 0 ∙ ap (λ (xs : List ScopeEntry). record { typ = kind.Module; symbols = scanned_sample_symbol (codes "f") scope.Local 0x3 ∷ scanned_sample_symbol (codes "h") scope.Unknown 0x1 ∷ scanned_sample_symbol (codes "g") scope.GlobalExplicit 0x3 ∷ []; next = 1 + length (xs ++ []) } ∷ (xs ++ [])) (flat_of of_f 1)
 
 -- what is entered at a prompt is scanned as a file is
 prompted : (stmts : tree.Stmts) → scopes_of (tree.Interactive stmts) ≡ scopes_of (tree.Module stmts)
@@ -66,9 +66,9 @@ unscanned argtypes returns = refl
 -- def f(x):
 --     global x
 abbrev redeclares : tree.Mod
-redeclares = tree.Module (one (tree.FunctionDef (at 1 1) (codes "f") (tree.arguments tree.no_args (tree.more_args (tree.arg (at 1 7) (codes "x") tree.no_expr) tree.no_expr tree.no_args) tree.no_arg tree.no_args tree.no_arg) (one (tree.Global (at 2 5) (codes "x" ∷ []))) tree.no_exprs tree.no_expr tree.no_type_params))
+redeclares = tree.Module (scanned_sample_one (tree.FunctionDef (source_place 1 1) (codes "f") (tree.arguments tree.no_args (tree.more_args (tree.arg (source_place 1 7) (codes "x") tree.no_expr) tree.no_expr tree.no_args) tree.no_arg tree.no_args tree.no_arg) (scanned_sample_one (tree.Global (source_place 2 5) (codes "x" ∷ []))) tree.no_exprs tree.no_expr tree.no_type_params))
 
-redeclared : faults redeclares Exec 0 ≡ fault_at (error.SyntaxError (codes "name 'x' is parameter and global")) (at 2 5) ∷ []
+redeclared : faults redeclares Exec 0 ≡ fault_at (error.SyntaxError (codes "name 'x' is parameter and global")) (source_place 2 5) ∷ []
 redeclared = refl
 
 redeclared_scopes : scopes_of redeclares ≡ []
@@ -76,5 +76,5 @@ redeclared_scopes = refl
 
 -- break
 -- nonlocal x
-outermost_nonlocal : faults (tree.Module (tree.more_stmts (tree.Break (at 1 1)) (one (tree.Nonlocal (at 2 1) (codes "x" ∷ []))))) Exec 0 ≡ fault_at (error.SyntaxError (codes "cannot define nonlocal 'x' at top level.")) (at 2 1) ∷ fault_at error.InvalidBreak (at 1 1) ∷ []
+outermost_nonlocal : faults (tree.Module (tree.more_stmts (tree.Break (source_place 1 1)) (scanned_sample_one (tree.Nonlocal (source_place 2 1) (codes "x" ∷ []))))) Exec 0 ≡ fault_at (error.SyntaxError (codes "cannot define nonlocal 'x' at top level.")) (source_place 2 1) ∷ fault_at error.InvalidBreak (source_place 1 1) ∷ []
 outermost_nonlocal = refl

@@ -12,12 +12,12 @@ use Rattle.py_name_uses.specs.Steps.{State, Outcome, Done, Refused}
 abbrev pub state : Scan → State
 state a = record { scopes = a.scopes; class = a.class; postponed = a.postponed }
 
--- the scan is done and has come to this state, or the error is its refusal; want of memory may come in its place
+-- the scan is done and has come to this state, or the error is its refusal; out of memory may come in its place
 abbrev pub Goes : {A : Type 0} → Result A SymbolTableError → State → Outcome → Type 0
 Goes (Ok a) s o = o ≡ Done s
 Goes (Err e) s o = e.error ≢ OutOfMemory → o ≡ Refused e.error e.location
 
--- a text, or want of memory, which has no place
+-- a text, or out of memory, which has no place
 abbrev pub TextOrMemory : ScanFault → Option SourceLocation → Type 0
 TextOrMemory (Text t) at = Unit {0}
 TextOrMemory (Malformed m) at = ⊥

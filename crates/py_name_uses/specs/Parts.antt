@@ -11,7 +11,7 @@ use Rattle.py_scope.specs.declared.table_type.SymbolTableType.TheVariants as sco
 use Rattle.py_scope.specs.Names.{Name, same_name, class_cell}
 use Rattle.py_name_uses.specs.declared.usage.Usage.{Usage}
 use Rattle.py_name_uses.specs.declared.usage.Usage.TheVariants.{Load, Iterable, Store, Delete, Target, Walrus}
-use Rattle.py_name_uses.specs.Steps.{State, Step, ◌▸◌, enter, leave, nothing, postpone, refuse, refuse_if, use_name, when, written}
+use Rattle.py_name_uses.specs.Steps.{State, Step, ◌▸◌, enter, leave, nothing, postpone, refuse, refuse_if, use_name, when, written_name}
 
 -- the callee of a call and the body of a lambda stand in the iterable in which the whole does; else they are loaded
 abbrev pub passed_on : Usage → Usage
@@ -119,11 +119,11 @@ type_names (tree.more_type_params p ps) = type_name p ∷ type_names ps
 
 -- one of these is the name, as the class writes them
 abbrev pub is_among : State → List Name → Name → Bool
-is_among s names n = list_any (λ m. same_name (written s m) (written s n)) names
+is_among s names n = list_any (λ m. same_name (written_name s m) (written_name s n)) names
 
 -- no two type parameters of a node have one name
 abbrev pub check_new : (earlier : List Name) → Name → SourceLocation → Step
-check_new earlier n at s = refuse_if (is_among s earlier n) (refusal.SameTypeParam (written s n)) at s
+check_new earlier n at s = refuse_if (is_among s earlier n) (refusal.SameTypeParam (written_name s n)) at s
 
 abbrev pub has_default : tree.Args → Bool
 has_default tree.no_args = false

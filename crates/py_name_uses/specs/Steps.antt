@@ -12,11 +12,11 @@ use Rattle.py_scope.specs.declared.table_type.SymbolTableType.TheVariants as sco
 use Rattle.py_base.specs.Mangle.{mangled_in}
 use Rattle.py_scope.specs.Names.{Name, same_name, class_cell}
 use Rattle.py_scope.specs.Refusals.{text_of}
-use Rattle.py_scope.specs.Scanned.{Scanned, begun, entered, gone_out, holder_here, is_function, kind_here, refused_here, with_use}
+use Rattle.py_scope.specs.Scanned.{Scanned, initial_scan, entered_scan, gone_out, holder_here, is_function, kind_here, refused_here, with_use}
 use Rattle.py_name_uses.specs.declared.usage.Usage.{Usage}
 use Rattle.py_name_uses.specs.declared.usage.Usage.TheVariants.{Load, Iterable, Store, Delete, Target, Walrus}
 
--- the scopes that were met, the class around, and whether annotations are postponed
+-- the scopes that were met, the enclosing class, and whether annotations are postponed
 pub record State : Type 0 where
   pub scopes : Scanned
   pub class : Option Name
@@ -56,21 +56,21 @@ unless_refused None at s = Done s
 unless_refused (Some r) at s = refuse r at s
 
 -- a name as it is written outside the innermost class
-abbrev pub written : State → Name → Name
-written s n = mangled_in s.class n
+abbrev pub written_name : State → Name → Name
+written_name s n = mangled_in s.class n
 
 abbrev pub with_scopes : Scanned → State → State
 with_scopes scopes s = record { scopes = scopes; class = s.class; postponed = s.postponed }
 
 -- a use of a name in the open scope
-abbrev pub noted : Role → Name → SourceLocation → Step
-noted r n at s = (unless_refused (refused_here s.scopes n r) at ▸ (λ t. Done (with_scopes (with_use t.scopes n r) t))) s
+abbrev pub noted_use : Role → Name → SourceLocation → Step
+noted_use r n at s = (unless_refused (refused_here s.scopes n r) at ▸ (λ t. Done (with_scopes (with_use t.scopes n r) t))) s
 
 abbrev pub use_name : Role → Name → SourceLocation → Step
-use_name r n at s = noted r (written s n) at s
+use_name r n at s = noted_use r (written_name s n) at s
 
 abbrev pub enter : SymbolTableType → Name → SourceLocation → Step
-enter kind n at s = Done (with_scopes (entered s.scopes kind n at.row) s)
+enter kind n at s = Done (with_scopes (entered_scan s.scopes kind n at.row) s)
 
 abbrev pub leave : Step
 leave s = Done (with_scopes (gone_out s.scopes) s)
@@ -131,4 +131,4 @@ abbrev pub check_yield : SourceLocation → Step
 check_yield at s = refuse_if (is_type_params (kind_here s.scopes)) refusal.YieldInTypeParams at s
 
 abbrev pub begun_state : State
-begun_state = record { scopes = begun; class = None; postponed = false }
+begun_state = record { scopes = initial_scan; class = None; postponed = false }

@@ -1,10 +1,10 @@
 //! The state of a scan, and its steps.
 ghost use Rattle.std.specs.Prelude.{◌≡◌, IfErr, IfOk, OnOk, Some};
-ghost use Rattle.py_base.specs.Mangle.{mangled};
+ghost use Rattle.py_base.specs.Mangle.{mangling};
 ghost use Rattle.py_scope.specs.Scanned.{IsWithin};
 ghost use Rattle.py_name_uses.specs.Goes.{Goes, IsMemory, IsTextOrMemory, state};
 ghost use Rattle.py_name_uses.specs.declared.usage.Usage.TheVariants.{Load, Delete};
-ghost use Rattle.py_name_uses.specs.Steps.{check_holder, check_iterable, check_yield, enter, leave, noted, set_class, super_cell, use_as, use_name, written};
+ghost use Rattle.py_name_uses.specs.Steps.{check_holder, check_iterable, check_yield, enter, leave, noted_use, set_class, super_cell, use_as, use_name, written_name};
 
 use crate::usage::Usage;
 use py_base::{SourceLocation, Text, mangle_name};
@@ -12,7 +12,7 @@ use py_scope::refusal::Refusal;
 use py_scope::{Role, ScopeBuilder, SymbolTableError, SymbolTableType};
 use std::alloc::Global;
 
-/// The scopes that were met so far, the class around, and whether annotations are postponed.
+/// The scopes that were met so far, the enclosing class, and whether annotations are postponed.
 #[derive(Drop)]
 pub struct Scan {
     pub alloc: Global,
@@ -43,7 +43,7 @@ impl Scan {
         name: &Text,
         at: SourceLocation,
     ) -> Result<(), SymbolTableError>
-        ensures goes { Goes result (state self.new) (noted role name.now at (state self.old)) }
+        ensures goes { Goes result (state self.new) (noted_use role name.now at (state self.old)) }
         ensures told { IfErr result IsTextOrMemory }
     {
         self.scopes.register(name, role, at)
@@ -54,7 +54,7 @@ impl Scan {
     /// # Errors
     /// There is no memory for it.
     pub fn mangled(&self, name: &Text) -> Result<Option<Text>, SymbolTableError>
-        ensures mangled { IfOk result (λ m. m ≡ mangled (state self.now).class name.now) }
+        ensures mangled { IfOk result (λ m. m ≡ mangling (state self.now).class name.now) }
         ensures memory { IfErr result IsMemory }
     {
         let class = match &self.class {
@@ -72,7 +72,7 @@ impl Scan {
     /// # Errors
     /// There is no memory for it.
     pub fn written(&self, name: &Text) -> Result<Text, SymbolTableError>
-        ensures written { IfOk result (λ n. n ≡ written (state self.now) name.now) }
+        ensures written { IfOk result (λ n. n ≡ written_name (state self.now) name.now) }
         ensures memory { IfErr result IsMemory }
     {
         match self.mangled(name)? {
@@ -118,7 +118,7 @@ impl Scan {
         self.use_name(role, &name, at)
     }
 
-    /// Names are mangled by this class from here on. Answers the class around.
+    /// Names are mangled by this class from here on. Answers the enclosing class.
     ///
     /// # Errors
     /// OutOfMemory alone.

@@ -8,7 +8,7 @@ ghost use Rattle.py_scope.specs.declared.refusal.Refusal.TheVariants.{TypeParamK
 ghost use Rattle.py_scope.specs.Faults.{TellsRefusal};
 ghost use Rattle.py_scope.specs.Names.{Name, same_name};
 ghost use Rattle.py_name_uses.specs.Goes.{Goes, IsMemory, IsOpen, IsTextOrMemory, state};
-ghost use Rattle.py_name_uses.specs.Steps.{enter, leave, use_name, when, written};
+ghost use Rattle.py_name_uses.specs.Steps.{enter, leave, use_name, when, written_name};
 ghost use Rattle.py_name_uses.specs.Parts.{check_new, check_type_params, generic_name, has_default, is_generic, type_name, use_handed_defaults};
 ghost use Rattle.py_name_uses.specs.Written.{AreWritten};
 
@@ -184,7 +184,7 @@ fn type_name(param: &TypeParam) -> &Text
 
 /// Whether one of these is the name, as the class writes it. It is copied only where it is mangled.
 fn is_among(scan: &Scan, earlier: &TypeNames, name: &Text) -> Result<bool, SymbolTableError>
-    ensures among { IfOk result (λ among. among ≡ list_any (same_name (written (state scan.now) name.now)) earlier.now) }
+    ensures among { IfOk result (λ among. among ≡ list_any (same_name (written_name (state scan.now) name.now)) earlier.now) }
     ensures memory { IfErr result IsMemory }
 {
     match scan.mangled(name)? {
@@ -213,7 +213,7 @@ pub fn check_new(
     Err(SymbolTableError::refused(scan.alloc, &Refusal::SameTypeParam(written), Some(*at)))
 }
 
-/// Notes the name of a type parameter behind those before it.
+/// Notes the name of a type parameter after those before it.
 ///
 /// # Errors
 /// There is no memory for it.

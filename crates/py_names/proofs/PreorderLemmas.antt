@@ -9,21 +9,21 @@ use Rattle.py_scope.specs.declared.table.SymbolTable.TheOpen.{SymbolTable-F}
 use Rattle.py_scope.specs.declared.table.SymbolTable.TheViews.{roll-SymbolTable}
 use Rattle.py_scope.specs.declared.table.SymbolTable.TheFolds.{fold-roll-SymbolTable, map-SymbolTable}
 use Rattle.py_scope.specs.Lifts.{outward_from}
-use Rattle.py_scope.specs.Outward.{IsNumbered, enclosing, parent_of, parents}
+use Rattle.py_scope.specs.Outward.{IsNumbered, enclosing_scopes, parent_of, parents}
 use Rattle.py_scope.specs.Resolve.{among, stands_in}
 use Rattle.py_scope.specs.Tables.{children_of, tables_from}
 use Rattle.py_scope.proofs.Chains.{equal_numbers, outward, tells_apart, tells_same, unequal_numbers}
-use Rattle.py_scope.proofs.Truth.{and_false, either, left_or, right_or}
+use Rattle.py_scope.proofs.Truth.{truth_and_false, truth_either, left_or, truth_right_or}
 use Rattle.py_symbol_tables.specs.Laws.{InOrder}
 use Rattle.py_names.specs.declared.places.Place.{Place}
 use Rattle.py_names.specs.Places.{Placing, all_places, place_step, places_of, placing}
 use Rattle.py_names.specs.Report.{before, child_number}
 
 -- these scopes with these symbols, numbered from k on
-abbrev pub placed : List Row → ℕ → List Row → List (List Symbol) → List Place
-placed rows k [] ss = []
-placed rows k (r ∷ rs) [] = []
-placed rows k (r ∷ rs) (s ∷ ss) = record { name = r.head.name; typ = r.kind; symbols = s; parent = r.parent; child = child_number rows k } ∷ placed rows (suc k) rs ss
+abbrev pub preorder_placed : List Row → ℕ → List Row → List (List Symbol) → List Place
+preorder_placed rows k [] ss = []
+preorder_placed rows k (r ∷ rs) [] = []
+preorder_placed rows k (r ∷ rs) (s ∷ ss) = record { name = r.head.name; typ = r.kind; symbols = s; parent = r.parent; child = child_number rows k } ∷ preorder_placed rows (suc k) rs ss
 
 -- the scopes of these tables, which stand in scope a
 abbrev forest : List SymbolTable → (a c k : ℕ) → List Place
@@ -39,31 +39,31 @@ module _ (rows : List Row) (numbered : IsNumbered rows) (ordered : InOrder rows)
   abbrev way : ℕ → List ℕ
   way k = outward_from rows k
 
-  way_next : (k : ℕ) → 0 < k → k < length rows → enclosing p k ≡ way (p k)
+  way_next : (k : ℕ) → 0 < k → k < length rows → enclosing_scopes p k ≡ way (p k)
   way_next k a l = outward p k (p k) refl (numbered k a l)
 
   -- the way outward goes down
-  pub around_below : (m k x : ℕ) → k ≤ m → k < length rows → among x (enclosing p k) ≡ true → x < k
+  pub around_below : (m k x : ℕ) → k ≤ m → k < length rows → among x (enclosing_scopes p k) ≡ true → x < k
   around_below m zero x b l h = cc
   around_below zero (suc k) x b l h = absurd (omega arith)
   around_below (suc m) (suc k) x b l h =
       let d : p (suc k) < suc k = numbered (suc k) (omega arith) l in
-      next (either (nat_eq x (p (suc k))) _ (sym (ap (among x) (way_next (suc k) (omega arith) l)) ∙ h)) d (around_below m (p (suc k)) x (omega (arith, d)) (omega (arith, d, l)))
+      next (truth_either (nat_eq x (p (suc k))) _ (sym (ap (among x) (way_next (suc k) (omega arith) l)) ∙ h)) d (around_below m (p (suc k)) x (omega (arith, d)) (omega (arith, d, l)))
     where
-      next : (nat_eq x (p (suc k)) ≡ true) ⊎ (among x (enclosing p (p (suc k))) ≡ true) → p (suc k) < suc k → (among x (enclosing p (p (suc k))) ≡ true → x < p (suc k)) → x < suc k
+      next : (nat_eq x (p (suc k)) ≡ true) ⊎ (among x (enclosing_scopes p (p (suc k))) ≡ true) → p (suc k) < suc k → (among x (enclosing_scopes p (p (suc k))) ≡ true → x < p (suc k)) → x < suc k
       next (inl e) d ih = let q = equal_numbers x (p (suc k)) e in omega (arith, q, d)
       next (inr e) d ih = let q = ih e in omega (arith, q, d)
 
   pub way_below : (k x : ℕ) → k < length rows → among x (way k) ≡ true → x ≤ k
-  way_below k x l h = by (either (nat_eq x k) _ h)
+  way_below k x l h = by (truth_either (nat_eq x k) _ h)
     where
-      by : (nat_eq x k ≡ true) ⊎ (among x (enclosing p k) ≡ true) → x ≤ k
+      by : (nat_eq x k ≡ true) ⊎ (among x (enclosing_scopes p k) ≡ true) → x ≤ k
       by (inl q) = let z = equal_numbers x k q in omega (arith, z)
       by (inr q) = let z = around_below k k x (omega arith) l q in omega (arith, z)
 
   -- the way from a scope on the way is a part of it
   way_through : (m k y x : ℕ) → k ≤ m → k < length rows → among y (way k) ≡ true → among x (way y) ≡ true → among x (way k) ≡ true
-  way_through m zero y x b l h g = by (either (nat_eq y 0) _ h)
+  way_through m zero y x b l h g = by (truth_either (nat_eq y 0) _ h)
     where
       by : (nat_eq y 0 ≡ true) ⊎ (false ≡ true) → among x (way 0) ≡ true
       by (inl e) = ap (λ z. among x (way z)) (sym (equal_numbers y 0 e)) ∙ g
@@ -71,22 +71,24 @@ module _ (rows : List Row) (numbered : IsNumbered rows) (ordered : InOrder rows)
   way_through zero (suc k) y x b l h g = absurd (omega arith)
   way_through (suc m) (suc k) y x b l h g =
       let d : p (suc k) < suc k = numbered (suc k) (omega arith) l in
-      by (either (nat_eq y (suc k)) _ h) (way_next (suc k) (omega arith) l) (λ q. way_through m (p (suc k)) y x (omega (arith, d)) (omega (arith, d)) q g)
+      by (truth_either (nat_eq y (suc k)) _ h) (way_next (suc k) (omega arith) l) (λ q. way_through m (p (suc k)) y x (omega (arith, d)) (omega (arith, d)) q g)
     where
-      by : (nat_eq y (suc k) ≡ true) ⊎ (among y (enclosing p (suc k)) ≡ true) → enclosing p (suc k) ≡ way (p (suc k)) → (among y (way (p (suc k))) ≡ true → among x (way (p (suc k))) ≡ true) → among x (way (suc k)) ≡ true
+      by : (nat_eq y (suc k) ≡ true) ⊎ (among y (enclosing_scopes p (suc k)) ≡ true) → enclosing_scopes p (suc k) ≡ way (p (suc k))
+          → (among y (way (p (suc k))) ≡ true → among x (way (p (suc k))) ≡ true) → among x (way (suc k)) ≡ true
       by (inl e) is ih = ap (λ z. among x (way z)) (sym (equal_numbers y (suc k) e)) ∙ g
-      by (inr e) is ih = right_or (nat_eq x (suc k)) _ (ap (among x) is ∙ ih (sym (ap (among y) is) ∙ e))
+      by (inr e) is ih = truth_right_or (nat_eq x (suc k)) _ (ap (among x) is ∙ ih (sym (ap (among y) is) ∙ e))
 
   -- from scope j on, ways outward go through scopes that were entered since, and then through those around j
   way_since : (j d x : ℕ) → 0 < j → j + d < length rows → among x (way (j + d)) ≡ true → (j ≤ x) ⊎ (among x (way (p j)) ≡ true)
-  way_since j zero x a l h = by (either (nat_eq x j) _ (ap (λ z. among x (way z)) (omega arith) ∙ h))
+  way_since j zero x a l h = by (truth_either (nat_eq x j) _ (ap (λ z. among x (way z)) (omega arith) ∙ h))
     where
-      by : (nat_eq x j ≡ true) ⊎ (among x (enclosing p j) ≡ true) → (j ≤ x) ⊎ (among x (way (p j)) ≡ true)
+      by : (nat_eq x j ≡ true) ⊎ (among x (enclosing_scopes p j) ≡ true) → (j ≤ x) ⊎ (among x (way (p j)) ≡ true)
       by (inl e) = let q = equal_numbers x j e in inl (omega (arith, q))
       by (inr e) = inr (sym (ap (among x) (way_next j a (omega arith))) ∙ e)
-  way_since j (suc d) x a l h = by (either (nat_eq x (suc (j + d))) _ (ap (λ z. among x (way z)) (omega arith) ∙ h)) (way_since j d x a (omega arith))
+  way_since j (suc d) x a l h = by (truth_either (nat_eq x (suc (j + d))) _ (ap (λ z. among x (way z)) (omega arith) ∙ h)) (way_since j d x a (omega arith))
     where
-      by : (nat_eq x (suc (j + d)) ≡ true) ⊎ (among x (enclosing p (suc (j + d))) ≡ true) → (among x (way (j + d)) ≡ true → (j ≤ x) ⊎ (among x (way (p j)) ≡ true)) → (j ≤ x) ⊎ (among x (way (p j)) ≡ true)
+      by : (nat_eq x (suc (j + d)) ≡ true) ⊎ (among x (enclosing_scopes p (suc (j + d))) ≡ true)
+          → (among x (way (j + d)) ≡ true → (j ≤ x) ⊎ (among x (way (p j)) ≡ true)) → (j ≤ x) ⊎ (among x (way (p j)) ≡ true)
       by (inl e) ih = let q = equal_numbers x (suc (j + d)) e in inl (omega (arith, q))
       by (inr e) ih = ih (way_through (j + d) (j + d) (p (suc (j + d))) x (omega arith) (omega arith) (ordered (j + d) (omega arith)) (sym (ap (among x) (way_next (suc (j + d)) (omega arith) (omega arith))) ∙ e))
 
@@ -136,8 +138,9 @@ module _ (rows : List Row) (numbered : IsNumbered rows) (ordered : InOrder rows)
   pend_skip rs ts j a outer k e = ap (λ us. forest us a (before rows a j) k ++ pend rs ts j outer (k + length (forest us a (before rows a j) k))) e ∙ ap (pend rs ts j outer) (omega arith)
 
   -- those before the parent of the next scope wait for nothing
-  skipped : (fuel m : ℕ) (rs : List Row) (ts : List SymbolTable) (j k : ℕ) → m ≤ fuel → m < j → j < length rows → At j rs → j + length rs ≡ length rows → among (p j) (way m) ≡ true → pend rs ts j (way m) k ≡ pend rs ts j (way (p j)) k
-  skipped fuel zero rs ts j k f b l h n w = by (either (nat_eq (p j) 0) _ w)
+  skipped : (fuel m : ℕ) (rs : List Row) (ts : List SymbolTable) (j k : ℕ) → m ≤ fuel → m < j → j < length rows → At j rs → j + length rs ≡ length rows
+      → among (p j) (way m) ≡ true → pend rs ts j (way m) k ≡ pend rs ts j (way (p j)) k
+  skipped fuel zero rs ts j k f b l h n w = by (truth_either (nat_eq (p j) 0) _ w)
     where
       by : (nat_eq (p j) 0 ≡ true) ⊎ (false ≡ true) → pend rs ts j (way 0) k ≡ pend rs ts j (way (p j)) k
       by (inl e) = ap (λ z. pend rs ts j (way z) k) (sym (equal_numbers (p j) 0 e))
@@ -145,25 +148,26 @@ module _ (rows : List Row) (numbered : IsNumbered rows) (ordered : InOrder rows)
   skipped zero (suc m) rs ts j k f b l h n w = absurd (omega arith)
   skipped (suc fuel) (suc m) rs ts j k f b l h n w =
       let d : p (suc m) < suc m = numbered (suc m) (omega arith) (omega (arith, b, l)) in
-      by d (way_next (suc m) (omega arith) (omega (arith, b, l))) (either (nat_eq (p j) (suc m)) _ w) (skipped fuel (p (suc m)) rs ts j k (omega (arith, d, f)) (omega (arith, d, b)) l h n)
+      by d (way_next (suc m) (omega arith) (omega (arith, b, l))) (truth_either (nat_eq (p j) (suc m)) _ w) (skipped fuel (p (suc m)) rs ts j k (omega (arith, d, f)) (omega (arith, d, b)) l h n)
     where
-      by : p (suc m) < suc m → enclosing p (suc m) ≡ way (p (suc m)) → (nat_eq (p j) (suc m) ≡ true) ⊎ (among (p j) (enclosing p (suc m)) ≡ true)
+      by : p (suc m) < suc m → enclosing_scopes p (suc m) ≡ way (p (suc m)) → (nat_eq (p j) (suc m) ≡ true) ⊎ (among (p j) (enclosing_scopes p (suc m)) ≡ true)
           → (among (p j) (way (p (suc m))) ≡ true → pend rs ts j (way (p (suc m))) k ≡ pend rs ts j (way (p j)) k)
           → pend rs ts j (way (suc m)) k ≡ pend rs ts j (way (p j)) k
       by d is (inl e) ih = ap (λ z. pend rs ts j (way z) k) (sym (equal_numbers (p j) (suc m) e))
       by d is (inr e) ih =
           let g : among (p j) (way (p (suc m))) ≡ true = sym (ap (among (p j)) is) ∙ e in
           let z : p j ≤ p (suc m) = way_below (p (suc m)) (p j) (omega (arith, d, b, l)) g in
-          pend_skip rs ts j (suc m) (enclosing p (suc m)) k (no_children (suc m) rs ts j h n (λ i x y q. none_since j i (suc m) (omega (arith, b)) x y (omega (arith, z, d)) b q))
+          pend_skip rs ts j (suc m) (enclosing_scopes p (suc m)) k (no_children (suc m) rs ts j h n (λ i x y q. none_since j i (suc m) (omega (arith, b)) x y (omega (arith, z, d)) b q))
           ∙ ap (λ es. pend rs ts j es k) is
           ∙ ih g
 
   -- of scopes that wait for others, the next one is no child
-  pend_same : (r : Row) (rs : List Row) (t : SymbolTable) (ts : List SymbolTable) (j : ℕ) (outer : List ℕ) (k : ℕ) → r.parent ≡ p j → ((a : ℕ) → among a outer ≡ true → nat_eq (p j) a ≡ false) → pend (r ∷ rs) (t ∷ ts) j outer k ≡ pend rs ts (suc j) outer k
+  pend_same : (r : Row) (rs : List Row) (t : SymbolTable) (ts : List SymbolTable) (j : ℕ) (outer : List ℕ) (k : ℕ) → r.parent ≡ p j
+      → ((a : ℕ) → among a outer ≡ true → nat_eq (p j) a ≡ false) → pend (r ∷ rs) (t ∷ ts) j outer k ≡ pend rs ts (suc j) outer k
   pend_same r rs t ts j [] k e h = refl
   pend_same r rs t ts j (a ∷ outer) k e h =
       (λ i. forest (same i) a (count i) k ++ pend (r ∷ rs) (t ∷ ts) j outer (k + length (forest (same i) a (count i) k)))
-      ∙ ap (λ ys. forest (children_of a rs ts) a (before rows a (suc j)) k ++ ys) (pend_same r rs t ts j outer _ e (λ x g. h x (right_or (nat_eq x a) _ g)))
+      ∙ ap (λ ys. forest (children_of a rs ts) a (before rows a (suc j)) k ++ ys) (pend_same r rs t ts j outer _ e (λ x g. h x (truth_right_or (nat_eq x a) _ g)))
     where
       apart : nat_eq (p j) a ≡ false
       apart = h a (left_or (nat_eq a a) _ (tells_same a))
@@ -172,7 +176,7 @@ module _ (rows : List Row) (numbered : IsNumbered rows) (ordered : InOrder rows)
       same = ap (λ b. if b then t ∷ children_of a rs ts else children_of a rs ts) (ap (λ z. nat_eq z a) e ∙ apart)
 
       count : before rows a j ≡ before rows a (suc j)
-      count = sym (ap (λ b. if b then suc (before rows a j) else before rows a j) (ap (λ b. nat_lt 0 j && b) apart ∙ and_false (nat_lt 0 j)))
+      count = sym (ap (λ b. if b then suc (before rows a j) else before rows a j) (ap (λ b. nat_lt 0 j && b) apart ∙ truth_and_false (nat_lt 0 j)))
 
   -- no scope up to a stands in a
   before_none : (a c : ℕ) → c ≤ suc a → c ≤ length rows → before rows a c ≡ 0
@@ -180,7 +184,7 @@ module _ (rows : List Row) (numbered : IsNumbered rows) (ordered : InOrder rows)
   before_none a (suc zero) l h = refl
   before_none a (suc (suc c)) l h =
       let d : p (suc c) < suc c = numbered (suc c) (omega arith) (omega (arith, h)) in
-      ap (λ b. if b then suc (before rows a (suc c)) else before rows a (suc c)) (ap (λ b. nat_lt 0 (suc c) && b) (tells_apart (p (suc c)) a (λ q. omega (arith, d, q, l))) ∙ and_false (nat_lt 0 (suc c)))
+      ap (λ b. if b then suc (before rows a (suc c)) else before rows a (suc c)) (ap (λ b. nat_lt 0 (suc c) && b) (tells_apart (p (suc c)) a (λ q. omega (arith, d, q, l))) ∙ truth_and_false (nat_lt 0 (suc c)))
       ∙ before_none a (suc c) (omega (arith, l)) (omega (arith, h))
 
   before_next : (j : ℕ) → 0 < j → before rows (p j) (suc j) ≡ suc (before rows (p j) j)
@@ -227,61 +231,64 @@ module _ (rows : List Row) (numbered : IsNumbered rows) (ordered : InOrder rows)
     abbrev rec : Place
     rec = record { name = r.head.name; typ = r.kind; symbols = s; parent = q; child = c }
 
-    abbrev inner : List Place
-    inner = forest children j 0 (suc j)
+    abbrev preorder_inner : List Place
+    preorder_inner = forest children j 0 (suc j)
 
     abbrev shape : ℕ → ℕ → List Place
-    shape b d = forest children j b (suc j) ++ (forest us q d (suc j + length (forest children j b (suc j))) ++ pend rs ts (suc j) (enclosing p q) (suc j + length (forest children j b (suc j)) + length (forest us q d (suc j + length (forest children j b (suc j))))))
+    shape b d = forest children j b (suc j) ++ (forest us q d (suc j + length (forest children j b (suc j))) ++ pend rs ts (suc j) (enclosing_scopes p q) (suc j + length (forest children j b (suc j)) + length (forest us q d (suc j + length (forest children j b (suc j))))))
 
-    inside : j < length rows
-    inside = omega (arith, n)
+    preorder_inside : j < length rows
+    preorder_inside = omega (arith, n)
 
-    low : q < j
-    low = numbered j (omega arith) inside
+    preorder_low : q < j
+    preorder_low = numbered j (omega arith) preorder_inside
 
     parent : r.parent ≡ q
     parent = at_parent j r rs h
 
-    first : children_of q (r ∷ rs) (t ∷ ts) ≡ t ∷ us
-    first = ap (λ b. if b then t ∷ us else us) (ap (λ z. nat_eq z q) parent ∙ tells_same q)
+    preorder_first : children_of q (r ∷ rs) (t ∷ ts) ≡ t ∷ us
+    preorder_first = ap (λ b. if b then t ∷ us else us) (ap (λ z. nat_eq z q) parent ∙ tells_same q)
 
-    opened : pend (r ∷ rs) (t ∷ ts) j (way q) j ≡ rec ∷ shape 0 (suc c)
-    opened =
-        ap (λ vs. forest vs q c j ++ pend (r ∷ rs) (t ∷ ts) j (enclosing p q) (j + length (forest vs q c j))) first
-        ∙ ap (λ zs. (zs ++ forest us q (suc c) (j + length zs)) ++ pend (r ∷ rs) (t ∷ ts) j (enclosing p q) (j + length (zs ++ forest us q (suc c) (j + length zs)))) (placing_of x q c j)
-        ∙ glue rec inner (forest us q (suc c)) (pend (r ∷ rs) (t ∷ ts) j (enclosing p q)) j
-        ∙ ap (λ ys. rec ∷ (inner ++ (forest us q (suc c) (suc j + length inner) ++ ys))) (pend_same r rs t ts j (enclosing p q) _ parent (λ a g. tells_apart q a (λ z. let w = around_below q q a (omega arith) (omega (arith, low, inside)) g in omega (arith, w, z))))
+    preorder_opened : pend (r ∷ rs) (t ∷ ts) j (way q) j ≡ rec ∷ shape 0 (suc c)
+    preorder_opened =
+        ap (λ vs. forest vs q c j ++ pend (r ∷ rs) (t ∷ ts) j (enclosing_scopes p q) (j + length (forest vs q c j))) preorder_first
+        ∙ ap (λ zs. (zs ++ forest us q (suc c) (j + length zs)) ++ pend (r ∷ rs) (t ∷ ts) j (enclosing_scopes p q) (j + length (zs ++ forest us q (suc c) (j + length zs)))) (placing_of x q c j)
+        ∙ glue rec preorder_inner (forest us q (suc c)) (pend (r ∷ rs) (t ∷ ts) j (enclosing_scopes p q)) j
+        ∙ ap (λ ys. rec ∷ (preorder_inner ++ (forest us q (suc c) (suc j + length preorder_inner) ++ ys))) (pend_same r rs t ts j (enclosing_scopes p q) _ parent (λ a g. tells_apart q a (λ z. let w = around_below q q a (omega arith) (omega (arith, preorder_low, preorder_inside)) g in omega (arith, w, z))))
 
-    shaped : shape 0 (suc c) ≡ pend rs ts (suc j) (way j) (suc j)
-    shaped = (λ i. shape (sym (before_none j (suc j) (omega arith) (omega (arith, inside))) i) (sym (before_next j (omega arith)) i)) ∙ ap (λ es. pend rs ts (suc j) (j ∷ es) (suc j)) (sym (way_next j (omega arith) inside))
+    preorder_shaped : shape 0 (suc c) ≡ pend rs ts (suc j) (way j) (suc j)
+    preorder_shaped = (λ i. shape (sym (before_none j (suc j) (omega arith) (omega (arith, preorder_inside))) i) (sym (before_next j (omega arith)) i)) ∙ ap (λ es. pend rs ts (suc j) (j ∷ es) (suc j)) (sym (way_next j (omega arith) preorder_inside))
 
-    numbering_next : pend rs ts (suc j) (way j) (suc j) ≡ placed rows (suc j) rs ss → pend (r ∷ rs) (t ∷ ts) j (way last) j ≡ placed rows j (r ∷ rs) (s ∷ ss)
+    numbering_next : pend rs ts (suc j) (way j) (suc j) ≡ preorder_placed rows (suc j) rs ss → pend (r ∷ rs) (t ∷ ts) j (way last) j ≡ preorder_placed rows j (r ∷ rs) (s ∷ ss)
     numbering_next ih =
-        skipped last last (r ∷ rs) (t ∷ ts) j j (omega arith) (omega arith) inside h n (ordered last inside)
-        ∙ opened
-        ∙ ap (λ ys. rec ∷ ys) (shaped ∙ ih)
-        ∙ ap (λ z. record { name = r.head.name; typ = r.kind; symbols = s; parent = z; child = c } ∷ placed rows (suc j) rs ss) (sym parent)
+        skipped last last (r ∷ rs) (t ∷ ts) j j (omega arith) (omega arith) preorder_inside h n (ordered last preorder_inside)
+        ∙ preorder_opened
+        ∙ ap (λ ys. rec ∷ ys) (preorder_shaped ∙ ih)
+        ∙ ap (λ z. record { name = r.head.name; typ = r.kind; symbols = s; parent = z; child = c } ∷ preorder_placed rows (suc j) rs ss) (sym parent)
 
-  numbering : (rs : List Row) (ss : List (List Symbol)) (last : ℕ) → At (suc last) rs → length ss ≡ length rs → suc last + length rs ≡ length rows → pend rs (tables_from (suc last) rs ss) (suc last) (way last) (suc last) ≡ placed rows (suc last) rs ss
+  numbering : (rs : List Row) (ss : List (List Symbol)) (last : ℕ) → At (suc last) rs → length ss ≡ length rs → suc last + length rs ≡ length rows
+      → pend rs (tables_from (suc last) rs ss) (suc last) (way last) (suc last) ≡ preorder_placed rows (suc last) rs ss
   numbering [] ss last h m n = pend_none (tables_from (suc last) [] ss) (suc last) (way last) (suc last)
   numbering (r ∷ rs) [] last h m n = absurd (omega (arith, m))
   numbering (r ∷ rs) (s ∷ ss) last h m n = numbering_next r rs s ss last h n (numbering rs ss (suc last) (at_next (suc last) r rs h) (omega (arith, m)) (omega (arith, n)))
 
 module _ (r : Row) (rs : List Row) (s : List Symbol) (ss : List (List Symbol)) where
-  abbrev whole : SymbolTable-F SymbolTable
-  whole = record { name = r.head.name; typ = r.kind; line_number = r.head.line_number; is_nested = r.head.is_nested; symbols = s; sub_tables = children_of 0 rs (tables_from 1 rs ss) }
+  abbrev preorder_whole : SymbolTable-F SymbolTable
+  preorder_whole = record { name = r.head.name; typ = r.kind; line_number = r.head.line_number; is_nested = r.head.is_nested; symbols = s; sub_tables = children_of 0 rs (tables_from 1 rs ss) }
 
-  abbrev within : List Place
-  within = forest (children_of 0 rs (tables_from 1 rs ss)) 0 0 1
+  abbrev preorder_within : List Place
+  preorder_within = forest (children_of 0 rs (tables_from 1 rs ss)) 0 0 1
 
-  numbered_whole : IsNumbered (r ∷ rs) → InOrder (r ∷ rs) → r.parent ≡ 0 → length (s ∷ ss) ≡ length (r ∷ rs) → places_of (roll-SymbolTable whole) ≡ placed (r ∷ rs) 0 (r ∷ rs) (s ∷ ss)
+  numbered_whole : IsNumbered (r ∷ rs) → InOrder (r ∷ rs) → r.parent ≡ 0 → length (s ∷ ss) ≡ length (r ∷ rs)
+      → places_of (roll-SymbolTable preorder_whole) ≡ preorder_placed (r ∷ rs) 0 (r ∷ rs) (s ∷ ss)
   numbered_whole numbered ordered root l =
-      placing_of whole 0 0 0
-      ∙ ap (λ ys. record { name = r.head.name; typ = r.kind; symbols = s; parent = 0; child = 0 } ∷ ys) (sym (append-nil within) ∙ numbering (r ∷ rs) numbered ordered rs ss 0 (λ i. let e : suc i ≡ 1 + i = omega arith in ap (slice_get (r ∷ rs)) e) (omega (arith, l)) (omega arith))
-      ∙ ap (λ z. record { name = r.head.name; typ = r.kind; symbols = s; parent = z; child = 0 } ∷ placed (r ∷ rs) 1 rs ss) (sym root)
+      placing_of preorder_whole 0 0 0
+      ∙ ap (λ ys. record { name = r.head.name; typ = r.kind; symbols = s; parent = 0; child = 0 } ∷ ys) (sym (append-nil preorder_within) ∙ numbering (r ∷ rs) numbered ordered rs ss 0 (λ i. let e : suc i ≡ 1 + i = omega arith in ap (slice_get (r ∷ rs)) e) (omega (arith, l)) (omega arith))
+      ∙ ap (λ z. record { name = r.head.name; typ = r.kind; symbols = s; parent = z; child = 0 } ∷ preorder_placed (r ∷ rs) 1 rs ss) (sym root)
 
 -- the scopes of a whole table
-pub places_numbered : (rows : List Row) (symbols : List (List Symbol)) (table : SymbolTable) → IsNumbered rows → InOrder rows → parents rows 0 ≡ 0 → length symbols ≡ length rows → slice_get (tables_from 0 rows symbols) 0 ≡ Some table → places_of table ≡ placed rows 0 rows symbols
+pub places_numbered : (rows : List Row) (symbols : List (List Symbol)) (table : SymbolTable) → IsNumbered rows → InOrder rows → parents rows 0 ≡ 0
+    → length symbols ≡ length rows → slice_get (tables_from 0 rows symbols) 0 ≡ Some table → places_of table ≡ preorder_placed rows 0 rows symbols
 places_numbered [] ss table numbered ordered root l e = cc
 places_numbered (r ∷ rs) [] table numbered ordered root l e = absurd (omega (arith, l))
 places_numbered (r ∷ rs) (s ∷ ss) table numbered ordered root l e = ap places_of (sym (unwrapped e)) ∙ numbered_whole r rs s ss numbered ordered root l

@@ -13,18 +13,18 @@ use Rattle.py_scope.specs.Laws.{SymbolsFollow, TableFollows, has_symbol}
 use Rattle.py_scope.specs.Lifts.{kind_of, outward_from}
 use Rattle.py_scope.specs.Marks.{is_class}
 use Rattle.py_scope.specs.Names.{Name, same_name}
-use Rattle.py_scope.specs.Outward.{enclosing, parent_of, parents}
+use Rattle.py_scope.specs.Outward.{enclosing_scopes, parent_of, parents}
 use Rattle.py_scope.specs.Resolve.{among, around, binder_in, binds_in, holds_in, kind_at, needs, resolve, scopes}
-use Rattle.py_scope.specs.Resolved.{first_fault, resolved}
+use Rattle.py_scope.specs.Resolved.{first_fault, resolved_table}
 use Rattle.py_scope.specs.Scanned.{Scanned}
 use Rattle.py_scope.specs.Symbols.{is_local_kind}
 use Rattle.py_scope.specs.Tables.{is_plain}
 use Rattle.py_scope.proofs.Chains.{equal_numbers, tells_same}
 use Rattle.py_scope.proofs.Follows.{table_follows}
-use Rattle.py_scope.proofs.Truth.{any_scope, both, either, left_or, never_both, right_or, same_truth, some_scope}
+use Rattle.py_scope.proofs.Truth.{any_scope, truth_both, truth_either, left_or, never_both, truth_right_or, same_truth, some_scope}
 use Rattle.py_symbol_tables.specs.Laws.{Stands, has_cell, is_cell_kind, walk_to_cell}
 use Rattle.py_symbol_tables.proofs.Preorder.{IsOrderly}
-use Rattle.py_symbol_tables.proofs.EnteredScopeLemmas.{binds_shown, binds_there, cell_kind, cell_there, get_within, stands, walks_end}
+use Rattle.py_symbol_tables.proofs.EnteredScopeLemmas.{binds_shown, binds_there, cell_kind, cell_there, get_within, entered_scope_stands, walks_end}
 use Rattle.py_names.specs.declared.items.Finding.{Finding}
 use Rattle.py_names.specs.declared.items.NameItem.{NameItem}
 use Rattle.py_names.specs.declared.items.NameKind.TheVariants.{Unused, Unbound, Shadowed, Captured}
@@ -33,15 +33,16 @@ use Rattle.py_names.specs.Places.{around_in, binding_around, binds_for, captured
 use Rattle.py_names.specs.Lines.{table_name}
 use Rattle.py_names.specs.Report.{binds_openly, child_number, findings_at, findings_from, findings_in, is_captured, is_own_name, is_read, is_stored, is_unbound, is_unused, item_of, items_of, path, shadowed_scope, stores_globally}
 use Rattle.py_names.specs.Trees.{name_of_symbol, names_in_place, names_of}
-use Rattle.py_names.proofs.PreorderLemmas.{around_below, placed, places_numbered}
+use Rattle.py_names.proofs.PreorderLemmas.{around_below, preorder_placed, places_numbered}
 use Rattle.py_names.proofs.SymbolUseLemmas as telling
 
 module _ {A : Type 0} (f : A → Bool) where
   any_index : (xs : List A) → list_any f xs ≡ true → (i : ℕ) × (x : A) × (slice_get xs i ≡ Some x) × (f x ≡ true)
   any_index [] h = cc
-  any_index (x ∷ xs) h = by (either (f x) _ h) (any_index xs)
+  any_index (x ∷ xs) h = by (truth_either (f x) _ h) (any_index xs)
     where
-      by : (f x ≡ true) ⊎ (list_any f xs ≡ true) → (list_any f xs ≡ true → (i : ℕ) × (y : A) × (slice_get xs i ≡ Some y) × (f y ≡ true)) → (i : ℕ) × (y : A) × (slice_get (x ∷ xs) i ≡ Some y) × (f y ≡ true)
+      by : (f x ≡ true) ⊎ (list_any f xs ≡ true) → (list_any f xs ≡ true → (i : ℕ) × (y : A) × (slice_get xs i ≡ Some y) × (f y ≡ true))
+          → (i : ℕ) × (y : A) × (slice_get (x ∷ xs) i ≡ Some y) × (f y ≡ true)
       by (inl g) ih = (0, x, refl, g)
       by (inr g) ih = let w = ih g in (suc w.0, w.1, w.2, w.3)
 
@@ -51,7 +52,7 @@ index_any f (y ∷ ys) zero x g h = let e : y ≡ x = unwrapped g in left_or (f 
   where
     unwrapped : {A : Type 0} {a b : A} → Some a ≡ Some b → a ≡ b
     unwrapped h = cc
-index_any f (y ∷ ys) (suc i) x g h = right_or (f y) _ (index_any f ys i x g h)
+index_any f (y ∷ ys) (suc i) x g h = truth_right_or (f y) _ (index_any f ys i x g h)
 
 pub found_among : (f : ℕ → Bool) (es : List ℕ) (e : ℕ) → find f es ≡ Some e → among e es ≡ true
 found_among f [] e h = cc
@@ -59,7 +60,7 @@ found_among f (x ∷ xs) e h = by (f x) h (found_among f xs e)
   where
     by : (b : Bool) → cond b (Some x) (find f xs) ≡ Some e → (find f xs ≡ Some e → among e xs ≡ true) → nat_eq e x || among e xs ≡ true
     by true q ih = let z : x ≡ e = cc in left_or (nat_eq e x) _ (ap (nat_eq e) z ∙ tells_same e)
-    by false q ih = right_or (nat_eq e x) _ (ih q)
+    by false q ih = truth_right_or (nat_eq e x) _ (ih q)
 
 there_or_not : {A : Type 0} (xs : List A) (k : ℕ) → k < length xs → (x : A) × (slice_get xs k ≡ Some x)
 there_or_not [] k l = absurd (omega arith)
@@ -68,7 +69,7 @@ there_or_not (x ∷ xs) (suc k) l = there_or_not xs k (omega arith)
 
 -- scope i of these
 placed_at : (rows : List Row) (k : ℕ) (rs : List Row) (ss : List (List Symbol)) (i : ℕ) (r : Row) (ts : List Symbol) → slice_get rs i ≡ Some r → slice_get ss i ≡ Some ts
-    → slice_get (placed rows k rs ss) i ≡ Some (record { name = r.head.name; typ = r.kind; symbols = ts; parent = r.parent; child = child_number rows (k + i) })
+    → slice_get (preorder_placed rows k rs ss) i ≡ Some (record { name = r.head.name; typ = r.kind; symbols = ts; parent = r.parent; child = child_number rows (k + i) })
 placed_at rows k [] ss i r ts g h = cc
 placed_at rows k (x ∷ xs) [] i r ts g h = cc
 placed_at rows k (x ∷ xs) (y ∷ ys) zero r ts g h = let e : x ≡ r = unwrapped g in let d : y ≡ ts = unwrapped h in λ j. Some (record { name = (e j).head.name; typ = (e j).kind; symbols = d j; parent = (e j).parent; child = child_number rows (same j) })
@@ -80,71 +81,71 @@ placed_at rows k (x ∷ xs) (y ∷ ys) zero r ts g h = let e : x ≡ r = unwrapp
     same = omega arith
 placed_at rows k (x ∷ xs) (y ∷ ys) (suc i) r ts g h = placed_at rows (suc k) xs ys i r ts g h ∙ (let e : suc k + i ≡ k + suc i = omega arith in ap (λ z. Some (record { name = r.head.name; typ = r.kind; symbols = ts; parent = r.parent; child = child_number rows z })) e)
 
-placed_none : (rows : List Row) (k : ℕ) (rs : List Row) (ss : List (List Symbol)) (i : ℕ) → slice_get rs i ≡ None → slice_get (placed rows k rs ss) i ≡ None
+placed_none : (rows : List Row) (k : ℕ) (rs : List Row) (ss : List (List Symbol)) (i : ℕ) → slice_get rs i ≡ None → slice_get (preorder_placed rows k rs ss) i ≡ None
 placed_none rows k [] ss i g = refl
 placed_none rows k (x ∷ xs) [] i g = refl
 placed_none rows k (x ∷ xs) (y ∷ ys) zero g = cc
 placed_none rows k (x ∷ xs) (y ∷ ys) (suc i) g = placed_none rows (suc k) xs ys i g
 
-module _ (s : Scanned) (orderly : IsOrderly s) (fine : first_fault s ≡ None) (table : SymbolTable) (is_table : resolved s ≡ Some table) where
-  abbrev rows : List Row
-  rows = s.rows
+module _ (s : Scanned) (orderly : IsOrderly s) (fine : first_fault s ≡ None) (table : SymbolTable) (is_table : resolved_table s ≡ Some table) where
+  abbrev report_rows : List Row
+  report_rows = s.rows
 
-  pub follows : TableFollows s.rows table
-  follows = table_follows s orderly.scanned fine table is_table
+  pub report_follows : TableFollows s.rows table
+  report_follows = table_follows s orderly.scanned fine table is_table
 
   pub stood : Stands s.rows
-  stood = stands s orderly fine
+  stood = entered_scope_stands s orderly fine
 
   abbrev pub ps : List Place
-  ps = placed s.rows 0 s.rows follows.symbols
+  ps = preorder_placed s.rows 0 s.rows report_follows.symbols
 
-  pub places_are : places_of table ≡ ps
-  places_are = places_numbered s.rows follows.symbols table stood.numbered stood.ordered orderly.preorder.root follows.whole follows.nested
+  pub report_places_are : places_of table ≡ ps
+  report_places_are = places_numbered s.rows report_follows.symbols table stood.numbered stood.ordered orderly.preorder.root report_follows.whole report_follows.nested
 
   -- what there is of scope k: its row, its symbols, its place
   record Told (k : ℕ) : Type 0 where
     row : Row
     symbols : List Symbol
     is_row : slice_get s.rows k ≡ Some row
-    is_symbols : slice_get follows.symbols k ≡ Some symbols
+    is_symbols : slice_get report_follows.symbols k ≡ Some symbols
     is_place : slice_get ps k ≡ Some (record { name = row.head.name; typ = row.kind; symbols = symbols; parent = row.parent; child = child_number s.rows k })
 
-  told_at : (k : ℕ) → k < length s.rows → Told k
-  told_at k l =
+  report_told_at : (k : ℕ) → k < length s.rows → Told k
+  report_told_at k l =
       let r = there_or_not s.rows k l in
-      let t = there_or_not follows.symbols k (let w = follows.whole in omega (arith, w, l)) in
-      record { row = r.0; symbols = t.0; is_row = r.1; is_symbols = t.1; is_place = placed_at s.rows 0 s.rows follows.symbols k r.0 t.0 r.1 t.1 ∙ (let e : 0 + k ≡ k = omega arith in ap (λ z. Some (record { name = r.0.head.name; typ = r.0.kind; symbols = t.0; parent = r.0.parent; child = child_number s.rows z })) e) }
+      let t = there_or_not report_follows.symbols k (let w = report_follows.whole in omega (arith, w, l)) in
+      record { row = r.0; symbols = t.0; is_row = r.1; is_symbols = t.1; is_place = placed_at s.rows 0 s.rows report_follows.symbols k r.0 t.0 r.1 t.1 ∙ (let e : 0 + k ≡ k = omega arith in ap (λ z. Some (record { name = r.0.head.name; typ = r.0.kind; symbols = t.0; parent = r.0.parent; child = child_number s.rows z })) e) }
 
   symbols_follow : (k : ℕ) (t : Told k) → SymbolsFollow s.rows k t.symbols
-  symbols_follow k t = follows.each k t.symbols t.is_symbols
+  symbols_follow k t = report_follows.each k t.symbols t.is_symbols
 
   parent_is : (e : ℕ) → parents_in ps e ≡ parents s.rows e
   parent_is e = by (slice_get s.rows e) refl
     where
       by : (o : Option Row) → slice_get s.rows e ≡ o → parents_in ps e ≡ parents s.rows e
-      by None g = ap parent_of_place (placed_none s.rows 0 s.rows follows.symbols e g) ∙ sym (ap parent_of g)
-      by (Some r) g = let t = told_at e (get_within s.rows e r g) in ap parent_of_place t.is_place ∙ sym (ap parent_of t.is_row)
+      by None g = ap parent_of_place (placed_none s.rows 0 s.rows report_follows.symbols e g) ∙ sym (ap parent_of g)
+      by (Some r) g = let t = report_told_at e (get_within s.rows e r g) in ap parent_of_place t.is_place ∙ sym (ap parent_of t.is_row)
 
   pub around_is : (k : ℕ) → around_in ps k ≡ around s.rows k
-  around_is k = λ j. enclosing (λ e. parent_is e j) k
+  around_is k = λ j. enclosing_scopes (λ e. parent_is e j) k
 
   typ_is : (e : ℕ) → typ_of_place (slice_get ps e) ≡ kind_at s.rows e
   typ_is e = by (slice_get s.rows e) refl
     where
       by : (o : Option Row) → slice_get s.rows e ≡ o → typ_of_place (slice_get ps e) ≡ kind_at s.rows e
-      by None g = ap typ_of_place (placed_none s.rows 0 s.rows follows.symbols e g) ∙ sym (ap kind_of g)
-      by (Some r) g = let t = told_at e (get_within s.rows e r g) in ap typ_of_place t.is_place ∙ sym (ap kind_of t.is_row)
+      by None g = ap typ_of_place (placed_none s.rows 0 s.rows report_follows.symbols e g) ∙ sym (ap kind_of g)
+      by (Some r) g = let t = report_told_at e (get_within s.rows e r g) in ap typ_of_place t.is_place ∙ sym (ap kind_of t.is_row)
 
   pub name_is : (e : ℕ) → name_of_place (slice_get ps e) ≡ table_name (slice_get s.rows e)
   name_is e = by (slice_get s.rows e) refl
     where
       by : (o : Option Row) → slice_get s.rows e ≡ o → name_of_place (slice_get ps e) ≡ table_name (slice_get s.rows e)
-      by None g = ap name_of_place (placed_none s.rows 0 s.rows follows.symbols e g) ∙ sym (ap table_name g)
-      by (Some r) g = let t = told_at e (get_within s.rows e r g) in ap name_of_place t.is_place ∙ sym (ap table_name t.is_row)
+      by None g = ap name_of_place (placed_none s.rows 0 s.rows report_follows.symbols e g) ∙ sym (ap table_name g)
+      by (Some r) g = let t = report_told_at e (get_within s.rows e r g) in ap name_of_place t.is_place ∙ sym (ap table_name t.is_row)
 
   pub child_is : (k : ℕ) → k < length s.rows → child_of_place (slice_get ps k) ≡ child_number s.rows k
-  child_is k l = ap child_of_place ((told_at k l).is_place)
+  child_is k l = ap child_of_place ((report_told_at k l).is_place)
 
   -- a test of a name that the uses decide
   module _ (n : Name) (test : Symbol → Bool) (truth : ℕ → Bool)
@@ -164,20 +165,20 @@ module _ (s : Scanned) (orderly : IsOrderly s) (fine : first_fault s ≡ None) (
     such_told k = by (slice_get s.rows k) refl
       where
         by : (o : Option Row) → slice_get s.rows k ≡ o → has_such test n (symbols_of_place (slice_get ps k)) ≡ truth k
-        by None g = ap (λ o. has_such test n (symbols_of_place o)) (placed_none s.rows 0 s.rows follows.symbols k g) ∙ not_there k g
+        by None g = ap (λ o. has_such test n (symbols_of_place o)) (placed_none s.rows 0 s.rows report_follows.symbols k g) ∙ not_there k g
         by (Some r) g =
             let l = get_within s.rows k r g in
-            let t = told_at k l in
+            let t = report_told_at k l in
             ap (λ o. has_such test n (symbols_of_place o)) t.is_place ∙ telling.such_is n test (truth k) t.symbols (λ i u a b. each k l t i u a b) (shown_there k t)
 
     any_told : (k : ℕ) → has_any test n (symbols_of_place (slice_get ps k)) ≡ truth k
     any_told k = by (slice_get s.rows k) refl
       where
         by : (o : Option Row) → slice_get s.rows k ≡ o → has_any test n (symbols_of_place (slice_get ps k)) ≡ truth k
-        by None g = ap (λ o. has_any test n (symbols_of_place o)) (placed_none s.rows 0 s.rows follows.symbols k g) ∙ not_there k g
+        by None g = ap (λ o. has_any test n (symbols_of_place o)) (placed_none s.rows 0 s.rows report_follows.symbols k g) ∙ not_there k g
         by (Some r) g =
             let l = get_within s.rows k r g in
-            let t = told_at k l in
+            let t = report_told_at k l in
             ap (λ o. has_any test n (symbols_of_place o)) t.is_place ∙ telling.any_is n test (truth k) t.symbols (λ i u a b. each k l t i u a b) (shown_there k t)
 
   bound_told : (n : Name) (k : ℕ) → has_such is_bound_symbol n (symbols_of_place (slice_get ps k)) ≡ binds_in s.rows k n
@@ -186,7 +187,7 @@ module _ (s : Scanned) (orderly : IsOrderly s) (fine : first_fault s ≡ None) (
       (λ e h. h) k
 
   own_bound : (n : Name) (k : ℕ) → is_cell_kind (resolve s.rows k n).kind ≡ true → binds_in s.rows k n ≡ true
-  own_bound n k h = (both (is_plain (holds_in s.rows k n)) _ ((stood.needed k n).0 (cell_kind (resolve s.rows k n).kind h)).0).1
+  own_bound n k h = (truth_both (is_plain (holds_in s.rows k n)) _ ((stood.needed k n).0 (cell_kind (resolve s.rows k n).kind h)).0).1
 
   cell_told : (n : Name) (k : ℕ) → holds_cell n (slice_get ps k) ≡ is_cell_kind (resolve s.rows k n).kind
   cell_told n k = such_told n is_cell_symbol (λ e. is_cell_kind (resolve s.rows e n).kind)
@@ -197,16 +198,16 @@ module _ (s : Scanned) (orderly : IsOrderly s) (fine : first_fault s ≡ None) (
   binding_is : (n : Name) (k : ℕ) → binding_around ps k n ≡ shadowed_scope s.rows k n
   binding_is n k = λ j. find (λ e. not (is_class (typ_is e j)) && bound_told n e j) (around_is k j)
 
-  cell_is : (n : Name) (k : ℕ) → needs s.rows k n ≡ true → cell_around ps k n ≡ binder_in s.rows k n
-  cell_is n k h =
-      let w = walks_end s.rows stood table follows k n h in
-      (λ j. find (λ e. (cell_told n e ∙ sym (cell_there s.rows stood table follows n e)) j) (around_is k j)) ∙ w.2 ∙ sym w.1
+  report_cell_is : (n : Name) (k : ℕ) → needs s.rows k n ≡ true → cell_around ps k n ≡ binder_in s.rows k n
+  report_cell_is n k h =
+      let w = walks_end s.rows stood table report_follows k n h in
+      (λ j. find (λ e. (cell_told n e ∙ sym (cell_there s.rows stood table report_follows n e)) j) (around_is k j)) ∙ w.2 ∙ sym w.1
 
   -- the names that are stored as globals
   stored_in : (n : Name) (k : ℕ) → has_any (is_noted false) n (symbols_of_place (slice_get ps k)) ≡ stores_globally s.rows n k
   stored_in n k = any_told n (is_noted false) (stores_globally s.rows n)
       (λ e l t i u a b. telling.noted_global s.rows e (orderly.scanned.fresh e) t.symbols (symbols_follow e t) i u a ∙ ap (λ m. stores_globally s.rows m e) (sym b))
-      (λ e h. (both (binds_in s.rows e n) _ h).0) k
+      (λ e h. (truth_both (binds_in s.rows e n) _ h).0) k
 
   first_bound : (n : Name) → has_any (is_noted true) n (symbols_of_place (slice_get ps 0)) ≡ binds_in s.rows 0 n
   first_bound n = any_told n (is_noted true) (λ e. binds_in s.rows e n)
@@ -220,14 +221,15 @@ module _ (s : Scanned) (orderly : IsOrderly s) (fine : first_fault s ≡ None) (
       forth h = let w = any_index (stores_global n) ps h in
           by w.0 (slice_get s.rows w.0) refl (ap (λ o. has_any (is_noted false) n (symbols_of_place o)) w.2 ∙ w.3) w.1 w.2
         where
-          by : (k : ℕ) (o : Option Row) → slice_get s.rows k ≡ o → has_any (is_noted false) n (symbols_of_place (slice_get ps k)) ≡ true → (x : Place) → slice_get ps k ≡ Some x → list_any (stores_globally s.rows n) (scopes s.rows) ≡ true
-          by k None g q x z = let y : None ≡ Some x = sym (placed_none s.rows 0 s.rows follows.symbols k g) ∙ z in cc
+          by : (k : ℕ) (o : Option Row) → slice_get s.rows k ≡ o → has_any (is_noted false) n (symbols_of_place (slice_get ps k)) ≡ true → (x : Place)
+              → slice_get ps k ≡ Some x → list_any (stores_globally s.rows n) (scopes s.rows) ≡ true
+          by k None g q x z = let y : None ≡ Some x = sym (placed_none s.rows 0 s.rows report_follows.symbols k g) ∙ z in cc
           by k (Some r) g q x z = some_scope (stores_globally s.rows n) s.rows k (get_within s.rows k r g) (sym (stored_in n k) ∙ q)
 
       back : list_any (stores_globally s.rows n) (scopes s.rows) ≡ true → list_any (stores_global n) ps ≡ true
       back h =
           let w = any_scope (stores_globally s.rows n) s.rows h in
-          let t = told_at w.0 w.1 in
+          let t = report_told_at w.0 w.1 in
           index_any (stores_global n) ps w.0 _ t.is_place (sym (ap (λ o. has_any (is_noted false) n (symbols_of_place o)) t.is_place) ∙ stored_in n w.0 ∙ w.2)
 
   known_is : (n : Name) → is_known ps n ≡ is_stored s.rows n
@@ -242,14 +244,14 @@ module _ (s : Scanned) (orderly : IsOrderly s) (fine : first_fault s ≡ None) (
     capture_is = by (captured_symbol u) refl ∙ ap (captured_by (binder_in s.rows k u.name)) (telling.captured_told s.rows k (orderly.scanned.fresh k) t.symbols (symbols_follow k t) i u at)
       where
         by : (b : Bool) → captured_symbol u ≡ b → captured_by (cell_around ps k u.name) b ≡ captured_by (binder_in s.rows k u.name) b
-        by true e = ap (λ o. captured_by o true) (cell_is u.name k (sym (telling.needed_told s.rows k (orderly.scanned.fresh k) t.symbols (symbols_follow k t) i u at) ∙ e))
+        by true e = ap (λ o. captured_by o true) (report_cell_is u.name k (sym (telling.needed_told s.rows k (orderly.scanned.fresh k) t.symbols (symbols_follow k t) i u at) ∙ e))
         by false e = refl
 
     unbound_is : unbound_symbol ps u ≡ is_unbound s.rows k u.name
     unbound_is = λ j. telling.unbound_told s.rows k (orderly.scanned.fresh k) t.symbols (symbols_follow k t) i u at j && (is_open_kind (telling.kind_told s.rows k (orderly.scanned.fresh k) t.symbols (symbols_follow k t) i u at j) && not (known_is u.name j))
 
-    found_is : found_at ps k u ≡ findings_at s.rows k u.name
-    found_is =
+    report_found_is : found_at ps k u ≡ findings_at s.rows k u.name
+    report_found_is =
         ap (λ typ. found_if (unused_symbol typ u) (finding Unused k u.name None) ++ (found_if (unbound_symbol ps u) (finding Unbound k u.name None) ++ (found_shadowed (is_local_kind u.scope) k u.name (binding_around ps k u.name) ++ captured_by (cell_around ps k u.name) (captured_symbol u)))) (typ_is k)
         ∙ (λ j.
         found_if (telling.unused_told s.rows k (orderly.scanned.fresh k) t.symbols (symbols_follow k t) i u at j) (finding Unused k u.name None)
@@ -282,10 +284,10 @@ module _ (s : Scanned) (orderly : IsOrderly s) (fine : first_fault s ≡ None) (
       unwrapped h = cc
 
       by : (o : Option Row) → slice_get s.rows i ≡ o → found_in ps i x.symbols ≡ findings_in s.rows i (names_in_place x)
-      by None z = let y : None ≡ Some x = sym (placed_none s.rows 0 s.rows follows.symbols i z) ∙ g in cc
+      by None z = let y : None ≡ Some x = sym (placed_none s.rows 0 s.rows report_follows.symbols i z) ∙ g in cc
       by (Some r) z =
-          let t = told_at i (get_within s.rows i r z) in
-          subst (λ us. found_in ps i us ≡ findings_in s.rows i (map {B = Name} name_of_symbol us)) (ap (λ (y : Place). y.symbols) (unwrapped (sym t.is_place ∙ g))) (found_of_symbols i t.symbols (λ m u a. found_is i t m u a))
+          let t = report_told_at i (get_within s.rows i r z) in
+          subst (λ us. found_in ps i us ≡ findings_in s.rows i (map {B = Name} name_of_symbol us)) (ap (λ (y : Place). y.symbols) (unwrapped (sym t.is_place ∙ g))) (found_of_symbols i t.symbols (λ m u a. report_found_is i t m u a))
 
   findings_are : found_by_places ps ≡ findings_from s.rows 0 (map {B = List Name} names_in_place ps)
   findings_are = found_of_scopes 0 ps (λ i x g. subst (λ z. found_in ps z x.symbols ≡ findings_in s.rows z (names_in_place x)) (at i) (found_there i x g))
@@ -294,12 +296,12 @@ module _ (s : Scanned) (orderly : IsOrderly s) (fine : first_fault s ≡ None) (
       at i = omega arith
 
   pub all_findings : found_by_places (places_of table) ≡ findings_from s.rows 0 (names_of (Some table))
-  all_findings = ap found_by_places places_are ∙ findings_are ∙ ap (λ xs. findings_from s.rows 0 (map {B = List Name} names_in_place xs)) (sym places_are)
+  all_findings = ap found_by_places report_places_are ∙ findings_are ∙ ap (λ xs. findings_from s.rows 0 (map {B = List Name} names_in_place xs)) (sym report_places_are)
 
   pub names_counted : length (names_of (Some table)) ≡ length s.rows
-  names_counted = length-map (places_of table) names_in_place ∙ ap length places_are ∙ placed_count 0 s.rows follows.symbols follows.whole
+  names_counted = length-map (places_of table) names_in_place ∙ ap length report_places_are ∙ placed_count 0 s.rows report_follows.symbols report_follows.whole
     where
-      placed_count : (k : ℕ) (rs : List Row) (ss : List (List Symbol)) → length ss ≡ length rs → length (placed s.rows k rs ss) ≡ length rs
+      placed_count : (k : ℕ) (rs : List Row) (ss : List (List Symbol)) → length ss ≡ length rs → length (preorder_placed s.rows k rs ss) ≡ length rs
       placed_count k [] ss l = refl
       placed_count k (r ∷ rs) [] l = absurd (omega (arith, l))
       placed_count k (r ∷ rs) (x ∷ xs) l = ap suc (placed_count (suc k) rs xs (omega (arith, l)))

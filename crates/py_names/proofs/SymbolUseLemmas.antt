@@ -13,21 +13,22 @@ use Rattle.py_scope.specs.Lifts.{kind_of}
 use Rattle.py_scope.specs.Marks.{is_class}
 use Rattle.py_scope.specs.Names.{Name, same_name}
 use Rattle.py_scope.specs.Entries.{entry_at}
-use Rattle.py_scope.specs.Resolve.{binds_in, declared, is_free_kind, is_free_past, is_held, kind_at, needs, resolve, scopes}
+use Rattle.py_scope.specs.Resolve.{binds_in, last_declaration, is_free_kind, is_free_past, is_held, kind_at, needs, resolve, scopes}
 use Rattle.py_scope.specs.Roles.{bound_opt}
 use Rattle.py_scope.specs.Scanned.{is_function}
 use Rattle.py_scope.specs.InOrder.{IsFresh, assigned_opt}
 use Rattle.py_scope.specs.Symbols.{is_global_kind, is_local_kind}
 use Rattle.py_scope.specs.Tables.{is_plain}
 use Rattle.py_scope.proofs.NameLemmas.{equal_names, intersects-or}
-use Rattle.py_scope.proofs.Truth.{and_both, both, either, left_or, right_or, same_truth}
+use Rattle.py_scope.proofs.Truth.{and_both, truth_both, truth_either, left_or, truth_right_or, same_truth}
 use Rattle.py_symbol_tables.proofs.EnteredScopeLemmas.{any_named, binds_shown, named_any, symbol_named}
 use Rattle.py_names.specs.Places.{captured_symbol, has_any, is_bound_symbol, is_just_local, is_noted, is_such, unused_symbol}
 use Rattle.py_names.specs.Report.{is_captured, is_own_name, is_parameter, is_read, is_unused, stores_globally}
 
 -- the symbol of a name, where it is there
 module _ (n : Name) (test : Symbol → Bool) (truth : Bool) where
-  pub such_is : (ts : List Symbol) → ((i : ℕ) (t : Symbol) → slice_get ts i ≡ Some t → n ≡ t.name → test t ≡ truth) → (truth ≡ true → has_symbol ts n ≡ true) → is_such test (find (λ t. same_name n t.name) ts) ≡ truth
+  pub such_is : (ts : List Symbol) → ((i : ℕ) (t : Symbol) → slice_get ts i ≡ Some t → n ≡ t.name → test t ≡ truth) → (truth ≡ true → has_symbol ts n ≡ true)
+      → is_such test (find (λ t. same_name n t.name) ts) ≡ truth
   such_is [] h there = by truth refl there
     where
       by : (b : Bool) → truth ≡ b → (truth ≡ true → false ≡ true) → false ≡ truth
@@ -56,10 +57,11 @@ or_second false false = refl
 
 module _ (rows : List Row) (k : ℕ) (fresh : IsFresh (slice_get rows k)) where
   -- the flags by parts
-  masked : (n : Name) (m : ℕ) → intersects (flags_by_uses rows k n) m ≡ (intersects (bits_of (entry_at rows k n)) m || intersects (if is_held rows k n && is_plain (declared rows k n) then 0x002 else 0) m) || intersects (if hands_through rows k n then 0x100 else 0) m
+  masked : (n : Name) (m : ℕ)
+      → intersects (flags_by_uses rows k n) m ≡ (intersects (bits_of (entry_at rows k n)) m || intersects (if is_held rows k n && is_plain (last_declaration rows k n) then 0x002 else 0) m) || intersects (if hands_through rows k n then 0x100 else 0) m
   masked n m =
-      intersects-or (bit_or (bits_of (entry_at rows k n)) (if is_held rows k n && is_plain (declared rows k n) then 0x002 else 0)) (if hands_through rows k n then 0x100 else 0) m
-      ∙ ap (λ b. b || intersects (if hands_through rows k n then 0x100 else 0) m) (intersects-or (bits_of (entry_at rows k n)) (if is_held rows k n && is_plain (declared rows k n) then 0x002 else 0) m)
+      intersects-or (bit_or (bits_of (entry_at rows k n)) (if is_held rows k n && is_plain (last_declaration rows k n) then 0x002 else 0)) (if hands_through rows k n then 0x100 else 0) m
+      ∙ ap (λ b. b || intersects (if hands_through rows k n then 0x100 else 0) m) (intersects-or (bits_of (entry_at rows k n)) (if is_held rows k n && is_plain (last_declaration rows k n) then 0x002 else 0) m)
 
   bound_flags : (o : Option Entry) → assigned_opt o ≡ false → intersects (bits_of o) 0x096 ≡ bound_opt o
   bound_flags None h = refl
@@ -67,7 +69,7 @@ module _ (rows : List Row) (k : ℕ) (fresh : IsFresh (slice_get rows k)) where
 
   module _ (n : Name) where
     read_flags : intersects (flags_by_uses rows k n) 0x001 ≡ is_read rows k n
-    read_flags = masked n 0x001 ∙ (λ j. (is_read rows k n || second (is_held rows k n && is_plain (declared rows k n)) j) || third (hands_through rows k n) j) ∙ or_none (is_read rows k n)
+    read_flags = masked n 0x001 ∙ (λ j. (is_read rows k n || second (is_held rows k n && is_plain (last_declaration rows k n)) j) || third (hands_through rows k n) j) ∙ or_none (is_read rows k n)
       where
         second : (b : Bool) → intersects (if b then 0x002 else 0) 0x001 ≡ false
         second true = refl
@@ -78,7 +80,7 @@ module _ (rows : List Row) (k : ℕ) (fresh : IsFresh (slice_get rows k)) where
         third false = refl
 
     parameter_flags : intersects (flags_by_uses rows k n) 0x004 ≡ is_parameter rows k n
-    parameter_flags = masked n 0x004 ∙ (λ j. (is_parameter rows k n || second (is_held rows k n && is_plain (declared rows k n)) j) || third (hands_through rows k n) j) ∙ or_none (is_parameter rows k n)
+    parameter_flags = masked n 0x004 ∙ (λ j. (is_parameter rows k n || second (is_held rows k n && is_plain (last_declaration rows k n)) j) || third (hands_through rows k n) j) ∙ or_none (is_parameter rows k n)
       where
         second : (b : Bool) → intersects (if b then 0x002 else 0) 0x004 ≡ false
         second true = refl
@@ -89,7 +91,7 @@ module _ (rows : List Row) (k : ℕ) (fresh : IsFresh (slice_get rows k)) where
         third false = refl
 
     binds_flags : intersects (flags_by_uses rows k n) 0x096 ≡ binds_in rows k n
-    binds_flags = masked n 0x096 ∙ (λ j. (bound_flags (entry_at rows k n) (fresh.unassigned n) j || second (is_held rows k n && is_plain (declared rows k n)) j) || third (hands_through rows k n) j) ∙ or_second (bound_opt (entry_at rows k n)) (is_held rows k n && is_plain (declared rows k n))
+    binds_flags = masked n 0x096 ∙ (λ j. (bound_flags (entry_at rows k n) (fresh.unassigned n) j || second (is_held rows k n && is_plain (last_declaration rows k n)) j) || third (hands_through rows k n) j) ∙ or_second (bound_opt (entry_at rows k n)) (is_held rows k n && is_plain (last_declaration rows k n))
       where
         second : (b : Bool) → intersects (if b then 0x002 else 0) 0x096 ≡ b
         second true = refl
@@ -100,7 +102,7 @@ module _ (rows : List Row) (k : ℕ) (fresh : IsFresh (slice_get rows k)) where
         third false = refl
 
     handed_flags : intersects (flags_by_uses rows k n) 0x100 ≡ hands_through rows k n
-    handed_flags = masked n 0x100 ∙ (λ j. (fresh.unmarked n j || second (is_held rows k n && is_plain (declared rows k n)) j) || third (hands_through rows k n) j)
+    handed_flags = masked n 0x100 ∙ (λ j. (fresh.unmarked n j || second (is_held rows k n && is_plain (last_declaration rows k n)) j) || third (hands_through rows k n) j)
       where
         second : (b : Bool) → intersects (if b then 0x002 else 0) 0x100 ≡ false
         second true = refl
@@ -147,14 +149,14 @@ module _ (rows : List Row) (k : ℕ) (fresh : IsFresh (slice_get rows k)) where
     needed_told = follows.outside i t at
 
     pub captured_told : captured_symbol t ≡ is_captured rows k t.name
-    captured_told = same_truth _ _ (λ h. forth (either (is_free_kind t.scope) _ h) (sym needed_told ∙ h)) (λ h. needed_told ∙ back (either (is_free_kind (resolve rows k t.name).kind) _ h))
+    captured_told = same_truth _ _ (λ h. forth (truth_either (is_free_kind t.scope) _ h) (sym needed_told ∙ h)) (λ h. needed_told ∙ back (truth_either (is_free_kind (resolve rows k t.name).kind) _ h))
       where
         forth : (is_free_kind t.scope ≡ true) ⊎ (intersects t.flags.0 0x100 ≡ true) → needs rows k t.name ≡ true → is_captured rows k t.name ≡ true
         forth (inl q) h = left_or (is_free_kind (resolve rows k t.name).kind) _ (ap is_free_kind (sym kind_told) ∙ q)
         forth (inr q) h =
             let z : hands_through rows k t.name ≡ true = sym (ap (λ f. intersects f 0x100) (follows.flags i t at) ∙ handed_flags t.name) ∙ q in
-            right_or (is_free_kind (resolve rows k t.name).kind) _ (and_both (is_class (kind_at rows k)) _ (both (is_class (kind_at rows k)) _ z).0 h)
+            truth_right_or (is_free_kind (resolve rows k t.name).kind) _ (and_both (is_class (kind_at rows k)) _ (truth_both (is_class (kind_at rows k)) _ z).0 h)
 
         back : (is_free_kind (resolve rows k t.name).kind ≡ true) ⊎ (is_class (kind_at rows k) && needs rows k t.name ≡ true) → needs rows k t.name ≡ true
         back (inl q) = sym needed_told ∙ left_or (is_free_kind t.scope) _ (ap is_free_kind kind_told ∙ q)
-        back (inr q) = (both (is_class (kind_at rows k)) _ q).1
+        back (inr q) = (truth_both (is_class (kind_at rows k)) _ q).1

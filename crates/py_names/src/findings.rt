@@ -157,7 +157,7 @@ fn push_symbol(
 }
 
 /// Puts last what is told of the names of a scope.
-fn push_scope(
+pub(crate) fn push_scope(
     alloc: Global,
     found: &mut Vec<Finding>,
     places: &[Place],

@@ -9,8 +9,10 @@ mod lines;
 mod paths;
 pub mod places;
 mod reports;
+mod texts;
 mod walks;
 
 pub use items::{NameItem, NameKind, NameReport};
 pub use lines::report_lines;
 pub use reports::report;
+pub use texts::report_text;

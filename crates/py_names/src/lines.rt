@@ -75,14 +75,26 @@ fn push_other(
     push_text(out, places, at)
 }
 
+/// Appends the line of a finding.
+pub(crate) fn push_line(
+    out: &mut String,
+    places: &[Place],
+    finding: &Finding,
+) -> Result<(), AllocError>
+    ensures { OnOk result (string_bytes out.new ≡ string_bytes out.old ++ line_in places.now finding.now) }
+{
+    out.push_str(word_of(finding.kind))?;
+    push_text(out, places, finding.scope)?;
+    out.push_str(" ")?;
+    out.push_str(finding.name.as_str())?;
+    push_other(out, places, finding.kind, finding.other)
+}
+
 fn line_of(alloc: Global, places: &[Place], finding: &Finding) -> Result<Text, AllocError>
     ensures { IfOk result (λ line. line ≡ line_in places.now finding.now) }
 {
-    let mut out = String::from_str(alloc, word_of(finding.kind))?;
-    push_text(&mut out, places, finding.scope)?;
-    out.push_str(" ")?;
-    out.push_str(finding.name.as_str())?;
-    push_other(&mut out, places, finding.kind, finding.other)?;
+    let mut out = String::new(alloc);
+    push_line(&mut out, places, finding)?;
     Ok(Text::from_string(out))
 }
 

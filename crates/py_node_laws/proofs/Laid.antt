@@ -16,7 +16,7 @@ use Rattle.py_control_proof.specs.Blocks.{Ends, Lies, Stable}
 use Rattle.py_control_proof.proofs.LaidCodeLemmas.{end_settles}
 use Rattle.py_emission_parts.specs.Emitting.{Begin, Put, Step}
 use Rattle.py_emit.specs.Steps.{onwards, step_of, steps_from, steps_in}
-use Rattle.py_emit.proofs.Chains.{Leads, chain_leads, chain_short}
+use Rattle.py_emit.proofs.Chains.{ChainLeads, chain_leads, chain_short}
 use Rattle.py_node_laws.specs.Adding.{AreItems, IsNamed, NameBlocks}
 use Rattle.py_node_laws.specs.Running.{place_after}
 
@@ -27,17 +27,17 @@ Stand bs (Put o n to at ∷ xs) (Of b k) = (slice_get (block_at bs b).items k �
 Stand bs (Begin c ∷ xs) (Of b k) = (length (block_at bs b).items ≡ k) × ((block_at bs b).next ≡ Some c) × Stand bs xs (Of c 0)
 
 -- how many blocks begin
-abbrev pub begins : List Step → ℕ
-begins [] = 0
-begins (Put o n to at ∷ xs) = begins xs
-begins (Begin b ∷ xs) = suc (begins xs)
+abbrev pub laid_begins : List Step → ℕ
+laid_begins [] = 0
+laid_begins (Put o n to at ∷ xs) = laid_begins xs
+laid_begins (Begin b ∷ xs) = suc (laid_begins xs)
 
-begins_joined : (xs ys : List Step) → begins (xs ++ ys) ≡ begins xs + begins ys
-begins_joined [] ys = sym (zero-add (begins ys))
+begins_joined : (xs ys : List Step) → laid_begins (xs ++ ys) ≡ laid_begins xs + laid_begins ys
+begins_joined [] ys = sym (zero-add (laid_begins ys))
 begins_joined (Put o n to at ∷ xs) ys = begins_joined xs ys
 begins_joined (Begin b ∷ xs) ys = let h = begins_joined xs ys in omega (arith, h)
 
-none_begins : (xs : List InstructionInfo) → begins (map step_of xs) ≡ 0
+none_begins : (xs : List InstructionInfo) → laid_begins (map step_of xs) ≡ 0
 none_begins [] = refl
 none_begins (x ∷ xs) = none_begins xs
 
@@ -48,8 +48,10 @@ coded_at (x ∷ bs) zero = refl
 coded_at (x ∷ bs) (suc b) = coded_at bs b
 
 module _ (bs : List Blk) where
-  -- the instructions of a block from a place on, and what stands behind them
-  stand_items : (b k : ℕ) (xs : List InstructionInfo) (rest : List Step) → ((j : ℕ) → slice_get (block_at (coded_blocks bs) b).items (k + j) ≡ slice_get (map coded_item xs) j) → Stand (coded_blocks bs) rest (Of b (k + length xs)) → Stand (coded_blocks bs) (map step_of xs ++ rest) (Of b k)
+  -- the instructions of a block from a place on, and what stands after them
+  stand_items : (b k : ℕ) (xs : List InstructionInfo) (rest : List Step)
+      → ((j : ℕ) → slice_get (block_at (coded_blocks bs) b).items (k + j) ≡ slice_get (map coded_item xs) j)
+      → Stand (coded_blocks bs) rest (Of b (k + length xs)) → Stand (coded_blocks bs) (map step_of xs ++ rest) (Of b k)
   stand_items b k [] rest at h = subst (λ n. Stand (coded_blocks bs) rest (Of b n)) (let e : k + 0 ≡ k = omega arith in e) h
   stand_items b k (x ∷ xs) rest at h = (
     ap (slice_get (block_at (coded_blocks bs) b).items) (let e : k ≡ k + 0 = omega arith in e) ∙ at 0,
@@ -63,28 +65,28 @@ module _ (bs : List Blk) where
   long_at : (b : ℕ) → length (block_at (coded_blocks bs) b).items ≡ length (blk bs b).items
   long_at b = ap (λ (x : coded.Block). length x.items) (coded_at bs b) ∙ length-map (blk bs b).items coded_item
 
-  next_at : (b : ℕ) (o : Option ℕ) → (blk bs b).next ≡ o → (block_at (coded_blocks bs) b).next ≡ o
-  next_at b o e = ap (λ (x : coded.Block). x.next) (coded_at bs b) ∙ e
+  laid_next_at : (b : ℕ) (o : Option ℕ) → (blk bs b).next ≡ o → (block_at (coded_blocks bs) b).next ≡ o
+  laid_next_at b o e = ap (λ (x : coded.Block). x.next) (coded_at bs b) ∙ e
 
   -- the steps of a chain from one of its blocks on
-  stand_along : (n c : ℕ) (cs : List ℕ) → Leads bs (c ∷ cs) → length (c ∷ cs) ≤ n → Stand (coded_blocks bs) (steps_from bs n c) (Of c 0)
+  stand_along : (n c : ℕ) (cs : List ℕ) → ChainLeads bs (c ∷ cs) → length (c ∷ cs) ≤ n → Stand (coded_blocks bs) (steps_from bs n c) (Of c 0)
   stand_along zero c cs leads enough = absurd (omega (arith, enough))
-  stand_along (suc n) c [] leads enough = stand_block c (onwards (blk bs c).next (steps_from bs n)) (subst (λ o. Stand (coded_blocks bs) (onwards o (steps_from bs n)) (Of c (length (blk bs c).items))) (sym leads) (long_at c, next_at c None leads))
+  stand_along (suc n) c [] leads enough = stand_block c (onwards (blk bs c).next (steps_from bs n)) (subst (λ o. Stand (coded_blocks bs) (onwards o (steps_from bs n)) (Of c (length (blk bs c).items))) (sym leads) (long_at c, laid_next_at c None leads))
   stand_along (suc n) c (d ∷ cs) leads enough =
-      stand_block c (onwards (blk bs c).next (steps_from bs n)) (subst (λ o. Stand (coded_blocks bs) (onwards o (steps_from bs n)) (Of c (length (blk bs c).items))) (sym leads.0) (long_at c, next_at c (Some d) leads.0, stand_along n d cs leads.1 (omega (arith, enough))))
+      stand_block c (onwards (blk bs c).next (steps_from bs n)) (subst (λ o. Stand (coded_blocks bs) (onwards o (steps_from bs n)) (Of c (length (blk bs c).items))) (sym leads.0) (long_at c, laid_next_at c (Some d) leads.0, stand_along n d cs leads.1 (omega (arith, enough))))
 
-  begins_along : (n c : ℕ) (cs : List ℕ) → Leads bs (c ∷ cs) → length (c ∷ cs) ≤ n → begins (steps_from bs n c) ≡ length cs
+  begins_along : (n c : ℕ) (cs : List ℕ) → ChainLeads bs (c ∷ cs) → length (c ∷ cs) ≤ n → laid_begins (steps_from bs n c) ≡ length cs
   begins_along zero c cs leads enough = absurd (omega (arith, enough))
   begins_along (suc n) c [] leads enough =
-      begins_joined (map step_of (blk bs c).items) (onwards (blk bs c).next (steps_from bs n)) ∙ (λ j. none_begins (blk bs c).items j + begins (onwards (leads j) (steps_from bs n)))
+      begins_joined (map step_of (blk bs c).items) (onwards (blk bs c).next (steps_from bs n)) ∙ (λ j. none_begins (blk bs c).items j + laid_begins (onwards (leads j) (steps_from bs n)))
   begins_along (suc n) c (d ∷ cs) leads enough =
       let h = begins_along n d cs leads.1 (omega (arith, enough)) in
-      begins_joined (map step_of (blk bs c).items) (onwards (blk bs c).next (steps_from bs n)) ∙ (λ j. none_begins (blk bs c).items j + begins (onwards (leads.0 j) (steps_from bs n))) ∙ zero-add (suc (begins (steps_from bs n d))) ∙ ap suc h
+      begins_joined (map step_of (blk bs c).items) (onwards (blk bs c).next (steps_from bs n)) ∙ (λ j. none_begins (blk bs c).items j + laid_begins (onwards (leads.0 j) (steps_from bs n))) ∙ zero-add (suc (laid_begins (steps_from bs n d))) ∙ ap suc h
 
   pub stand_in : (cs : List ℕ) → IsChain bs cs → Stand (coded_blocks bs) (steps_in bs) (Of 0 0)
   stand_in cs chain = let l = chain_leads bs cs chain in stand_along (length bs) 0 l.0 l.2 (let x = chain_short bs cs chain.path in let y = ap length l.1 in omega (arith, x, y))
 
-  pub few_begin : (cs : List ℕ) → IsChain bs cs → begins (steps_in bs) ≤ length (coded_blocks bs)
+  pub few_begin : (cs : List ℕ) → IsChain bs cs → laid_begins (steps_in bs) ≤ length (coded_blocks bs)
   few_begin cs chain =
       let l = chain_leads bs cs chain in
       let x = chain_short bs cs chain.path in
@@ -93,7 +95,7 @@ module _ (bs : List Blk) where
       let long = length-map bs coded_block in
       omega (arith, x, y, z, long)
 
--- what stands behind some steps
+-- what stands after some steps
 pub stand_behind : (bs : List coded.Block) (xs ys : List Step) (p : Place) → Stand bs (xs ++ ys) p → Stand bs ys (place_after xs p)
 stand_behind bs [] ys p h = h
 stand_behind bs (Put o n to at ∷ xs) ys (Of b k) h = stand_behind bs xs ys (Of b (suc k)) h.1
@@ -121,20 +123,21 @@ settle_on bs n b k l e f =
     on_if (nat_lt k (length (block_at bs b).items)) (Of b k) (hop (block_at bs b).next (Of b k) (λ c. settle bs n (Of c 0))) (grind (arith, nat_tests))
     ∙ ap (λ o. hop o (Of b k) (λ c. settle bs n (Of c 0))) f
 
--- a place from which steps stand settles within as many hops as blocks begin behind it
-stand_stable : (bs : List coded.Block) (xs : List Step) (p : Place) → Stand bs xs p → Stable bs (begins xs) p
+-- a place from which steps stand settles within as many hops as blocks begin after it
+stand_stable : (bs : List coded.Block) (xs : List Step) (p : Place) → Stand bs xs p → Stable bs (laid_begins xs) p
 stand_stable bs [] (Of b k) h = λ n. end_settles bs (0 + n) b k h
-stand_stable bs (Put o n to at ∷ xs) (Of b k) h = let lt = slice_get_within (block_at bs b).items k _ h.0 in λ m. settle_here bs (begins xs + m) b k lt ∙ sym (settle_here bs (begins xs) b k lt)
+stand_stable bs (Put o n to at ∷ xs) (Of b k) h = let lt = slice_get_within (block_at bs b).items k _ h.0 in λ m. settle_here bs (laid_begins xs + m) b k lt ∙ sym (settle_here bs (laid_begins xs) b k lt)
 stand_stable bs (Begin c ∷ xs) (Of b k) h = λ m.
-    ap (λ n. settle bs n (Of b k)) (let e : suc (begins xs) + m ≡ suc (begins xs + m) = omega arith in e)
-    ∙ settle_on bs (begins xs + m) b k c h.0 h.1 ∙ stand_stable bs xs (Of c 0) h.2 m ∙ sym (settle_on bs (begins xs) b k c h.0 h.1)
+    ap (λ n. settle bs n (Of b k)) (let e : suc (laid_begins xs) + m ≡ suc (laid_begins xs + m) = omega arith in e)
+    ∙ settle_on bs (laid_begins xs + m) b k c h.0 h.1 ∙ stand_stable bs xs (Of c 0) h.2 m ∙ sym (settle_on bs (laid_begins xs) b k c h.0 h.1)
 
 named_inside : (bs : List coded.Block) (to : Option ℕ) → IsNamed to (length bs) → simulation.Inside bs to
 named_inside bs None h = tt
 named_inside bs (Some b) h = h
 
--- the code that steps read as lies where they stand, whatever stands behind them
-pub stand_lies : (t : Tables) (bs : List coded.Block) (xs ys : List Step) (items : List (Item Object)) (p : Place) → Stand bs (xs ++ ys) p → AreItems t xs items → NameBlocks (length bs) xs → Lies t bs (begins (xs ++ ys)) items p (place_after xs p)
+-- the code that steps read as lies where they stand, whatever stands after them
+pub stand_lies : (t : Tables) (bs : List coded.Block) (xs ys : List Step) (items : List (Item Object)) (p : Place) → Stand bs (xs ++ ys) p → AreItems t xs items
+    → NameBlocks (length bs) xs → Lies t bs (laid_begins (xs ++ ys)) items p (place_after xs p)
 stand_lies t bs [] ys [] p h r n = (refl, stand_stable bs ys p h)
 stand_lies t bs [] ys (i ∷ items) p h r n = absurd r
 stand_lies t bs (x ∷ xs) ys [] p h r n = absurd r
@@ -142,4 +145,4 @@ stand_lies t bs (Put o m to at ∷ xs) ys (Do i ∷ items) (Of b k) h r n = (sub
 stand_lies t bs (Put o m to at ∷ xs) ys (Label l ∷ items) p h r n = absurd r.0
 stand_lies t bs (Begin c ∷ xs) ys (Do i ∷ items) p h r n = absurd r.0
 stand_lies t bs (Begin c ∷ xs) ys (Label l ∷ items) (Of b k) h r n =
-    (h.0, h.1 ∙ ap Some r.0, subst (λ z. Lies t bs (begins (xs ++ ys)) items (Of z 0) (place_after xs (Of c 0))) r.0 (stand_lies t bs xs ys items (Of c 0) h.2 r.1 n.1))
+    (h.0, h.1 ∙ ap Some r.0, subst (λ z. Lies t bs (laid_begins (xs ++ ys)) items (Of z 0) (place_after xs (Of c 0))) r.0 (stand_lies t bs xs ys items (Of c 0) h.2 r.1 n.1))

@@ -12,12 +12,12 @@ use Rattle.py_emission_parts.specs.Emitting.{Begin, LoopBlocks, Put, State, Step
 use Rattle.py_meaning.specs.TableStmts.{stmt_form, stmts_form}
 use Rattle.py_emission_proof.proofs.Additions.AddedCodeLemmas as adding
 use Rattle.py_emission_proof.proofs.Additions.AddedCodeLemmas.{AllInside, AllRead}
-use Rattle.py_emission_proof.proofs.Additions.Codes.{AllKnown, Ground, MadeWhereFew, Numbered, all_stand, by_number, scopes, stand_at}
-use Rattle.py_emission_proof.proofs.Additions.EmissionSequenceLemmas.{Stands}
-use Rattle.py_emission_proof.proofs.Trees.Controls.{InLoop, held}
+use Rattle.py_emission_proof.proofs.Additions.Codes.{AllKnown, Ground, MadeWhereFew, Numbered, all_stand, by_number, code_scopes, stand_at}
+use Rattle.py_emission_proof.proofs.Additions.EmissionSequenceLemmas.{EmissionSequenceStands}
+use Rattle.py_emission_proof.proofs.Trees.Controls.{InLoop, control_held}
 use Rattle.py_emission_proof.proofs.Trees.ExprAdds.{expr_adds, target_adds}
 use Rattle.py_emission_proof.proofs.Trees.StmtAdds.{stmt_gives, stmts_add}
-use Rattle.py_node_laws.specs.Adding.{Adds, AreItems, AreTables, BeginsReady, BodiesAdd, EntersReady, ExprsAdd, IsChild, IsReady, LoopIsMade, NameBlocks, StatementsAdd, TargetsAdd, TestsAdd, labels_of, told}
+use Rattle.py_node_laws.specs.Adding.{Adds, AreItems, AreTables, BeginsReady, BodiesAdd, EntersReady, ExprsAdd, IsChild, IsReady, LoopIsMade, NameBlocks, StatementsAdd, TargetsAdd, TestsAdd, labels_of, form_context}
 
 -- steps read as items
 read_so : (t : Tables) (xs : List Step) (is : List (Item Object)) → AllRead t xs is → AreItems t xs is
@@ -48,7 +48,8 @@ tables_so s t h = record {
 }
 
 -- each scope stands beside the object that is made from it
-children_so : (ground : Ground) (cs : List Const) (d : ℕ → Object) (ps : List (Object × Scope)) → Numbered d ps → AllOf (MadeWhereFew ground) ps → AllKnown (objects ps) (codes_in cs) → AllOf (λ x. IsChild ground.1 cs (by_number d x) x) (scopes ps)
+children_so : (ground : Ground) (cs : List Const) (d : ℕ → Object) (ps : List (Object × Scope)) → Numbered d ps → AllOf (MadeWhereFew ground) ps
+    → AllKnown (objects ps) (codes_in cs) → AllOf (λ x. IsChild ground.1 cs (by_number d x) x) (code_scopes ps)
 children_so ground cs d [] n m k = tt
 children_so ground cs d (p ∷ ps) n m k = (subst (λ o. IsChild ground.1 cs o p.1) (sym n.0) (record { made = λ few. (m.0 (record { down = few })).from; kept = k.0 }), children_so ground cs d ps n.1 m.1 k.1)
 
@@ -80,32 +81,32 @@ pub enters_ready : EntersReady
 unfolding inside
 enters_ready typ number c at next = record { cells = refl; frees = refl }
 
-stands : (s : State) → IsReady s → Stands s.around s
-stands s h = record { around = refl; settled = record { cells = h.cells; frees = h.frees } }
+node_stands : (s : State) → IsReady s → EmissionSequenceStands s.around s
+node_stands s h = record { around = refl; settled = record { cells = h.cells; frees = h.frees } }
 
 looped_in : (x : Option LoopBlocks) (n : ℕ) → LoopIsMade x n → InLoop x (labels_of x) n
 looped_in None n h = tt
 looped_in (Some x) n h = (refl, h.0, h.1)
 
-held_is : (x : Option LoopBlocks) → held x ≡ (labels_of x).inside
-held_is None = refl
-held_is (Some x) = refl
+node_held_is : (x : Option LoopBlocks) → control_held x ≡ (labels_of x).inside
+node_held_is None = refl
+node_held_is (Some x) = refl
 
 pub exprs_add : ExprsAdd
-exprs_add e few s r ready done = adds_so s r _ _ _ (((expr_adds s.around s.next e few).value s.blocks).run s r refl refl (stands s ready) done).0
+exprs_add e few s r ready done = adds_so s r _ _ _ (((expr_adds s.around s.next e few).value s.blocks).does s r refl refl (node_stands s ready) done).0
 
 pub tests_add : TestsAdd
-tests_add e few truth block s r ready lt done = adds_so s r _ _ _ (((expr_adds s.around s.next e few).test truth block s.blocks lt).run s r refl refl (stands s ready) done).0
+tests_add e few truth block s r ready lt done = adds_so s r _ _ _ (((expr_adds s.around s.next e few).test truth block s.blocks lt).does s r refl refl (node_stands s ready) done).0
 
 pub targets_add : TargetsAdd
-targets_add e few s r ready done = adds_so s r _ _ _ (((target_adds s.around s.next e few).alone s.blocks).run s r refl refl (stands s ready) done).0
+targets_add e few s r ready done = adds_so s r _ _ _ (((target_adds s.around s.next e few).alone s.blocks).does s r refl refl (node_stands s ready) done).0
 
 pub statements_add : StatementsAdd
 statements_add t few s r ready loop done =
-    let d = (stmt_gives t few s.around s.next (labels_of s.around.loops) s.blocks (looped_in s.around.loops s.blocks loop)).run s r refl refl (stands s ready) done in
-    (adds_so s r _ _ _ d.0, subst (λ b. Looped b (stmt_form (told s) s.next t)) (held_is s.around.loops) d.1)
+    let d = (stmt_gives t few s.around s.next (labels_of s.around.loops) s.blocks (looped_in s.around.loops s.blocks loop)).does s r refl refl (node_stands s ready) done in
+    (adds_so s r _ _ _ d.0, subst (λ b. Looped b (stmt_form (form_context s) s.next t)) (node_held_is s.around.loops) d.1)
 
 pub bodies_add : BodiesAdd
 bodies_add ts few s r ready loop done =
-    let d = (stmts_add s.around s.next ts few (labels_of s.around.loops) s.blocks (looped_in s.around.loops s.blocks loop)).run s r refl refl (stands s ready) done in
-    (adds_so s r _ _ _ d.0, subst (λ b. Looped b (stmts_form (told s) s.next ts)) (held_is s.around.loops) d.1)
+    let d = (stmts_add s.around s.next ts few (labels_of s.around.loops) s.blocks (looped_in s.around.loops s.blocks loop)).does s r refl refl (node_stands s ready) done in
+    (adds_so s r _ _ _ d.0, subst (λ b. Looped b (stmts_form (form_context s) s.next ts)) (node_held_is s.around.loops) d.1)

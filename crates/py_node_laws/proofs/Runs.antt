@@ -15,10 +15,10 @@ use Rattle.py_emission_parts.specs.Emitting.{Begin, Put, State, Step}
 use Rattle.py_emit.specs.Steps.{steps_in}
 use Rattle.py_meaning.specs.Table.{expr_form, target_form, test_form}
 use Rattle.py_meaning.specs.TableStmts.{stmt_form, stmts_form}
-use Rattle.py_node_laws.specs.Adding.{Adds, NameBlocks, loops_in, present, seen, told}
+use Rattle.py_node_laws.specs.Adding.{Adds, NameBlocks, loops_in, present, present_interp, form_context}
 use Rattle.py_node_laws.specs.Running.{BodiesRun, ExprsRun, Hold, StatementsRun, TargetsRun, TestsRun, end_of, place_after}
 use Rattle.py_control_proof.proofs.CodeOver.{over_g, over_s, over_t, over_v}
-use Rattle.py_node_laws.proofs.Laid.{begins, few_begin, place_joined, stand_behind, stand_in, stand_lies}
+use Rattle.py_node_laws.proofs.Laid.{laid_begins, few_begin, place_joined, stand_behind, stand_in, stand_lies}
 use Rattle.py_node_laws.proofs.Nodes.{bodies_add, exprs_add, statements_add, targets_add, tests_add}
 use Rattle.py_node_laws.proofs.Parts.{targets_simulate, tests_simulate, values_simulate}
 
@@ -34,7 +34,7 @@ pub record LiesThere (s r : State) (bs : List Blk) (tables : Tables) (items : Li
   pub few : hops ≤ length (coded_blocks bs)
   pub lies : Lies tables (coded_blocks bs) hops items (end_of s) (end_of r)
 
-fewer : (xs ys : List Step) → begins ys ≤ begins (xs ++ ys)
+fewer : (xs ys : List Step) → laid_begins ys ≤ laid_begins (xs ++ ys)
 fewer [] ys = omega arith
 fewer (Put o n to at ∷ xs) ys = fewer xs ys
 fewer (Begin b ∷ xs) ys = let h = fewer xs ys in omega (arith, h)
@@ -45,59 +45,59 @@ lies_there s r is m l bs tables a h =
     let ys = h.steps.0 in
     let all : steps_in bs ≡ s.steps ++ (xs ++ ys) = h.blocks.steps ∙ h.steps.1 ∙ ap (λ z. z ++ ys) a.steps_are ∙ append_assoc s.steps xs ys in
     let stood = subst (λ z. Rattle.py_node_laws.proofs.Laid.Stand (coded_blocks bs) z (Of 0 0)) all (stand_in bs h.blocks.chain h.blocks.is_chain) in
-    let few = subst (λ z. begins z ≤ length (coded_blocks bs)) all (few_begin bs h.blocks.chain h.blocks.is_chain) in
+    let few = subst (λ z. laid_begins z ≤ length (coded_blocks bs)) all (few_begin bs h.blocks.chain h.blocks.is_chain) in
     let long : length (coded_blocks bs) ≡ h.later.blocks = length-map bs coded_block ∙ h.blocks.count in
     let ends : end_of r ≡ place_after xs (end_of s) = ap (λ z. place_after z (Of 0 0)) a.steps_are ∙ place_joined s.steps xs (Of 0 0) in
     record {
-      hops = begins (xs ++ ys);
+      hops = laid_begins (xs ++ ys);
       few = let le = fewer s.steps (xs ++ ys) in omega (arith, le, few);
-      lies = subst (λ q. Lies tables (coded_blocks bs) (begins (xs ++ ys)) (items_over a.child is) (end_of s) q) (sym ends)
+      lies = subst (λ q. Lies tables (coded_blocks bs) (laid_begins (xs ++ ys)) (items_over a.child is) (end_of s) q) (sym ends)
           (stand_lies tables (coded_blocks bs) xs ys (items_over a.child is) (end_of s) (stand_behind (coded_blocks bs) s.steps (xs ++ ys) (Of 0 0) stood) (a.read tables h.tables_are) (named_more xs r.blocks (length (coded_blocks bs)) (let le = h.more in omega (arith, long, le)) a.named));
     }
 
 pub exprs_run : ExprsRun
 exprs_run e few s r ready done bs tables h =
-    let f = expr_form (told s) s.next e in
+    let f = expr_form (form_context s) s.next e in
     let a = exprs_add e few s r ready done in
     let i : Interp Object = exactly a.child (present s) in
     let z = lies_there s r _ _ _ bs tables a h in
-    let lies = subst (λ is. Lies tables (coded_blocks bs) z.hops is (end_of s) (end_of r)) (over_v a.child (seen s) f s.blocks).same z.lies in
+    let lies = subst (λ is. Lies tables (coded_blocks bs) z.hops is (end_of s) (end_of r)) (over_v a.child (present_interp s) f s.blocks).same z.lies in
     record { child = a.child; within = a.within; runs = λ stack entered slot w fit. values_simulate i tables (coded_blocks bs) z.hops f s.blocks (end_of s) (end_of r) lies z.few stack entered slot w fit }
 
 pub tests_run : TestsRun
 tests_run e few truth block s r ready lt done bs tables h =
-    let f = test_form (told s) s.next e in
+    let f = test_form (form_context s) s.next e in
     let a = tests_add e few truth block s r ready lt done in
     let i : Interp Object = exactly a.child (present s) in
     let z = lies_there s r _ _ _ bs tables a h in
-    let lies = subst (λ is. Lies tables (coded_blocks bs) z.hops is (end_of s) (end_of r)) (over_t a.child (seen s) f truth block s.blocks).same z.lies in
+    let lies = subst (λ is. Lies tables (coded_blocks bs) z.hops is (end_of s) (end_of r)) (over_t a.child (present_interp s) f truth block s.blocks).same z.lies in
     record { child = a.child; within = a.within; runs = λ stack entered slot w fit. tests_simulate i tables (coded_blocks bs) z.hops f truth block s.blocks (end_of s) (end_of r) lies z.few stack entered slot w fit }
 
 pub targets_run : TargetsRun
 targets_run e few s r ready done bs tables h =
-    let f = target_form (told s) s.next e in
+    let f = target_form (form_context s) s.next e in
     let a = targets_add e few s r ready done in
     let i : Interp Object = exactly a.child (present s) in
     let z = lies_there s r _ _ _ bs tables a h in
-    let lies = subst (λ is. Lies tables (coded_blocks bs) z.hops is (end_of s) (end_of r)) (over_g a.child (seen s) f s.blocks).same z.lies in
+    let lies = subst (λ is. Lies tables (coded_blocks bs) z.hops is (end_of s) (end_of r)) (over_g a.child (present_interp s) f s.blocks).same z.lies in
     record { child = a.child; within = a.within; runs = λ v stack entered slot w fit. targets_simulate i tables (coded_blocks bs) z.hops f s.blocks (end_of s) (end_of r) lies z.few v stack entered slot w fit }
 
 pub statements_run : StatementsRun
 statements_run t few s r ready loop done bs tables h =
-    let f = stmt_form (told s) s.next t in
+    let f = stmt_form (form_context s) s.next t in
     let d = statements_add t few s r ready loop done in
     let a = d.0 in
     let i : Interp Object = exactly a.child (present s) in
     let z = lies_there s r _ _ _ bs tables a h in
-    let lies = subst (λ is. Lies tables (coded_blocks bs) z.hops is (end_of s) (end_of r)) (over_s a.child (seen s) f (loops_in s) s.blocks).same z.lies in
+    let lies = subst (λ is. Lies tables (coded_blocks bs) z.hops is (end_of s) (end_of r)) (over_s a.child (present_interp s) f (loops_in s) s.blocks).same z.lies in
     record { child = a.child; within = a.within; runs = λ stack entered slot w fit within. blocks_simulate i tables (coded_blocks bs) z.hops f (loops_in s) s.blocks (end_of s) (end_of r) lies z.few stack entered slot w fit within d.1 }
 
 pub bodies_run : BodiesRun
 bodies_run ts few s r ready loop done bs tables h =
-    let f = stmts_form (told s) s.next ts in
+    let f = stmts_form (form_context s) s.next ts in
     let d = bodies_add ts few s r ready loop done in
     let a = d.0 in
     let i : Interp Object = exactly a.child (present s) in
     let z = lies_there s r _ _ _ bs tables a h in
-    let lies = subst (λ is. Lies tables (coded_blocks bs) z.hops is (end_of s) (end_of r)) (over_s a.child (seen s) f (loops_in s) s.blocks).same z.lies in
+    let lies = subst (λ is. Lies tables (coded_blocks bs) z.hops is (end_of s) (end_of r)) (over_s a.child (present_interp s) f (loops_in s) s.blocks).same z.lies in
     record { child = a.child; within = a.within; runs = λ stack entered slot w fit within. blocks_simulate i tables (coded_blocks bs) z.hops f (loops_in s) s.blocks (end_of s) (end_of r) lies z.few stack entered slot w fit within d.1 }

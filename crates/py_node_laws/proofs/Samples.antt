@@ -15,43 +15,44 @@ use Rattle.py_ir.specs.Chain.{Blk, IsChain, coded_blocks}
 use Rattle.py_scope.specs.declared.table_type.SymbolTableType.TheVariants as kind
 use Rattle.py_control_proof.specs.Blocks.{Comes}
 use Rattle.py_emission_parts.specs.Context.{Context}
-use Rattle.py_emission_parts.specs.Emitting.{Done, Put, State, begun, emit, emit_constant, located, move, with_constant, with_step}
+use Rattle.py_emission_parts.specs.Emitting.{Done, Put, State, initial_state, emit_constant, with_location, move, with_constant, with_step}
+use Rattle.py_emission_parts.specs.Running.{put, run}
 use Rattle.py_emission.specs.Emission.{emission}
 use Rattle.py_node_laws.specs.Adding.{IsReady}
 use Rattle.py_node_laws.specs.Running.{ExprRuns, Hold}
 use Rattle.py_node_laws.proofs.Runs.{exprs_run}
 
-abbrev there : SourceLocation
-there = record { row = 1; column = 1 }
+abbrev sample_there : SourceLocation
+sample_there = record { row = 1; column = 1 }
 
 abbrev node : tree.Expr
-node = tree.Constant there literal.None
+node = tree.Constant sample_there literal.None
 
 -- in a file without names
-abbrev file : Context
-file = record { level = 0; source = []; class = None; path = []; postponed = false; typ = kind.Module; scopes = []; here = 0; cells = []; frees = [] }
+abbrev sample_file : Context
+sample_file = record { level = 0; source = []; class = None; path = []; postponed = false; typ = kind.Module; scopes = []; here = 0; cells = []; frees = [] }
 
-abbrev before : State
-before = begun file there 1
+abbrev sample_before : State
+sample_before = initial_state sample_file sample_there 1
 
-abbrev after : State
-after = record before { steps = Put op.LoadConst 0 None there ∷ []; constants = const.none ∷ [] }
+abbrev sample_after : State
+sample_after = record sample_before { steps = Put op.LoadConst 0 None sample_there ∷ []; constants = const.none ∷ [] }
 
-done : emission node before ≡ Done after
-unfolding move located emit_constant with_constant emit with_step
-done = refl
+sample_done : run (emission node) sample_before ≡ Done sample_after
+unfolding move with_location emit_constant with_constant put with_step
+sample_done = refl
 
-ready : IsReady before
-ready = record { cells = refl; frees = refl }
+sample_ready : IsReady sample_before
+sample_ready = record { cells = refl; frees = refl }
 
 abbrev blocks : List Blk
-blocks = record { items = record { instr = op.LoadConst; arg = record { 0 = 0 }; target = record { 0 = 0xffff_ffff }; location = there } ∷ []; next = None } ∷ []
+blocks = record { items = record { instr = op.LoadConst; arg = record { 0 = 0 }; target = record { 0 = 0xffff_ffff }; location = sample_there } ∷ []; next = None } ∷ []
 
 abbrev tables : Tables
 tables = record { constants = const.none ∷ []; names = []; varnames = []; cells = [] }
 
-chained : IsChain blocks (0 ∷ [])
-chained = record {
+sample_chained : IsChain blocks (0 ∷ [])
+sample_chained = record {
   path = record {
     first = refl;
     inside = All-cons (λ c. c < 1) 0 [] (omega arith) (All-nil (λ c. c < 1));
@@ -61,18 +62,18 @@ chained = record {
   ends = refl;
 }
 
-hold : Hold after blocks tables
+hold : Hold sample_after blocks tables
 hold = record {
-  later = after;
-  blocks = record { chain = 0 ∷ []; is_chain = chained; steps = refl; count = refl };
+  later = sample_after;
+  blocks = record { chain = 0 ∷ []; is_chain = sample_chained; steps = refl; count = refl };
   steps = ([], refl);
   more = omega arith;
   tables_are = record { names = ([], refl); varnames = ([], refl); constants = ([], refl); cells = refl };
 }
 
-runs : ExprRuns node before after blocks tables
-runs = exprs_run node (omega arith) before after ready done blocks tables hold
+sample_runs : ExprRuns node sample_before sample_after blocks tables
+sample_runs = exprs_run node (omega arith) sample_before sample_after sample_ready sample_done blocks tables hold
 
 -- the machine comes from the empty stack to the constant, within one step
 pub comes : (w : World Object) → Comes tables (coded_blocks blocks) 0 1 (At (Of 0 0) [] [] None w) (At (Of 0 1) (It (Constant const.none) ∷ []) [] None w)
-comes w = runs.runs [] [] None w tt
+comes w = sample_runs.runs [] [] None w tt

@@ -1,4 +1,4 @@
--- What the emission of a node adds to what is emitted: the code of the node's form, from the next label on, over the code objects of the scopes within.
+-- What the emission of a node adds to what is emitted: the code of the node's form, from the next label on, over the code objects of the nested scopes.
 use Rattle.std.specs.Prelude.{◌≡◌, ℕ, ◌+◌, ◌*◌, ◌<◌, ◌^◌, List, [], ◌∷◌, ◌++◌, Bool, false, true, Option, Some, None}
 use Rattle.py_tree.specs.Tree as tree
 use Rattle.py_scope_counts.specs.Counts.{scopes_in}
@@ -17,7 +17,8 @@ use Rattle.py_control.specs.Places.{items_over}
 use Rattle.py_control.specs.Agree.{AllOf, OneOf, exactly}
 use Rattle.py_control_proof.specs.Made.{IsMade}
 use Rattle.py_emission_parts.specs.Context.{Context, cells_among, frees_among, head_of, inside, outermost, symbols_in}
-use Rattle.py_emission_parts.specs.Emitting.{Begin, Done, LoopBlocks, Put, State, Step, begun, nothing}
+use Rattle.py_emission_parts.specs.Emitting.{Begin, Done, LoopBlocks, Put, State, Step, initial_state, nothing}
+use Rattle.py_emission_parts.specs.Running.{run}
 use Rattle.py_emission_proof.specs.Loads.{LoadsUpTo}
 use Rattle.py_emission.specs.Emission.{emission, emission_of_store, emission_of_test}
 use Rattle.py_emission.specs.EmissionStmts.{emission_of_stmt, emission_of_stmts}
@@ -63,7 +64,7 @@ NameBlocks n (Begin b ∷ xs) = (b < n) × NameBlocks n xs
 abbrev pub LoadsFew : List ScopeEntry → Scope → Type 0
 LoadsFew scopes x = (depth : ℕ) → LoadsUpTo scopes (3 * 2 ^ 22) depth x
 
--- the code object of a scope within is made from it, where this loads few cells, and is among the constants
+-- the code object of a nested scope is made from it, where this loads few cells, and is among the constants
 pub record IsChild (scopes : List ScopeEntry) (constants : List Const) (o : Object) (x : Scope) : Type 0 where
   pub made : LoadsFew scopes x → (depth : ℕ) → IsMade depth o x
   pub kept : OneOf (λ a b. a ≡ b) o (codes_in constants)
@@ -93,22 +94,22 @@ abbrev pub BeginsReady : Type 0
 BeginsReady = (level : ℕ) (source : List ℕ) (scopes : List ScopeEntry) → IsReady (nothing (outermost level source scopes))
 
 abbrev pub EntersReady : Type 0
-EntersReady = (typ : SymbolTableType) (number : ℕ) (c : Context) (at : SourceLocation) (next : ℕ) → IsReady (begun (inside typ number c) at next)
+EntersReady = (typ : SymbolTableType) (number : ℕ) (c : Context) (at : SourceLocation) (next : ℕ) → IsReady (initial_state (inside typ number c) at next)
 
--- what the form of a node is told: what stands around it, but for the path of the source
-abbrev pub told : State → Context
-told s = record s.around.context { source = [] }
+-- what the form of a node is told: its context, but for the path of the source
+abbrev pub form_context : State → Context
+form_context s = record s.around.context { source = [] }
 
 -- the present scope, of which its head alone counts here, as its code sees it
 abbrev pub present : State → Scope
-present s = MkScope (head_of (told s)) SSkip
+present s = MkScope (head_of (form_context s)) SSkip
 
-abbrev pub seen : State → Interp Scope
-seen s = exactly (λ x. x) (present s)
+abbrev pub present_interp : State → Interp Scope
+present_interp s = exactly (λ x. x) (present s)
 
 -- whether annotations are postponed, by which scopes are counted
-abbrev pub postponed : State → Bool
-postponed s = s.around.context.postponed
+abbrev pub is_postponed : State → Bool
+is_postponed s = s.around.context.postponed
 
 -- the labels of the innermost loop; without one they are not used
 abbrev pub labels_of : Option LoopBlocks → Loops
@@ -125,23 +126,23 @@ LoopIsMade (Some x) n = (x.on_break < n) × (x.on_continue < n)
 
 -- an expression as a value, as a test and as a target
 abbrev pub ExprsAdd : Type 0
-ExprsAdd = (e : tree.Expr) → expr_size e < 2 ^ 22 → (s r : State) → IsReady s → emission e s ≡ Done r → Adds s r (code_v (seen s) (expr_form (told s) s.next e) s.blocks) (labels_v (expr_form (told s) s.next e)) (scopes_in (postponed s) e)
+ExprsAdd = (e : tree.Expr) → expr_size e < 2 ^ 22 → (s r : State) → IsReady s → run (emission e) s ≡ Done r → Adds s r (code_v (present_interp s) (expr_form (form_context s) s.next e) s.blocks) (labels_v (expr_form (form_context s) s.next e)) (scopes_in (is_postponed s) e)
 
 abbrev pub TestsAdd : Type 0
 TestsAdd =
-    (e : tree.Expr) → expr_size e < 2 ^ 22 → (truth : Bool) (block : ℕ) (s r : State) → IsReady s → block < s.blocks → emission_of_test e truth block s ≡ Done r
-    → Adds s r (code_t (seen s) (test_form (told s) s.next e) truth block s.blocks) (labels_t (test_form (told s) s.next e) truth) (scopes_in (postponed s) e)
+    (e : tree.Expr) → expr_size e < 2 ^ 22 → (truth : Bool) (block : ℕ) (s r : State) → IsReady s → block < s.blocks → run (emission_of_test e truth block) s ≡ Done r
+    → Adds s r (code_t (present_interp s) (test_form (form_context s) s.next e) truth block s.blocks) (labels_t (test_form (form_context s) s.next e) truth) (scopes_in (is_postponed s) e)
 
 abbrev pub TargetsAdd : Type 0
-TargetsAdd = (e : tree.Expr) → expr_size e < 2 ^ 22 → (s r : State) → IsReady s → emission_of_store e s ≡ Done r → Adds s r (code_g (seen s) (target_form (told s) s.next e) s.blocks) (labels_g (target_form (told s) s.next e)) (scopes_in (postponed s) e)
+TargetsAdd = (e : tree.Expr) → expr_size e < 2 ^ 22 → (s r : State) → IsReady s → run (emission_of_store e) s ≡ Done r → Adds s r (code_g (present_interp s) (target_form (form_context s) s.next e) s.blocks) (labels_g (target_form (form_context s) s.next e)) (scopes_in (is_postponed s) e)
 
 -- a statement, and statements: breaks and continues in their form stand in loops, of it or around
 abbrev pub StatementsAdd : Type 0
 StatementsAdd =
-    (t : tree.Stmt) → stmt_size t < 2 ^ 22 → (s r : State) → IsReady s → LoopIsMade s.around.loops s.blocks → emission_of_stmt t s ≡ Done r
-    → Adds s r (code (seen s) (stmt_form (told s) s.next t) (loops_in s) s.blocks) (labels (stmt_form (told s) s.next t)) (scopes_in_stmt (postponed s) t) × Looped (loops_in s).inside (stmt_form (told s) s.next t)
+    (t : tree.Stmt) → stmt_size t < 2 ^ 22 → (s r : State) → IsReady s → LoopIsMade s.around.loops s.blocks → run (emission_of_stmt t) s ≡ Done r
+    → Adds s r (code (present_interp s) (stmt_form (form_context s) s.next t) (loops_in s) s.blocks) (labels (stmt_form (form_context s) s.next t)) (scopes_in_stmt (is_postponed s) t) × Looped (loops_in s).inside (stmt_form (form_context s) s.next t)
 
 abbrev pub BodiesAdd : Type 0
 BodiesAdd =
-    (ts : tree.Stmts) → stmts_size ts < 2 ^ 22 → (s r : State) → IsReady s → LoopIsMade s.around.loops s.blocks → emission_of_stmts ts s ≡ Done r
-    → Adds s r (code (seen s) (stmts_form (told s) s.next ts) (loops_in s) s.blocks) (labels (stmts_form (told s) s.next ts)) (scopes_in_stmts (postponed s) ts) × Looped (loops_in s).inside (stmts_form (told s) s.next ts)
+    (ts : tree.Stmts) → stmts_size ts < 2 ^ 22 → (s r : State) → IsReady s → LoopIsMade s.around.loops s.blocks → run (emission_of_stmts ts) s ≡ Done r
+    → Adds s r (code (present_interp s) (stmts_form (form_context s) s.next ts) (loops_in s) s.blocks) (labels (stmts_form (form_context s) s.next ts)) (scopes_in_stmts (is_postponed s) ts) × Looped (loops_in s).inside (stmts_form (form_context s) s.next ts)

@@ -1,8 +1,9 @@
-//! Laws of what nodes add, of where they may begin, and of the refusals of scopes within. Their bodies do nothing.
+//! Laws of what nodes add, of where they may begin, and of the refusals of nested scopes. Their bodies do nothing.
 ghost use Rattle.py_node_laws.specs.Adding.{BeginsReady, BodiesAdd, EntersReady, ExprsAdd, StatementsAdd, TargetsAdd, TestsAdd};
+ghost use Rattle.py_node_laws.specs.Growth.{BlocksBeginOnce, BlocksGrow, ContextStays, NumbersGrow, NumbersPassed, TablesGrow};
 ghost use Rattle.py_node_laws.specs.Scopes.{ClassesAreUnrefused, DictsAreUnrefused, EmittersHold, FunctionsAreUnrefused, GeneratorsAreUnrefused, GenericAliasesAreUnrefused, GenericClassesAreUnrefused, GenericFunctionsAreUnrefused, LambdasAreUnrefused, ListsAreUnrefused, SetsAreUnrefused};
 
-/// Where the emission of a node is done, it has added the code of the node's form, over code objects of the scopes within, each
+/// Where the emission of a node is done, it has added the code of the node's form, over code objects of the nested scopes, each
 /// made from its scope where this loads few cells; and breaks and continues of a statement's form stand in loops.
 pub fn nodes_add()
     ensures expressions { ExprsAdd }
@@ -12,6 +13,18 @@ pub fn nodes_add()
     ensures bodies { BodiesAdd }
 {}
 
+/// Over every emission that is done the number of the next scope and that of blocks only grow, those of nested scopes stay
+/// below the last, no block begins that was made before, steps and tables only get longer, and the context and the loop are
+/// those of before. So it is of every call by what it emits.
+pub fn emissions_grow()
+    ensures numbers { NumbersGrow }
+    ensures passed { NumbersPassed }
+    ensures blocks { BlocksGrow }
+    ensures once { BlocksBeginOnce }
+    ensures tables { TablesGrow }
+    ensures context { ContextStays }
+{}
+
 /// What stands around is as the laws of nodes ask it, outermost and in each scope that is entered.
 pub fn scopes_begin_ready()
     ensures outermost { BeginsReady }
@@ -19,10 +32,10 @@ pub fn scopes_begin_ready()
 {}
 
 /// Where the body of a lambda, a comprehension, a function or a class, or of what makes one with type parameters, is emitted to
-/// its end, it has fewer than 2^30 blocks, and blocks and tables that hold it are refused for want of memory alone, where the
+/// its end, it has fewer than 2^30 blocks, and blocks and tables that hold it are refused only when memory runs out, where the
 /// tables are short: wherever the scope begins, if its parts are smaller than 2^22 and no code of it or within it loads many
 /// cells. The blocks and tables of an emitter hold what is emitted. So `Emitter::leave_scope` is refused there, as it is written,
-/// for want of memory alone.
+/// only when memory runs out.
 pub fn scopes_are_unrefused()
     ensures lambdas { LambdasAreUnrefused }
     ensures lists { ListsAreUnrefused }

@@ -12,7 +12,7 @@ pub fn nodes_run()
 {}
 
 /// The same of calls that emit a node and answer Ok. A target that is deleted runs as the statement of this one target, and a
-/// comprehension by its parts as the expression, that stand where the emitter does. Arguments behind what is called, before the
+/// comprehension by its parts as the expression, that stand where the emitter does. Arguments after what is called, before the
 /// instruction of the call, run as the call.
 pub fn calls_run()
     ensures expressions { ExpressionCallsRun }

@@ -16,7 +16,8 @@ consts_are [] = refl
 consts_are (x ∷ xs) = cc (consts_are xs)
 
 -- one more constant
-pub consts_next : (xs : List Constant) (i : ℕ) (d x : Constant) (ys zs : List ConstantData) (y : ConstantData) → x ≡ get_or xs i d → i < length xs → zs ≡ ys ++ y ∷ [] → constant y ≡ const_of x → map constant ys ≡ map const_of (take i xs) → map constant zs ≡ map const_of (take (i + 1) xs)
+pub consts_next : (xs : List Constant) (i : ℕ) (d x : Constant) (ys zs : List ConstantData) (y : ConstantData) → x ≡ get_or xs i d → i < length xs
+    → zs ≡ ys ++ y ∷ [] → constant y ≡ const_of x → map constant ys ≡ map const_of (take i xs) → map constant zs ≡ map const_of (take (i + 1) xs)
 consts_next xs i d x ys zs y is lt e f g =
     ap (map constant) e ∙ map-append constant ys (y ∷ [])
     ∙ ap (λ cs. cs ++ constant y ∷ []) g

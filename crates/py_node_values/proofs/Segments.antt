@@ -11,19 +11,19 @@ use Rattle.py_emission.specs.Imports.{further_segments, package_name}
 abbrev is_dot : ℕ → Bool
 is_dot b = nat_eq b 46
 
-one_more : (n : ℕ) → 1 + n ≡ suc n
-one_more n = omega arith
+segment_one_more : (n : ℕ) → 1 + n ≡ suc n
+segment_one_more n = omega arith
 
 -- a byte more before the first segment
-longer : (b : ℕ) (bs first : List ℕ) (parts rest : List (List ℕ)) (n : ℕ) → first ≡ take n bs → parts ≡ first ∷ rest → onto_first b parts ≡ take (1 + n) (b ∷ bs) ∷ drop 1 (onto_first b parts)
-longer b bs first parts rest n f e =
-    let front : b ∷ first ≡ take (1 + n) (b ∷ bs) = ap (λ xs. b ∷ xs) f ∙ sym (ap (λ m. take m (b ∷ bs)) (one_more n)) in
+segment_longer : (b : ℕ) (bs first : List ℕ) (parts rest : List (List ℕ)) (n : ℕ) → first ≡ take n bs → parts ≡ first ∷ rest → onto_first b parts ≡ take (1 + n) (b ∷ bs) ∷ drop 1 (onto_first b parts)
+segment_longer b bs first parts rest n f e =
+    let front : b ∷ first ≡ take (1 + n) (b ∷ bs) = ap (λ xs. b ∷ xs) f ∙ sym (ap (λ m. take m (b ∷ bs)) (segment_one_more n)) in
     ap (onto_first b) e ∙ ap (λ x. x ∷ rest) front ∙ ap (λ xs. take (1 + n) (b ∷ bs) ∷ xs) (sym (ap (λ xs. drop 1 (onto_first b xs)) e))
 
 -- the first and the further ones
-parts : (path : List ℕ) → slice_split is_dot path ≡ package_name path ∷ further_segments path
-parts [] = refl
-parts (b ∷ bs) = go (parts bs) (is_dot b)
+segment_parts : (path : List ℕ) → slice_split is_dot path ≡ package_name path ∷ further_segments path
+segment_parts [] = refl
+segment_parts (b ∷ bs) = go (segment_parts bs) (is_dot b)
   where
     q : ℕ
     q = position_or_len is_dot bs
@@ -33,7 +33,7 @@ parts (b ∷ bs) = go (parts bs) (is_dot b)
 
     go : all ≡ package_name bs ∷ further_segments bs → (z : Bool) → cond z ([] ∷ all) (onto_first b all) ≡ take (cond (not z) (1 + q) 0) (b ∷ bs) ∷ drop 1 (cond z ([] ∷ all) (onto_first b all))
     go within true = refl
-    go within false = longer b bs (package_name bs) all (further_segments bs) q refl within
+    go within false = segment_longer b bs (package_name bs) all (further_segments bs) q refl within
 
 -- where there is no dot
 pub none_further : (path : List ℕ) → position_or_len is_dot path ≡ length path → further_segments path ≡ []
@@ -48,16 +48,17 @@ none_further (b ∷ bs) e = go (none_further bs) (is_dot b) e
 
     go : (q ≡ length bs → further_segments bs ≡ []) → (z : Bool) → cond (not z) (1 + q) 0 ≡ suc (length bs) → drop 1 (cond z ([] ∷ all) (onto_first b all)) ≡ []
     go within true h = absurd (omega (arith, h))
-    go within false h = ap (λ xs. drop 1 (onto_first b xs)) (parts bs) ∙ within (omega (arith, h))
+    go within false h = ap (λ xs. drop 1 (onto_first b xs)) (segment_parts bs) ∙ within (omega (arith, h))
 
--- what stands behind the first dot is cut in the same way
+-- what stands after the first dot is cut in the same way
 pub behind_is : (path behind : List ℕ) → position_or_len is_dot path < length path → behind ≡ after_first is_dot path → further_segments path ≡ package_name behind ∷ further_segments behind
-behind_is path behind lt e = ap (drop 1) (slice_split_first is_dot path 0 lt) ∙ parts (after_first is_dot path) ∙ ap (λ x. package_name x ∷ further_segments x) (sym e)
+behind_is path behind lt e = ap (drop 1) (slice_split_first is_dot path 0 lt) ∙ segment_parts (after_first is_dot path) ∙ ap (λ x. package_name x ∷ further_segments x) (sym e)
 
 -- and is shorter
 pub is_nearer : (path behind : List ℕ) → position_or_len is_dot path < length path → behind ≡ after_first is_dot path → length behind < length path
 is_nearer path behind lt e = let d = ap length e ∙ length-drop (position_or_len is_dot path + 1) path in omega (arith, d, lt)
 
 -- these are all names, where none is left
-pub all_asked : (xs : List Alias) (i : ℕ) (cs : List Const) → length xs ≤ i → map (λ (a : Alias). str a.name) xs ≡ cs ++ map (λ (a : Alias). str a.name) (drop i xs) → cs ≡ map (λ (a : Alias). str a.name) xs
+pub all_asked : (xs : List Alias) (i : ℕ) (cs : List Const) → length xs ≤ i
+    → map (λ (a : Alias). str a.name) xs ≡ cs ++ map (λ (a : Alias). str a.name) (drop i xs) → cs ≡ map (λ (a : Alias). str a.name) xs
 all_asked xs i cs low e = sym (append-nil cs) ∙ ap (λ ys. cs ++ map (λ (a : Alias). str a.name) ys) (sym (drop_all i xs low)) ∙ sym e

@@ -1,7 +1,7 @@
 //! Whether something is annotated in a body.
 ghost use Rattle.std.specs.Prelude.{◌≡◌};
 ghost use Rattle.py_tree.specs.View.{stmt_tree, stmts};
-ghost use Rattle.py_emission.specs.Predicates.{annotated, annotates};
+ghost use Rattle.py_emission.specs.Predicates.{any_annotates, annotates};
 
 use py_tree::Stmt;
 
@@ -9,7 +9,7 @@ use py_tree::Stmt;
 #[cycle(annotations)]
 #[tactic(auto, using(py_tree::proofs::View::trees))]
 pub fn has_annotation(body: &[Stmt]) -> bool
-    ensures { result ≡ annotated (stmts stmt_tree body.now) }
+    ensures { result ≡ any_annotates (stmts stmt_tree body.now) }
 {
     for statement in body {
         if annotates(statement) {

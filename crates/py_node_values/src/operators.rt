@@ -2,7 +2,7 @@
 ghost use Rattle.std.specs.Prelude.{◌≡◌};
 ghost use Rattle.py_emission_parts.specs.Emitting.{emit};
 ghost use Rattle.py_emission_parts.specs.EmissionParts.{emission_of_comparison};
-ghost use Rattle.py_emission_parts.specs.TableParts.{binary_case, comparison_operation, conversion_case, counted, unary_case};
+ghost use Rattle.py_emission_parts.specs.TableParts.{binary_case, comparison_operation, conversion_case, counted_operation, unary_case};
 
 use py_bytecode::Instruction;
 use py_tree::{CmpOp, ConversionFlag, Operator, UnaryOp};
@@ -43,7 +43,7 @@ pub fn unary_case_of(op: UnaryOp) -> u32
 /// The instruction of a comparison, with the number of its case.
 pub fn comparison_case(op: CmpOp) -> (Instruction, u32)
     ensures emits { emission_of_comparison op ≡ emit result.0 result.1 }
-    ensures does { comparison_operation op ≡ counted result.0 result.1 }
+    ensures does { comparison_operation op ≡ counted_operation result.0 result.1 }
 {
     match op {
         CmpOp::Lt => (Instruction::CompareOperation, 0),

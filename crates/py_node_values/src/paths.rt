@@ -2,7 +2,7 @@
 ghost use Rattle.std.specs.Prelude.{[], ◌≡◌, ◌<◌, ◌∷◌, length, IfOk, IfSome, MatchOption};
 ghost use Rattle.py_bytecode.specs.Objects.{consts_of, str, tuple};
 ghost use Rattle.py_bytecode.specs.View.{constant};
-ghost use Rattle.py_emission.specs.Imports.{asked, further_segments, is_star, package_name, taken_name, takes_all};
+ghost use Rattle.py_emission.specs.Imports.{asked_tuple, further_segments, is_star, package_name, taken_name, takes_all};
 
 use crate::constants::text_data;
 use py_base::{List, Text};
@@ -10,7 +10,7 @@ use py_bytecode::ConstantData;
 use py_tree::Alias;
 use std::alloc::{AllocError, Global};
 
-/// What stands behind the first dot of a path.
+/// What stands after the first dot of a path.
 #[tactic(auto, using(crate::proofs::Segments::behind_is, crate::proofs::Segments::none_further, crate::proofs::Segments::is_nearer))]
 pub fn behind_dot(path: &str) -> Option<&str>
     ensures parts { MatchOption result (further_segments path.now ≡ []) (λ behind. further_segments path.now ≡ package_name behind.now ∷ further_segments behind.now) }
@@ -80,7 +80,7 @@ pub fn single_name(alloc: Global, value: Text) -> Result<ConstantData, AllocErro
 /// There is no memory for it.
 #[tactic(auto, using(py_bytecode::proofs::View::views))]
 pub fn asked_names(alloc: Global, names: &[Alias]) -> Result<ConstantData, AllocError>
-    ensures { IfOk result (λ c. constant c ≡ asked names.now) }
+    ensures { IfOk result (λ c. constant c ≡ asked_tuple names.now) }
 {
     let mut texts = Vec::new(alloc);
     for alias in names {

@@ -39,11 +39,11 @@ encode_high : (c : ℕ) → 128 ≤ c → High (encode_utf8 c)
 unfolding encode_utf8
 encode_high c h = of_lengths (nat_lt c 128) (nat_lt c 2048) (nat_lt c 65536) _ _ _ _ (search rules) (omega arith, (omega arith, tt)) (omega arith, (omega arith, (omega arith, tt))) (omega arith, (omega arith, (omega arith, (omega arith, tt))))
 
-append_none : (t : List ℕ) → t ++ [] ≡ t
-append_none t = search rules
+quoted_append_none : (t : List ℕ) → t ++ [] ≡ t
+quoted_append_none t = search rules
 
 quoted_char : (c : ℕ) → (c < 128) ⊎ (128 ≤ c) → flat_map quoted_byte (encode_utf8 c) ≡ quote_char c
-quoted_char c (inl h) = ap (flat_map quoted_byte) (encode_ascii c h) ∙ append_none (quoted_byte c) ∙ quoted_low c h
+quoted_char c (inl h) = ap (flat_map quoted_byte) (encode_ascii c h) ∙ quoted_append_none (quoted_byte c) ∙ quoted_low c h
 quoted_char c (inr h) = stay (encode_utf8 c) (encode_high c h) ∙ sym (quote_high c h)
 
 quoted_chars : (cs : List ℕ) → flat_map quoted_byte (encode_utf8_all cs) ≡ flat_map quote_char cs
@@ -58,8 +58,8 @@ pub quoted_text : (bs : List ℕ) → IsUtf8 bs → flat_map quote_char (chars b
 quoted_text bs u = sym (quoted_chars (chars bs)) ∙ ap (flat_map quoted_byte) (encodes-chars bs u)
 
 -- a run of bytes grows by one
-run_more : (xs : List ℕ) (s i : ℕ) → s ≤ i → i < length xs → slice_range xs s (i + 1) ≡ slice_range xs s i ++ get_or xs i 0 ∷ []
-run_more xs s i h k =
+quoted_run_more : (xs : List ℕ) (s i : ℕ) → s ≤ i → i < length xs → slice_range xs s (i + 1) ≡ slice_range xs s i ++ get_or xs i 0 ∷ []
+quoted_run_more xs s i h k =
     let e : (i + 1) - s ≡ (i - s) + 1 = omega arith in
     let at : s + (i - s) ≡ i = omega arith in
     ap (λ n. take n (drop s xs)) e ∙ take_more (drop s xs) (i - s) 0 (omega (arith, length-drop s xs))
@@ -75,17 +75,21 @@ quoted_more : (xs old : List ℕ) (i : ℕ) → i < length xs → (old ++ flat_m
 quoted_more xs old i h = flat_map_more quoted_byte old (take i xs) (get_or xs i 0) ∙ ap (λ t. old ++ flat_map quoted_byte t) (sym (take_more xs i 0 h))
 
 -- what is left of a run stands before the byte that is escaped
-pub run_ends : (xs old before now next : List ℕ) (s i : ℕ) → i < length xs → get_or xs i 0 < 128 → before ++ slice_range xs s i ≡ old ++ flat_map quoted_byte (take i xs) → now ≡ before ++ slice_range xs s i → next ≡ now ++ quote_char (get_or xs i 0) → next ++ slice_range xs (i + 1) (i + 1) ≡ old ++ flat_map quoted_byte (take (i + 1) xs)
-run_ends xs old before now next s i h low e f g =
-    ap (λ t. next ++ t) (run_none xs (i + 1)) ∙ append_none next ∙ g
+pub quoted_run_ends : (xs old before now next : List ℕ) (s i : ℕ) → i < length xs → get_or xs i 0 < 128
+    → before ++ slice_range xs s i ≡ old ++ flat_map quoted_byte (take i xs) → now ≡ before ++ slice_range xs s i → next ≡ now ++ quote_char (get_or xs i 0)
+    → next ++ slice_range xs (i + 1) (i + 1) ≡ old ++ flat_map quoted_byte (take (i + 1) xs)
+quoted_run_ends xs old before now next s i h low e f g =
+    ap (λ t. next ++ t) (run_none xs (i + 1)) ∙ quoted_append_none next ∙ g
     ∙ ap (λ t. t ++ quote_char (get_or xs i 0)) (f ∙ e)
     ∙ ap (λ t. (old ++ flat_map quoted_byte (take i xs)) ++ t) (sym (quoted_low (get_or xs i 0) low))
     ∙ quoted_more xs old i h
 
 -- a byte that stands for itself joins the run
-pub run_goes_on : (xs old before : List ℕ) (s i : ℕ) → s ≤ i → i < length xs → (get_or xs i 0 < 128 → quote_char (get_or xs i 0) ≡ get_or xs i 0 ∷ []) → before ++ slice_range xs s i ≡ old ++ flat_map quoted_byte (take i xs) → before ++ slice_range xs s (i + 1) ≡ old ++ flat_map quoted_byte (take (i + 1) xs)
+pub run_goes_on : (xs old before : List ℕ) (s i : ℕ) → s ≤ i → i < length xs → (get_or xs i 0 < 128 → quote_char (get_or xs i 0) ≡ get_or xs i 0 ∷ [])
+    → before ++ slice_range xs s i ≡ old ++ flat_map quoted_byte (take i xs)
+    → before ++ slice_range xs s (i + 1) ≡ old ++ flat_map quoted_byte (take (i + 1) xs)
 run_goes_on xs old before s i k h itself e =
-    ap (λ t. before ++ t) (run_more xs s i k h) ∙ sym (append_assoc before (slice_range xs s i) (get_or xs i 0 ∷ []))
+    ap (λ t. before ++ t) (quoted_run_more xs s i k h) ∙ sym (append_assoc before (slice_range xs s i) (get_or xs i 0 ∷ []))
     ∙ ap (λ t. t ++ get_or xs i 0 ∷ []) e
     ∙ ap (λ t. (old ++ flat_map quoted_byte (take i xs)) ++ t) (sym (own (cases_lt (get_or xs i 0) 128)))
     ∙ quoted_more xs old i h
@@ -95,7 +99,8 @@ run_goes_on xs old before s i k h itself e =
     own (inr b) = quoted_high (get_or xs i 0) b
 
 -- the last run
-pub run_is_last : (xs old before : List ℕ) (s i : ℕ) → IsUtf8 xs → length xs ≤ i → before ++ slice_range xs s i ≡ old ++ flat_map quoted_byte (take i xs) → before ++ drop s xs ≡ old ++ flat_map quote_char (chars xs)
+pub run_is_last : (xs old before : List ℕ) (s i : ℕ) → IsUtf8 xs → length xs ≤ i → before ++ slice_range xs s i ≡ old ++ flat_map quoted_byte (take i xs)
+    → before ++ drop s xs ≡ old ++ flat_map quote_char (chars xs)
 run_is_last xs old before s i u h e =
     ap (λ t. before ++ t) (sym (run_all xs s i h)) ∙ e
     ∙ ap (λ t. old ++ flat_map quoted_byte t) (take_all i xs h)

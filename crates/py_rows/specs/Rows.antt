@@ -15,15 +15,15 @@ use Rattle.py_rows_fields.specs.declared.outline.Row.{Row}
 use Rattle.py_rows_fields.specs.declared.parts.Part.{Part}
 use Rattle.py_rows_fields.specs.Gives.{or_fault, where_holds, ◌>>=◌}
 use Rattle.py_rows_fields.specs.JsonRows.{json_of, rows_in}
-use Rattle.py_rows_fields.specs.Outline.{checked, depth_of}
+use Rattle.py_rows_fields.specs.Outline.{checked_rows, depth_of}
 use Rattle.py_rows_fields.specs.Parts.{kind_at, parts_of}
 use Rattle.py_rows_fields.specs.Sorts.{sort_of}
-use Rattle.py_rows_nodes.specs.Making.{make}
+use Rattle.py_rows.specs.Making.{make}
 use Rattle.py_rows_slots.specs.Nodes.{Nodes, is_left, no_nodes}
 
 -- the kind of row n, its fields and the rows that it names, where it may name them
 abbrev pub outline : ℕ → Data → List Row → Result (Kind × Items × List Part) RowsError
-outline n row rows = kind_at n row >>= λ (kind, fields). parts_of n kind fields >>= λ parts. checked n parts rows >>= λ _. Ok (kind, fields, parts)
+outline n row rows = kind_at n row >>= λ (kind, fields). parts_of n kind fields >>= λ parts. checked_rows n parts rows >>= λ _. Ok (kind, fields, parts)
 
 abbrev pub is_with : Kind → Bool
 is_with (kind.Stmt statement.With) = true

@@ -8,6 +8,9 @@ ghost use Rattle.py_rows.specs.Rows.{rows_tree};
 
 mod depths;
 mod ending;
+mod making;
+mod mods;
+mod programs;
 mod reading;
 
 use ending::take_program;
@@ -22,7 +25,7 @@ use std::alloc::Global;
 /// of rows is let go as they are read, some thousand rows at a time.
 ///
 /// # Errors
-/// The first thing that is wrong with the bytes, `row` being the row that is at fault. Want of memory is
+/// The first thing that is wrong with the bytes, `row` being the row that is at fault. Out of memory is
 /// free.
 pub fn read_rows(alloc: Global, bytes: &[u8]) -> Result<Mod, RowsError>
     requires { length bytes.now < 2 ^ 26 }

@@ -65,7 +65,7 @@ fn expr_of_kind(
     }
 }
 
-/// The same, of the place and the fields behind it.
+/// The same, of the place and the fields after it.
 pub(crate) fn expr_node(
     alloc: Global,
     kind: ExprKind,

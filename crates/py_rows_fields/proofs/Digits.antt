@@ -12,26 +12,26 @@ use Rattle.py_rows_fields.specs.declared.error.RowsError.{RowsError}
 use Rattle.py_rows_fields.specs.declared.error.RowsError.TheVariants.{WideInteger}
 use Rattle.py_rows_fields.specs.Integers.{is_digits, integer_form, integer_at}
 
-first_of : (a b : Bool) → (a && b) ≡ true → a ≡ true
-first_of true b e = refl
-first_of false b e = e
+digit_first_of : (a b : Bool) → (a && b) ≡ true → a ≡ true
+digit_first_of true b e = refl
+digit_first_of false b e = e
 
 second_of : (a b : Bool) → (a && b) ≡ true → b ≡ true
 second_of true b e = e
 second_of false b e = cc
 
-tells : IsDigitsTest (λ ds. list_all is_ascii_digit ds ≡ true)
-tells = search rules
+digit_tells : IsDigitsTest (λ ds. list_all is_ascii_digit ds ≡ true)
+digit_tells = search rules
 
 numeral : (ds : List ℕ) → is_digits ds ≡ true → IsNumeral 10 ds
-numeral ds e = (grind (arith, nat_tests, first_of (nat_lt 0 (length ds)) (list_all is_ascii_digit ds) e), (numerals_by_value (λ xs. list_all is_ascii_digit xs ≡ true) tells).to ds (second_of (nat_lt 0 (length ds)) (list_all is_ascii_digit ds) e))
+numeral ds e = (grind (arith, nat_tests, digit_first_of (nat_lt 0 (length ds)) (list_all is_ascii_digit ds) e), (numerals_by_value (λ xs. list_all is_ascii_digit xs ≡ true) digit_tells).to ds (second_of (nat_lt 0 (length ds)) (list_all is_ascii_digit ds) e))
 
-plain : (bs : List ℕ) → IsNumeral 10 bs → without_leading_plus bs ≡ bs
-plain bs n = without_leading_plus_none bs (λ e. let r = digit_at bs 0 n.1 n.0 in omega (arith, r))
+digit_plain : (bs : List ℕ) → IsNumeral 10 bs → without_leading_plus bs ≡ bs
+digit_plain bs n = without_leading_plus_none bs (λ e. let r = digit_at bs 0 n.1 n.0 in omega (arith, r))
 
 signed : (b : Bool) (bs : List ℕ) → is_digits (if b then drop 1 bs else bs) ≡ true → IsNumeral 10 (cond b (drop 1 bs) (without_leading_plus bs))
 signed true bs e = numeral (drop 1 bs) e
-signed false bs e = let n = numeral bs e in rw (plain bs n) n
+signed false bs e = let n = numeral bs e in rw (digit_plain bs n) n
 
 pub has_numeral : (bs : List ℕ) → integer_form bs ≡ true → IsNumeral 10 (without_leading_sign bs)
 has_numeral bs e = signed (starts_with_minus bs) bs e

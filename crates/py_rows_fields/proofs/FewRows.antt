@@ -84,14 +84,14 @@ json_len json.no_items = 0
 json_len (json.item j js) = suc (json_len js)
 
 -- the first of the pair
-first : {A B : Type 0} (p q : A × B) → Some p ≡ Some q → p.0 ≡ q.0
-first {A = A} {B = B} p q e = let k : p ≡ q = cc in ap (λ (x : A × B). x.0) k
+few_row_first : {A B : Type 0} (p q : A × B) → Some p ≡ Some q → p.0 ≡ q.0
+few_row_first {A = A} {B = B} p q e = let k : p ≡ q = cc in ap (λ (x : A × B). x.0) k
 
 mapped_len : (j : Json) (m : Option (json.Items × List Token)) (n : ℕ) → ((js : json.Items) (rest : List Token) → m ≡ Some (js, rest) → json_len js ≤ n)
     → (js : json.Items) (rest : List Token) → parse_map (json.item j) m ≡ Some (js, rest) → json_len js ≤ suc n
 mapped_len j None n h js rest e = cc
 mapped_len j (Some q) n h js rest e =
-    let k : json.item j q.0 ≡ js = first (json.item j q.0, q.1) (js, rest) e in
+    let k : json.item j q.0 ≡ js = few_row_first (json.item j q.0, q.1) (js, rest) e in
     subst (λ (x : json.Items). json_len x ≤ suc n) k (omega (arith, h q.0 q.1 refl))
 
 pair_len : (r : Option (Json × List Token)) (more : List Token → Option (json.Items × List Token)) (n : ℕ)
@@ -104,7 +104,7 @@ step_len : (v : List Token → Option (Json × List Token)) (more : List Token �
     → ((ts : List Token) (js : json.Items) (rest : List Token) → more ts ≡ Some (js, rest) → json_len js ≤ n)
     → (js : json.Items) (rest : List Token) → items_step v more ts o ≡ Some (js, rest) → json_len js ≤ suc n
 step_len v more n ts (Some x) h js rest e =
-    let k : json.no_items ≡ js = first (json.no_items, x) (js, rest) e in
+    let k : json.no_items ≡ js = few_row_first (json.no_items, x) (js, rest) e in
     subst (λ (y : json.Items). json_len y ≤ suc n) k (omega arith)
 step_len v more n ts None h js rest e = pair_len (v ts) more n h js rest e
 
@@ -113,20 +113,21 @@ unfolding items
 items_bound v zero ts js rest e = cc
 items_bound v (suc n) ts js rest e = step_len v (items v n) n ts (after_end_array ts) (items_bound v n) js rest e
 
-no_array : {A : Type 0} (f : A → Json) (m : Option (A × List Token)) (n : ℕ) (js : json.Items) (rest : List Token) → ((a : A) → f a ≡ json.array js → ⊥) → parse_map f m ≡ Some (json.array js, rest) → json_len js ≤ n
+no_array : {A : Type 0} (f : A → Json) (m : Option (A × List Token)) (n : ℕ) (js : json.Items) (rest : List Token) → ((a : A) → f a ≡ json.array js → ⊥)
+    → parse_map f m ≡ Some (json.array js, rest) → json_len js ≤ n
 no_array f None n js rest h e = cc
-no_array f (Some q) n js rest h e = absurd (h q.0 (first (f q.0, q.1) (json.array js, rest) e))
+no_array f (Some q) n js rest h e = absurd (h q.0 (few_row_first (f q.0, q.1) (json.array js, rest) e))
 
 in_array : (m : Option (json.Items × List Token)) (n : ℕ) → ((js : json.Items) (rest : List Token) → m ≡ Some (js, rest) → json_len js ≤ n)
     → (js : json.Items) (rest : List Token) → parse_map json.array m ≡ Some (json.array js, rest) → json_len js ≤ n
 in_array None n h js rest e = cc
 in_array (Some q) n h js rest e =
-    let f : json.array q.0 ≡ json.array js = first (json.array q.0, q.1) (json.array js, rest) e in
+    let f : json.array q.0 ≡ json.array js = few_row_first (json.array q.0, q.1) (json.array js, rest) e in
     let k : q.0 ≡ js = cc in
     subst (λ (y : json.Items). json_len y ≤ n) k (h q.0 q.1 refl)
 
 leaf : (p q : Json × List Token) (js : json.Items) (n : ℕ) → q.0 ≡ json.array js → (p.0 ≡ json.array js → ⊥) → Some p ≡ Some q → json_len js ≤ n
-leaf p q js n i h e = absurd (h (first p q e ∙ i))
+leaf p q js n i h e = absurd (h (few_row_first p q e ∙ i))
 
 array_len : (a : List Token → Option (json.Items × List Token)) (o : List Token → Option (json.Members × List Token))
     → ((ts : List Token) (js : json.Items) (rest : List Token) → a ts ≡ Some (js, rest) → json_len js ≤ length ts)
@@ -191,12 +192,12 @@ read_len text xs e = omega (arith, tokens_len text, whole_len (value 127 (tokens
 
 -- ---- the rows that the bytes are
 
-found : (o : Option tree.Data) (d : tree.Data) → or_fault NotJson o ≡ Ok d → o ≡ Some d
-found None d e = cc
-found (Some x) d e = cc
+few_row_found : (o : Option tree.Data) (d : tree.Data) → or_fault NotJson o ≡ Ok d → o ≡ Some d
+few_row_found None d e = cc
+few_row_found (Some x) d e = cc
 
 read_of : (b : Bool) (bytes : List ℕ) (d : tree.Data) → or_fault NotJson (if b then read bytes else None) ≡ Ok d → read bytes ≡ Some d
-read_of true bytes d e = found (read bytes) d e
+read_of true bytes d e = few_row_found (read bytes) d e
 read_of false bytes d e = cc
 
 rows_are : (d : tree.Data) (xs : tree.Items) → rows_in d ≡ Ok xs → d ≡ tree.array xs

@@ -61,7 +61,7 @@ place_in n no_items = Err (WrongRow n)
 place_in n (item line no_items) = Err (WrongRow n)
 place_in n (item line (item column fields)) = or_fault (WrongRow n) (both (one_indexed line) (one_indexed column))
 
--- the fields behind it
+-- the fields after it
 abbrev pub behind_place : ℕ → Items → Result Items RowsError
 behind_place n no_items = Err (WrongRow n)
 behind_place n (item line no_items) = Err (WrongRow n)

@@ -3,7 +3,7 @@ use Rattle.std.specs.Prelude.{◌≡◌, Bool, Option, Some, None, Result, Ok, E
 use Rattle.py_rows_fields.specs.declared.error.RowsError.{RowsError}
 use Rattle.py_rows_fields.specs.declared.error.RowsError.TheVariants.{NotJson, NotRows, WrongRow, WideInteger, LaterRow, WrongKind, NamedTwice, TooDeep, NoMod, NotNamed, OutOfMemory}
 
--- this error is what reading gives, but for want of memory, which is free
+-- this error is what reading gives, but as memory runs out, which is free
 abbrev pub Fails : {Y : Type 0} → RowsError → Result Y RowsError → Type 0
 Fails NotJson reading = reading ≡ Err NotJson
 Fails NotRows reading = reading ≡ Err NotRows

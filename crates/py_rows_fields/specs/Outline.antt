@@ -20,8 +20,8 @@ abbrev pub all_fit : List Row → List Part → Bool
 all_fit rows = list_all (fits rows)
 
 -- the rows that row n names are earlier ones, and of the sorts that its fields take
-abbrev pub checked : ℕ → List Part → List Row → Result (Unit {0}) RowsError
-checked n parts rows = where_holds {A = Unit {0}} (all_earlier n parts) (LaterRow n) tt >>= λ _. where_holds (all_fit rows parts) (WrongKind n) tt
+abbrev pub checked_rows : ℕ → List Part → List Row → Result (Unit {0}) RowsError
+checked_rows n parts rows = where_holds {A = Unit {0}} (all_earlier n parts) (LaterRow n) tt >>= λ _. where_holds (all_fit rows parts) (WrongKind n) tt
 
 abbrev pub depth_at : List Row → ℕ → ℕ
 depth_at rows number = option_map_or (λ r. r.depth) (slice_get rows number) 0

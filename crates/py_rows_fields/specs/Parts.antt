@@ -16,7 +16,7 @@ use Rattle.py_rows_fields.specs.Plain.{plain_at}
 use Rattle.py_rows_fields.specs.Sorts.{is_located, sort_of}
 use Rattle.py_rows_fields.specs.Table.{fields_of}
 
--- ---- the rows that row n names, behind those that it names before, and each of a sort
+-- ---- the rows that row n names, after those that it names before, and each of a sort
 
 abbrev pub node_part : ℕ → Sort → Data → List Part → Result (List Part) RowsError
 node_part n s d before = number_at n d >>= λ k. Ok (before ++ record { sort = s; number = k } ∷ [])
@@ -46,7 +46,7 @@ parts_by n [] (item d ds) before = Err (WrongRow n)
 parts_by n (f ∷ fs) no_items before = Err (WrongRow n)
 parts_by n (f ∷ fs) (item d ds) before = field_parts n f d before >>= parts_by n fs ds
 
--- the fields behind the place
+-- the fields after the place
 abbrev pub own_fields : ℕ → Kind → Items → Result Items RowsError
 own_fields n k fields = if is_located (sort_of k) then (place_in n fields >>= λ _. behind_place n fields) else Ok fields
 

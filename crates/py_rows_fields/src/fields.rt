@@ -132,7 +132,7 @@ pub fn place(fields: &[Value], row: u32) -> Result<SourceLocation, RowsError>
     }
 }
 
-/// The fields behind the location.
+/// The fields after the location.
 ///
 /// # Errors
 /// `WrongRow` where the field has not this form; there may be no memory.

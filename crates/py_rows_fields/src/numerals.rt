@@ -7,7 +7,7 @@ ghost use Rattle.py_rows_fields.specs.Integers.{integer_at, integer_form, is_dig
 
 use crate::error::RowsError;
 
-/// The integer that a text spells: decimal digits, behind a minus or not.
+/// The integer that a text spells: decimal digits, after a minus or not.
 ///
 /// # Errors
 /// `WrongRow` where the text has not this form, `WideInteger` where the integer is no `i128`.

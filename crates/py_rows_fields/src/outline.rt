@@ -1,7 +1,7 @@
 //! What is known of a row before its node is made: its kind, and how deep it nests.
 ghost use Rattle.std.specs.Prelude.{◌≡◌};
 ghost use Rattle.py_rows_fields.specs.Gives.{Gives};
-ghost use Rattle.py_rows_fields.specs.Outline.{all_earlier, all_fit, checked, deepest, depth_at, depth_of, fits};
+ghost use Rattle.py_rows_fields.specs.Outline.{all_earlier, all_fit, checked_rows, deepest, depth_at, depth_of, fits};
 
 use crate::error::RowsError;
 use crate::kinds::Sort;
@@ -22,7 +22,7 @@ pub struct Row {
 /// # Errors
 /// `LaterRow`, or else `WrongKind`.
 pub fn check_parts(parts: &[Part], rows: &[Row], row: u32) -> Result<(), RowsError>
-    ensures { Gives (λ x. x) result (checked row parts.now rows.now) }
+    ensures { Gives (λ x. x) result (checked_rows row parts.now rows.now) }
 {
     if !all_earlier(u64::from(row), parts) {
         return Err(RowsError::LaterRow { row });

@@ -54,7 +54,7 @@ pub fn find_parts(
     add_fields(fields_of(kind), own, row, parts)
 }
 
-/// The fields behind the place.
+/// The fields after the place.
 fn own_fields(kind: Kind, fields: &[Value], row: u32) -> Result<&[Value], RowsError>
     ensures { Gives (λ v. items_view v.now) result (own_fields row kind (items_view fields.now)) }
 {

@@ -176,7 +176,7 @@ whole_in low high (number (unsigned n)) =
     if nat_lt n low then None else (if nat_lt n high then Some n else None)
 whole_in low high d = None
 
--- n, and decimal digits behind it
+-- n, and decimal digits after it
 abbrev pub more_digits : ℕ → List ℕ → Option ℕ
 more_digits n [] = Some n
 more_digits n (c ∷ cs) = position (λ d. d == c) (codes "0123456789") >>= λ k. more_digits (n * 10 + k) cs

@@ -22,7 +22,7 @@ pub record Row : Type 0 where
 abbrev nowhere : SourceLocation
 nowhere = record { row = 1; column = 1 }
 
--- its place, where it has one, and the entries behind that; a line and a column are from 1 to 2^32 - 1
+-- its place, where it has one, and the entries after that; a line and a column are from 1 to 2^32 - 1
 abbrev pub place_and_fields : Bool → Items → Option (SourceLocation × Items)
 place_and_fields false fields = Some (nowhere, fields)
 place_and_fields true (item line (item column fields)) =

@@ -14,11 +14,11 @@ use Rattle.py_rows_format.specs.Rows as law
 use Rattle.py_rows.specs.Rows as reader
 use Rattle.py_rows_slots.specs.Nodes.{Nodes, is_left}
 use Rattle.py_rows_slots.specs.Taking.{is_left_at}
-use Rattle.py_rows_format_proof.proofs.CheckLemmas.{Alike, fits_as}
-use Rattle.py_rows_format_proof.proofs.FormLemmas.{is_part}
+use Rattle.py_rows_law.proofs.CheckLemmas.{Alike, fits_as}
+use Rattle.py_rows_law.proofs.FormLemmas.{is_part}
 use Rattle.py_rows_law.proofs.StepLemmas.{SoFar}
-use Rattle.py_rows_format_proof.proofs.TieLemmas.{Ties, list_of, number}
-use Rattle.py_rows_format_proof.proofs.TableLemmas.{sort_as}
+use Rattle.py_rows_law.proofs.TieLemmas.{Ties, list_of, number}
+use Rattle.py_rows_law.proofs.TableLemmas.{sort_as}
 
 -- ---- the last row
 
@@ -53,7 +53,8 @@ node_here : (s : Sort) (x : Node s) → node_as s s x ≡ Some x
 node_here Sort.Mod x = refl
 node_here s x = refl
 
-left_alike : (rows : List Made) (nodes : Nodes) → Ties (all_names rows) rows nodes → (k : ℕ) (r : Row) → slice_get nodes.rows k ≡ Some r → is_left r.sort r.index nodes ≡ not (is_among k (all_names rows))
+left_alike : (rows : List Made) (nodes : Nodes) → Ties (all_names rows) rows nodes → (k : ℕ) (r : Row) → slice_get nodes.rows k ≡ Some r
+    → is_left r.sort r.index nodes ≡ not (is_among k (all_names rows))
 left_alike rows nodes ties k r e = by (slice_get rows k) (slice_get nodes.rows k) refl (ties.same.alike k) e
   where
     left : (s : Sort) (x : Node s) → node_at rows s k ≡ Some x → is_left (sort_as s) r.index nodes ≡ not (is_among k (all_names rows))
@@ -72,7 +73,8 @@ left_alike rows nodes ties k r e = by (slice_get rows k) (slice_get nodes.rows k
         let h : r.sort ≡ sort_as m.sort = sym (ap (λ (q : Row). q.sort) qr) ∙ a.0 in
         subst (λ s. is_left s r.index nodes ≡ not (is_among k (all_names rows))) (sym h) (left m.sort m.made (rw f (node_here m.sort m.made)))
 
-left_run : (p : Row → Bool) (q : ℕ → Bool) (m i : ℕ) (rs : List Row) → ((k : ℕ) (r : Row) → slice_get rs k ≡ Some r → p r ≡ q (i + k)) → m ≤ length rs → position_from p i (take m rs) ≡ find q (range_with_len i m)
+left_run : (p : Row → Bool) (q : ℕ → Bool) (m i : ℕ) (rs : List Row) → ((k : ℕ) (r : Row) → slice_get rs k ≡ Some r → p r ≡ q (i + k)) → m ≤ length rs
+    → position_from p i (take m rs) ≡ find q (range_with_len i m)
 left_run p q zero i [] h l = refl
 left_run p q zero i (r ∷ rs) h l = refl
 left_run p q (suc m) i [] h l = absurd (omega arith)

@@ -24,11 +24,11 @@ use Rattle.py_rows_slots.specs.Slots.{Made, add_expr, add_stmt, add_type_param}
 use Rattle.py_rows_exprs.specs.Exprs.{expr_of_kind}
 use Rattle.py_rows_stmts.specs.Stmts.{stmt_of_kind}
 use Rattle.py_rows_stmts.specs.TypeParams.{type_param_of_kind}
-use Rattle.py_rows_nodes.specs.Making.{make}
-use Rattle.py_rows_format_proof.proofs.FillingLemmas.{Datas, filled}
-use Rattle.py_rows_format_proof.proofs.FormLemmas.{are_read}
-use Rattle.py_rows_format_proof.proofs.GrowthLemmas.{index_for, with_node}
-use Rattle.py_rows_format_proof.proofs.TableLemmas.{row}
+use Rattle.py_rows.specs.Making.{make}
+use Rattle.py_rows_law.proofs.FillingLemmas.{Datas, filled}
+use Rattle.py_rows_law.proofs.FormLemmas.{are_read}
+use Rattle.py_rows_law.proofs.GrowthLemmas.{index_for, with_node}
+use Rattle.py_rows_law.proofs.TableLemmas.{row}
 
 abbrev pub entries : (fs : List Field) → Datas fs → Items
 entries [] ds = no_items
@@ -46,7 +46,8 @@ assoc (Err e) f g = refl
 abbrev pub made : (k : reader.Kind) → ℕ → SourceLocation → Datas (row k).fields → Nodes → Made ℕ
 made k n at ds nodes = filled n (row k).fields ((row k).make at) ds nodes >>= λ (x, nodes). add (row k).sort x nodes
 
-expr_made : (k : ExprKind) (n : ℕ) (at : SourceLocation) (ds : Datas (row (kind.Expr k)).fields) (nodes : Nodes) → (expr_of_kind n k at (entries (row (kind.Expr k)).fields ds) nodes >>= λ (x, nodes). add_expr x nodes) ≡ made (kind.Expr k) n at ds nodes
+expr_made : (k : ExprKind) (n : ℕ) (at : SourceLocation) (ds : Datas (row (kind.Expr k)).fields) (nodes : Nodes)
+    → (expr_of_kind n k at (entries (row (kind.Expr k)).fields ds) nodes >>= λ (x, nodes). add_expr x nodes) ≡ made (kind.Expr k) n at ds nodes
 expr_made expression.Set n at ds nodes = simp assoc
 expr_made expression.List n at ds nodes = simp assoc
 expr_made expression.Tuple n at ds nodes = simp assoc
@@ -59,7 +60,8 @@ expr_made expression.Starred n at ds nodes = simp assoc
 expr_made expression.Name n at ds nodes = simp assoc
 expr_made k n at ds nodes = refl
 
-stmt_made : (k : StmtKind) (n : ℕ) (at : SourceLocation) (ds : Datas (row (kind.Stmt k)).fields) (nodes : Nodes) → (stmt_of_kind n k at (entries (row (kind.Stmt k)).fields ds) nodes >>= λ (x, nodes). add_stmt x nodes) ≡ made (kind.Stmt k) n at ds nodes
+stmt_made : (k : StmtKind) (n : ℕ) (at : SourceLocation) (ds : Datas (row (kind.Stmt k)).fields) (nodes : Nodes)
+    → (stmt_of_kind n k at (entries (row (kind.Stmt k)).fields ds) nodes >>= λ (x, nodes). add_stmt x nodes) ≡ made (kind.Stmt k) n at ds nodes
 stmt_made statement.FunctionDef n at ds nodes = simp assoc
 stmt_made statement.AsyncFunctionDef n at ds nodes = simp assoc
 stmt_made statement.ClassDef n at ds nodes = simp assoc
@@ -78,7 +80,8 @@ stmt_made statement.Break n at ds nodes = simp assoc
 stmt_made statement.Continue n at ds nodes = simp assoc
 stmt_made k n at ds nodes = refl
 
-type_param_made : (k : TypeParamKind) (n : ℕ) (at : SourceLocation) (ds : Datas (row (kind.TypeParam k)).fields) (nodes : Nodes) → (type_param_of_kind n k at (entries (row (kind.TypeParam k)).fields ds) nodes >>= λ (x, nodes). add_type_param x nodes) ≡ made (kind.TypeParam k) n at ds nodes
+type_param_made : (k : TypeParamKind) (n : ℕ) (at : SourceLocation) (ds : Datas (row (kind.TypeParam k)).fields) (nodes : Nodes)
+    → (type_param_of_kind n k at (entries (row (kind.TypeParam k)).fields ds) nodes >>= λ (x, nodes). add_type_param x nodes) ≡ made (kind.TypeParam k) n at ds nodes
 type_param_made generic.ParamSpec n at ds nodes = simp assoc
 type_param_made generic.TypeVarTuple n at ds nodes = simp assoc
 type_param_made k n at ds nodes = refl
@@ -94,11 +97,13 @@ constant_made constant.Int n at ds nodes r = absurd (true≢false (sym r))
 constant_made constant.Bytes n at ds nodes r = absurd (true≢false (sym r))
 constant_made k n at ds nodes r = refl
 
-program_made : (k : ModKind) (n : ℕ) (at : SourceLocation) (ds : Datas (row (kind.Mod k)).fields) (nodes : Nodes) → make n (kind.Mod k) (entries (row (kind.Mod k)).fields ds) nodes ≡ made (kind.Mod k) n at ds nodes
+program_made : (k : ModKind) (n : ℕ) (at : SourceLocation) (ds : Datas (row (kind.Mod k)).fields) (nodes : Nodes)
+    → make n (kind.Mod k) (entries (row (kind.Mod k)).fields ds) nodes ≡ made (kind.Mod k) n at ds nodes
 program_made program.Module n at ds nodes = refl
 program_made k n at ds nodes = refl
 
-pub kind_made : (k : reader.Kind) (n : ℕ) (at : SourceLocation) (ds : Datas (row k).fields) (nodes : Nodes) (rest : Items) → are_read (row k).fields ≡ true → Placed (is_located (sort_of k)) n rest at (entries (row k).fields ds)
+pub kind_made : (k : reader.Kind) (n : ℕ) (at : SourceLocation) (ds : Datas (row k).fields) (nodes : Nodes) (rest : Items) → are_read (row k).fields ≡ true
+    → Placed (is_located (sort_of k)) n rest at (entries (row k).fields ds)
     → make n k rest nodes ≡ made k n at ds nodes
 kind_made (kind.Mod k) n at ds nodes rest r p = rw p (program_made k n at ds nodes)
 kind_made (kind.Stmt k) n at ds nodes rest r p = rw (p.0, p.1) (stmt_made k n at ds nodes)

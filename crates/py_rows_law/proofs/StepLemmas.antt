@@ -44,17 +44,17 @@ use Rattle.py_rows_format.specs.Making.{all_names, are_new, deepest, fits_in, na
 use Rattle.py_rows_format.specs.Rows as law
 use Rattle.py_rows_format.specs.Table as table
 use Rattle.py_rows_slots.specs.Nodes.{Nodes}
-use Rattle.py_rows_nodes.specs.Making.{make}
+use Rattle.py_rows.specs.Making.{make}
 use Rattle.py_rows.specs.Rows.{add_row, is_item, is_with, item_count, row_read, whole_depth}
-use Rattle.py_rows_format_proof.proofs.CheckLemmas.{AreAlike, deepest_alike, kinds_alike, later_alike, node_fits, number_of, numbers_in}
-use Rattle.py_rows_format_proof.proofs.FieldLemmas.{Filled, Says, all_filled}
-use Rattle.py_rows_format_proof.proofs.FillingLemmas.{Datas, filled}
-use Rattle.py_rows_format_proof.proofs.FormLemmas.{Behind, are_read, both_true, forms_alike, is_read, parts_in}
-use Rattle.py_rows_format_proof.proofs.GrowthLemmas.{grown_program, grown_ties, index_for, more, rows_node, with_node, with_row}
+use Rattle.py_rows_law.proofs.CheckLemmas.{AreAlike, deepest_alike, kinds_alike, later_alike, node_fits, number_of, numbers_in}
+use Rattle.py_rows_law.proofs.FieldLemmas.{Filled, Says, all_filled}
+use Rattle.py_rows_law.proofs.FillingLemmas.{Datas, filled}
+use Rattle.py_rows_law.proofs.FormLemmas.{Behind, are_read, both_true, forms_alike, is_read, parts_in}
+use Rattle.py_rows_law.proofs.GrowthLemmas.{grown_program, grown_ties, index_for, more, rows_node, with_node, with_row}
 use Rattle.py_rows_law.proofs.NodeLemmas.{Placed, add, entries, kind_made, made}
-use Rattle.py_rows_format_proof.proofs.NumeralLemmas.{bytes_as, integer_as}
-use Rattle.py_rows_format_proof.proofs.TieLemmas.{Ties, behind}
-use Rattle.py_rows_format_proof.proofs.TableLemmas.{row, same_kind, same_row, sort_as}
+use Rattle.py_rows_law.proofs.NumeralLemmas.{bytes_as, integer_as}
+use Rattle.py_rows_law.proofs.TieLemmas.{Ties, behind}
+use Rattle.py_rows_law.proofs.TableLemmas.{row, same_kind, same_row, sort_as}
 
 -- ---- the rows so far, by the table and by the reader
 
@@ -76,7 +76,8 @@ is_item_at sort.Mod = refl
 is_item_at s = refl
 
 -- of parts that fit, those are items of a `with` whose rows are
-items_alike : (made : List format.Made) (rows : List Row) → AreAlike made rows → (ps : List Part) → outline.all_fit rows ps ≡ true → item_count ps ≡ count_by (λ k. is_some (node_at made Sort.WithItem k)) (map number_of ps)
+items_alike : (made : List format.Made) (rows : List Row) → AreAlike made rows → (ps : List Part) → outline.all_fit rows ps ≡ true
+    → item_count ps ≡ count_by (λ k. is_some (node_at made Sort.WithItem k)) (map number_of ps)
 items_alike made rows alike [] e = refl
 items_alike made rows alike (p ∷ ps) e =
     let both = both_true (outline.fits rows p) (outline.all_fit rows ps) e in
@@ -124,7 +125,8 @@ with_word (kind.TypeParam generic.TypeVar) = refl
 with_word (kind.TypeParam k) = refl
 with_word k = refl
 
-depth_alike : (made : List format.Made) (rows : List Row) → AreAlike made rows → (n : ℕ) (k : reader.Kind) (at : SourceLocation) (xs : Contents (row k).fields) → outline.all_fit rows (parts_in (row k).fields xs) ≡ true
+depth_alike : (made : List format.Made) (rows : List Row) → AreAlike made rows → (n : ℕ) (k : reader.Kind) (at : SourceLocation) (xs : Contents (row k).fields)
+    → outline.all_fit rows (parts_in (row k).fields xs) ≡ true
     → whole_depth n k (parts_in (row k).fields xs) rows ≡ where_holds (nat_lt (format.depth_of made (record { kind = row k; at = at; contents = xs })) (2 ^ 10)) (TooDeep n) (format.depth_of made (record { kind = row k; at = at; contents = xs }))
 depth_alike made rows alike n k at xs fit =
     rw (deepest_alike made rows alike (parts_in (row k).fields xs), items_alike made rows alike (parts_in (row k).fields xs) fit, numbers_in (row k).fields xs, with_word k)
@@ -220,7 +222,7 @@ module _ (rows : List format.Made) (nodes : Nodes) (ties : Ties (all_names rows)
 
   -- what the reader makes of a row, after its form
   abbrev pub reader_rest : reader.Kind → Items → List Part → Result Nodes RowsError
-  reader_rest k rest parts = (outline.checked n parts nodes.rows >>= λ _. Ok (k, rest, parts)) >>= λ (kind, fields, parts). make n kind fields nodes >>= λ (index, nodes). add_row n kind index parts nodes
+  reader_rest k rest parts = (outline.checked_rows n parts nodes.rows >>= λ _. Ok (k, rest, parts)) >>= λ (kind, fields, parts). make n kind fields nodes >>= λ (index, nodes). add_row n kind index parts nodes
 
   abbrev pub with_one : format.Row → Result (List format.Made) RowsError
   with_one r = law.row_after rows r >>= λ m. Ok (rows ++ m ∷ [])
@@ -293,7 +295,7 @@ module _ (rows : List format.Made) (nodes : Nodes) (ties : Ties (all_names rows)
 
   -- what the reader makes of a row of a kind
   abbrev reader_kind : reader.Kind → Items → Result Nodes RowsError
-  reader_kind k rest = (parts_of n k rest >>= λ parts. outline.checked n parts nodes.rows >>= λ _. Ok (k, rest, parts)) >>= λ (kind, fields, parts). make n kind fields nodes >>= λ (index, nodes). add_row n kind index parts nodes
+  reader_kind k rest = (parts_of n k rest >>= λ parts. outline.checked_rows n parts nodes.rows >>= λ _. Ok (k, rest, parts)) >>= λ (kind, fields, parts). make n kind fields nodes >>= λ (index, nodes). add_row n kind index parts nodes
 
   abbrev with_kind : reader.Kind → Items → Result (List format.Made) RowsError
   with_kind k rest = ok_or (row_of (row k) rest) (WrongRow n) >>= with_one
@@ -304,7 +306,7 @@ module _ (rows : List format.Made) (nodes : Nodes) (ties : Ties (all_names rows)
       of : (at : SourceLocation) (fields : Items) (o : Option (Contents (row k).fields)) → contents_of (row k).fields fields ≡ o → Placed (is_located (sort_of k)) n rest at fields
           → parts_by n (fields_of k) fields [] ≡ Behind n [] (parts_in (row k).fields) o
           → Both n (ok_or (option_map {U = format.Row} (λ contents. record { kind = row k; at = at; contents = contents }) o) (WrongRow n) >>= with_one)
-          ((parts_by n (fields_of k) fields [] >>= λ parts. outline.checked n parts nodes.rows >>= λ _. Ok (k, rest, parts)) >>= λ (kind, fields, parts). make n kind fields nodes >>= λ (index, nodes). add_row n kind index parts nodes)
+          ((parts_by n (fields_of k) fields [] >>= λ parts. outline.checked_rows n parts nodes.rows >>= λ _. Ok (k, rest, parts)) >>= λ (kind, fields, parts). make n kind fields nodes >>= λ (index, nodes). add_row n kind index parts nodes)
       of at fields None e place form = rw form refl
       of at fields (Some xs) e place form =
           let given = said rows n (row k).fields fields xs e in
@@ -351,7 +353,8 @@ module _ (rows : List format.Made) (nodes : Nodes) (ties : Ties (all_names rows)
   bytes_alike (item (string w) no_items) = bytes_text w
   bytes_alike (item (string w) (item d ds)) = by (bytes_of w) refl
     where
-      by : (o : Option (List ℕ)) → bytes_of w ≡ o → Both n (with_kind (kind.Constant constant.Bytes) (item (string w) (item d ds))) (reader_kind (kind.Constant constant.Bytes) (item (string w) (item d ds)))
+      by : (o : Option (List ℕ)) → bytes_of w ≡ o
+          → Both n (with_kind (kind.Constant constant.Bytes) (item (string w) (item d ds))) (reader_kind (kind.Constant constant.Bytes) (item (string w) (item d ds)))
       by None e = rw e refl
       by (Some z) e = rw e refl
   bytes_alike (item d ds) = refl

@@ -74,9 +74,9 @@ pub cases_same : (xs : List (MatchCaseOf Stmt)) → cases_of (map case_view xs) 
 cases_same [] = refl
 cases_same (x ∷ xs) = ap (tree.more_cases (stmts stmt_tree x.body)) (cases_same xs)
 
-pub plain_same : {A : Type 0} (xs : List A) → map (λ (x : A). x) xs ≡ xs
-plain_same [] = refl
-plain_same {A} (x ∷ xs) = ap (λ (ys : List A). x ∷ ys) (plain_same xs)
+pub lists_of_plain_same : {A : Type 0} (xs : List A) → map (λ (x : A). x) xs ≡ xs
+lists_of_plain_same [] = refl
+lists_of_plain_same {A} (x ∷ xs) = ap (λ (ys : List A). x ∷ ys) (lists_of_plain_same xs)
 
 -- a list of nodes is the same list both ways
-pub ruleset same = (exprs_same, opt_same, opts_same, stmts_same, constants_same, type_params_same, args_same, opt_arg_same, keywords_same, items_same, handlers_same, generators_same, cases_same, plain_same)
+pub ruleset lists_of_same = (exprs_same, opt_same, opts_same, stmts_same, constants_same, type_params_same, args_same, opt_arg_same, keywords_same, items_same, handlers_same, generators_same, cases_same, lists_of_plain_same)

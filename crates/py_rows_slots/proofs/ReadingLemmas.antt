@@ -1,4 +1,4 @@
--- A reading that goes on behind what a call answered.
+-- A reading that goes on after what a call answered.
 use Rattle.std.proofs.Common.{◌≡◌, Result, Ok, Err, refl}
 use Rattle.py_rows_fields.specs.declared.error.RowsError.{RowsError}
 use Rattle.py_rows_fields.specs.declared.error.RowsError.TheVariants.{NotJson, NotRows, WrongRow, WideInteger, LaterRow, WrongKind, NamedTwice, TooDeep, NoMod, NotNamed, OutOfMemory}

@@ -72,43 +72,43 @@ take_cases n d nodes = list.take_list n d nodes.rows nodes.cases >>= λ (x, rest
 -- ---- the place of a new node among those of its sort, and the nodes with it
 
 abbrev pub add_stmt : tree.Stmt → Nodes → Made ℕ
-add_stmt x nodes = list.added x nodes.stmts >>= λ (k, more). Ok (k, record nodes { stmts = more })
+add_stmt x nodes = list.added_node x nodes.stmts >>= λ (k, more). Ok (k, record nodes { stmts = more })
 
 abbrev pub add_expr : tree.Expr → Nodes → Made ℕ
-add_expr x nodes = list.added x nodes.exprs >>= λ (k, more). Ok (k, record nodes { exprs = more })
+add_expr x nodes = list.added_node x nodes.exprs >>= λ (k, more). Ok (k, record nodes { exprs = more })
 
 abbrev pub add_constant : Literal → Nodes → Made ℕ
-add_constant x nodes = list.added x nodes.constants >>= λ (k, more). Ok (k, record nodes { constants = more })
+add_constant x nodes = list.added_node x nodes.constants >>= λ (k, more). Ok (k, record nodes { constants = more })
 
 abbrev pub add_type_param : tree.TypeParam → Nodes → Made ℕ
-add_type_param x nodes = list.added x nodes.type_params >>= λ (k, more). Ok (k, record nodes { type_params = more })
+add_type_param x nodes = list.added_node x nodes.type_params >>= λ (k, more). Ok (k, record nodes { type_params = more })
 
 abbrev pub add_arguments : tree.Arguments → Nodes → Made ℕ
-add_arguments x nodes = list.added x nodes.arguments >>= λ (k, more). Ok (k, record nodes { arguments = more })
+add_arguments x nodes = list.added_node x nodes.arguments >>= λ (k, more). Ok (k, record nodes { arguments = more })
 
 abbrev pub add_default : Default → Nodes → Made ℕ
-add_default x nodes = list.added x nodes.defaults >>= λ (k, more). Ok (k, record nodes { defaults = more })
+add_default x nodes = list.added_node x nodes.defaults >>= λ (k, more). Ok (k, record nodes { defaults = more })
 
 abbrev pub add_arg : tree.Arg → Nodes → Made ℕ
-add_arg x nodes = list.added x nodes.args >>= λ (k, more). Ok (k, record nodes { args = more })
+add_arg x nodes = list.added_node x nodes.args >>= λ (k, more). Ok (k, record nodes { args = more })
 
 abbrev pub add_keyword : Keyword → Nodes → Made ℕ
-add_keyword x nodes = list.added x nodes.keywords >>= λ (k, more). Ok (k, record nodes { keywords = more })
+add_keyword x nodes = list.added_node x nodes.keywords >>= λ (k, more). Ok (k, record nodes { keywords = more })
 
 abbrev pub add_alias : Alias → Nodes → Made ℕ
-add_alias x nodes = list.added x nodes.aliases >>= λ (k, more). Ok (k, record nodes { aliases = more })
+add_alias x nodes = list.added_node x nodes.aliases >>= λ (k, more). Ok (k, record nodes { aliases = more })
 
 abbrev pub add_item : Item → Nodes → Made ℕ
-add_item x nodes = list.added x nodes.items >>= λ (k, more). Ok (k, record nodes { items = more })
+add_item x nodes = list.added_node x nodes.items >>= λ (k, more). Ok (k, record nodes { items = more })
 
 abbrev pub add_handler : Handler → Nodes → Made ℕ
-add_handler x nodes = list.added x nodes.handlers >>= λ (k, more). Ok (k, record nodes { handlers = more })
+add_handler x nodes = list.added_node x nodes.handlers >>= λ (k, more). Ok (k, record nodes { handlers = more })
 
 abbrev pub add_comprehension : Clause → Nodes → Made ℕ
-add_comprehension x nodes = list.added x nodes.comprehensions >>= λ (k, more). Ok (k, record nodes { comprehensions = more })
+add_comprehension x nodes = list.added_node x nodes.comprehensions >>= λ (k, more). Ok (k, record nodes { comprehensions = more })
 
 abbrev pub add_case : tree.Stmts → Nodes → Made ℕ
-add_case x nodes = list.added x nodes.cases >>= λ (k, more). Ok (k, record nodes { cases = more })
+add_case x nodes = list.added_node x nodes.cases >>= λ (k, more). Ok (k, record nodes { cases = more })
 
 -- a program, which no row names
 abbrev pub set_program : tree.Mod → Nodes → Made ℕ

@@ -14,21 +14,21 @@ abbrev pub index_at : ℕ → Data → List Row → Result ℕ RowsError
 index_at n d rows = number_at n d >>= λ k. or_fault (LaterRow n) (option_map (λ r. r.index) (slice_get rows k))
 
 -- the nodes, with nothing left at a place
-abbrev pub emptied : {A : Type 0} → ℕ → List (Option A) → List (Option A)
-emptied k [] = []
-emptied zero (x ∷ xs) = None ∷ xs
-emptied (suc k) (x ∷ xs) = x ∷ emptied k xs
+abbrev pub emptied_nodes : {A : Type 0} → ℕ → List (Option A) → List (Option A)
+emptied_nodes k [] = []
+emptied_nodes zero (x ∷ xs) = None ∷ xs
+emptied_nodes (suc k) (x ∷ xs) = x ∷ emptied_nodes k xs
 
 -- what is left at a place
 abbrev pub left_at : {A : Type 0} → ℕ → List (Option A) → Option A
 left_at k xs = option_and_then (λ x. x) (slice_get xs k)
 
 -- the node at a place, which no row before row n has named, and the nodes without it
-abbrev pub taken : {A : Type 0} → ℕ → ℕ → List (Option A) → Result (A × List (Option A)) RowsError
-taken n k xs = or_fault (NamedTwice n) (left_at k xs) >>= λ x. Ok (x, emptied k xs)
+abbrev pub taken_node : {A : Type 0} → ℕ → ℕ → List (Option A) → Result (A × List (Option A)) RowsError
+taken_node n k xs = or_fault (NamedTwice n) (left_at k xs) >>= λ x. Ok (x, emptied_nodes k xs)
 
 abbrev pub take : {A : Type 0} → ℕ → Data → List Row → List (Option A) → Result (A × List (Option A)) RowsError
-take n d rows xs = index_at n d rows >>= λ k. taken n k xs
+take n d rows xs = index_at n d rows >>= λ k. taken_node n k xs
 
 -- of a field that may be null
 abbrev pub take_optional : {A : Type 0} → ℕ → Data → List Row → List (Option A) → Result (Option A × List (Option A)) RowsError
@@ -49,8 +49,8 @@ abbrev pub take_optionals : {A : Type 0} → ℕ → Data → List Row → List 
 take_optionals n d rows xs = entries_at n d >>= λ ds. take_each_optional n ds rows xs
 
 -- the place of a new node, and the nodes with it
-abbrev pub added : {A : Type 0} → A → List (Option A) → Result (ℕ × List (Option A)) RowsError
-added x xs = Ok (length xs, xs ++ Some x ∷ [])
+abbrev pub added_node : {A : Type 0} → A → List (Option A) → Result (ℕ × List (Option A)) RowsError
+added_node x xs = Ok (length xs, xs ++ Some x ∷ [])
 
 -- whether a node is left at a place
 abbrev pub is_left_at : {A : Type 0} → ℕ → List (Option A) → Bool

@@ -2,7 +2,7 @@
 ghost use Rattle.std.specs.Prelude.{map, option_map};
 ghost use Rattle.serde_json.specs.View.{view};
 ghost use Rattle.py_rows_fields.specs.Gives.{Gives};
-ghost use Rattle.py_rows_slots.specs.Taking.{added, index_at, take, take_list, take_optional, take_optionals, taken};
+ghost use Rattle.py_rows_slots.specs.Taking.{added_node, index_at, take, take_list, take_optional, take_optionals, taken_node};
 
 use crate::made::Made;
 use py_base::List;
@@ -23,7 +23,7 @@ fn index_at(field: &Value, rows: &[Row], row: u32) -> Result<usize, RowsError>
 
 /// The node at a place, which is left empty. `NamedTwice` where a row took it before.
 fn take_at<T: Made + Drop>(nodes: &mut [Option<T>], index: usize, row: u32) -> Result<T, RowsError>
-    ensures { Gives (λ x. (T.seen x, map (option_map T.seen) nodes.new)) result (taken row index (map (option_map T.seen) nodes.old)) }
+    ensures { Gives (λ x. (T.seen x, map (option_map T.seen) nodes.new)) result (taken_node row index (map (option_map T.seen) nodes.old)) }
 {
     if index >= nodes.len() {
         return Err(RowsError::NamedTwice { row });
@@ -133,7 +133,7 @@ pub(crate) fn take_optionals<T: Made + Drop>(
 
 /// Adds a node, and tells its place.
 pub(crate) fn add<T: Made + Drop>(nodes: &mut Vec<Option<T>>, node: T) -> Result<usize, RowsError>
-    ensures { Gives (λ k. (k, map (option_map T.seen) nodes.new.items)) result (added (T.seen node) (map (option_map T.seen) nodes.old.items)) }
+    ensures { Gives (λ k. (k, map (option_map T.seen) nodes.new.items)) result (added_node (T.seen node) (map (option_map T.seen) nodes.old.items)) }
 {
     let index = nodes.len();
     nodes.push(Some(node))?;

@@ -64,7 +64,7 @@ fn stmt_of_kind(
     }
 }
 
-/// The same, of the place and the fields behind it.
+/// The same, of the place and the fields after it.
 pub(crate) fn stmt_node(
     alloc: Global,
     kind: StmtKind,

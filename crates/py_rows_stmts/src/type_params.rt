@@ -30,7 +30,7 @@ fn type_param_of_kind(
     }
 }
 
-/// The same, of the place and the fields behind it.
+/// The same, of the place and the fields after it.
 pub(crate) fn type_param_node(
     alloc: Global,
     kind: TypeParamKind,

@@ -57,7 +57,7 @@ pub enum Field<'a> {
 }
 
 impl<'a> Items<'a> {
-    /// The item at this index, None behind the last.
+    /// The item at this index, None after the last.
     pub fn get(self, i: usize) -> Option<Field<'a>> {
         match self {
             Items::Aliases(items) => Some(Field::Node(Node::Alias(items.get(i)?))),

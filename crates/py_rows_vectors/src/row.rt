@@ -31,7 +31,7 @@ pub struct Placed {
 }
 
 impl Placed {
-    /// The row of a kind with these fields behind its place.
+    /// The row of a kind with these fields after its place.
     pub fn row<'a>(self, word: &str, fields: &[Field<'a>]) -> Result<Row<'a>, AllocError> {
         let Placed { alloc, at } = self;
         let mut row = unplaced(alloc, word, fields)?;

@@ -5,7 +5,7 @@ use py_tree::Mod;
 use serde_json::Value;
 use std::alloc::{AllocError, Global};
 
-/// Writes an entry of an array, behind a comma where it is not the first.
+/// Writes an entry of an array, after a comma where it is not the first.
 fn push_entry(text: &mut String, entry: &str) -> Result<(), AllocError> {
     if !text.as_str().ends_with('[') {
         text.push_str(",")?;
@@ -22,7 +22,7 @@ fn quoted_digits(alloc: Global, bytes: &[u8]) -> Result<String, AllocError> {
     format!(in alloc; "\"{digits}\"")
 }
 
-/// Goes on with an array of the row: its next item is the next field, and behind that what is left of it.
+/// Goes on with an array of the row: its next item is the next field, and after that what is left of it.
 fn go_on<'a>(row: &mut Row<'a>, items: Items<'a>, i: usize) -> Result<(), AllocError> {
     match items.get(i) {
         Some(item) => {

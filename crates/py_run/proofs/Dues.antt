@@ -113,20 +113,21 @@ write_due (Some d) = tt
 
 -- ---- codes and their texts
 
-is_sound : (d : Due) (code : CodeObject) → IsCodeOf d code → IsSound d
-is_sound Misuse code h = absurd h
-is_sound (Misread text) code h = absurd h
-is_sound (Refused f) code h = absurd h
-is_sound (Compiled c t) code h = tt
-is_sound (Spelled bytes o) code h = h.2
-is_sound (Told text) code h = absurd h
+due_is_sound : (d : Due) (code : CodeObject) → IsCodeOf d code → IsSound d
+due_is_sound Misuse code h = absurd h
+due_is_sound (Misread text) code h = absurd h
+due_is_sound (Refused f) code h = absurd h
+due_is_sound (Compiled c t) code h = tt
+due_is_sound (Spelled bytes o) code h = h.2
+due_is_sound (Told text) code h = absurd h
 
 pub code_due : (o : Option Due) (code : CodeObject) → IfSome o (λ d. IsCodeOf d code) → IfSome o (IsDue status.Done)
 code_due None code h = tt
-code_due (Some d) code h = is_sound d code h
+code_due (Some d) code h = due_is_sound d code h
 
 -- what holds of the text that was written holds of the text that is due
-pub code_text_is : (form : Option Command) (o : Option Due) (code : CodeObject) (text : List ℕ) (P : List ℕ → Type 0) → IfSome form (λ c. IsTextOf c code text) → P text → IfSome (text_by form (Some code) o) P
+pub code_text_is : (form : Option Command) (o : Option Due) (code : CodeObject) (text : List ℕ) (P : List ℕ → Type 0) → IfSome form (λ c. IsTextOf c code text)
+    → P text → IfSome (text_by form (Some code) o) P
 code_text_is None o code text P h p = tt
 code_text_is (Some c) o code text P h p = subst P h.0 p
 

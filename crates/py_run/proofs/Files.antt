@@ -4,7 +4,7 @@ use Rattle.py_bytecode.specs.Objects.{Object}
 use Rattle.py_bytecode.specs.View.{object}
 use Rattle.py_bytecode.specs.declared.code.CodeObject.{CodeObject}
 use Rattle.py_codefile.specs.Grammar.{Spells}
-use Rattle.py_codefile.specs.Spelling.{spelling}
+use Rattle.py_codefile.specs.Spelling.{file_spelling}
 use Rattle.py_codefile.proofs.FileFormat.{file_again}
 use Rattle.py_verifier_law.specs.Flawless.{CompiledIsFlawless}
 use Rattle.py_listing.specs.Listing.{listing}
@@ -25,7 +25,7 @@ same_code law (Compiled c t) a b h k = law t c.path c.mode c.level a b h k
 same_code law (Spelled bytes o) a b h k = h.0 ∙ sym k.0
 same_code law (Told text) a b h k = absurd h
 
--- and they have no flaw
+-- and they have no verification error
 no_flaw : CompiledIsFlawless → (d : Due) (a : CodeObject) → IsCodeOf d a → Flawless (object a)
 no_flaw law Misuse a h = absurd h
 no_flaw law (Misread text) a h = absurd h
@@ -35,14 +35,15 @@ no_flaw law (Spelled bytes o) a h = subst Flawless (sym h.0) h.2
 no_flaw law (Told text) a h = absurd h
 
 -- the file of a code is due to be that code
-file_due : (o : Object) → Spells (spelling o) o → length (spelling o) < 2 ^ 26 → Spelled (spelling o) o ≡ due Unpack (spelling o)
-file_due o h l = ap (by_file (spelling o)) (sym (file_again (spelling o) o h)) ∙ short_due Unpack (spelling o) l
+file_due : (o : Object) → Spells (file_spelling o) o → length (file_spelling o) < 2 ^ 26 → Spelled (file_spelling o) o ≡ due Unpack (file_spelling o)
+file_due o h l = ap (by_file (file_spelling o)) (sym (file_again (file_spelling o) o h)) ∙ short_due Unpack (file_spelling o) l
 
-pub unpacks : EqualTreesHaveEqualCode → CompiledIsFlawless → (d : Due) (listed packed : CodeObject) → IsCodeOf d listed → IsCodeOf d packed → Spells (spelling (object packed)) (object packed) → length (spelling (object packed)) < 2 ^ 26
-    → Unpacks (spelling (object packed)) (listing (object listed))
-unpacks equal flawless d listed packed h k s l = record {
+pub file_unpacks : EqualTreesHaveEqualCode → CompiledIsFlawless → (d : Due) (listed packed : CodeObject) → IsCodeOf d listed → IsCodeOf d packed
+    → Spells (file_spelling (object packed)) (object packed) → length (file_spelling (object packed)) < 2 ^ 26
+    → Unpacks (file_spelling (object packed)) (listing (object listed))
+file_unpacks equal flawless d listed packed h k s l = record {
   sound = subst IsSound (file_due (object packed) s l) (no_flaw flawless d packed k);
   same = λ code u.
-      let v : IsCodeOf (Spelled (spelling (object packed)) (object packed)) code = subst (λ e. IsCodeOf e code) (sym (file_due (object packed) s l)) u in
+      let v : IsCodeOf (Spelled (file_spelling (object packed)) (object packed)) code = subst (λ e. IsCodeOf e code) (sym (file_due (object packed) s l)) u in
       ap listing (v.0 ∙ same_code equal d packed listed k h);
 }

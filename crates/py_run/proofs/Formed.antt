@@ -44,7 +44,7 @@ report_form (Some c) text h = refl
 pub report_reported : (form : Option Command) (text : String Global) → HasForm (made.Report text) form → Reports status.Done form None
 report_reported form text h = let P : Option Command → Type 0 = λ f. Reports status.Done f None in subst P (sym (report_formed form text h)) refl
 
--- ---- lines, failed reads and want of memory
+-- ---- lines, failed reads and out of memory
 
 pub refusal_form : (form : Option Command) (line : String Global) → HasForm (made.Refusal line) form → TakesTree form
 refusal_form None line h = h

@@ -9,7 +9,7 @@ use Rattle.py_bytecode.specs.View.{object}
 use Rattle.py_bytecode.specs.declared.code.CodeObject.{CodeObject}
 use Rattle.py_codefile.specs.Grammar.{Spells}
 use Rattle.py_codefile.specs.Places.{Fails}
-use Rattle.py_codefile.specs.Spelling.{spelling}
+use Rattle.py_codefile.specs.Spelling.{file_spelling}
 use Rattle.py_codefile.specs.declared.error.ReadCodeError.{ReadCodeError}
 use Rattle.py_codefile.specs.declared.error.ReadCodeError.TheVariants as bad
 use Rattle.py_listing.specs.Listing.{listing}
@@ -34,19 +34,20 @@ use Rattle.py_run.specs.declared.preparing.Prepared.{Prepared}
 use Rattle.py_run.specs.declared.preparing.Prepared.TheVariants as made
 use Rattle.py_run.specs.Prepared.{Compiles, IsFiled, IsListed, IsVerified, Readies, RefusesTree, TellsFault}
 use Rattle.py_run.specs.Runs.{TakesTree}
-use Rattle.py_run.specs.Statuses.{Due, Misuse, Misread, Refused, Compiled, Spelled, Told, IsCodeOf, by_file, by_rows, compiled, file_text, flaw_text, lines_text, reported, rows_text, unless_refused}
+use Rattle.py_lines.specs.Lines.{rows_text}
+use Rattle.py_run.specs.Statuses.{Due, Misuse, Misread, Refused, Compiled, Spelled, Told, IsCodeOf, by_file, by_rows, due_code, file_text, flaw_text, lines_text, due_report, unless_refused}
 use Rattle.py_run.specs.Words.{Command, Compilation, Compile, Pack, Unpack, Names}
 
 -- ---- lines
 
-pub tells : (c : Command) (p : Prepared) (text : List ℕ) → TellsFault p text → Readies c p (Misread text)
-tells c (made.Code code t) text h = absurd h
-tells c (made.Report t) text h = absurd h
-tells c (made.Refusal line) text h = absurd h
-tells c (made.Misread line) text h = h
-tells c made.Misuse text h = absurd h
-tells c made.ReadFault text h = absurd h
-tells c made.Memory text h = tt
+pub made_tells : (c : Command) (p : Prepared) (text : List ℕ) → TellsFault p text → Readies c p (Misread text)
+made_tells c (made.Code code t) text h = absurd h
+made_tells c (made.Report t) text h = absurd h
+made_tells c (made.Refusal line) text h = absurd h
+made_tells c (made.Misread line) text h = h
+made_tells c made.Misuse text h = absurd h
+made_tells c made.ReadFault text h = absurd h
+made_tells c made.Memory text h = tt
 
 pub refuses : (c : Command) (p : Prepared) (f : Fault) → TakesTree (Some c) → RefusesTree p f → Readies c p (Refused f)
 refuses c (made.Code code t) f k h = absurd h
@@ -57,7 +58,7 @@ refuses c made.Misuse f k h = absurd h
 refuses c made.ReadFault f k h = absurd h
 refuses c made.Memory f k h = tt
 
--- an error of rows other than want of memory is what reading gives
+-- an error of rows other than out of memory is what reading gives
 rows_refused : (e : RowsError) (rows : Result tree.Mod RowsError) → e ≢ row.OutOfMemory → RowsFail e rows → rows ≡ Err e
 rows_refused row.NotJson rows k h = h
 rows_refused row.NotRows rows k h = h
@@ -71,15 +72,16 @@ rows_refused row.NoMod rows k h = h
 rows_refused (row.NotNamed n) rows k h = h
 rows_refused row.OutOfMemory rows k h = absurd (k refl)
 
-pub misread_rows : (e : RowsError) (p : Prepared) (rows : Result tree.Mod RowsError) → e ≢ row.OutOfMemory → RowsFail e rows → TellsFault p (rows_text e) → (c : Command) (f : tree.Mod → Due) → Readies c p (by_rows f rows)
-misread_rows e p rows k h t c f = subst (λ r. Readies c p (by_rows f r)) (sym (rows_refused e rows k h)) (tells c p (rows_text e) t)
+pub misread_rows : (e : RowsError) (p : Prepared) (rows : Result tree.Mod RowsError) → e ≢ row.OutOfMemory → RowsFail e rows → TellsFault p (rows_text e)
+    → (c : Command) (f : tree.Mod → Due) → Readies c p (by_rows f rows)
+misread_rows e p rows k h t c f = subst (λ r. Readies c p (by_rows f r)) (sym (rows_refused e rows k h)) (made_tells c p (rows_text e) t)
 
 -- ---- codes of trees
 
-pub compiled_due : (code : CodeObject) (c : Compilation) (t : tree.Mod) → IsCompiled (Ok code) t c.path c.mode c.level → IsCodeOf (compiled c t) code
+pub compiled_due : (code : CodeObject) (c : Compilation) (t : tree.Mod) → IsCompiled (Ok code) t c.path c.mode c.level → IsCodeOf (due_code c t) code
 compiled_due code c t h = subst (λ fs. IsCodeOf (unless_refused (Compiled c t) fs) code) (sym h.clean) h
 
-pub refused_due : (e : LocatedError CodegenErrorType) (c : Compilation) (t : tree.Mod) (p : Prepared) → e.error ≢ error.OutOfMemory → IsFirst e (faults t c.mode c.level) → RefusesTree p (record { error = e.error; location = e.location }) → Compiles (Err p) (compiled c t)
+pub refused_due : (e : LocatedError CodegenErrorType) (c : Compilation) (t : tree.Mod) (p : Prepared) → e.error ≢ error.OutOfMemory → IsFirst e (faults t c.mode c.level) → RefusesTree p (record { error = e.error; location = e.location }) → Compiles (Err p) (due_code c t)
 refused_due e c t p k h r = λ command takes.
     let first = h k in
     subst (λ fs. Readies command p (unless_refused (Compiled c t) fs)) (sym first.1) (refuses command p _ takes r)
@@ -94,7 +96,7 @@ listed_ready c made.ReadFault code d h k = absurd h
 listed_ready c made.Memory code d h k = tt
 
 -- bytes that spell a code are its spelling
-respelled : (bytes : List ℕ) (o : Object) → Spells bytes o → Spells (spelling o) o
+respelled : (bytes : List ℕ) (o : Object) → Spells bytes o → Spells (file_spelling o) o
 respelled bytes o h = subst (λ b. Spells b o) h.spelled h
 
 pub filed_ready : (c : Compilation) (p : Prepared) (code : CodeObject) (d : Due) → IsFiled p code → IsCodeOf d code → Readies (Pack c) p d
@@ -131,8 +133,9 @@ no_file (bad.TooDeep at) file k h = h
 no_file (bad.Trailing at) file k h = h
 no_file bad.OutOfMemory file k h = absurd (k refl)
 
-pub bad_file : (e : ReadCodeError) (bytes : List ℕ) (p : Prepared) (file : Result Object ReadCodeError) → e ≢ bad.OutOfMemory → Fails e file → TellsFault p (file_text e) → Readies Unpack p (by_file bytes file)
-bad_file e bytes p file k h t = subst (λ r. Readies Unpack p (by_file bytes r)) (sym (no_file e file k h)) (tells Unpack p (file_text e) t)
+pub bad_file : (e : ReadCodeError) (bytes : List ℕ) (p : Prepared) (file : Result Object ReadCodeError) → e ≢ bad.OutOfMemory → Fails e file
+    → TellsFault p (file_text e) → Readies Unpack p (by_file bytes file)
+bad_file e bytes p file k h t = subst (λ r. Readies Unpack p (by_file bytes r)) (sym (no_file e file k h)) (made_tells Unpack p (file_text e) t)
 
 pub verified_ready : (p : Prepared) (code : CodeObject) → IsListed p code → Flawless (object code) → IsVerified p (object code)
 verified_ready (made.Code e text) code h k = λ bytes s.
@@ -156,16 +159,17 @@ flawed_ready made.Memory o h k = λ bytes s. tt
 
 -- ---- reports on names
 
-pub told_ready : (t : tree.Mod) (text : List ℕ) → report_faults t ≡ [] → text ≡ lines_text (report_lines t) → reported t ≡ Told text
+pub told_ready : (t : tree.Mod) (text : List ℕ) → report_faults t ≡ [] → text ≡ lines_text (report_lines t) → due_report t ≡ Told text
 told_ready t text clean is = ap (λ fs. unless_refused (Told (lines_text (report_lines t))) (map fault_as fs)) clean ∙ ap Told (sym is)
 
 scan_known : (r : ScanFault) (e : CodegenErrorType) → e ≡ codegen_error r → e ≢ error.OutOfMemory → r ≢ fault.OutOfMemory
 scan_known r e is known same = known (is ∙ ap codegen_error same)
 
-pub unreported : (s : SymbolTableError) (e : LocatedError CodegenErrorType) (t : tree.Mod) (p : Prepared) → e.error ≡ codegen_error s.error → e.location ≡ s.location → e.error ≢ error.OutOfMemory → tables.IsFirst s (report_faults t)
-    → RefusesTree p (record { error = e.error; location = e.location }) → Readies Names p (reported t)
+pub unreported : (s : SymbolTableError) (e : LocatedError CodegenErrorType) (t : tree.Mod) (p : Prepared) → e.error ≡ codegen_error s.error
+    → e.location ≡ s.location → e.error ≢ error.OutOfMemory → tables.IsFirst s (report_faults t)
+    → RefusesTree p (record { error = e.error; location = e.location }) → Readies Names p (due_report t)
 unreported s e t p is at known h r =
     let first = h (scan_known s.error e.error is known) in
     let same : fault_as (record { error = s.error; location = s.location }) ≡ record { error = e.error; location = e.location } = λ i. record { error = sym is i; location = sym at i } in
-    let due : reported t ≡ Refused (record { error = e.error; location = e.location }) = ap (λ fs. unless_refused (Told (lines_text (report_lines t))) (map fault_as fs)) first.1 ∙ ap Refused same in
+    let due : due_report t ≡ Refused (record { error = e.error; location = e.location }) = ap (λ fs. unless_refused (Told (lines_text (report_lines t))) (map fault_as fs)) first.1 ∙ ap Refused same in
     subst (Readies Names p) (sym due) (refuses Names p _ tt r)

@@ -17,8 +17,8 @@ appends_on (Some x) None d text at n p q = absurd p
 appends_on (Some x) (Some y) None text at n p q = absurd q
 appends_on (Some x) (Some y) (Some z) text at n p q = rw (q, p, take-add at n text) (append_assoc x (take at text) (take n (drop at text)))
 
-pub rest_is : (text : List ℕ) (at : ℕ) → take (length text - at) (drop at text) ≡ drop at text
-rest_is text at = take_all (length text - at) (drop at text) (simp length-drop (omega arith))
+pub piece_rest_is : (text : List ℕ) (at : ℕ) → take (length text - at) (drop at text) ≡ drop at text
+piece_rest_is text at = take_all (length text - at) (drop at text) (simp length-drop (omega arith))
 
 pub room_on : (a b d : Option ℕ) (bytes : List ℕ) (before now at n : ℕ) → KeepsRoom a b at → HasRoom b d before now (Took n) bytes → KeepsRoom a d (at + n)
 room_on None b d bytes before now at n p q = tt
@@ -27,14 +27,17 @@ room_on (Some x) (Some y) None bytes before now at n p q = absurd q
 room_on (Some x) (Some y) (Some z) bytes before now at n p q = omega (arith, p, q.0)
 
 -- what was left after at bytes was handed in, and n of it were taken
-pub rest_on : (a b d : Option (List ℕ)) (text bytes : List ℕ) (before mid now at n : ℕ) → bytes ≡ drop at text → (a ≡ Some text → (mid ≡ before) × (b ≡ Some (drop at text))) → (b ≡ Some bytes → (now ≡ mid) × (d ≡ Some (drop n bytes))) → a ≡ Some text → (now ≡ before) × (d ≡ Some (drop (at + n) text))
+pub rest_on : (a b d : Option (List ℕ)) (text bytes : List ℕ) (before mid now at n : ℕ) → bytes ≡ drop at text
+    → (a ≡ Some text → (mid ≡ before) × (b ≡ Some (drop at text))) → (b ≡ Some bytes → (now ≡ mid) × (d ≡ Some (drop n bytes))) → a ≡ Some text
+    → (now ≡ before) × (d ≡ Some (drop (at + n) text))
 rest_on a b d text bytes before mid now at n e p q h =
     let m = p h in
     let w = q (m.1 ∙ ap Some (sym e)) in
     (w.0 ∙ m.0, w.1 ∙ ap Some (ap (drop n) e ∙ drop-drop n at text))
 
 -- a sink that had room for the whole text has room for the rest, and so counts no fault
-pub quiet_on : (a b d : Option ℕ) (text bytes : List ℕ) (before mid now at n : ℕ) → at + length bytes ≤ length text → KeepsRoom a b at → IfSome a (λ room. length text ≤ room → mid ≡ before) → HasRoom b d mid now (Took n) bytes → IfSome a (λ room. length text ≤ room → now ≡ before)
+pub quiet_on : (a b d : Option ℕ) (text bytes : List ℕ) (before mid now at n : ℕ) → at + length bytes ≤ length text → KeepsRoom a b at
+    → IfSome a (λ room. length text ≤ room → mid ≡ before) → HasRoom b d mid now (Took n) bytes → IfSome a (λ room. length text ≤ room → now ≡ before)
 quiet_on None b d text bytes before mid now at n l p q r = tt
 quiet_on (Some x) None d text bytes before mid now at n l p q r = absurd p
 quiet_on (Some x) (Some y) None text bytes before mid now at n l p q r = absurd r

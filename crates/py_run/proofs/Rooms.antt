@@ -21,7 +21,8 @@ HandsAll awaited before now text = awaited ≡ Some text → now ≡ before
 not_ok : (e : WriteFailed) → IsOk {T = Unit {0}} {E = WriteFailed} (Err e) → ⊥
 not_ok e h = cc
 
-pub room_done : (room : Option ℕ) (text : List ℕ) (before now : ℕ) (r : Result (Unit {0}) WriteFailed) → IfSome room (λ n. length text ≤ n → IsOk r × (now ≡ before)) → HasRoom status.Done room before now text
+pub room_done : (room : Option ℕ) (text : List ℕ) (before now : ℕ) (r : Result (Unit {0}) WriteFailed)
+    → IfSome room (λ n. length text ≤ n → IsOk r × (now ≡ before)) → HasRoom status.Done room before now text
 room_done None text before now r h = tt
 room_done (Some n) text before now r h = λ l. (refl, (h l).1)
 
@@ -29,7 +30,8 @@ pub no_room : (room : Option ℕ) (text : List ℕ) (s : Status) (before now : �
 no_room None text s before now e h = tt
 no_room (Some n) text s before now e h = λ l. absurd (not_ok e (h l).0)
 
-pub room_for : (room : Option ℕ) (line : List ℕ) (s : Status) (before now : ℕ) (r : Result (Unit {0}) WriteFailed) → (s ≡ status.WriteFault → ⊥) → IfSome room (λ n. length line ≤ n → IsOk r × (now ≡ before)) → HasLineRoom s room before now line
+pub room_for : (room : Option ℕ) (line : List ℕ) (s : Status) (before now : ℕ) (r : Result (Unit {0}) WriteFailed) → (s ≡ status.WriteFault → ⊥)
+    → IfSome room (λ n. length line ≤ n → IsOk r × (now ≡ before)) → HasLineRoom s room before now line
 room_for None line s before now r d h = tt
 room_for (Some n) line s before now r d h = λ l. (d, (h l).1)
 

@@ -14,7 +14,7 @@ use Rattle.py_interp.proofs.Walked.{meanings_walk}
 use Rattle.py_interp.specs.Statements.{tree_run}
 use Rattle.codegen.specs.Calls.{IsCompiled}
 use Rattle.py_run.specs.Prepared.{IsTextOf}
-use Rattle.py_run.specs.Statuses.{Due, Misuse, Misread, Refused, Compiled, Spelled, Told, IsCodeOf, MeansAlike, code_run, compiled, unless_refused}
+use Rattle.py_run.specs.Statuses.{Due, Misuse, Misread, Refused, Compiled, Spelled, Told, IsCodeOf, MeansAlike, code_run, due_code, unless_refused}
 use Rattle.py_run.specs.Words.{Command, Compilation, Compile, Pack, Step, Unpack, Names, Sample}
 
 -- a code that is due of a tree is compiled of it
@@ -23,7 +23,7 @@ is_compiled c t [] code h = h
 is_compiled c t (f ∷ fs) code h = absurd h
 
 -- the text of both runs is that of the code alone
-pub step_text_of : (c : Compilation) (script : List Answer) (t : tree.Mod) (code : CodeObject) (text : List ℕ) → IsCodeOf (compiled c t) code
+pub step_text_of : (c : Compilation) (script : List Answer) (t : tree.Mod) (code : CodeObject) (text : List ℕ) → IsCodeOf (due_code c t) code
     → text ≡ report_text (code_run (object code) (answers_of script)) (tree_run t c.mode c.level (answers_of script)) → IsTextOf (Step c script) code text
 step_text_of c script t code text h e =
     let k = is_compiled c t (faults t c.mode c.level) code h in

@@ -10,14 +10,14 @@ use Rattle.py_tree.specs.declared.modules.Mode.TheVariants.{Exec}
 use Rattle.py_run.specs.declared.preparing.Prepared.{Prepared}
 use Rattle.py_run.specs.declared.preparing.Prepared.TheVariants as made
 use Rattle.py_run.specs.Prepared.{Compiles, IsSummed, Readies}
-use Rattle.py_run.specs.Statuses.{Compiled, IsCodeOf, compiled, sample_compilation, sampled, unless_refused}
+use Rattle.py_run.specs.Statuses.{Compiled, IsCodeOf, due_code, sample_compilation, due_sample, unless_refused}
 use Rattle.py_run.specs.Words.{Compile, Names, Sample}
 
-pub sample_due : SamplesAreFaultless → (n level : ℕ) (t : tree.Mod) → n < 2 ^ 17 → t ≡ program n → compiled (sample_compilation level) t ≡ sampled n level
-sample_due law n level t few e = ap (compiled (sample_compilation level)) e ∙ ap (unless_refused (Compiled (sample_compilation level) (program n))) (law n Exec level few)
+pub sample_due : SamplesAreFaultless → (n level : ℕ) (t : tree.Mod) → n < 2 ^ 17 → t ≡ program n → due_code (sample_compilation level) t ≡ due_sample n level
+sample_due law n level t few e = ap (due_code (sample_compilation level)) e ∙ ap (unless_refused (Compiled (sample_compilation level) (program n))) (law n Exec level few)
 
-pub summed_ready : (n level : ℕ) (p : Prepared) (code : CodeObject) → IsSummed p n code → IsCodeOf (sampled n level) code → Readies (Sample n level) p (sampled n level)
-summed_ready n level (made.Code e text) code h k = (subst (IsCodeOf (sampled n level)) (sym h.0) k, (h.1 ∙ ap (λ x. summary n (object x)) (sym h.0), tt))
+pub summed_ready : (n level : ℕ) (p : Prepared) (code : CodeObject) → IsSummed p n code → IsCodeOf (due_sample n level) code → Readies (Sample n level) p (due_sample n level)
+summed_ready n level (made.Code e text) code h k = (subst (IsCodeOf (due_sample n level)) (sym h.0) k, (h.1 ∙ ap (λ x. summary n (object x)) (sym h.0), tt))
 summed_ready n level (made.Report text) code h k = absurd h
 summed_ready n level (made.Refusal line) code h k = absurd h
 summed_ready n level (made.Misread line) code h k = absurd h
@@ -25,8 +25,8 @@ summed_ready n level made.Misuse code h k = absurd h
 summed_ready n level made.ReadFault code h k = absurd h
 summed_ready n level made.Memory code h k = tt
 
--- what is made in place of a code that is due, whatever is asked of the tree, is want of memory
-pub unsummed : (n level : ℕ) (p : Prepared) → Compiles (Err p) (sampled n level) → Readies (Sample n level) p (sampled n level)
+-- what is made in place of a code that is due, whatever is asked of the tree, is out of memory
+pub unsummed : (n level : ℕ) (p : Prepared) → Compiles (Err p) (due_sample n level) → Readies (Sample n level) p (due_sample n level)
 unsummed n level (made.Code e text) h = absurd (h Names tt).1.1
 unsummed n level (made.Report text) h = let e = (h (Compile (sample_compilation level)) tt).1 in cc
 unsummed n level (made.Refusal line) h = absurd (h Names tt).0

@@ -21,7 +21,10 @@ then_more (Some xs) (Some ys) None bytes more h k = absurd k
 then_more (Some xs) (Some ys) (Some zs) bytes more h k = h ∙ ap (λ (ts : List ℕ). bytes ++ ts) k ∙ sym (append_assoc bytes more zs)
 
 -- fewer bytes were taken of a source that goes on, and then a read gave some, as many as its buffer has room for at most
-pub takes_got : (before mid now : Option (List ℕ)) (bytes buffer : List ℕ) (n : ℕ) (ended_before ended_mid ended_now : Bool) (late_before late_now : ℕ) → Consumes before mid bytes → (ended_before ≡ false → ended_mid ≡ false) → ReadGives mid now (Got n) buffer → ReadsInTime ended_mid ended_now late_before late_now (Got n) → length bytes < 67108864 → length bytes + length buffer ≤ 67108864 → TakesFew before now ended_before ended_now
+pub takes_got : (before mid now : Option (List ℕ)) (bytes buffer : List ℕ) (n : ℕ) (ended_before ended_mid ended_now : Bool) (late_before late_now : ℕ)
+    → Consumes before mid bytes → (ended_before ≡ false → ended_mid ≡ false) → ReadGives mid now (Got n) buffer
+    → ReadsInTime ended_mid ended_now late_before late_now (Got n) → length bytes < 67108864 → length bytes + length buffer ≤ 67108864
+    → TakesFew before now ended_before ended_now
 takes_got before mid now bytes buffer n ended_before ended_mid ended_now late_before late_now h on k time short few = (
   bytes ++ take n buffer,
   then_more before mid now bytes (take n buffer) h k.1,

@@ -6,7 +6,7 @@ use Rattle.std.specs.Io.KnownBytes.{Consumes, IsAtEnd}
 use Rattle.py_run.specs.declared.preparing.Prepared.{Prepared}
 use Rattle.py_run.specs.declared.preparing.Prepared.TheVariants as made
 use Rattle.py_run.specs.Prepared.{Fits, HasForm, Prepares, Readies, ReadsOf}
-use Rattle.py_run.specs.Statuses.{Due, Misread, answered, due, due_of, sampled}
+use Rattle.py_run.specs.Statuses.{Due, Misread, due_answer, due, due_of, due_sample}
 use Rattle.py_run.specs.Words.{Command, Compile, Names, Pack, Sample, Step, Unpack, reads_input, takes_input, words_form}
 
 pub unless_failed : (c : Command) (p : Prepared) (d : Due) → Readies c p d → Prepares p d
@@ -18,17 +18,17 @@ unless_failed c made.Misuse d h = absurd h
 unless_failed c made.ReadFault d h = absurd h
 unless_failed c made.Memory d h = h
 
-fits : (c : Command) (p : Prepared) (d : Due) → takes_input c ≡ true → Readies c p d → Fits p c
-fits c (made.Code code text) d t h = h.1
-fits c (made.Report text) d t h = h.1
-fits c (made.Refusal line) d t h = h.1
-fits c (made.Misread line) d t h = t
-fits c made.Misuse d t h = absurd h
-fits c made.ReadFault d t h = absurd h
-fits c made.Memory d t h = tt
+verdict_fits : (c : Command) (p : Prepared) (d : Due) → takes_input c ≡ true → Readies c p d → Fits p c
+verdict_fits c (made.Code code text) d t h = h.1
+verdict_fits c (made.Report text) d t h = h.1
+verdict_fits c (made.Refusal line) d t h = h.1
+verdict_fits c (made.Misread line) d t h = t
+verdict_fits c made.Misuse d t h = absurd h
+verdict_fits c made.ReadFault d t h = absurd h
+verdict_fits c made.Memory d t h = tt
 
 -- what is made without input is a code with its text, unless memory ran out
-fits_sample : (count level : ℕ) (p : Prepared) → Readies (Sample count level) p (sampled count level) → Fits p (Sample count level)
+fits_sample : (count level : ℕ) (p : Prepared) → Readies (Sample count level) p (due_sample count level) → Fits p (Sample count level)
 fits_sample count level (made.Code code text) h = h.1
 fits_sample count level (made.Report text) h = h.1
 fits_sample count level (made.Refusal line) h = h.1
@@ -37,7 +37,7 @@ fits_sample count level made.Misuse h = absurd h
 fits_sample count level made.ReadFault h = absurd h
 fits_sample count level made.Memory h = tt
 
-fits_alone : (c : Command) (p : Prepared) → takes_input c ≡ false → Readies c p (answered c []) → Fits p c
+fits_alone : (c : Command) (p : Prepared) → takes_input c ≡ false → Readies c p (due_answer c []) → Fits p c
 fits_alone (Compile c) p t h = absurd (true≢false t)
 fits_alone (Pack c) p t h = absurd (true≢false t)
 fits_alone (Step c script) p t h = absurd (true≢false t)
@@ -59,7 +59,7 @@ formed words c p w h = let P : Option Command → Type 0 = HasForm p in subst P 
 
 -- what is made of bytes, and what is made without input, has the form of the words
 pub has_form : (words : List (List ℕ)) (c : Command) (p : Prepared) (d : Due) → words_form words ≡ Some c → takes_input c ≡ true → Readies c p d → HasForm p (words_form words)
-has_form words c p d w t h = formed words c p w (fits c p d t h)
+has_form words c p d w t h = formed words c p w (verdict_fits c p d t h)
 
 pub fault_form : (words : List (List ℕ)) (c : Command) → words_form words ≡ Some c → takes_input c ≡ true → HasForm made.ReadFault (words_form words)
 fault_form words c w t = formed words c made.ReadFault w t
@@ -68,11 +68,12 @@ fault_form words c w t = formed words c made.ReadFault w t
 pub reads : {A : Type 0} (words : List (List ℕ)) (c : Command) → words_form words ≡ Some c → takes_input c ≡ true → reads_input (words_form words) ≡ false → A
 reads words c w t none = absurd (true≢false (sym t ∙ sym (ap reads_input w) ∙ none))
 
-pub alone_form : (words : List (List ℕ)) (c : Command) (p : Prepared) → words_form words ≡ Some c → takes_input c ≡ false → Readies c p (answered c []) → HasForm p (words_form words)
+pub alone_form : (words : List (List ℕ)) (c : Command) (p : Prepared) → words_form words ≡ Some c → takes_input c ≡ false → Readies c p (due_answer c []) → HasForm p (words_form words)
 alone_form words c p w t h = formed words c p w (fits_alone c p t h)
 
-pub alone_due : (words : List (List ℕ)) (c : Command) (left : Option (List ℕ)) (p : Prepared) → words_form words ≡ Some c → takes_input c ≡ false → Readies c p (answered c []) → IfSome (due_of words left) (Prepares p)
-alone_due words c left p w t h = rw (w, t) (unless_failed c p (answered c []) h)
+pub alone_due : (words : List (List ℕ)) (c : Command) (left : Option (List ℕ)) (p : Prepared) → words_form words ≡ Some c → takes_input c ≡ false
+    → Readies c p (due_answer c []) → IfSome (due_of words left) (Prepares p)
+alone_due words c left p w t h = rw (w, t) (unless_failed c p (due_answer c []) h)
 
 -- and no read of it failed
 pub alone_reads : (c : Command) (p : Prepared) (d : Due) (alone : Bool) (n : ℕ) → Readies c p d → ReadsOf p alone n n
@@ -84,15 +85,16 @@ alone_reads c made.Misuse d alone n h = λ t. refl
 alone_reads c made.ReadFault d alone n h = absurd h
 alone_reads c made.Memory d alone n h = λ t. refl
 
-pub short_due : (c : Command) (bytes : List ℕ) → length bytes < 2 ^ 26 → answered c bytes ≡ due c bytes
-short_due c bytes h = ap (λ b. cond b (answered c bytes) (Misread (codes "too long"))) (sym (lt-ltb _ _ h))
+pub short_due : (c : Command) (bytes : List ℕ) → length bytes < 2 ^ 26 → due_answer c bytes ≡ due c bytes
+short_due c bytes h = ap (λ b. cond b (due_answer c bytes) (Misread (codes "too long"))) (sym (lt-ltb _ _ h))
 
 long_due : (c : Command) (bytes : List ℕ) → 2 ^ 26 ≤ length bytes → Misread (codes "too long") ≡ due c bytes
-long_due c bytes h = ap (λ b. cond b (answered c bytes) (Misread (codes "too long"))) (sym (le-ltb _ _ h))
+long_due c bytes h = ap (λ b. cond b (due_answer c bytes) (Misread (codes "too long"))) (sym (le-ltb _ _ h))
 
 -- all that was left was read
-pub all_read : (words : List (List ℕ)) (c : Command) (left now : Option (List ℕ)) (bytes : List ℕ) (p : Prepared) → words_form words ≡ Some c → takes_input c ≡ true → length bytes < 2 ^ 26 → Consumes left now bytes → IsAtEnd now
-    → Readies c p (answered c bytes) → IfSome (due_of words left) (Prepares p)
+pub all_read : (words : List (List ℕ)) (c : Command) (left now : Option (List ℕ)) (bytes : List ℕ) (p : Prepared) → words_form words ≡ Some c
+    → takes_input c ≡ true → length bytes < 2 ^ 26 → Consumes left now bytes → IsAtEnd now
+    → Readies c p (due_answer c bytes) → IfSome (due_of words left) (Prepares p)
 all_read words c None now bytes p w t l h e r = rw (w, t) tt
 all_read words c (Some xs) None bytes p w t l h e r = absurd h
 all_read words c (Some xs) (Some ys) bytes p w t l h e r =

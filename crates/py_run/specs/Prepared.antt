@@ -12,11 +12,12 @@ use Rattle.py_listing.specs.Listing.{listing}
 use Rattle.py_verify.specs.Nested.{Flawless}
 use Rattle.py_meaning.specs.ExprFaults.{Fault}
 use Rattle.py_sample.specs.Summary.{summary}
+use Rattle.py_lines.specs.Lines.{input_line, refusal_line}
 use Rattle.py_run.specs.declared.preparing.Prepared.{Prepared}
 use Rattle.py_run.specs.declared.preparing.Prepared.TheVariants as made
 use Rattle.py_devices.specs.Devices.{Rose}
 use Rattle.py_run.specs.Runs.{TakesTree}
-use Rattle.py_run.specs.Statuses.{Due, Misuse, Misread, Refused, Spelled, Told, IsCodeOf, IsReported, by_rows, code_text, flaw_text, input_line, refusal_line}
+use Rattle.py_run.specs.Statuses.{Due, Misuse, Misread, Refused, Spelled, Told, IsCodeOf, IsReported, by_rows, code_text, flaw_text}
 use Rattle.py_run.specs.Words.{Command, Names, Unpack, takes_input}
 
 -- the line names the first fault

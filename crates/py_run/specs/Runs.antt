@@ -5,11 +5,12 @@ use Rattle.py_bytecode.specs.Objects.{Object}
 use Rattle.py_bytecode.specs.View.{object}
 use Rattle.py_bytecode.specs.declared.code.CodeObject.{CodeObject}
 use Rattle.py_verify.specs.Nested.{Flawless}
+use Rattle.py_lines.specs.Lines.{input_line, refusal_line}
 use Rattle.py_run.specs.declared.report.Report.{Report}
 use Rattle.py_run.specs.declared.report.Status.{Status}
 use Rattle.py_run.specs.declared.report.Status.TheVariants as status
 use Rattle.py_devices.specs.Devices.{Rose}
-use Rattle.py_run.specs.Statuses.{Due, Misuse, Misread, Refused, Compiled, Spelled, Told, IsReported, code_text, due_of, flaw_text, input_line, refusal_line, usage_line}
+use Rattle.py_run.specs.Statuses.{Due, Misuse, Misread, Refused, Compiled, Spelled, Told, IsReported, code_text, due_of, flaw_text, usage_line}
 use Rattle.py_run.specs.Words.{Command, Compile, Pack, Step, Unpack, Names, Sample, reads_input, words_form}
 
 -- ---- the status
@@ -104,8 +105,8 @@ side_of status.ReadFault begun = Nothing
 side_of status.WriteFault begun = begun
 side_of status.Memory begun = Nothing
 
-abbrev pub written : List (List ℕ) → Option (List ℕ) → Report → Written
-written words left r = side_of r.status (side (words_form words) r.code (due_of words left))
+abbrev pub written_sides : List (List ℕ) → Option (List ℕ) → Report → Written
+written_sides words left r = side_of r.status (side (words_form words) r.code (due_of words left))
 
 -- ---- what is written
 

@@ -2,22 +2,20 @@
 use Rattle.std.specs.Prelude.{◌≡◌, ℕ, ◌^◌, nat_lt, List, [], ◌∷◌, ◌++◌, length, Option, Some, None, map, option_map, Result, Ok, Err, codes, decimal, if◌then◌else◌}
 use Rattle.std.specs.List.{flat_map}
 use Rattle.py_tree.specs.Tree as tree
-use Rattle.py_base.specs.declared.location.SourceLocation.{SourceLocation}
 use Rattle.py_bytecode.specs.Objects.{Object}
 use Rattle.py_bytecode.specs.Units.{machine}
 use Rattle.py_bytecode.specs.Values as values
 use Rattle.py_bytecode.specs.View.{object}
 use Rattle.py_bytecode.specs.declared.code.CodeObject.{CodeObject}
-use Rattle.py_base.specs.Messages.{message}
 use Rattle.py_listing.specs.Listing.{listing}
 use Rattle.py_rows_fields.specs.declared.error.RowsError.{RowsError}
-use Rattle.py_rows_fields.specs.declared.error.RowsError.TheVariants.{NotJson, NotRows, WrongRow, WideInteger, LaterRow, WrongKind, NamedTwice, TooDeep, NoMod, NotNamed, OutOfMemory}
-use Rattle.py_rows.specs.Rows.{rows_tree}
+use Rattle.py_rows_format.specs.Rows.{rows_tree}
+use Rattle.py_lines.specs.Lines.{rows_text}
 use Rattle.py_codefile.specs.declared.error.ReadCodeError.{ReadCodeError}
 use Rattle.py_codefile.specs.declared.error.ReadCodeError.TheVariants as bad
 use Rattle.py_codefile.specs.Grammar.{Spells}
 use Rattle.py_codefile.specs.Reading.{file_at}
-use Rattle.py_codefile.specs.Spelling.{spelling}
+use Rattle.py_codefile.specs.Spelling.{file_spelling}
 use Rattle.py_verify.specs.Nested.{Flawless}
 use Rattle.py_names.specs.Lines.{report_lines}
 use Rattle.py_names.specs.Trees.{report_faults}
@@ -39,33 +37,6 @@ use Rattle.py_run.specs.Words.{Compilation, Command, Compile, Pack, Step, Unpack
 
 abbrev pub usage_line : List ℕ
 usage_line = codes "usage: pyc MODE LEVEL PATH\n"
-
-abbrev row_text : ℕ → List ℕ → List ℕ
-row_text n text = codes "row " ++ decimal n ++ codes ": " ++ text
-
--- what is wrong with the rows
-abbrev pub rows_text : RowsError → List ℕ
-rows_text NotJson = codes "not JSON"
-rows_text NotRows = codes "not rows"
-rows_text (WrongRow n) = row_text n (codes "wrong form")
-rows_text (WideInteger n) = row_text n (codes "integer too wide")
-rows_text (LaterRow n) = row_text n (codes "later row")
-rows_text (WrongKind n) = row_text n (codes "wrong kind")
-rows_text (NamedTwice n) = row_text n (codes "named twice")
-rows_text (TooDeep n) = row_text n (codes "too deep")
-rows_text NoMod = codes "no module"
-rows_text (NotNamed n) = row_text n (codes "not named")
-rows_text OutOfMemory = []
-
-abbrev pub input_line : List ℕ → List ℕ
-input_line text = codes "input: " ++ text ++ codes "\n"
-
-abbrev pub place_text : Option SourceLocation → List ℕ
-place_text None = codes "-:-"
-place_text (Some at) = decimal at.row ++ codes ":" ++ decimal at.column
-
-abbrev pub refusal_line : Fault → List ℕ
-refusal_line f = place_text f.location ++ codes " " ++ message f.error ++ codes "\n"
 
 -- what is wrong with a file that is read: where its first bad field begins
 abbrev pub bad_at : ReadCodeError → ℕ
@@ -96,7 +67,7 @@ pub data Due : Type 0 where
   Refused : Fault → Due
   -- the code that the compiler owes for this tree, which has no fault
   Compiled : Compilation → tree.Mod → Due
-  -- the code that these bytes spell, unless it has a flaw: then the input is at fault
+  -- the code that these bytes spell, unless it has a verification error: then the input is at fault
   Spelled : List ℕ → Object → Due
   -- this text, and no code
   Told : List ℕ → Due
@@ -105,15 +76,15 @@ abbrev pub unless_refused : Due → List Fault → Due
 unless_refused d [] = d
 unless_refused d (f ∷ fs) = Refused f
 
-abbrev pub compiled : Compilation → tree.Mod → Due
-compiled c t = unless_refused (Compiled c t) (faults t c.mode c.level)
+abbrev pub due_code : Compilation → tree.Mod → Due
+due_code c t = unless_refused (Compiled c t) (faults t c.mode c.level)
 
 -- each line with its end
 abbrev pub lines_text : List (List ℕ) → List ℕ
 lines_text lines = flat_map (λ line. line ++ codes "\n") lines
 
-abbrev pub reported : tree.Mod → Due
-reported t = unless_refused (Told (lines_text (report_lines t))) (map fault_as (report_faults t))
+abbrev pub due_report : tree.Mod → Due
+due_report t = unless_refused (Told (lines_text (report_lines t))) (map fault_as (report_faults t))
 
 -- what is due for the tree that rows are
 abbrev pub by_rows : (tree.Mod → Due) → Result tree.Mod RowsError → Due
@@ -128,25 +99,25 @@ by_file bytes (Err e) = Misread (file_text e)
 abbrev pub sample_compilation : (level : ℕ) → Compilation
 sample_compilation level = record { mode = Exec; level = level; path = codes "sample" }
 
-abbrev pub sampled : (count level : ℕ) → Due
-sampled count level = Compiled (sample_compilation level) (program count)
+abbrev pub due_sample : (count level : ℕ) → Due
+due_sample count level = Compiled (sample_compilation level) (program count)
 
 -- what a command makes of the bytes; a sample is made of none
-abbrev pub answered : Command → List ℕ → Due
-answered (Compile c) bytes = by_rows (compiled c) (rows_tree bytes)
-answered (Pack c) bytes = by_rows (compiled c) (rows_tree bytes)
-answered (Step c script) bytes = by_rows (compiled c) (rows_tree bytes)
-answered Unpack bytes = by_file bytes (file_at bytes)
-answered Names bytes = by_rows reported (rows_tree bytes)
-answered (Sample count level) bytes = sampled count level
+abbrev pub due_answer : Command → List ℕ → Due
+due_answer (Compile c) bytes = by_rows (due_code c) (rows_tree bytes)
+due_answer (Pack c) bytes = by_rows (due_code c) (rows_tree bytes)
+due_answer (Step c script) bytes = by_rows (due_code c) (rows_tree bytes)
+due_answer Unpack bytes = by_file bytes (file_at bytes)
+due_answer Names bytes = by_rows due_report (rows_tree bytes)
+due_answer (Sample count level) bytes = due_sample count level
 
 abbrev pub due : Command → List ℕ → Due
-due c bytes = if nat_lt (length bytes) (2 ^ 26) then answered c bytes else Misread (codes "too long")
+due c bytes = if nat_lt (length bytes) (2 ^ 26) then due_answer c bytes else Misread (codes "too long")
 
 -- the bytes count where the command takes input
 abbrev pub due_by : Option Command → Option (List ℕ) → Option Due
 due_by None left = Some Misuse
-due_by (Some c) left = if takes_input c then option_map (due c) left else Some (answered c [])
+due_by (Some c) left = if takes_input c then option_map (due c) left else Some (due_answer c [])
 
 -- so it is known where the words need no bytes, or the bytes are told
 abbrev pub due_of : List (List ℕ) → Option (List ℕ) → Option Due
@@ -170,7 +141,7 @@ code_run o answers = short (machine o answers)
 -- what a command writes of the code that it reports
 abbrev pub code_text : Command → Object → List ℕ
 code_text (Compile c) o = listing o
-code_text (Pack c) o = spelling o
+code_text (Pack c) o = file_spelling o
 code_text (Step c script) o = report_text (code_run o (answers_of script)) (code_run o (answers_of script))
 code_text Unpack o = listing o
 code_text Names o = []
@@ -179,7 +150,7 @@ code_text (Sample count level) o = summary count o
 -- what is so of that code whatever the source tells; the report on names reports no code
 abbrev pub IsReported : Command → Object → Type 0
 IsReported (Compile c) o = Unit {0}
-IsReported (Pack c) o = Spells (spelling o) o
+IsReported (Pack c) o = Spells (file_spelling o) o
 IsReported (Step c script) o = Unit {0}
 IsReported Unpack o = Flawless o
 IsReported Names o = ⊥

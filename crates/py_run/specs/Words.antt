@@ -7,10 +7,10 @@ use Rattle.std.specs.Str.{bytes_eq}
 use Rattle.py_answers.specs.declared.answers.Answer.{Answer}
 use Rattle.py_answers.specs.Scripts.{script_in}
 use Rattle.py_tree.specs.declared.modules.Mode.{Mode}
+use Rattle.py_lines.specs.Words.{level_of, mode_of}
 use Rattle.py_run.specs.declared.words.Compilation as kept
 use Rattle.py_run.specs.declared.words.Command as asked
 use Rattle.py_run.specs.declared.words.Command.TheVariants as asked_for
-use Rattle.py_tree.specs.declared.modules.Mode.TheVariants.{Exec, Eval, Single, BlockExpr}
 
 -- a compilation of rows: the mode, the level of optimization, and the path of the source
 pub record Compilation : Type 0 where
@@ -71,25 +71,12 @@ IsFit asked_for.Unpack = Unit {0}
 IsFit asked_for.Names = Unit {0}
 IsFit (asked_for.Sample s) = s.count < 2 ^ 17
 
-abbrev pub mode_of : List ℕ → Option Mode
-mode_of word =
-    if bytes_eq word (codes "exec") then Some Exec else
-    (if bytes_eq word (codes "eval") then Some Eval else
-    (if bytes_eq word (codes "single") then Some Single else
-    (if bytes_eq word (codes "block") then Some BlockExpr else None)))
-
-abbrev pub level_of : List ℕ → Option ℕ
-level_of word =
-    if bytes_eq word (codes "0") then Some 0 else
-    (if bytes_eq word (codes "1") then Some 1 else
-    (if bytes_eq word (codes "2") then Some 2 else None))
-
--- the number that decimal digits say behind a number
+-- the number that decimal digits say after a number
 abbrev pub number_behind : (high : ℕ) → List ℕ → ℕ
 number_behind high [] = high
 number_behind high (c ∷ cs) = number_behind (high * 10 + (c - 48)) cs
 
--- one digit behind a number, and digits alone, where the number stays below 2 ^ 17
+-- one digit after a number, and digits alone, where the number stays below 2 ^ 17
 abbrev pub with_digit : (high byte : ℕ) → Option ℕ
 with_digit high byte = if is_ascii_digit byte && nat_lt (high * 10 + (byte - 48)) (2 ^ 17) then Some (high * 10 + (byte - 48)) else None
 

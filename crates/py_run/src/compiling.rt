@@ -1,11 +1,11 @@
 //! Codes of rows, as listings and as files.
 ghost use Rattle.std.specs.Prelude.{◌≡◌, ◌<◌, ◌^◌, length};
 ghost use Rattle.py_tree.specs.View.{mod_tree};
-ghost use Rattle.py_rows.specs.Rows.{rows_tree};
+ghost use Rattle.py_rows_format.specs.Rows.{rows_tree};
 ghost use Rattle.py_bytecode.specs.Nesting.{nesting};
 ghost use Rattle.py_bytecode.specs.View.{object};
 ghost use Rattle.py_run.specs.Prepared.{Compiles, IsFiled, Readies};
-ghost use Rattle.py_run.specs.Statuses.{by_rows, compiled};
+ghost use Rattle.py_run.specs.Statuses.{by_rows, due_code};
 ghost use Rattle.py_run.specs.Words.{Compile, Pack, compilation_view};
 
 use crate::preparing::{Prepared, listed, refused, tree_of};
@@ -21,7 +21,7 @@ use std::alloc::Global;
 /// The code of the rows with its listing, or why there is none.
 pub fn compiled(alloc: Global, compilation: &Compilation<'_>, bytes: &[u8]) -> Prepared
     requires { length bytes.now < 2 ^ 26 }
-    ensures { Readies (Compile (compilation_view compilation.now)) result (by_rows (compiled (compilation_view compilation.now)) (rows_tree bytes.now)) }
+    ensures { Readies (Compile (compilation_view compilation.now)) result (by_rows (due_code (compilation_view compilation.now)) (rows_tree bytes.now)) }
 {
     match code_of(alloc, compilation, bytes) {
         Ok(code) => listed(alloc, code),
@@ -32,7 +32,7 @@ pub fn compiled(alloc: Global, compilation: &Compilation<'_>, bytes: &[u8]) -> P
 /// The code of the rows with its file, or why there is none.
 pub fn packed(alloc: Global, compilation: &Compilation<'_>, bytes: &[u8]) -> Prepared
     requires { length bytes.now < 2 ^ 26 }
-    ensures { Readies (Pack (compilation_view compilation.now)) result (by_rows (compiled (compilation_view compilation.now)) (rows_tree bytes.now)) }
+    ensures { Readies (Pack (compilation_view compilation.now)) result (by_rows (due_code (compilation_view compilation.now)) (rows_tree bytes.now)) }
 {
     match code_of(alloc, compilation, bytes) {
         Ok(code) => in_file(alloc, code),
@@ -50,7 +50,7 @@ fn code_of(
     bytes: &[u8],
 ) -> Result<CodeObject, Prepared>
     requires { length bytes.now < 2 ^ 26 }
-    ensures { Compiles result (by_rows (compiled (compilation_view compilation.now)) (rows_tree bytes.now)) }
+    ensures { Compiles result (by_rows (due_code (compilation_view compilation.now)) (rows_tree bytes.now)) }
 {
     let tree = tree_of(alloc, bytes)?;
     let code = code_of_tree(alloc, compilation, &tree);
@@ -63,7 +63,7 @@ pub(crate) fn code_of_tree(
     compilation: &Compilation<'_>,
     tree: &Mod,
 ) -> Result<CodeObject, Prepared>
-    ensures { Compiles result (compiled (compilation_view compilation.now) (mod_tree tree.now)) }
+    ensures { Compiles result (due_code (compilation_view compilation.now) (mod_tree tree.now)) }
 {
     let Ok(path) = compilation.path.try_clone(alloc) else {
         return Err(Prepared::Memory);

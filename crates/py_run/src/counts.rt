@@ -17,7 +17,7 @@ pub(crate) fn count_of(word: &str) -> Option<u32>
 }
 
 /// The number that the digits say.
-#[tactic(auto, using(crate::proofs::WordNumberLemmas::counting))]
+#[tactic(auto, using(crate::proofs::WordNumberLemmas::word_number_counting))]
 fn count_in(digits: &[u8]) -> Option<u32>
     ensures value { result ≡ count_behind 0 digits.now }
     ensures few { IfSome result (λ n. n < 2 ^ 17) }
@@ -29,7 +29,7 @@ fn count_in(digits: &[u8]) -> Option<u32>
     Some(count)
 }
 
-/// The number with one digit more behind it, where it is one and the number stays below 2^17.
+/// The number with one digit more after it, where it is one and the number stays below 2^17.
 fn with_digit(high: u32, byte: u8) -> Option<u32>
     requires { high < 2 ^ 17 }
     ensures value { result ≡ with_digit high byte }

@@ -3,7 +3,7 @@ ghost use Rattle.std.specs.Prelude.{◌≡◌, ◌≢◌, ◌⊎◌, ◌≤◌, 
 ghost use Rattle.py_bytecode.specs.View.{object};
 ghost use Rattle.py_devices.specs.Devices.{Rose};
 ghost use Rattle.py_run.specs.Reading.{TakesFew};
-ghost use Rattle.py_run.specs.Runs.{ErrGets, FitsForm, IsDue, IsLineless, IsOfForm, IsSound, IsTextless, NoReadFailed, NoWriteFailed, OutGets, ReadCause, Reports, Text, Line, WriteCause, line_of, text_of, written};
+ghost use Rattle.py_run.specs.Runs.{ErrGets, FitsForm, IsDue, IsLineless, IsOfForm, IsSound, IsTextless, NoReadFailed, NoWriteFailed, OutGets, ReadCause, Reports, Text, Line, WriteCause, line_of, text_of, written_sides};
 ghost use Rattle.py_run.specs.Statuses.{IsCodeOf, MeansAlike, due_of};
 ghost use Rattle.py_run.specs.Words.{reads_input, words_form};
 
@@ -27,11 +27,11 @@ pub fn run<S: Source, O: Sink, E: Sink>(
     out: &mut O,
     err: &mut E,
 ) -> Report
-    // The status has its cause: the words, what is due, a failed call, or want of memory.
+    // The status has its cause: the words, what is due, a failed call, or out of memory.
     ensures form { FitsForm result.status (words_form words.now) }
     ensures due { IfSome (due_of words.now (S.left source.old)) (IsDue result.status) }
     ensures read { ReadCause result.status (S.faults source.old) (S.faults source.new) }
-    ensures write { WriteCause result.status (written words.now (S.left source.old) result) (O.faults out.old) (O.faults out.new) (E.faults err.old) (E.faults err.new) }
+    ensures write { WriteCause result.status (written_sides words.now (S.left source.old) result) (O.faults out.old) (O.faults out.new) (E.faults err.old) (E.faults err.new) }
 
     // Which code is reported: the one that is due, and one that is as the command asks.
     ensures reported { Reports result.status (words_form words.now) result.code }
@@ -44,13 +44,13 @@ pub fn run<S: Source, O: Sink, E: Sink>(
         (λ code. IfSome (due_of words.now (S.left source.old)) (λ d. MeansAlike (words_form words.now) d code)) }
 
     // What is written: the text that is due, or the line.
-    ensures out { OutGets (written words.now (S.left source.old) result) result.status (text_of words.now (S.left source.old) result.code) (O.held out.old) (O.held out.new) }
-    ensures err { ErrGets (written words.now (S.left source.old) result) result.status (line_of words.now (S.left source.old)) (E.held err.old) (E.held err.new) }
+    ensures out { OutGets (written_sides words.now (S.left source.old) result) result.status (text_of words.now (S.left source.old) result.code) (O.held out.old) (O.held out.new) }
+    ensures err { ErrGets (written_sides words.now (S.left source.old) result) result.status (line_of words.now (S.left source.old)) (E.held err.old) (E.held err.new) }
 
     // Nothing else is touched.
     ensures unread { reads_input (words_form words.now) ≡ false → source.new ≡ source.old }
-    ensures no_text { IsTextless (written words.now (S.left source.old) result) → out.new ≡ out.old }
-    ensures no_line { IsLineless (written words.now (S.left source.old) result) → err.new ≡ err.old }
+    ensures no_text { IsTextless (written_sides words.now (S.left source.old) result) → out.new ≡ out.old }
+    ensures no_line { IsLineless (written_sides words.now (S.left source.old) result) → err.new ≡ err.old }
 
     // Reading ends at the first of a read that gives no byte, a failed read and 2^26 bytes.
     ensures in_time { S.ended source.old ≡ false → S.late source.new ≡ S.late source.old }
@@ -62,17 +62,17 @@ pub fn run<S: Source, O: Sink, E: Sink>(
     ensures lines { NoWriteFailed result.status E.counts_failures (E.faults err.old) (E.faults err.new) }
 
     // A sink whose said room holds what is written on it takes it whole, and counts no fault.
-    ensures room { written words.now (S.left source.old) result ≡ Text → IfSome (text_of words.now (S.left source.old) result.code)
+    ensures room { written_sides words.now (S.left source.old) result ≡ Text → IfSome (text_of words.now (S.left source.old) result.code)
         (λ text. IfSome (O.room out.old)
         (λ room. length text ≤ room → (result.status ≡ Status.Done) × (O.faults out.new ≡ O.faults out.old))) }
-    ensures line_room { written words.now (S.left source.old) result ≡ Line → IfSome (line_of words.now (S.left source.old))
+    ensures line_room { written_sides words.now (S.left source.old) result ≡ Line → IfSome (line_of words.now (S.left source.old))
         (λ line. IfSome (E.room err.old)
         (λ room. length line ≤ room → (result.status ≢ Status.WriteFault) × (E.faults err.new ≡ E.faults err.old))) }
 
     // Of a sink that awaits what is written on it, each write is handed all of it that is left.
-    ensures rest { written words.now (S.left source.old) result ≡ Text → IfSome (text_of words.now (S.left source.old) result.code)
+    ensures rest { written_sides words.now (S.left source.old) result ≡ Text → IfSome (text_of words.now (S.left source.old) result.code)
         (λ text. O.awaited out.old ≡ Some text → O.partial out.new ≡ O.partial out.old) }
-    ensures line_rest { written words.now (S.left source.old) result ≡ Line → IfSome (line_of words.now (S.left source.old))
+    ensures line_rest { written_sides words.now (S.left source.old) result ≡ Line → IfSome (line_of words.now (S.left source.old))
         (λ line. E.awaited err.old ≡ Some line → E.partial err.new ≡ E.partial err.old) }
 
     // Where a text is due and no count rose, the run is done, or memory ran out. Where there is no input, no count of a

@@ -1,15 +1,14 @@
 //! Reports on the names of trees.
 ghost use Rattle.std.specs.Prelude.{◌<◌, ◌^◌, length};
 ghost use Rattle.py_tree.specs.View.{mod_tree};
-ghost use Rattle.py_rows.specs.Rows.{rows_tree};
+ghost use Rattle.py_rows_format.specs.Rows.{rows_tree};
 ghost use Rattle.py_run.specs.Prepared.{Readies};
-ghost use Rattle.py_run.specs.Statuses.{by_rows, reported};
+ghost use Rattle.py_run.specs.Statuses.{by_rows, due_report};
 ghost use Rattle.py_run.specs.Words.{Names};
 
-use crate::lines::lines_text;
 use crate::preparing::{Prepared, refused, tree_of};
 use py_base::{CodegenErrorType, Text};
-use py_names::report_lines;
+use py_names::report_text;
 use py_tree::Mod;
 use std::alloc::Global;
 use symboltable::into_codegen_error;
@@ -17,7 +16,7 @@ use symboltable::into_codegen_error;
 /// The report on the tree of the rows, or why there is none.
 pub fn reported(alloc: Global, bytes: &[u8]) -> Prepared
     requires { length bytes.now < 2 ^ 26 }
-    ensures { Readies Names result (by_rows reported (rows_tree bytes.now)) }
+    ensures { Readies Names result (by_rows due_report (rows_tree bytes.now)) }
 {
     match tree_of(alloc, bytes) {
         Ok(tree) => {
@@ -30,13 +29,10 @@ pub fn reported(alloc: Global, bytes: &[u8]) -> Prepared
 }
 
 fn report_on(alloc: Global, tree: &Mod) -> Prepared
-    ensures { Readies Names result (reported (mod_tree tree.now)) }
+    ensures { Readies Names result (due_report (mod_tree tree.now)) }
 {
-    match report_lines(alloc, tree) {
-        Ok(lines) => match lines_text(alloc, lines.as_slice()) {
-            Ok(text) => Prepared::Report(text),
-            Err(_) => Prepared::Memory,
-        },
+    match report_text(alloc, tree) {
+        Ok(text) => Prepared::Report(text),
         Err(error) => {
             let e = into_codegen_error(error, Text::from_string(String::new(alloc)));
             match e.error {

@@ -1,13 +1,14 @@
 //! From words and a source to the text that is due.
 ghost use Rattle.std.specs.Prelude.{◌≡◌, ◌<◌, ◌^◌, false, length, IfSome, codes};
-ghost use Rattle.py_rows.specs.Rows.{rows_tree};
+ghost use Rattle.py_rows.specs.Rows.{rows_tree as tree_read};
+ghost use Rattle.py_rows_format.specs.Rows.{rows_tree};
 ghost use Rattle.py_run.specs.Prepared.{HasForm, IsListed, Prepares, Readies, ReadsOf, ReadsTree, RefusesTree, TellsFault};
 ghost use Rattle.py_run.specs.Reading.{TakesFew};
-ghost use Rattle.py_run.specs.Statuses.{answered, due_of, rows_text};
+ghost use Rattle.py_lines.specs.Lines.{rows_text};
+ghost use Rattle.py_run.specs.Statuses.{due_answer, due_of};
 ghost use Rattle.py_run.specs.Words.{IsFit, command_view, reads_input, words_form};
 
 use crate::compiling::{compiled, packed};
-use crate::lines::{input_line, refusal_line, too_long_line};
 use crate::naming::reported;
 use crate::reading::{ReadError, read_all};
 use crate::sampling::sampled;
@@ -17,6 +18,7 @@ use crate::words::{Command, Words, parse};
 use py_base::CodegenErrorType;
 use py_bytecode::CodeObject;
 use py_devices::Source;
+use py_lines::{input_line, refusal_line, too_long_line};
 use py_listing::listing;
 use py_rows::{RowsError, read_rows};
 use py_tree::{Mod, SourceLocation};
@@ -68,7 +70,7 @@ pub fn prepare<S: Source>(alloc: Global, words: &Words, source: &mut S) -> Prepa
 fn answered(alloc: Global, command: &Command<'_>, bytes: &[u8]) -> Prepared
     requires short { length bytes.now < 2 ^ 26 }
     requires fit { IsFit command.now }
-    ensures { Readies (command_view command.now) result (answered (command_view command.now) bytes.now) }
+    ensures { Readies (command_view command.now) result (due_answer (command_view command.now) bytes.now) }
 {
     match command {
         Command::Compile(compilation) => compiled(alloc, compilation, bytes),
@@ -96,6 +98,14 @@ fn too_long(alloc: Global) -> Prepared
 pub(crate) fn tree_of(alloc: Global, bytes: &[u8]) -> Result<Mod, Prepared>
     requires { length bytes.now < 2 ^ 26 }
     ensures { ReadsTree result (rows_tree bytes.now) }
+{
+    read_tree(alloc, bytes)
+}
+
+/// The tree that `read_rows` reads, which is that of the format by the law of rows.
+fn read_tree(alloc: Global, bytes: &[u8]) -> Result<Mod, Prepared>
+    requires { length bytes.now < 2 ^ 26 }
+    ensures { ReadsTree result (tree_read bytes.now) }
 {
     match read_rows(alloc, bytes) {
         Ok(tree) => Ok(tree),

@@ -38,7 +38,7 @@ impl From<AllocError> for ReadError {
 /// All bytes that are left, where they are fewer than 2^26 and no read fails.
 ///
 /// # Errors
-/// The reading ends at the first of a read that gives no byte, a failed read and 2^26 bytes. Want of memory is free.
+/// The reading ends at the first of a read that gives no byte, a failed read and 2^26 bytes. Out of memory is free.
 pub fn read_all<S: Source>(alloc: Global, source: &mut S) -> Result<Vec<u8>, ReadError>
     ensures whole { IfOk result (λ v. Consumes (S.left source.old) (S.left source.new) v.items) }
     ensures end { OnOk result (IsAtEnd (S.left source.new)) }

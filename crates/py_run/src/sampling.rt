@@ -2,7 +2,7 @@
 ghost use Rattle.std.specs.Prelude.{◌<◌, ◌^◌};
 ghost use Rattle.py_tree.specs.View.{mod_tree};
 ghost use Rattle.py_run.specs.Prepared.{Compiles, IsSummed, Readies};
-ghost use Rattle.py_run.specs.Statuses.{compiled, sample_compilation, sampled};
+ghost use Rattle.py_run.specs.Statuses.{due_code, sample_compilation, due_sample};
 ghost use Rattle.py_run.specs.Words.{Sample};
 
 use crate::compiling::code_of_tree;
@@ -20,7 +20,7 @@ const PATH: &str = "sample";
 /// program has no fault.
 pub fn sampled(alloc: Global, count: u32, level: u8) -> Prepared
     requires { count < 2 ^ 17 }
-    ensures { Readies (Sample count level) result (sampled count level) }
+    ensures { Readies (Sample count level) result (due_sample count level) }
 {
     samples_are_faultless();
     let Ok(tree) = sample(alloc, count) else {
@@ -39,7 +39,7 @@ pub fn sampled(alloc: Global, count: u32, level: u8) -> Prepared
 /// # Errors
 /// What is to be written in place of it.
 fn code_of_sample(alloc: Global, level: u8, tree: &Mod) -> Result<CodeObject, Prepared>
-    ensures { Compiles result (compiled (sample_compilation level) (mod_tree tree.now)) }
+    ensures { Compiles result (due_code (sample_compilation level) (mod_tree tree.now)) }
 {
     let Ok(path) = String::from_str(alloc, PATH) else {
         return Err(Prepared::Memory);

@@ -3,12 +3,12 @@ ghost use Rattle.std.specs.Prelude.{◌≡◌, ◌<◌, ◌^◌, true, length, I
 ghost use Rattle.std.specs.Option.{is_some};
 ghost use Rattle.py_tree.specs.View.{mod_tree};
 ghost use Rattle.py_bytecode.specs.View.{object};
-ghost use Rattle.py_rows.specs.Rows.{rows_tree};
+ghost use Rattle.py_rows_format.specs.Rows.{rows_tree};
 ghost use Rattle.py_answers.specs.Scripts.{answers_of, script_in};
 ghost use Rattle.py_step.specs.Reports.{report_text};
 ghost use Rattle.py_interp.specs.Statements.{tree_run};
 ghost use Rattle.py_run.specs.Prepared.{Readies};
-ghost use Rattle.py_run.specs.Statuses.{by_rows, code_run, compiled};
+ghost use Rattle.py_run.specs.Statuses.{by_rows, code_run, due_code};
 ghost use Rattle.py_run.specs.Words.{Step, answers_or_none, compilation_view};
 
 use crate::compiling::code_of_tree;
@@ -28,7 +28,7 @@ pub fn stepped(
 ) -> Prepared
     requires script { is_some (script_in script.now) ≡ true }
     requires short { length bytes.now < 2 ^ 26 }
-    ensures { Readies (Step (compilation_view compilation.now) (answers_or_none (script_in script.now))) result (by_rows (compiled (compilation_view compilation.now)) (rows_tree bytes.now)) }
+    ensures { Readies (Step (compilation_view compilation.now) (answers_or_none (script_in script.now))) result (by_rows (due_code (compilation_view compilation.now)) (rows_tree bytes.now)) }
 {
     let script = match Script::parse(alloc, script.as_str()) {
         Ok(Some(script)) => script,
@@ -47,7 +47,7 @@ pub fn stepped(
 
 /// The code of a tree with the lines of both runs.
 fn run_both(alloc: Global, compilation: &Compilation<'_>, script: &Script, tree: &Mod) -> Prepared
-    ensures { Readies (Step (compilation_view compilation.now) script.now.answers) result (compiled (compilation_view compilation.now) (mod_tree tree.now)) }
+    ensures { Readies (Step (compilation_view compilation.now) script.now.answers) result (due_code (compilation_view compilation.now) (mod_tree tree.now)) }
 {
     match code_of_tree(alloc, compilation, tree) {
         Ok(code) => match step_lines(alloc, &code, compilation, script, tree) {

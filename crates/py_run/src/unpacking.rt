@@ -23,7 +23,7 @@ pub fn unpacked(alloc: Global, bytes: &[u8]) -> Prepared
     }
 }
 
-/// The code with its listing, where it has no flaw.
+/// The code with its listing, where it has no verification error.
 fn verified(alloc: Global, code: CodeObject) -> Prepared
     ensures { IsVerified result (object code) }
 {

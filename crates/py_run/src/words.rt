@@ -1,9 +1,10 @@
 //! Words, read as a command.
 ghost use Rattle.std.specs.Prelude.{◌≡◌, IfSome, option_map};
-ghost use Rattle.py_run.specs.Words.{IsFit, command_view, compilation_of, compilation_view, compile_of, level_of, mode_of, names_of, pack_of, sample_of, step_of, takes_input, three_of, unpack_of, words_form};
+ghost use Rattle.py_run.specs.Words.{IsFit, command_view, compilation_of, compilation_view, compile_of, names_of, pack_of, sample_of, step_of, takes_input, three_of, unpack_of, words_form};
 
 use crate::counts::count_of;
 use py_answers::is_script;
+use py_lines::{level_of, mode_of};
 use py_tree::{List, Mode, Text};
 
 /// A file holds no path of so many bytes.
@@ -11,29 +12,6 @@ const PATH_LIMIT: usize = 1 << 32;
 
 /// The words after the program's name.
 pub type Words = List<Text>;
-
-fn mode_of(word: &str) -> Option<Mode>
-    ensures { result ≡ mode_of word.now }
-{
-    match word {
-        "exec" => Some(Mode::Exec),
-        "eval" => Some(Mode::Eval),
-        "single" => Some(Mode::Single),
-        "block" => Some(Mode::BlockExpr),
-        _ => None,
-    }
-}
-
-fn level_of(word: &str) -> Option<u8>
-    ensures { result ≡ level_of word.now }
-{
-    match word {
-        "0" => Some(0),
-        "1" => Some(1),
-        "2" => Some(2),
-        _ => None,
-    }
-}
 
 /// A compilation of rows that the words ask for.
 #[derive(Drop)]

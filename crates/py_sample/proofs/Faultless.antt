@@ -5,7 +5,7 @@ use Rattle.py_base.specs.declared.location.SourceLocation.{SourceLocation}
 use Rattle.py_limits.specs.Nesting.{nesting, stmt_nesting, stmts_nesting}
 use Rattle.py_limits.specs.Size.{size_of, stmt_size, stmts_size}
 use Rattle.py_meaning.specs.ExprFaults.{Fault}
-use Rattle.py_meaning.specs.Faults.{compile_faults, faults, first_setting, malformed, stmt_faults, stmts_faults, too_deep, too_large, whole}
+use Rattle.py_meaning.specs.Faults.{compile_faults, faults, first_setting, malformed_faults, stmt_faults, stmts_faults, too_deep, too_large, whole}
 use Rattle.py_meaning.specs.Scanned.{fault_as, scan_faults}
 use Rattle.py_meaning.specs.StmtEnds.{Setting}
 use Rattle.py_shapes.specs.Valid.{shapes, stmt_shapes, stmts_shapes}
@@ -18,9 +18,9 @@ use Rattle.py_sample.proofs.Turns.{every}
 
 -- ---- nesting and size
 
-shallow : (n i : ℕ) → stmts_nesting (statements n i) ≤ 5
-shallow zero i = lit≤ tt
-shallow (suc n) i = max-le (every (λ s. stmt_nesting s ≤ 5) (λ at k. lit≤ tt) (λ at. lit≤ tt) (λ at. lit≤ tt) (λ at. lit≤ tt) i) (shallow n (suc i))
+faultless_shallow : (n i : ℕ) → stmts_nesting (statements n i) ≤ 5
+faultless_shallow zero i = lit≤ tt
+faultless_shallow (suc n) i = max-le (every (λ s. stmt_nesting s ≤ 5) (λ at k. lit≤ tt) (λ at. lit≤ tt) (λ at. lit≤ tt) (λ at. lit≤ tt) i) (faultless_shallow n (suc i))
 
 small : (n i : ℕ) → stmts_size (statements n i) ≤ n * 14
 small zero i = lit≤ tt
@@ -32,8 +32,8 @@ small (suc n) i =
     added : (a b n : ℕ) → a ≤ 14 → b ≤ n * 14 → a + b ≤ suc n * 14
     added a b n h k = omega arith
 
-within : (f : Fault) (limit n : ℕ) → n < limit → whole f limit n ≡ []
-within f limit n h = ap (λ b. if b then [] else f ∷ []) (lt-ltb n limit h)
+faultless_within : (f : Fault) (limit n : ℕ) → n < limit → whole f limit n ≡ []
+faultless_within f limit n h = ap (λ b. if b then [] else f ∷ []) (lt-ltb n limit h)
 
 -- ---- shapes, and what is compiled
 
@@ -53,8 +53,8 @@ program_compiles mode level (suc n) = compiles (first_setting level) (suc n) 0
 
 pub samples_faultless : SamplesAreFaultless
 samples_faultless n mode level few =
-    let deep = shallow n 0 in
+    let deep = faultless_shallow n 0 in
     let large = small n 0 in
-    let a : whole too_deep (2 ^ 10) (nesting (program n)) ≡ [] = within too_deep (2 ^ 10) (nesting (program n)) (omega arith) in
-    let b : whole too_large (2 ^ 22) (size_of (program n)) ≡ [] = within too_large (2 ^ 22) (size_of (program n)) (omega arith) in
-    λ j. a j ++ b j ++ malformed (well_shaped n 0 j) ++ map fault_as (scans_right n j) ++ program_compiles mode level n j
+    let a : whole too_deep (2 ^ 10) (nesting (program n)) ≡ [] = faultless_within too_deep (2 ^ 10) (nesting (program n)) (omega arith) in
+    let b : whole too_large (2 ^ 22) (size_of (program n)) ≡ [] = faultless_within too_large (2 ^ 22) (size_of (program n)) (omega arith) in
+    λ j. a j ++ b j ++ malformed_faults (well_shaped n 0 j) ++ map fault_as (scans_right n j) ++ program_compiles mode level n j

@@ -21,7 +21,7 @@ use Rattle.py_scope.specs.Names.{Name, class_cell, lookup, put, same_name}
 use Rattle.py_scope.specs.Outward.{look_from, parents}
 use Rattle.py_scope.specs.Resolved.{each_row, first_fault_of, lifted_rows}
 use Rattle.py_scope.specs.Roles.{bound_opt, declares, flags_of, register, with_role}
-use Rattle.py_scope.specs.Scanned.{changed, refused_in, refused_in_row, role_in, used_in}
+use Rattle.py_scope.specs.Scanned.{changed_at, refused_in, refused_in_row, role_in, used_in}
 use Rattle.py_scope.proofs.NameLemmas.{intersects-or}
 
 -- ---- the roles
@@ -34,14 +34,14 @@ pub record IsUse (r : Role) : Type 0 where
   pub same : (kind : SymbolTableType) → role_in kind r ≡ r
   pub plain : (kind : SymbolTableType) (o : Option Entry) (n : Name) → refused_use kind o n r ≡ refused_plain (bit_or (bits_of o) (flags_of r))
 
-pub used : IsUse role.Used
-used = record { keeps = λ h. refl; unstored = refl; uniterated = refl; same = λ kind. refl; plain = λ kind o n. refl }
+pub quiet_used : IsUse role.Used
+quiet_used = record { keeps = λ h. refl; unstored = refl; uniterated = refl; same = λ kind. refl; plain = λ kind o n. refl }
 
-pub assigned : IsUse role.Assigned
-assigned = record { keeps = λ h. refl; unstored = refl; uniterated = refl; same = λ kind. refl; plain = λ kind o n. refl }
+pub quiet_assigned : IsUse role.Assigned
+quiet_assigned = record { keeps = λ h. refl; unstored = refl; uniterated = refl; same = λ kind. refl; plain = λ kind o n. refl }
 
-pub parameter : IsUse role.Parameter
-parameter = record { keeps = λ h. refl; unstored = refl; uniterated = refl; same = λ kind. refl; plain = λ kind o n. refl }
+pub quiet_parameter : IsUse role.Parameter
+quiet_parameter = record { keeps = λ h. refl; unstored = refl; uniterated = refl; same = λ kind. refl; plain = λ kind o n. refl }
 
 -- ---- entries
 
@@ -100,14 +100,14 @@ used_quiet r u n row q = record {
 }
 
 -- a use is not refused
-pub allowed : (r : Role) → IsUse r → (n : Name) (o : Option Row) → IfSome o IsQuietRow → refused_in_row o n r ≡ None
-allowed r u n None q = refl
-allowed r u n (Some row) q =
+pub quiet_allowed : (r : Role) → IsUse r → (n : Name) (o : Option Row) → IfSome o IsQuietRow → refused_in_row o n r ≡ None
+quiet_allowed r u n None q = refl
+quiet_allowed r u n (Some row) q =
     ap (refused_use row.kind (lookup n row.entries) n) (u.same row.kind)
     ∙ u.plain row.kind (lookup n row.entries) n
     ∙ ap (λ b. if b && intersects (bit_or (bits_of (lookup n row.entries)) (flags_of r)) 0x002 then Some refusal.IteratedAndAssigned else None) (no_bits (bits_of (lookup n row.entries)) (flags_of r) 0x080 (uniterated_opt (lookup n row.entries) (lookup_quiet n row.entries q.entries)) u.uniterated)
 
-pub changed_quiet : (f : Row → Row) → ((row : Row) → IsQuietRow row → IsQuietRow (f row)) → (i : ℕ) (rows : List Row) → AllOf IsQuietRow rows → AllOf IsQuietRow (changed f i rows)
+pub changed_quiet : (f : Row → Row) → ((row : Row) → IsQuietRow row → IsQuietRow (f row)) → (i : ℕ) (rows : List Row) → AllOf IsQuietRow rows → AllOf IsQuietRow (changed_at f i rows)
 changed_quiet f h i [] q = tt
 changed_quiet f h zero (row ∷ rows) q = (h row q.0, q.1)
 changed_quiet f h (suc i) (row ∷ rows) q = (q.0, changed_quiet f h i rows q.1)
@@ -131,9 +131,9 @@ kind_quiet : (o : Option Row) → IfSome o IsQuietRow → is_type_params (kind_o
 kind_quiet None q = refl
 kind_quiet (Some row) q = q.kind
 
-shown : (kind : SymbolTableType) (o : Option Row) (n : Name) (e : Entry) → is_type_params kind ≡ false → hides kind o n e ≡ false
-shown kind None n e h = refl
-shown kind (Some around) n e h = ap (λ b. (b && is_class around.kind) && ((not (is_bound e) && bound_opt (lookup n around.entries)) && not (same_name n class_cell))) h
+quiet_shown : (kind : SymbolTableType) (o : Option Row) (n : Name) (e : Entry) → is_type_params kind ≡ false → hides kind o n e ≡ false
+quiet_shown kind None n e h = refl
+quiet_shown kind (Some around) n e h = ap (λ b. (b && is_class around.kind) && ((not (is_bound e) && bound_opt (lookup n around.entries)) && not (same_name n class_cell))) h
 
 module _ (rows : List Row) (q : AllOf IsQuietRow rows) where
   unwalrused : (o : Option Row) → IfSome o IsQuietRow → walruses_of o ≡ []
@@ -147,7 +147,7 @@ module _ (rows : List Row) (q : AllOf IsQuietRow rows) where
   entry_right : (s : ℕ) (p : Name × Entry) → IsQuietEntry p.1 → wrong_entry rows s p ≡ None
   entry_right s p h =
       let class_right : wrong_class_name rows s p.0 p.1 ≡ None =
-      ap (λ b. if b then Some (refusal.ClassName p.0) else None) (shown (kind_of (slice_get rows s)) (slice_get rows (parents rows s)) p.0 p.1 (kind_quiet (slice_get rows s) (get_quiet rows s q))) in
+      ap (λ b. if b then Some (refusal.ClassName p.0) else None) (quiet_shown (kind_of (slice_get rows s)) (slice_get rows (parents rows s)) p.0 p.1 (kind_quiet (slice_get rows s) (get_quiet rows s q))) in
       let nonlocal_right : wrong_nonlocal s p.0 (look_from rows s p.0) p.1.holds ≡ None = ap (wrong_nonlocal s p.0 (look_from rows s p.0)) h.holds in
       λ j. first_of_two (class_right j) (nonlocal_right j)
 

@@ -1,7 +1,7 @@
 -- One statement more at the end, and the four by turns.
 use Rattle.std.proofs.Common.{◌≡◌, ◌<◌, ℕ, zero, suc, ◌+◌, ◌%◌, List, [], ◌∷◌, ◌++◌, refl, ap, ◌∙◌, length, arith}
 use Rattle.py_base.specs.declared.location.SourceLocation.{SourceLocation}
-use Rattle.py_bytecode.specs.Objects.{constants, listed}
+use Rattle.py_bytecode.specs.Objects.{constants, const_list}
 use Rattle.py_bytecode.specs.View.{constants_of, object}
 use Rattle.py_bytecode.specs.declared.code.CodeObject.{CodeObject}
 use Rattle.py_bytecode.specs.declared.code.ConstantData.{ConstantData}
@@ -12,25 +12,25 @@ use Rattle.py_tree.specs.declared.statements.Stmt.{Stmt}
 use Rattle.py_sample.specs.Sample.{a_choice, a_function, a_loop, an_assignment, by_turn, place, statement, statements}
 
 -- these statements and one more
-abbrev behind : tree.Stmts → tree.Stmt → tree.Stmts
-behind tree.no_stmts t = tree.more_stmts t tree.no_stmts
-behind (tree.more_stmts s ss) t = tree.more_stmts s (behind ss t)
+abbrev turn_behind : tree.Stmts → tree.Stmt → tree.Stmts
+turn_behind tree.no_stmts t = tree.more_stmts t tree.no_stmts
+turn_behind (tree.more_stmts s ss) t = tree.more_stmts s (turn_behind ss t)
 
-pushed : (xs : List Stmt) (x : Stmt) → stmts stmt_tree (xs ++ x ∷ []) ≡ behind (stmts stmt_tree xs) (stmt_tree x)
+pushed : (xs : List Stmt) (x : Stmt) → stmts stmt_tree (xs ++ x ∷ []) ≡ turn_behind (stmts stmt_tree xs) (stmt_tree x)
 pushed [] x = refl
 pushed (y ∷ ys) x = ap (tree.more_stmts (stmt_tree y)) (pushed ys x)
 
-goes_on : (n i : ℕ) → behind (statements n i) (statement (n + i)) ≡ statements (suc n) i
-goes_on zero i = let e : 0 + i ≡ i = omega arith in ap (λ k. tree.more_stmts (statement k) tree.no_stmts) e
-goes_on (suc n) i =
+turn_goes_on : (n i : ℕ) → turn_behind (statements n i) (statement (n + i)) ≡ statements (suc n) i
+turn_goes_on zero i = let e : 0 + i ≡ i = omega arith in ap (λ k. tree.more_stmts (statement k) tree.no_stmts) e
+turn_goes_on (suc n) i =
     let e : suc n + i ≡ n + suc i = omega arith in
-    ap (tree.more_stmts (statement i)) (ap (λ k. behind (statements n (suc i)) (statement k)) e ∙ goes_on n (suc i))
+    ap (tree.more_stmts (statement i)) (ap (λ k. turn_behind (statements n (suc i)) (statement k)) e ∙ turn_goes_on n (suc i))
 
-pub one_more : (xs : List Stmt) (x : Stmt) (n : ℕ) → stmts stmt_tree xs ≡ statements n 0 → stmt_tree x ≡ statement n → stmts stmt_tree (xs ++ x ∷ []) ≡ statements (n + 1) 0
-one_more xs x n e h =
+pub turn_one_more : (xs : List Stmt) (x : Stmt) (n : ℕ) → stmts stmt_tree xs ≡ statements n 0 → stmt_tree x ≡ statement n → stmts stmt_tree (xs ++ x ∷ []) ≡ statements (n + 1) 0
+turn_one_more xs x n e h =
     let same : n ≡ n + 0 = omega arith in
     let more : suc n ≡ n + 1 = omega arith in
-    pushed xs x ∙ (λ j. behind (e j) (h j)) ∙ ap (λ k. behind (statements n 0) (statement k)) same ∙ goes_on n 0 ∙ ap (λ k. statements k 0) more
+    pushed xs x ∙ (λ j. turn_behind (e j) (h j)) ∙ ap (λ k. turn_behind (statements n 0) (statement k)) same ∙ turn_goes_on n 0 ∙ ap (λ k. statements k 0) more
 
 -- ---- the four by turns
 
@@ -59,12 +59,13 @@ module _ (P : tree.Stmt → Type 0) (assigned : (at : SourceLocation) (i : ℕ) 
   by_turns (suc (suc (suc t))) i = looped (place i)
 
 -- what holds of the four holds of each statement
-pub every : (P : tree.Stmt → Type 0) → ((at : SourceLocation) (i : ℕ) → P (an_assignment at i)) → ((at : SourceLocation) → P (a_choice at)) → ((at : SourceLocation) → P (a_function at)) → ((at : SourceLocation) → P (a_loop at)) → (i : ℕ) → P (statement i)
+pub every : (P : tree.Stmt → Type 0) → ((at : SourceLocation) (i : ℕ) → P (an_assignment at i)) → ((at : SourceLocation) → P (a_choice at))
+    → ((at : SourceLocation) → P (a_function at)) → ((at : SourceLocation) → P (a_loop at)) → (i : ℕ) → P (statement i)
 every P assigned chosen defined looped i = by_turns P assigned chosen defined looped (i % 4) i
 
 -- ---- constants
 
-listed_length : (xs : List ConstantData) → length (listed (constants_of xs)) ≡ length xs
+listed_length : (xs : List ConstantData) → length (const_list (constants_of xs)) ≡ length xs
 listed_length [] = refl
 listed_length (x ∷ xs) = ap suc (listed_length xs)
 

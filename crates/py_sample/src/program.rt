@@ -12,7 +12,7 @@ use std::alloc::{AllocError, Global};
 ///
 /// # Errors
 /// There is no memory for it.
-#[tactic(auto, using(crate::proofs::Turns::one_more))]
+#[tactic(auto, using(crate::proofs::Turns::turn_one_more))]
 pub fn sample(alloc: Global, n: u32) -> Result<Mod, AllocError>
     requires { n < 2 ^ 17 }
     ensures { IfOk result (λ made. mod_tree made ≡ program n) }

@@ -8,7 +8,7 @@ use Rattle.py_scope.specs.declared.table_type.SymbolTableType.{SymbolTableType}
 use Rattle.py_scope.specs.Names.{Name}
 use Rattle.py_scope.specs.Scanned.{refused_here, with_use}
 use Rattle.py_name_uses.specs.declared.usage.Usage.{Usage}
-use Rattle.py_name_uses.specs.Steps.{State, Outcome, Done, Refused, Step, ◌▸◌, go_on, enter, in_class, inside, leave, noted, set_class, unless_refused, use_name, written}
+use Rattle.py_name_uses.specs.Steps.{State, Outcome, Done, Refused, Step, ◌▸◌, go_on, enter, in_class, inside, leave, noted_use, set_class, unless_refused, use_name, written_name}
 use Rattle.py_scan.specs.Scan.{scan_opt, scan_type_param}
 use Rattle.py_scan.proofs.Induction.{Closed, opt_closed}
 use Rattle.py_scan.proofs.InductionStatements.{param_closed}
@@ -27,7 +27,7 @@ then_keeps f g a b s = go (f s) (a s)
     go (Done t) h = subst (λ c. EndsInClass c (g t)) h (b t)
     go (Refused fault at) h = tt
 
-noted_keeps : (r : Role) (n : Name) (at : SourceLocation) → KeepsClass (noted r n at)
+noted_keeps : (r : Role) (n : Name) (at : SourceLocation) → KeepsClass (noted_use r n at)
 noted_keeps r n at s = go (refused_here s.scopes n r)
   where
     go : (o : Option Refusal) → EndsInClass s.class (go_on (unless_refused o at s) (λ t. Done (record { scopes = with_use t.scopes n r; class = t.class; postponed = t.postponed })))
@@ -35,7 +35,7 @@ noted_keeps r n at s = go (refused_here s.scopes n r)
     go (Some x) = tt
 
 used_keeps : (r : Role) (n : Name) (at : SourceLocation) → KeepsClass (use_name r n at)
-used_keeps r n at s = noted_keeps r (written s n) at s
+used_keeps r n at s = noted_keeps r (written_name s n) at s
 
 choice_keeps : (b : State → Bool) (f g : Step) → KeepsClass f → KeepsClass g → KeepsClass (λ s. if b s then f s else g s)
 choice_keeps b f g k l s = go (b s) (k s) (l s)
@@ -47,7 +47,7 @@ choice_keeps b f g k l s = go (b s) (k s) (l s)
 inside_keeps : (kind : SymbolTableType) (n : Name) (at : SourceLocation) (f : Step) → KeepsClass f → KeepsClass (inside kind n at f)
 inside_keeps kind n at f a = then_keeps (enter kind n at) (f ▸ leave) (λ s. refl) (then_keeps f leave a (λ s. refl))
 
--- the class around comes back behind a class
+-- the enclosing class comes back after a class
 classed_keeps : (n : Name) (f : Step) → KeepsClass (in_class n f)
 classed_keeps n f s = go (f (record { scopes = s.scopes; class = Some n; postponed = s.postponed }))
   where

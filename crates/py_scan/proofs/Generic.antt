@@ -10,7 +10,8 @@ use Rattle.py_name_uses.specs.Parts.{generic_name, in_type_params}
 use Rattle.py_name_uses.specs.Steps.{State, Outcome, Done, Refused, Step, ◌▸◌, go_on, enter, leave, when}
 
 -- the name of a node is that of the text
-pub entered_as : (generic : Bool) (m n : Name) (at : SourceLocation) (s t : State) → m ≡ n → when generic (enter scope.TypeParams (generic_name m) at) s ≡ Done t → when generic (enter scope.TypeParams (generic_name n) at) s ≡ Done t
+pub entered_as : (generic : Bool) (m n : Name) (at : SourceLocation) (s t : State) → m ≡ n
+    → when generic (enter scope.TypeParams (generic_name m) at) s ≡ Done t → when generic (enter scope.TypeParams (generic_name n) at) s ≡ Done t
 entered_as generic m n at s t q e = subst (λ k. when generic (enter scope.TypeParams (generic_name k) at) s ≡ Done t) q e
 
 module _ (generic : Bool) (n : Name) (at : SourceLocation) (f : Step) (s t : State) (e : when generic (enter scope.TypeParams (generic_name n) at) s ≡ Done t) where

@@ -14,7 +14,7 @@ use Rattle.py_scope.specs.Names.{Name, class_cell}
 use Rattle.py_name_uses.specs.declared.usage.Usage.TheVariants.{Load, Store, Delete}
 use Rattle.py_name_uses.specs.Parts.{alias_name, annotated_target, bound_name, check_future, check_new, check_type_params, generic_name, has_default, in_type_params, is_among, is_generic, plain_name, type_name, use_aliases, use_each, use_first_names, use_handed_defaults, use_opt_name, use_parameters}
 use Rattle.py_scan.specs.Scan.{scan_annotations, scan_class, scan_class_scope, scan_defaults, scan_expr, scan_exprs, scan_class_parts, scan_function, scan_function_scope, scan_handed_function, scan_handlers, scan_items, scan_keywords, scan_opt, scan_stmt, scan_stmts, scan_type_param, scan_type_params}
-use Rattle.py_name_uses.specs.Steps.{Step, ◌▸◌, in_class, inside, leave, nothing, postpone, refuse, set_class, unless_postponed, use_name, when, written}
+use Rattle.py_name_uses.specs.Steps.{Step, ◌▸◌, in_class, inside, leave, nothing, postpone, refuse, set_class, unless_postponed, use_name, when, written_name}
 use Rattle.py_scan.proofs.Induction.{Closed, annotations_closed, defaults_closed, expr_closed, exprs_closed, keywords_closed, opt_closed, parameters_closed, refuse_if_closed, unless_postponed_closed}
 
 module _ {P : Step → Type 0} (c : Closed P) where
@@ -53,7 +53,7 @@ module _ {P : Step → Type 0} (c : Closed P) where
   pub param_closed : (earlier : List Name) (p : tree.TypeParam) → P (scan_type_param earlier p)
   param_closed earlier (tree.TypeVar at n bound) =
       c.sequence (scan_opt Load bound) _ (opt_closed c Load bound)
-      (c.sequence (check_new earlier n at) (use_name role.Assigned n at) (refuse_if_closed c (λ s. is_among s earlier n) (λ s. refusal.SameTypeParam (written s n)) at) (c.used role.Assigned n at))
+      (c.sequence (check_new earlier n at) (use_name role.Assigned n at) (refuse_if_closed c (λ s. is_among s earlier n) (λ s. refusal.SameTypeParam (written_name s n)) at) (c.used role.Assigned n at))
   param_closed earlier (tree.ParamSpec at n) = c.idle
   param_closed earlier (tree.TypeVarTuple at n) = c.idle
 
@@ -79,7 +79,8 @@ module _ {P : Step → Type 0} (c : Closed P) where
       c.sequence (when generic (use_handed_defaults a at)) _ (when_closed generic (use_handed_defaults a at) (handed_closed a at))
       (c.sequence (scan_type_params [] ps) (scan_function_scope at n a body returns) (params_closed [] ps) (function_scope_closed at n a body returns b))
 
-  function_closed : (at : SourceLocation) (n : Name) (a : tree.Arguments) (body : Step) (ds : tree.Exprs) (returns : tree.OptExpr) (ps : tree.TypeParams) → P body → P (scan_function at n a body ds returns ps)
+  function_closed : (at : SourceLocation) (n : Name) (a : tree.Arguments) (body : Step) (ds : tree.Exprs) (returns : tree.OptExpr) (ps : tree.TypeParams)
+      → P body → P (scan_function at n a body ds returns ps)
   function_closed at n a body ds returns ps b =
       c.sequence (check_type_params ps) _ (check_params_closed ps)
       (c.sequence (scan_exprs Load ds) _ (exprs_closed c Load ds)
@@ -97,7 +98,8 @@ module _ {P : Step → Type 0} (c : Closed P) where
       c.sequence (scan_type_params [] ps) _ (params_closed [] ps)
       (c.sequence (scan_class_scope at n body) _ (class_scope_closed at n body b) (c.sequence (scan_exprs Load bases) (scan_keywords ks) (exprs_closed c Load bases) (keywords_closed c ks)))
 
-  class_def_closed : (at : SourceLocation) (n : Name) (bases : tree.Exprs) (ks : tree.Keywords) (body : Step) (ds : tree.Exprs) (ps : tree.TypeParams) → P body → P (scan_class at n bases ks body ds ps)
+  class_def_closed : (at : SourceLocation) (n : Name) (bases : tree.Exprs) (ks : tree.Keywords) (body : Step) (ds : tree.Exprs) (ps : tree.TypeParams) → P body
+      → P (scan_class at n bases ks body ds ps)
   class_def_closed at n bases ks body ds ps b =
       c.sequence (check_type_params ps) _ (check_params_closed ps)
       (c.sequence (scan_exprs Load ds) _ (exprs_closed c Load ds)
@@ -116,7 +118,8 @@ module _ {P : Step → Type 0} (c : Closed P) where
   items_closed tree.no_items = c.idle
   items_closed (tree.more_items e o ws) = c.sequence (scan_expr Load e) _ (expr_closed c Load e) (c.sequence (scan_opt Store o) (scan_items ws) (opt_closed c Store o) (items_closed ws))
 
-  for_closed : (target iter : tree.Expr) (body orelse : tree.Stmts) → P (scan_stmts body) → P (scan_stmts orelse) → P (scan_expr Load iter ▸ scan_expr Store target ▸ scan_stmts body ▸ scan_stmts orelse)
+  for_closed : (target iter : tree.Expr) (body orelse : tree.Stmts) → P (scan_stmts body) → P (scan_stmts orelse)
+      → P (scan_expr Load iter ▸ scan_expr Store target ▸ scan_stmts body ▸ scan_stmts orelse)
   for_closed target iter body orelse a b = c.sequence (scan_expr Load iter) _ (expr_closed c Load iter) (c.sequence (scan_expr Store target) _ (expr_closed c Store target) (c.sequence (scan_stmts body) (scan_stmts orelse) a b))
 
   mutual

@@ -8,10 +8,10 @@ use Rattle.py_scope.specs.declared.rows.Row.{Row}
 use Rattle.py_scope.specs.declared.table_type.SymbolTableType.{SymbolTableType}
 use Rattle.py_scope.specs.Names.{Name}
 use Rattle.py_scope.specs.Outward.{parents, parent_of}
-use Rattle.py_scope.specs.Scanned.{Scanned, changed, entered, entered_row, gone_out, refused_here, used_in, with_use, IsWithin}
+use Rattle.py_scope.specs.Scanned.{Scanned, changed_at, entered_scan, entered_row, gone_out, refused_here, used_in, with_use, IsWithin}
 use Rattle.py_scope.proofs.ScanCallLemmas.{get_changed, get_push_new, get_push_old, length_changed, length_push}
 use Rattle.py_name_uses.specs.declared.usage.Usage.{Usage}
-use Rattle.py_name_uses.specs.Steps.{State, Outcome, Done, Refused, Step, ◌▸◌, go_on, enter, in_class, inside, leave, nothing, noted, postpone, refuse, set_class, unless_refused, use_name, when, written}
+use Rattle.py_name_uses.specs.Steps.{State, Outcome, Done, Refused, Step, ◌▸◌, go_on, enter, in_class, inside, leave, nothing, noted_use, postpone, refuse, set_class, unless_refused, use_name, when, written_name}
 use Rattle.py_name_uses.specs.Parts.{use_first_names, use_parameters}
 use Rattle.py_name_uses.specs.Goes.{IsOpen}
 use Rattle.py_scan.proofs.Induction.{Closed, clauses_closed, expr_closed, parameters_closed}
@@ -70,7 +70,7 @@ used_stays s n r = record {
     by true (Some row) = refl
     by false o = refl
 
-pub noted_stays : (r : Role) (n : Name) (at : SourceLocation) → StepStays (noted r n at)
+pub noted_stays : (r : Role) (n : Name) (at : SourceLocation) → StepStays (noted_use r n at)
 noted_stays r n at s i = go (refused_here s.scopes n r)
   where
     go : (o : Option Refusal) → EndsStaying s.scopes (go_on (unless_refused o at s) (λ t. Done (record { scopes = with_use t.scopes n r; class = t.class; postponed = t.postponed })))
@@ -78,7 +78,7 @@ noted_stays r n at s i = go (refused_here s.scopes n r)
     go (Some x) = tt
 
 pub use_stays : (r : Role) (n : Name) (at : SourceLocation) → StepStays (use_name r n at)
-use_stays r n at s i = noted_stays r (written s n) at s i
+use_stays r n at s i = noted_stays r (written_name s n) at s i
 
 -- what is done in a scope, which is left then
 pub inside_stays : (kind : SymbolTableType) (n : Name) (at : SourceLocation) (f : Step) → StepStays f → StepStays (inside kind n at f)
@@ -91,7 +91,7 @@ inside_stays kind n at f a s i = go (f within) (a within (omega (arith, longer))
     row = entered_row rows s.scopes.current kind n at.row
 
     within : State
-    within = record { scopes = entered s.scopes kind n at.row; class = s.class; postponed = s.postponed }
+    within = record { scopes = entered_scan s.scopes kind n at.row; class = s.class; postponed = s.postponed }
 
     longer : length (rows ++ row ∷ []) ≡ suc (length rows)
     longer = length_push rows row
@@ -114,8 +114,8 @@ choice_stays b f g k l s i = go (b s) (k s i) (l s i)
 classed_stays : (n : Name) (f : Step) → StepStays f → StepStays (in_class n f)
 classed_stays n f a s i = then_stays (set_class (Some n)) _ (λ t j. stays_refl t.scopes) (then_stays f (set_class s.class) a (λ t j. stays_refl t.scopes)) s i
 
-pub stays : Closed StepStays
-stays = record {
+pub open_scope_stays : Closed StepStays
+open_scope_stays = record {
   idle = λ s i. stays_refl s.scopes;
   refused = λ r at s i. tt;
   used = use_stays;
@@ -134,19 +134,19 @@ step_within f a s t w e = by (subst (EndsStaying s.scopes) e (a s w.inside))
     by h = record { above = (let x = h.current in let y = w.above in omega arith); inside = still_inside s t w.inside h }
 
 pub expr_within : (u : Usage) (e : tree.Expr) (s t : State) → IsWithin s.scopes → scan_expr u e s ≡ Done t → IsWithin t.scopes
-expr_within u e = step_within (scan_expr u e) (expr_closed stays u e)
+expr_within u e = step_within (scan_expr u e) (expr_closed open_scope_stays u e)
 
 pub clauses_within : (gs : tree.Generators) (s t : State) → IsWithin s.scopes → scan_clauses gs s ≡ Done t → IsWithin t.scopes
-clauses_within gs = step_within (scan_clauses gs) (clauses_closed stays gs)
+clauses_within gs = step_within (scan_clauses gs) (clauses_closed open_scope_stays gs)
 
 pub parameters_within : (a : tree.Arguments) (s t : State) → IsWithin s.scopes → use_parameters a s ≡ Done t → IsWithin t.scopes
-parameters_within a = step_within (use_parameters a) (parameters_closed stays a)
+parameters_within a = step_within (use_parameters a) (parameters_closed open_scope_stays a)
 
 pub stmts_within : (xs : tree.Stmts) (s t : State) → IsWithin s.scopes → scan_stmts xs s ≡ Done t → IsWithin t.scopes
-stmts_within xs = step_within (scan_stmts xs) (stmts_closed stays xs)
+stmts_within xs = step_within (scan_stmts xs) (stmts_closed open_scope_stays xs)
 
 pub first_names_within : (at : SourceLocation) (s t : State) → IsWithin s.scopes → use_first_names at s ≡ Done t → IsWithin t.scopes
-first_names_within at = step_within (use_first_names at) (first_names_closed stays at)
+first_names_within at = step_within (use_first_names at) (first_names_closed open_scope_stays at)
 
 -- a scope of type parameters stays open through what stands in it
 pub step_open : (f : Step) → StepStays f → (generic : Bool) (s t : State) → IsOpen generic s.scopes → f s ≡ Done t → IsOpen generic t.scopes

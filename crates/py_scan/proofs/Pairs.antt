@@ -15,20 +15,20 @@ no_keys : (u : Usage) (ks : List (Option Expr)) (vs : List Expr) → length ks �
 no_keys u [] vs e = refl
 no_keys u (k ∷ ks) vs e = absurd (omega (arith, e))
 
-no_values : (u : Usage) (ks : List (Option Expr)) (vs : List Expr) → length vs ≡ 0 → pairs_of u ks vs ≡ nothing
-no_values u [] [] e = refl
-no_values u (k ∷ ks) [] e = refl
-no_values u ks (v ∷ vs) e = absurd (omega (arith, e))
+pair_no_values : (u : Usage) (ks : List (Option Expr)) (vs : List Expr) → length vs ≡ 0 → pairs_of u ks vs ≡ nothing
+pair_no_values u [] [] e = refl
+pair_no_values u (k ∷ ks) [] e = refl
+pair_no_values u ks (v ∷ vs) e = absurd (omega (arith, e))
 
 -- none is left where the keys or the values end
 pub pairs_end : (u : Usage) (ks : List (Option Expr)) (vs : List Expr) (i : ℕ) → (i ≡ length ks) ⊎ (i ≡ length vs) → pairs_of u (drop i ks) (drop i vs) ≡ nothing
 pairs_end u ks vs i (inl e) = no_keys u (drop i ks) (drop i vs) (let h = length-drop i ks in omega (arith, h, e))
-pairs_end u ks vs i (inr e) = no_values u (drop i ks) (drop i vs) (let h = length-drop i vs in omega (arith, h, e))
+pairs_end u ks vs i (inr e) = pair_no_values u (drop i ks) (drop i vs) (let h = length-drop i vs in omega (arith, h, e))
 
-either : (a b : ℕ) → (a ≤ b) ⊎ (b ≤ a)
-either zero b = inl (omega arith)
-either (suc a) zero = inr (omega arith)
-either (suc a) (suc b) = by (either a b)
+pair_either : (a b : ℕ) → (a ≤ b) ⊎ (b ≤ a)
+pair_either zero b = inl (omega arith)
+pair_either (suc a) zero = inr (omega arith)
+pair_either (suc a) (suc b) = by (pair_either a b)
   where
     by : (a ≤ b) ⊎ (b ≤ a) → (suc a ≤ suc b) ⊎ (suc b ≤ suc a)
     by (inl h) = inl (omega (arith, h))
@@ -36,7 +36,7 @@ either (suc a) (suc b) = by (either a b)
 
 -- and so where all pairs were looked at
 pub pairs_over : (u : Usage) (ks : List (Option Expr)) (vs : List Expr) (i n : ℕ) → n ≡ min (length ks) (length vs) → i ≤ n → n ≤ i → pairs_of u (drop i ks) (drop i vs) ≡ nothing
-pairs_over u ks vs i n e p q = by (either (length ks) (length vs))
+pairs_over u ks vs i n e p q = by (pair_either (length ks) (length vs))
   where
     by : (length ks ≤ length vs) ⊎ (length vs ≤ length ks) → pairs_of u (drop i ks) (drop i vs) ≡ nothing
     by (inl h) = let m = min-eq_left h in pairs_end u ks vs i (inl (omega (arith, m, e, p, q)))

@@ -26,8 +26,8 @@ pub data Shown : Type 0 where
   Fault : Name → Option SourceLocation → Shown
   Other : Shown
 
-abbrev pub at : ℕ → ℕ → SourceLocation
-at row column = record { row = row; column = column }
+abbrev pub shown_at : ℕ → ℕ → SourceLocation
+shown_at row column = record { row = row; column = column }
 
 abbrev pub shown_tables : List Row → List (List Symbol) → List ShownTable
 shown_tables [] ts = []
@@ -41,9 +41,9 @@ abbrev pub shown_scopes : Option Refusal → Scanned → Shown
 shown_scopes None s = Tables (tables_of s (after_looks s))
 shown_scopes (Some r) s = Fault (text_of r) None
 
-abbrev pub shown : Outcome → Shown
-shown (Done s) = shown_scopes (first_fault s.scopes) s.scopes
-shown (Refused (fault.Text t) location) = Fault t location
-shown (Refused (fault.Malformed m) location) = Other
-shown (Refused (fault.TooLarge l) location) = Other
-shown (Refused fault.OutOfMemory location) = Other
+abbrev pub shown_scan : Outcome → Shown
+shown_scan (Done s) = shown_scopes (first_fault s.scopes) s.scopes
+shown_scan (Refused (fault.Text t) location) = Fault t location
+shown_scan (Refused (fault.Malformed m) location) = Other
+shown_scan (Refused (fault.TooLarge l) location) = Other
+shown_scan (Refused fault.OutOfMemory location) = Other

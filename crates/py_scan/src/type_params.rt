@@ -12,7 +12,7 @@ use py_name_uses::{Scan, TypeNames, Usage};
 use py_scope::{Role, SymbolTableError};
 use py_tree::{TypeParam, TypeParamTypeVar};
 
-/// Registers the type parameters, each behind its bound.
+/// Registers the type parameters, each after its bound.
 pub(crate) fn scan_type_params(
     scan: &mut Scan,
     params: &[TypeParam],

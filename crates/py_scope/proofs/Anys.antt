@@ -1,10 +1,7 @@
 -- Some element of a list passes: one element at a time.
 use Rattle.std.proofs.Common.{◌≡◌, refl, sym, ap, ◌∙◌, ℕ, zero, suc, ◌+◌, Bool, true, false, ◌||◌, List, [], ◌∷◌, take, slice_get, Some, add-one}
 use Rattle.std.specs.List.{list_any}
-
-pub or_assoc : (a b c : Bool) → (a || b) || c ≡ a || (b || c)
-or_assoc true b c = refl
-or_assoc false b c = refl
+pub use Rattle.py_base.proofs.Booleans.{or_associates}
 
 module _ {A : Type 0} (f : A → Bool) where
   pub any_next : (xs : List A) (i : ℕ) (x : A) → slice_get xs i ≡ Some x → list_any f (take (i + 1) xs) ≡ list_any f (take i xs) || f x
@@ -17,4 +14,4 @@ module _ {A : Type 0} (f : A → Bool) where
       go : (xs : List A) (i : ℕ) → slice_get xs i ≡ Some x → list_any f (take (suc i) xs) ≡ list_any f (take i xs) || f x
       go [] i g = cc
       go (y ∷ ys) zero g = let e : y ≡ x = cc in or_false (f y) ∙ ap f e
-      go (y ∷ ys) (suc i) g = ap (λ b. f y || b) (go ys i g) ∙ sym (or_assoc (f y) (list_any f (take i ys)) (f x))
+      go (y ∷ ys) (suc i) g = ap (λ b. f y || b) (go ys i g) ∙ sym (or_associates (f y) (list_any f (take i ys)) (f x))

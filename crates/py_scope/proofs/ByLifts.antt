@@ -7,10 +7,10 @@ use Rattle.py_scope.specs.declared.outward.Meets.{Meets}
 use Rattle.py_scope.specs.declared.outward.Meets.TheVariants.{Past}
 use Rattle.py_scope.specs.declared.outward.Found.{Found}
 use Rattle.py_scope.specs.Names.{Name, same_name}
-use Rattle.py_scope.specs.Outward.{look, counts, stop_of, enclosing, parents}
+use Rattle.py_scope.specs.Outward.{look, counts, stop_of, enclosing_scopes, parents}
 use Rattle.py_scope.specs.Entries.{entry_at}
 use Rattle.py_scope.specs.Roles.{bound_opt}
-use Rattle.py_scope.specs.Lifts.{Lift, Stays, Through, Holder, stages, lift_of, lifted, outward_from, lifts, holds_opt, kind_of}
+use Rattle.py_scope.specs.Lifts.{Lift, Stays, Through, Holder, stages, lift_of, lifted_holds, outward_from, lifts, holds_opt, kind_of}
 use Rattle.py_scope.specs.Tables.{is_plain}
 
 abbrev pub is_through : Lift → Bool
@@ -33,7 +33,7 @@ is_held rows order k n = list_any (λ q. same_name n q.1 && is_holder (lift_of (
 
 -- how scope k holds n: lifted through it, or as it declares it
 abbrev pub holds_in : List Row → List ℕ → ℕ → Name → Holds
-holds_in rows order k n = if goes_through rows order k n then lifted (stages rows n) (outward_from rows k) else holds_opt (entry_at rows k n)
+holds_in rows order k n = if goes_through rows order k n then lifted_holds (stages rows n) (outward_from rows k) else holds_opt (entry_at rows k n)
 
 -- scope k binds n: a use there binds it, or a walrus within, unless k declares it
 abbrev pub binds_in : List Row → List ℕ → ℕ → Name → Bool
@@ -45,4 +45,4 @@ stops_in rows order n e = if counts (kind_of (slice_get rows e)) n then stop_of 
 
 -- the look from scope k for n
 abbrev pub look_in : List Row → List ℕ → ℕ → Name → Found
-look_in rows order k n = look (stops_in rows order n) (enclosing (parents rows) k)
+look_in rows order k n = look (stops_in rows order n) (enclosing_scopes (parents rows) k)

@@ -1,4 +1,4 @@
--- Which scopes need a name from outside, where its look ends, and which scopes capture it, in the words of the passes.
+-- Which scopes need a free variable, where its look ends, and which scopes capture it, in the words of the passes.
 use Rattle.std.specs.Prelude.{◌≡◌, ◌⊎◌, ℕ, Bool, true, false, List, [], ◌∷◌, Option, Some, None, ◌↔◌, ◌<◌, not, slice_get, length}
 use Rattle.py_scope.specs.declared.rows.Row.{Row}
 use Rattle.py_scope.specs.declared.rows.Entry.{Entry}
@@ -7,7 +7,7 @@ use Rattle.py_scope.specs.declared.rows.Holds.TheVariants.{Plain, DeclaredGlobal
 use Rattle.py_scope.specs.declared.outward.Meets.TheVariants.{Binding}
 use Rattle.py_scope.specs.declared.outward.Found.TheVariants.{FreeOf}
 use Rattle.py_scope.specs.Names.{Name, same_name}
-use Rattle.py_scope.specs.Outward.{enclosing, look_from, meetings, parents, Passes}
+use Rattle.py_scope.specs.Outward.{enclosing_scopes, look_from, meetings, parents, Passes}
 use Rattle.py_scope.specs.Entries.{entry_at}
 use Rattle.py_scope.specs.Registered.{is_fresh}
 use Rattle.py_scope.specs.Resolve.{hands_on_as, binder}
@@ -67,7 +67,8 @@ pub record ChildNeeds (rows : List Row) (s : ℕ) (n : Name) : Type 0 where
 
 -- what the rows say at the end of the looks: a name is captured where it was before, and where a scope asks and its look ends
 pub record CapturesAll (old new : List Row) : Type 0 where
-  pub only : (t : ℕ) (n : Name) → t < length old → captured_opt (entry_at new t n) ≡ true → (captured_opt (entry_at old t n) ≡ true) ⊎ ((r : ℕ) × (asks_for old r n ≡ true) × (look_from old r n ≡ FreeOf t))
+  pub only : (t : ℕ) (n : Name) → t < length old → captured_opt (entry_at new t n) ≡ true
+      → (captured_opt (entry_at old t n) ≡ true) ⊎ ((r : ℕ) × (asks_for old r n ≡ true) × (look_from old r n ≡ FreeOf t))
   pub kept : (t : ℕ) (n : Name) → t < length old → captured_opt (entry_at old t n) ≡ true → captured_opt (entry_at new t n) ≡ true
   pub each : (t : ℕ) (n : Name) (r : ℕ) → t < length old → r < length old → asks_for old r n ≡ true → look_from old r n ≡ FreeOf t → captured_opt (entry_at new t n) ≡ true
 
@@ -76,7 +77,7 @@ hands_on None = false
 hands_on (Some s) = hands_on_as s.holds
 
 abbrev pub binder_from : List Row → ℕ → Name → Option ℕ
-binder_from rows s n = binder (meetings rows n) (λ e. hands_on (entry_at rows e n)) (enclosing (parents rows) s)
+binder_from rows s n = binder (meetings rows n) (λ e. hands_on (entry_at rows e n)) (enclosing_scopes (parents rows) s)
 
 -- scope s has a cell for n: it binds n itself, and some look ends there
 pub record HasCell (rows : List Row) (s : ℕ) (n : Name) : Type 0 where
@@ -85,9 +86,9 @@ pub record HasCell (rows : List Row) (s : ℕ) (n : Name) : Type 0 where
   pub captured : IsCaptured rows s n
 
 -- through scopes that have n among their free names the list leads to the cell of scope b
-abbrev pub Leads : List Row → Name → List ℕ → ℕ → Type 0
-Leads rows n [] b = ⊥
-Leads rows n (e ∷ es) b = (HasCell rows e n × (e ≡ b)) ⊎ (Needs rows e n × Leads rows n es b)
+abbrev pub CapturedLeads : List Row → Name → List ℕ → ℕ → Type 0
+CapturedLeads rows n [] b = ⊥
+CapturedLeads rows n (e ∷ es) b = (HasCell rows e n × (e ≡ b)) ⊎ (Needs rows e n × CapturedLeads rows n es b)
 
 -- each name that is stored for a scope further out finds one there
 abbrev pub HandsOn : List Row → Type 0
@@ -95,7 +96,7 @@ HandsOn rows = (s : ℕ) (n : Name) → hands_on (entry_at rows s n) ≡ true �
 
 -- a free name of a scope leads to the cell of its binder, and to that cell alone
 abbrev pub ClosuresLead : List Row → Type 0
-ClosuresLead rows = (c : ℕ) (n : Name) → Needs rows c n → (b : ℕ) × (binder_from rows c n ≡ Some b) × Leads rows n (enclosing (parents rows) c) b
+ClosuresLead rows = (c : ℕ) (n : Name) → Needs rows c n → (b : ℕ) × (binder_from rows c n ≡ Some b) × CapturedLeads rows n (enclosing_scopes (parents rows) c) b
 
 abbrev pub is_lifted_as : Holds → Bool
 is_lifted_as Plain = false
@@ -106,16 +107,16 @@ is_lifted_as LiftedGlobal = false
 is_lifted_as LiftedModule = false
 is_lifted_as Passed = false
 
-abbrev pub is_lifted : Option Entry → Bool
-is_lifted None = false
-is_lifted (Some s) = is_lifted_as s.holds
+abbrev pub captured_is_lifted : Option Entry → Bool
+captured_is_lifted None = false
+captured_is_lifted (Some s) = is_lifted_as s.holds
 
 -- before the looks a scope's own name is captured only where a comprehension's lifted name leads to it;
 -- where one leads to it, it is captured or a scope asks for it too, as a holder that declares the name nonlocal does
 pub record LiftsCaptured (rows : List Row) : Type 0 where
   pub only : (s : ℕ) (n : Name) → meetings rows n s ≡ Binding → hands_on (entry_at rows s n) ≡ false → captured_opt (entry_at rows s n) ≡ true
-      → (r : ℕ) × (is_lifted (entry_at rows r n) ≡ true) × (look_from rows r n ≡ FreeOf s)
-  pub each : (s : ℕ) (n : Name) (r : ℕ) → meetings rows n s ≡ Binding → hands_on (entry_at rows s n) ≡ false → is_lifted (entry_at rows r n) ≡ true → look_from rows r n ≡ FreeOf s
+      → (r : ℕ) × (captured_is_lifted (entry_at rows r n) ≡ true) × (look_from rows r n ≡ FreeOf s)
+  pub each : (s : ℕ) (n : Name) (r : ℕ) → meetings rows n s ≡ Binding → hands_on (entry_at rows s n) ≡ false → captured_is_lifted (entry_at rows r n) ≡ true → look_from rows r n ≡ FreeOf s
       → (captured_opt (entry_at rows s n) ≡ true) ⊎ ((q : ℕ) × (q < length rows) × (asks_for rows q n ≡ true) × (look_from rows q n ≡ FreeOf s))
 
 -- after them it is captured exactly where a direct child needs it

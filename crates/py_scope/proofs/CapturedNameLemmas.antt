@@ -6,8 +6,8 @@ use Rattle.py_scope.specs.declared.outward.Meets.TheVariants.{Past, Binding, Exp
 use Rattle.py_scope.specs.declared.outward.Found.{Found}
 use Rattle.py_scope.specs.declared.outward.Found.TheVariants.{Nowhere, Globally, FreeOf}
 use Rattle.py_scope.specs.declared.rows.Row.{Row}
-use Rattle.py_scope.specs.Outward.{Captures, Leaves, Passes, Touch, chain, enclosing, found_at, look, look_from, meetings, on_way, parents, touch, touch_here}
-use Rattle.py_scope.specs.Marks.{touch_by, settled, IsSettled, looks}
+use Rattle.py_scope.specs.Outward.{Captures, Leaves, Passes, Touch, chain, enclosing_scopes, found_at, look, look_from, meetings, on_way, parents, touch, touch_here}
+use Rattle.py_scope.specs.Marks.{touch_by, settled_row, IsSettled, looks}
 use Rattle.py_scope.specs.Entries.{entry_at, entry_of}
 use Rattle.py_scope.proofs.Captured.{asks_for, CapturesAll}
 use Rattle.py_scope.specs.Flags.{captured_opt, is_captures, captures}
@@ -16,10 +16,10 @@ use Rattle.py_scope.proofs.SymbolFlagLemmas.{captured_settled, from_looks, to_lo
 use Rattle.py_scope.specs.Names.{Name, same_name}
 use Rattle.py_scope.proofs.NameLemmas.{equal_names, names_same}
 
-not_both : (f : Found) → on_way f ≡ Captures → ⊥
-not_both Nowhere h = cc
-not_both Globally h = cc
-not_both (FreeOf b) h = cc
+captured_name_not_both : (f : Found) → on_way f ≡ Captures → ⊥
+captured_name_not_both Nowhere h = cc
+captured_name_not_both Globally h = cc
+captured_name_not_both (FreeOf b) h = cc
 
 module _ (m : ℕ → Meets) where
   -- a look captures only where it ends
@@ -28,7 +28,7 @@ module _ (m : ℕ → Meets) where
   captures_ends t (e ∷ es) h = by (m e) (nat_eq e t) refl h (captures_ends t es)
     where
       by : (x : Meets) (b : Bool) → nat_eq e t ≡ b → touch_here x b (look m es) (touch m t es) ≡ Captures → (touch m t es ≡ Captures → look m es ≡ FreeOf t) → found_at e x (look m es) ≡ FreeOf t
-      by Past true d g ih = absurd (not_both (look m es) g)
+      by Past true d g ih = absurd (captured_name_not_both (look m es) g)
       by Past false d g ih = ih g
       by Binding true d g ih = ap FreeOf (equal_numbers e t d)
       by Binding false d g ih = cc
@@ -59,24 +59,25 @@ is_it Leaves h = cc
 is_it Passes h = cc
 is_it Captures h = refl
 
-both : (a b : Bool) → a && b ≡ true → (a ≡ true) × (b ≡ true)
-both true b h = (refl, h)
-both false b h = cc
+captured_name_both : (a b : Bool) → a && b ≡ true → (a ≡ true) × (b ≡ true)
+captured_name_both true b h = (refl, h)
+captured_name_both false b h = cc
 
-either : (a b : Bool) → a || b ≡ true → (a ≡ true) ⊎ (b ≡ true)
-either true b h = inl refl
-either false b h = inr h
+captured_name_either : (a b : Bool) → a || b ≡ true → (a ≡ true) ⊎ (b ≡ true)
+captured_name_either true b h = inl refl
+captured_name_either false b h = inr h
 
-right_or : (a b : Bool) → b ≡ true → a || b ≡ true
-right_or true b h = refl
-right_or false b h = h
+captured_name_right_or : (a b : Bool) → b ≡ true → a || b ≡ true
+captured_name_right_or true b h = refl
+captured_name_right_or false b h = h
 
 module _ (old new : List Row) (order : List ℕ) (whole : IsSettled old (looks old order) new) where
   -- the flag of a name in the settled rows
   pub flag : (t : ℕ) (n : Name) → t < length old → captured_opt (entry_at new t n) ≡ captured_opt (entry_at old t n) || list_any (captures old t n) (looks old order)
   flag t n within = ap (λ o. captured_opt (entry_of n o)) (whole t) ∙ by (slice_get old t) refl
     where
-      by : (o : Option Row) → slice_get old t ≡ o → captured_opt (entry_of n (option_map (settled old (looks old order) t) o)) ≡ captured_opt (entry_of n o) || list_any (captures old t n) (looks old order)
+      by : (o : Option Row) → slice_get old t ≡ o
+          → captured_opt (entry_of n (option_map (settled_row old (looks old order) t) o)) ≡ captured_opt (entry_of n o) || list_any (captures old t n) (looks old order)
       by None e = let q : t < length old = within in absurd (none_within old t e q)
         where
           none_within : (xs : List Row) (i : ℕ) → slice_get xs i ≡ None → i < length xs → ⊥
@@ -86,25 +87,29 @@ module _ (old new : List Row) (order : List ℕ) (whole : IsSettled old (looks o
       by (Some u) e = captured_settled old (looks old order) t n u
 
   -- it was set before, or a scope asks and its look ends here
-  pub flag_asked : (t : ℕ) (n : Name) → t < length old → captured_opt (entry_at new t n) ≡ true → (captured_opt (entry_at old t n) ≡ true) ⊎ ((r : ℕ) × (asks_for old r n ≡ true) × (look_from old r n ≡ FreeOf t))
-  flag_asked t n within h = by (either (captured_opt (entry_at old t n)) _ (sym (flag t n within) ∙ h))
+  pub flag_asked : (t : ℕ) (n : Name) → t < length old → captured_opt (entry_at new t n) ≡ true
+      → (captured_opt (entry_at old t n) ≡ true) ⊎ ((r : ℕ) × (asks_for old r n ≡ true) × (look_from old r n ≡ FreeOf t))
+  flag_asked t n within h = by (captured_name_either (captured_opt (entry_at old t n)) _ (sym (flag t n within) ∙ h))
     where
-      by : (captured_opt (entry_at old t n) ≡ true) ⊎ (list_any (captures old t n) (looks old order) ≡ true) → (captured_opt (entry_at old t n) ≡ true) ⊎ ((r : ℕ) × (asks_for old r n ≡ true) × (look_from old r n ≡ FreeOf t))
+      by : (captured_opt (entry_at old t n) ≡ true) ⊎ (list_any (captures old t n) (looks old order) ≡ true)
+          → (captured_opt (entry_at old t n) ≡ true) ⊎ ((r : ℕ) × (asks_for old r n ≡ true) × (look_from old r n ≡ FreeOf t))
       by (inl g) = inl g
       by (inr g) =
           let f = from_looks (captures old t n) old order g in
-          let s = both (same_name n f.1) _ f.3 in
+          let s = captured_name_both (same_name n f.1) _ f.3 in
           let q : n ≡ f.1 = equal_names n f.1 s.0 in
-          inr (f.0, subst (λ z. asks_for old f.0 z ≡ true) (sym q) f.2, subst (λ z. look_from old f.0 z ≡ FreeOf t) (sym q) (captures_ends (meetings old f.1) t (enclosing (parents old) f.0) (is_it _ s.1)))
+          inr (f.0, subst (λ z. asks_for old f.0 z ≡ true) (sym q) f.2, subst (λ z. look_from old f.0 z ≡ FreeOf t) (sym q) (captures_ends (meetings old f.1) t (enclosing_scopes (parents old) f.0) (is_it _ s.1)))
 
-  pub asked_flag : ((r : ℕ) → r < length old → list_any (nat_eq r) order ≡ true) → (t : ℕ) (n : Name) (r : ℕ) → t < length old → r < length old → asks_for old r n ≡ true → look_from old r n ≡ FreeOf t → captured_opt (entry_at new t n) ≡ true
+  pub asked_flag : ((r : ℕ) → r < length old → list_any (nat_eq r) order ≡ true) → (t : ℕ) (n : Name) (r : ℕ) → t < length old → r < length old
+      → asks_for old r n ≡ true → look_from old r n ≡ FreeOf t → captured_opt (entry_at new t n) ≡ true
   asked_flag complete t n r within there asked ends =
       let touches : touch_by old r n t ≡ Captures = ends_captures (meetings old n) (parents old) t r (parents old r) ends in
-      flag t n within ∙ right_or (captured_opt (entry_at old t n)) _ (to_looks (captures old t n) old order r n (complete r there) asked
+      flag t n within ∙ captured_name_right_or (captured_opt (entry_at old t n)) _ (to_looks (captures old t n) old order r n (complete r there) asked
       ((λ j. names_same n j && is_captures (touches j))))
 
 -- the two together, after a loop over the whole order
-pub captures_all : (old new : List Row) (order : List ℕ) (i : ℕ) → IsSettled old (looks old (take i order)) new → length order ≤ i → ((r : ℕ) → r < length old → list_any (nat_eq r) order ≡ true) → CapturesAll old new
+pub captures_all : (old new : List Row) (order : List ℕ) (i : ℕ) → IsSettled old (looks old (take i order)) new → length order ≤ i
+    → ((r : ℕ) → r < length old → list_any (nat_eq r) order ≡ true) → CapturesAll old new
 captures_all old new order i h past complete = record {
   only = λ t n within g. flag_asked old new order whole t n within g;
   kept = λ t n within g. flag old new order whole t n within ∙ ap (λ b. b || list_any (captures old t n) (looks old order)) g;

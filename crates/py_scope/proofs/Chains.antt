@@ -3,7 +3,7 @@ use Rattle.std.proofs.Common.{◌≡◌, ◌≢◌, refl, ap, ◌∙◌, ℕ, ze
 use Rattle.py_scope.specs.declared.outward.Meets.{Meets}
 use Rattle.py_scope.specs.declared.outward.Meets.TheVariants.{Past, Binding, Explicit}
 use Rattle.py_scope.specs.declared.outward.Found.{Found}
-use Rattle.py_scope.specs.Outward.{chain, enclosing, look, touch, touch_here, Leaves, found_at}
+use Rattle.py_scope.specs.Outward.{chain, enclosing_scopes, look, touch, touch_here, Leaves, found_at}
 use Rattle.std.proofs.lemmas.Grind.{common_steps}
 
 pub equal_numbers : (a b : ℕ) → nat_eq a b ≡ true → a ≡ b
@@ -35,16 +35,16 @@ touch_above m p t (suc k) w h = by (nat_eq k w) (touch_above m p t k (p k) (omeg
     by false e f = f
 
 -- the chain of a scope that is there
-pub chain_to : (p : ℕ → ℕ) (k w : ℕ) → w < k → chain p k w ≡ w ∷ enclosing p w
+pub chain_to : (p : ℕ → ℕ) (k w : ℕ) → w < k → chain p k w ≡ w ∷ enclosing_scopes p w
 chain_to p zero w h = absurd (omega arith)
 chain_to p (suc k) w h = by (nat_eq k w) refl (λ l. chain_to p k w l)
   where
-    by : (b : Bool) → nat_eq k w ≡ b → (w < k → chain p k w ≡ w ∷ enclosing p w) → (if b then k ∷ chain p k (p k) else chain p k w) ≡ w ∷ enclosing p w
-    by true e f = ap (λ x. x ∷ enclosing p x) (equal_numbers k w e)
+    by : (b : Bool) → nat_eq k w ≡ b → (w < k → chain p k w ≡ w ∷ enclosing_scopes p w) → (if b then k ∷ chain p k (p k) else chain p k w) ≡ w ∷ enclosing_scopes p w
+    by true e f = ap (λ x. x ∷ enclosing_scopes p x) (equal_numbers k w e)
     by false e f = let d : k ≢ w = unequal_numbers k w e in f (omega (arith, d))
 
 -- the enclosing scopes begin with the parent, and go on with those of the parent
-pub outward : (p : ℕ → ℕ) (s w : ℕ) → p s ≡ w → w < s → enclosing p s ≡ w ∷ enclosing p w
+pub outward : (p : ℕ → ℕ) (s w : ℕ) → p s ≡ w → w < s → enclosing_scopes p s ≡ w ∷ enclosing_scopes p w
 outward p s w e h = ap (chain p s) e ∙ chain_to p s w h
 
 -- a look that goes past this scope

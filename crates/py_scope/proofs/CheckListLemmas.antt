@@ -50,10 +50,10 @@ module _ {A : Type 0} (f : A → Option Refusal) where
       right None b h = h
       right (Some r) b h = cc
 
-pub some_at : {A : Type 0} (xs : List A) (i : ℕ) → i < length xs → (x : A) × (slice_get xs i ≡ Some x)
-some_at [] i h = absurd (omega arith)
-some_at (x ∷ xs) zero h = (x, refl)
-some_at (x ∷ xs) (suc i) h = some_at xs i (omega arith)
+pub check_list_some_at : {A : Type 0} (xs : List A) (i : ℕ) → i < length xs → (x : A) × (slice_get xs i ≡ Some x)
+check_list_some_at [] i h = absurd (omega arith)
+check_list_some_at (x ∷ xs) zero h = (x, refl)
+check_list_some_at (x ∷ xs) (suc i) h = check_list_some_at xs i (omega arith)
 
 pub get_at : (xs : List ℕ) (i : ℕ) → i < length xs → slice_get xs i ≡ Some (slice_index_or xs i 0)
 get_at [] i h = absurd (omega arith)

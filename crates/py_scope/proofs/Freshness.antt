@@ -129,8 +129,9 @@ module _ (row : Row) (n : Name) (role : Role) (old : IsFresh (Some row)) where
   abbrev r : Role
   r = role_in row.kind role
 
-  kept : {A : Type 0} (f : Option Entry → A) (a : A) → ((m : Name) → f (lookup m row.entries) ≡ a) → f (Some (with_role r (or_absent (lookup n row.entries)))) ≡ a → (m : Name) → f (lookup m (register row.entries n r)) ≡ a
-  kept f a before here m = ap f (lookup_put row.entries n m _) ∙ by (same_name m n)
+  freshness_kept : {A : Type 0} (f : Option Entry → A) (a : A) → ((m : Name) → f (lookup m row.entries) ≡ a)
+      → f (Some (with_role r (or_absent (lookup n row.entries)))) ≡ a → (m : Name) → f (lookup m (register row.entries n r)) ≡ a
+  freshness_kept f a before here m = ap f (lookup_put row.entries n m _) ∙ by (same_name m n)
     where
       by : (b : Bool) → f (if b then Some (with_role r (or_absent (lookup n row.entries))) else lookup m row.entries) ≡ a
       by true = here
@@ -169,11 +170,11 @@ module _ (row : Row) (n : Name) (role : Role) (old : IsFresh (Some row)) where
 
   pub fresh_used : IsFresh (Some (used_in n role row))
   fresh_used = record {
-    fresh = kept (λ o. is_fresh (holds_opt o)) true old.fresh (holds_here (lookup n row.entries) (old.fresh n));
-    uncaptured = kept captured_opt false old.uncaptured (same_captured (lookup n row.entries) ∙ old.uncaptured n);
-    unassigned = kept assigned_opt false old.unassigned (same_assigned (lookup n row.entries) ∙ old.unassigned n);
-    unpassed = kept free_class_opt false old.unpassed (same_passed (lookup n row.entries) ∙ old.unpassed n);
-    unmarked = kept (λ o. intersects (bits_of o) 0x100) false old.unmarked (marks_here (lookup n row.entries) (old.unmarked n));
+    fresh = freshness_kept (λ o. is_fresh (holds_opt o)) true old.fresh (holds_here (lookup n row.entries) (old.fresh n));
+    uncaptured = freshness_kept captured_opt false old.uncaptured (same_captured (lookup n row.entries) ∙ old.uncaptured n);
+    unassigned = freshness_kept assigned_opt false old.unassigned (same_assigned (lookup n row.entries) ∙ old.unassigned n);
+    unpassed = freshness_kept free_class_opt false old.unpassed (same_passed (lookup n row.entries) ∙ old.unpassed n);
+    unmarked = freshness_kept (λ o. intersects (bits_of o) 0x100) false old.unmarked (marks_here (lookup n row.entries) (old.unmarked n));
     walruses = λ h. walruses_put row.entries n _ (same_walrus h (lookup n row.entries)) ∙ old.walruses h;
     once = subst AreDistinct (sym (keys_put row.entries n _)) (distinct_add_name (keys_of row.entries) n old.once);
   }

@@ -1,6 +1,7 @@
 -- What a walrus within gives to the scope that holds its name.
 use Rattle.std.proofs.Common.{◌≡◌, refl, sym, ap, ◌∙◌, ℕ, Bool, true, false, ◌||◌, ◌&&◌, List, [], ◌∷◌, if◌then◌else◌, slice_get, Option, Some, None}
 use Rattle.std.specs.List.{list_any}
+use Rattle.py_base.proofs.Booleans.{or_false_left, or_false_right}
 use Rattle.py_scope.specs.declared.table_type.SymbolTableType.TheVariants.{Function, Comprehension}
 use Rattle.py_scope.specs.declared.rows.Row.{Row}
 use Rattle.py_scope.specs.declared.rows.Entry.{Entry}
@@ -8,24 +9,16 @@ use Rattle.py_scope.specs.declared.rows.Holds.{Holds}
 use Rattle.py_scope.specs.declared.rows.Holds.TheVariants.{Plain, DeclaredGlobal, DeclaredNonlocal, LiftedFree, LiftedGlobal, LiftedModule, Passed}
 use Rattle.py_scope.specs.Names.{Name, same_name, lookup}
 use Rattle.py_scope.specs.Outward.{parents}
-use Rattle.py_scope.specs.Lifts.{Lift, Stays, Through, Holder, stages, stage_of, holds_opt, or_absent, held_as, holding, assigned_as, lifted, lift_of, after_lift, outward_from, lift_effect, lifted_all, kind_of}
+use Rattle.py_scope.specs.Lifts.{Lift, Stays, Through, Holder, stages, stage_of, holds_opt, or_absent, held_as, holding_entry, assigned_as, lifted_holds, lift_of, after_lift, outward_from, lift_effect, lifted_all, kind_of}
 use Rattle.py_scope.specs.Registered.{is_fresh}
 use Rattle.py_scope.specs.Tables.{is_plain}
 use Rattle.py_scope.proofs.ByLifts.{is_through, is_holder}
 use Rattle.py_scope.proofs.NameLemmas.{equal_names}
 use Rattle.py_scope.proofs.LiftKeeps.{through}
 use Rattle.py_scope.proofs.MarkSumLemmas.{lookup_put}
-use Rattle.py_scope.proofs.LiftsCapture.{hits_through, hits_holder, holds_after, both, is_it}
+use Rattle.py_scope.proofs.LiftsCapture.{hits_through, hits_holder, holds_after, lifts_capture_both, is_it}
 use Rattle.py_scope.proofs.LiftsSound as sound
 use Rattle.py_scope.proofs.LiftsSound.{holder_kind, witness, begins_well}
-
-left_false : (a b : Bool) → a || b ≡ false → a ≡ false
-left_false true b h = cc
-left_false false b h = refl
-
-right_false : (a b : Bool) → a || b ≡ false → b ≡ false
-right_false true b h = cc
-right_false false b h = h
 
 -- whether a scope that holds the name so takes it from a walrus within
 abbrev pub takes : Holds → Bool
@@ -69,7 +62,7 @@ no_more false true c = refl
 no_more false false c = refl
 
 -- a mark that only a holder gains
-module _ (g : Option Entry → Bool) (stays : (h : Holds) (o : Option Entry) → g (Some (held_as h (or_absent o))) ≡ g o) (gains : (o : Option Entry) → g (Some (holding (or_absent o))) ≡ g o || takes (holds_opt o)) where
+module _ (g : Option Entry → Bool) (stays : (h : Holds) (o : Option Entry) → g (Some (held_as h (or_absent o))) ≡ g o) (gains : (o : Option Entry) → g (Some (holding_entry (or_absent o))) ≡ g o || takes (holds_opt o)) where
   -- one lift that does not go through the scope
   gained_after : (x : Lift) (h : Holds) (k n : Name) (u : Row) → same_name n k && is_through x ≡ false
       → g (lookup n (after_lift x h k u).entries) ≡ g (lookup n u.entries) || ((same_name n k && is_holder x) && takes (holds_opt (lookup n u.entries)))
@@ -80,7 +73,8 @@ module _ (g : Option Entry → Bool) (stays : (h : Holds) (o : Option Entry) →
       or_false true = refl
       or_false false = refl
 
-      by : (b : Bool) → b && true ≡ false → g (if b then Some (held_as h (or_absent (lookup k u.entries))) else lookup n u.entries) ≡ g (lookup n u.entries) || ((b && false) && takes (holds_opt (lookup n u.entries)))
+      by : (b : Bool) → b && true ≡ false
+          → g (if b then Some (held_as h (or_absent (lookup k u.entries))) else lookup n u.entries) ≡ g (lookup n u.entries) || ((b && false) && takes (holds_opt (lookup n u.entries)))
       by true q = cc
       by false q = or_false _
   gained_after Holder h k n u p = ap g (lookup_put u.entries k n _) ∙ by (same_name n k) refl
@@ -89,7 +83,8 @@ module _ (g : Option Entry → Bool) (stays : (h : Holds) (o : Option Entry) →
       or_false true = refl
       or_false false = refl
 
-      by : (b : Bool) → same_name n k ≡ b → g (if b then Some (holding (or_absent (lookup k u.entries))) else lookup n u.entries) ≡ g (lookup n u.entries) || ((b && true) && takes (holds_opt (lookup n u.entries)))
+      by : (b : Bool) → same_name n k ≡ b
+          → g (if b then Some (holding_entry (or_absent (lookup k u.entries))) else lookup n u.entries) ≡ g (lookup n u.entries) || ((b && true) && takes (holds_opt (lookup n u.entries)))
       by true e = gains (lookup k u.entries) ∙ ap (λ x. g (lookup x u.entries) || takes (holds_opt (lookup x u.entries))) (sym (equal_names n k e))
       by false e = or_false _
 
@@ -103,7 +98,7 @@ module _ (g : Option Entry → Bool) (stays : (h : Holds) (o : Option Entry) →
       by false e = refl
   gained_still Holder h k n u p = ap g (lookup_put u.entries k n _) ∙ by (same_name n k) p
     where
-      by : (b : Bool) → b && true ≡ false → g (if b then Some (holding (or_absent (lookup k u.entries))) else lookup n u.entries) ≡ g (lookup n u.entries)
+      by : (b : Bool) → b && true ≡ false → g (if b then Some (holding_entry (or_absent (lookup k u.entries))) else lookup n u.entries) ≡ g (lookup n u.entries)
       by true q = cc
       by false q = refl
 
@@ -125,41 +120,43 @@ module _ (g : Option Entry → Bool) (stays : (h : Holds) (o : Option Entry) →
         by false = refl
     gained_held (q ∷ qs) u h =
         let x = lift_of (stages base q.1) t (outward_from base q.0) in
-        let k = lifted (stages base q.1) (outward_from base q.0) in
-        let here : same_name n q.1 && is_through x ≡ false = left_false _ _ h in
+        let k = lifted_holds (stages base q.1) (outward_from base q.0) in
+        let here : same_name n q.1 && is_through x ≡ false = or_false_left _ _ h in
         let held : holds_opt (lookup n (after_lift x k q.1 u).entries) ≡ holds_opt (lookup n u.entries) = holds_after x k q.1 n u ∙ ap (λ b. if b then k else holds_opt (lookup n u.entries)) here in
-        gained_held qs (lift_effect base q t u) (right_false _ _ h)
+        gained_held qs (lift_effect base q t u) (or_false_right _ _ h)
         ∙ (λ j. gained_after x k q.1 n u here j || (list_any (hits_holder base t n) qs && takes (held j)))
         ∙ or_spread (g (lookup n u.entries)) (hits_holder base t n q) (list_any (hits_holder base t n) qs) (takes (holds_opt (lookup n u.entries)))
 
     gained_same : (pairs : List (ℕ × Name)) (u : Row) → list_any (hits_holder base t n) pairs ≡ false → g (lookup n (lifted_all base pairs t u).entries) ≡ g (lookup n u.entries)
     gained_same [] u h = refl
-    gained_same (q ∷ qs) u h = gained_same qs (lift_effect base q t u) (right_false _ _ h) ∙ gained_still (lift_of (stages base q.1) t (outward_from base q.0)) (lifted (stages base q.1) (outward_from base q.0)) q.1 n u (left_false _ _ h)
+    gained_same (q ∷ qs) u h = gained_same qs (lift_effect base q t u) (or_false_right _ _ h) ∙ gained_still (lift_of (stages base q.1) t (outward_from base q.0)) (lifted_holds (stages base q.1) (outward_from base q.0)) q.1 n u (or_false_left _ _ h)
 
     kind_read : (m : Name) (o : Option Row) → (stage_of m o).kind ≡ kind_of o
     kind_read m None = refl
     kind_read m (Some r) = refl
 
     -- a comprehension on the way is no holder
-    not_both : (pairs : List (ℕ × Name)) → list_any (hits_through base t n) pairs ≡ true → list_any (hits_holder base t n) pairs ≡ false
-    not_both pairs h = by (list_any (hits_holder base t n) pairs) refl
+    gain_not_both : (pairs : List (ℕ × Name)) → list_any (hits_through base t n) pairs ≡ true → list_any (hits_holder base t n) pairs ≡ false
+    gain_not_both pairs h = by (list_any (hits_holder base t n) pairs) refl
       where
         by : (b : Bool) → list_any (hits_holder base t n) pairs ≡ b → b ≡ false
         by false g = refl
         by true g =
-            let v = witness (hits_through base t n) pairs h in let y = both (same_name n v.it.1) _ v.passes in
-            let w = witness (hits_holder base t n) pairs g in let z = both (same_name n w.it.1) _ w.passes in
+            let v = witness (hits_through base t n) pairs h in let y = lifts_capture_both (same_name n v.it.1) _ v.passes in
+            let w = witness (hits_holder base t n) pairs g in let z = lifts_capture_both (same_name n w.it.1) _ w.passes in
             let c : kind_of (slice_get base t) ≡ Comprehension = sym (kind_read v.it.1 (slice_get base t)) ∙ through (stages base v.it.1) t (outward_from base v.it.0) (is_it _ y.1) in
             let f : kind_of (slice_get base t) ≡ Function = sym (kind_read w.it.1 (slice_get base t)) ∙ holder_kind (stages base w.it.1) (parents base) t (outward_from base w.it.0) (sound.is_held _ z.1) in
             let q : Comprehension ≡ Function = sym c ∙ f in cc
 
-    pub gained_lifted : (pairs : List (ℕ × Name)) (u : Row) → g (lookup n (lifted_all base pairs t u).entries) ≡ g (lookup n u.entries) || (list_any (hits_holder base t n) pairs && takes (holds_opt (lookup n u.entries)))
+    pub gained_lifted : (pairs : List (ℕ × Name)) (u : Row)
+        → g (lookup n (lifted_all base pairs t u).entries) ≡ g (lookup n u.entries) || (list_any (hits_holder base t n) pairs && takes (holds_opt (lookup n u.entries)))
     gained_lifted pairs u = by (list_any (hits_through base t n) pairs) refl
       where
         or_false : (b : Bool) → b ≡ b || false
         or_false true = refl
         or_false false = refl
 
-        by : (b : Bool) → list_any (hits_through base t n) pairs ≡ b → g (lookup n (lifted_all base pairs t u).entries) ≡ g (lookup n u.entries) || (list_any (hits_holder base t n) pairs && takes (holds_opt (lookup n u.entries)))
+        by : (b : Bool) → list_any (hits_through base t n) pairs ≡ b
+            → g (lookup n (lifted_all base pairs t u).entries) ≡ g (lookup n u.entries) || (list_any (hits_holder base t n) pairs && takes (holds_opt (lookup n u.entries)))
         by false e = gained_held pairs u e
-        by true e = gained_same pairs u (not_both pairs e) ∙ or_false _ ∙ ap (λ b. g (lookup n u.entries) || (b && takes (holds_opt (lookup n u.entries)))) (sym (not_both pairs e))
+        by true e = gained_same pairs u (gain_not_both pairs e) ∙ or_false _ ∙ ap (λ b. g (lookup n u.entries) || (b && takes (holds_opt (lookup n u.entries)))) (sym (gain_not_both pairs e))

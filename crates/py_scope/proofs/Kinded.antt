@@ -12,8 +12,8 @@ use Rattle.py_scope.specs.declared.kinds.SymbolScope.{SymbolScope}
 use Rattle.py_scope.specs.declared.kinds.SymbolScope.TheVariants.{Local, GlobalExplicit, Free, Cell}
 use Rattle.py_scope.specs.Names.{Name}
 use Rattle.py_scope.specs.Bits.{is_bound}
-use Rattle.py_scope.specs.Outward.{Passes, counts, enclosing, look, look_from, meetings, parents, stop_of}
-use Rattle.py_scope.specs.Marks.{looks, settled, touch_by}
+use Rattle.py_scope.specs.Outward.{Passes, counts, enclosing_scopes, look, look_from, meetings, parents, stop_of}
+use Rattle.py_scope.specs.Marks.{looks, settled_row, touch_by}
 use Rattle.py_scope.specs.Flags.{captured_opt}
 use Rattle.py_scope.specs.Entries.{entry_at, entry_of}
 use Rattle.py_scope.proofs.Captured.{Needs}
@@ -29,10 +29,10 @@ use Rattle.py_scope.proofs.Chains.{equal_numbers}
 use Rattle.py_scope.proofs.NeededNameLemmas.{passes_look}
 use Rattle.py_scope.proofs.MarkSumLemmas as settling
 use Rattle.py_scope.proofs.Lawful.{is_settled}
-use Rattle.py_scope.proofs.Cellular.{held_opt, bound_of, same_held, same_held_end, same_bound, same_bound_end, kept, there, same_kind, captured_counts, captured_where_needed}
+use Rattle.py_scope.proofs.Cellular.{held_opt, bound_of, same_held, same_held_end, same_bound, same_bound_end, cellular_kept, cellular_there, same_kind, captured_counts, captured_where_needed}
 use Rattle.py_scope.proofs.KindLaws.{settled_kind}
-use Rattle.py_scope.proofs.Truth.{and_false, never_both, same_truth}
-use Rattle.py_scope.proofs.Based.{is_passed_on, held_is, bound_is, look_is, stop_is, never_passed}
+use Rattle.py_scope.proofs.Truth.{truth_and_false, never_both, same_truth}
+use Rattle.py_scope.proofs.Based.{is_passed_on, based_held_is, bound_is, based_look_is, stop_is, never_passed}
 use Rattle.py_scope.proofs.Needed.{inside_to, inside_from}
 use Rattle.py_scope.proofs.Touched.{touches, some_looked, brought_needs}
 use Rattle.py_scope.proofs.Shared.{declared_inside}
@@ -55,58 +55,58 @@ held_some None h e p = let z : true ≡ false = ap is_passed_on e ∙ p in cc
 held_some (Some v) h e p = (refl, e)
 
 module _ (s : Scanned) (old : IsScanned s) (fine : first_fault s ≡ None) (k : ℕ) (n : Name) (e : Entry) (h : entry_at (after_looks s) k n ≡ Some e) where
-  abbrev base : List Row
-  base = after_lifts s
+  abbrev kinded_base : List Row
+  kinded_base = after_lifts s
 
-  held_before : held_opt (entry_at base k n) ≡ e.holds
-  held_before = sym (kept s old fine held_opt (λ x o. same_held o x) same_held_end k n) ∙ ap held_opt h
+  held_before : held_opt (entry_at kinded_base k n) ≡ e.holds
+  held_before = sym (cellular_kept s old fine held_opt (λ x o. same_held o x) same_held_end k n) ∙ ap held_opt h
 
-  pub bound : is_bound e ≡ binds_in s.rows k n
-  bound = ap bound_of (sym h) ∙ kept s old fine bound_of (λ x o. same_bound o x) same_bound_end k n ∙ bound_same (entry_at base k n) ∙ bound_is s old fine k n
+  pub kinded_bound : is_bound e ≡ binds_in s.rows k n
+  kinded_bound = ap bound_of (sym h) ∙ cellular_kept s old fine bound_of (λ x o. same_bound o x) same_bound_end k n ∙ bound_same (entry_at kinded_base k n) ∙ bound_is s old fine k n
 
   looks_alike : look_from (after_looks s) k n ≡ look_in s.rows k n
-  looks_alike = (λ j. look (settling.same_meetings base (after_looks s) (looks base (order_of s)) (is_settled s old fine) n j) (enclosing (settling.same_parents base (after_looks s) (looks base (order_of s)) (is_settled s old fine) j) k)) ∙ look_is s old fine k n
+  looks_alike = (λ j. look (settling.same_meetings kinded_base (after_looks s) (looks kinded_base (order_of s)) (is_settled s old fine) n j) (enclosing_scopes (settling.mark_sum_same_parents kinded_base (after_looks s) (looks kinded_base (order_of s)) (is_settled s old fine) j) k)) ∙ based_look_is s old fine k n
 
   -- the names that a use or a lift made
-  pub made : is_passed_on e.holds ≡ false → (is_some (entry_at base k n) ≡ true) × (e.holds ≡ holds_in s.rows k n)
-  made p = let w = held_some (entry_at base k n) e.holds held_before p in (w.0, sym w.1 ∙ held_is s old fine k n)
+  pub kinded_made : is_passed_on e.holds ≡ false → (is_some (entry_at kinded_base k n) ≡ true) × (e.holds ≡ holds_in s.rows k n)
+  kinded_made p = let w = held_some (entry_at kinded_base k n) e.holds held_before p in (w.0, sym w.1 ∙ based_held_is s old fine k n)
 
   module _ (passed : e.holds ≡ Passed) where
-    absent : entry_at base k n ≡ None
-    absent = not_held (entry_at base k n) (held_before ∙ passed) (ap is_passed_on (held_is s old fine k n) ∙ never_passed s old fine k n)
+    absent : entry_at kinded_base k n ≡ None
+    absent = not_held (entry_at kinded_base k n) (held_before ∙ passed) (ap is_passed_on (based_held_is s old fine k n) ∙ never_passed s old fine k n)
 
     pub plain_before : holds_in s.rows k n ≡ Plain
-    plain_before = sym (held_is s old fine k n) ∙ ap holds_opt absent
+    plain_before = sym (based_held_is s old fine k n) ∙ ap holds_opt absent
 
     pub unbound_before : binds_in s.rows k n ≡ false
     unbound_before = sym (bound_is s old fine k n) ∙ ap bound_opt absent
 
-    past : meetings base n k ≡ Past
-    past = stop_is s old fine n k ∙ (λ j. if counts (kind_at s.rows k) n then stop_of (plain_before j) (unbound_before j) else Past) ∙ none_stops (counts (kind_at s.rows k) n)
+    kinded_past : meetings kinded_base n k ≡ Past
+    kinded_past = stop_is s old fine n k ∙ (λ j. if counts (kind_at s.rows k) n then stop_of (plain_before j) (unbound_before j) else Past) ∙ none_stops (counts (kind_at s.rows k) n)
 
     -- a look brought the name
-    pub brought : Needs base k n
-    brought = brought_needs s old fine k n past (by (slice_get base k) refl)
+    pub brought : Needs kinded_base k n
+    brought = brought_needs s old fine k n kinded_past (by (slice_get kinded_base k) refl)
       where
-        by : (o : Option Row) → slice_get base k ≡ o → list_any (touches base k n) (looks base (order_of s)) ≡ true
-        by None g = absurd (none_some (sym (ap (entry_of n) (is_settled s old fine k ∙ ap (option_map (settled base (looks base (order_of s)) k)) g)) ∙ h))
+        by : (o : Option Row) → slice_get kinded_base k ≡ o → list_any (touches kinded_base k n) (looks kinded_base (order_of s)) ≡ true
+        by None g = absurd (none_some (sym (ap (entry_of n) (is_settled s old fine k ∙ ap (option_map (settled_row kinded_base (looks kinded_base (order_of s)) k)) g)) ∙ h))
           where
             none_some : {A : Type 0} {a : A} → None ≡ Some a → ⊥
             none_some h = cc
-        by (Some u) g = sym (ap (λ o. is_some o || list_any (touches base k n) (looks base (order_of s))) absent) ∙ sym (some_looked s old fine k n u g) ∙ ap is_some h
+        by (Some u) g = sym (ap (λ o. is_some o || list_any (touches kinded_base k n) (looks kinded_base (order_of s))) absent) ∙ sym (some_looked s old fine k n u g) ∙ ap is_some h
 
     pub free_look : (b : ℕ) × (look_in s.rows k n ≡ FreeOf b)
-    free_look = (brought.binding, sym (look_is s old fine k n) ∙ by brought.past)
+    free_look = (brought.binding, sym (based_look_is s old fine k n) ∙ by brought.past)
       where
-        by : (brought.asker ≡ k) ⊎ (touch_by base brought.asker n k ≡ Passes) → look_from base k n ≡ FreeOf brought.binding
-        by (inl q) = ap (λ z. look_from base z n) (sym q) ∙ brought.free
-        by (inr q) = sym (passes_look (meetings base n) (parents base) k brought.asker (parents base brought.asker) q) ∙ brought.free
+        by : (brought.asker ≡ k) ⊎ (touch_by kinded_base brought.asker n k ≡ Passes) → look_from kinded_base k n ≡ FreeOf brought.binding
+        by (inl q) = ap (λ z. look_from kinded_base z n) (sym q) ∙ brought.free
+        by (inr q) = sym (passes_look (meetings kinded_base n) (parents kinded_base) k brought.asker (parents kinded_base brought.asker) q) ∙ brought.free
 
     pub open_passed : open_kind s.rows k n ≡ Free
     open_passed = λ j. kind_as (kind_at s.rows k) (free_look.1 j) (plain_before j) (unbound_before j) false
 
     pub not_own : is_own s.rows k n ≡ false
-    not_own = ap (λ b. is_plain (holds_in s.rows k n) && b) unbound_before ∙ and_false _
+    not_own = ap (λ b. is_plain (holds_in s.rows k n) && b) unbound_before ∙ truth_and_false _
 
     by_uses : kind_by_uses s.rows k n ≡ Free
     by_uses = ap (λ b. if b then own_kind s.rows k n else open_kind s.rows k n) not_own ∙ open_passed
@@ -114,7 +114,7 @@ module _ (s : Scanned) (old : IsScanned s) (fine : first_fault s ≡ None) (k : 
     in_table : kind_in (after_looks s) k n e ≡ Free
     in_table =
         ap (λ x. if nat_eq k 0 && ((is_plain x && is_bound e) && global_within (after_looks s) n) then GlobalExplicit else kind_as (kind_of (slice_get (after_looks s) k)) (look_from (after_looks s) k n) x (is_bound e) e.captured) passed
-        ∙ ap (λ b. if b then GlobalExplicit else Free) (and_false (nat_eq k 0))
+        ∙ ap (λ b. if b then GlobalExplicit else Free) (truth_and_false (nat_eq k 0))
 
     pub kind_passed : kind_in (after_looks s) k n e ≡ kind_by_uses s.rows k n
     kind_passed = in_table ∙ sym by_uses
@@ -126,12 +126,12 @@ module _ (s : Scanned) (old : IsScanned s) (fine : first_fault s ≡ None) (k : 
       where
         by : (c : Bool) → counts (kind_at s.rows k) n ≡ c → e.captured ≡ c && is_needed_inside s.rows k n
         by true c =
-            let w = captured_where_needed s old fine k n e h ((made used).1 ∙ p) (bound ∙ b) c in
+            let w = captured_where_needed s old fine k n e h ((kinded_made used).1 ∙ p) (kinded_bound ∙ b) c in
             same_truth _ _ (λ q. inside_from s old fine k n (w.0 q)) (λ q. w.1 (inside_to s old fine k n q))
         by false c = none e.captured refl
           where
             none : (x : Bool) → e.captured ≡ x → x ≡ false
-            none true q = absurd (never_both (counts (kind_of (slice_get base k)) n) (captured_counts s old fine k n (there s old fine k n e h) (ap captured_opt h ∙ q)) (ap (λ z. counts z n) (same_kind s old fine k) ∙ c))
+            none true q = absurd (never_both (counts (kind_of (slice_get kinded_base k)) n) (captured_counts s old fine k n (cellular_there s old fine k n e h) (ap captured_opt h ∙ q)) (ap (λ z. counts z n) (same_kind s old fine k) ∙ c))
             none false q = refl
 
     abbrev InTable : Holds → Bool → SymbolScope
@@ -140,11 +140,12 @@ module _ (s : Scanned) (old : IsScanned s) (fine : first_fault s ≡ None) (k : 
     abbrev ByUses : Holds → Bool → SymbolScope
     ByUses x b = if is_plain x && b then own_kind s.rows k n else kind_as (kind_at s.rows k) (look_in s.rows k n) x b false
 
-    other : (x : Holds) (b : Bool) → kind_as (kind_at s.rows k) (look_in s.rows k n) x b e.captured ≡ kind_as (kind_at s.rows k) (look_in s.rows k n) x b false → (if nat_eq k 0 && false then GlobalExplicit else kind_as (kind_at s.rows k) (look_in s.rows k n) x b e.captured) ≡ kind_as (kind_at s.rows k) (look_in s.rows k n) x b false
-    other x b q = ap (λ z. if z then GlobalExplicit else kind_as (kind_at s.rows k) (look_in s.rows k n) x b e.captured) (and_false (nat_eq k 0)) ∙ q
+    other : (x : Holds) (b : Bool) → kind_as (kind_at s.rows k) (look_in s.rows k n) x b e.captured ≡ kind_as (kind_at s.rows k) (look_in s.rows k n) x b false
+        → (if nat_eq k 0 && false then GlobalExplicit else kind_as (kind_at s.rows k) (look_in s.rows k n) x b e.captured) ≡ kind_as (kind_at s.rows k) (look_in s.rows k n) x b false
+    other x b q = ap (λ z. if z then GlobalExplicit else kind_as (kind_at s.rows k) (look_in s.rows k n) x b e.captured) (truth_and_false (nat_eq k 0)) ∙ q
 
-    own : holds_in s.rows k n ≡ Plain → binds_in s.rows k n ≡ true → InTable Plain true ≡ own_kind s.rows k n
-    own p b = (λ j. if nat_eq k 0 && declared_inside s old fine n j then GlobalExplicit else (if caught p b j then Cell else Local)) ∙ by (nat_eq k 0) refl
+    kinded_own : holds_in s.rows k n ≡ Plain → binds_in s.rows k n ≡ true → InTable Plain true ≡ own_kind s.rows k n
+    kinded_own p b = (λ j. if nat_eq k 0 && declared_inside s old fine n j then GlobalExplicit else (if caught p b j then Cell else Local)) ∙ by (nat_eq k 0) refl
       where
         Left : Bool → SymbolScope
         Left z = if z && is_declared_inside s.rows 0 n then GlobalExplicit else (if counts (kind_at s.rows k) n && is_needed_inside s.rows k n then Cell else Local)
@@ -158,7 +159,7 @@ module _ (s : Scanned) (old : IsScanned s) (fine : first_fault s ≡ None) (k : 
         by false q = refl
 
     by : (x : Holds) → holds_in s.rows k n ≡ x → (b : Bool) → binds_in s.rows k n ≡ b → InTable x b ≡ ByUses x b
-    by Plain p true b = own p b
+    by Plain p true b = kinded_own p b
     by Plain p false b = other Plain false refl
     by DeclaredGlobal p true b = other DeclaredGlobal true refl
     by DeclaredGlobal p false b = other DeclaredGlobal false refl
@@ -175,7 +176,7 @@ module _ (s : Scanned) (old : IsScanned s) (fine : first_fault s ≡ None) (k : 
 
     pub kind_used : kind_in (after_looks s) k n e ≡ kind_by_uses s.rows k n
     kind_used =
-        (λ j. if nat_eq k 0 && ((is_plain ((made used).1 j) && bound j) && global_within (after_looks s) n) then GlobalExplicit else kind_as (settled_kind s old fine k j) (looks_alike j) ((made used).1 j) (bound j) e.captured)
+        (λ j. if nat_eq k 0 && ((is_plain ((kinded_made used).1 j) && kinded_bound j) && global_within (after_looks s) n) then GlobalExplicit else kind_as (settled_kind s old fine k j) (looks_alike j) ((kinded_made used).1 j) (kinded_bound j) e.captured)
         ∙ by (holds_in s.rows k n) refl (binds_in s.rows k n) refl
 
   -- how an entry came about

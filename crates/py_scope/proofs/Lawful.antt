@@ -9,7 +9,7 @@ use Rattle.py_scope.specs.declared.outward.Found.TheVariants.{Nowhere, Globally,
 use Rattle.py_scope.specs.declared.refusal.Refusal.{Refusal}
 use Rattle.py_scope.specs.Names.{Name, same_name, lookup}
 use Rattle.py_scope.specs.Outward.{IsNumbered, look_from}
-use Rattle.py_scope.specs.Marks.{looks, settled, IsSettled}
+use Rattle.py_scope.specs.Marks.{looks, settled_row, IsSettled}
 use Rattle.py_scope.specs.Entries.{entry_at, entry_of}
 use Rattle.py_scope.proofs.Captured.{CapturesAll, LiftsCaptured, HandsOn, ClosuresLead, IsRegistered, NonlocalsFound}
 use Rattle.py_scope.specs.Lifts.{lifts, lifted_all, first_of_two, holds_opt, IsLifted}
@@ -68,14 +68,14 @@ found_free (suc k) n Globally h = cc
 found_free k n (FreeOf b) h = (b, refl)
 
 module _ (s : Scanned) (old : IsScanned s) (fine : first_fault s ≡ None) where
-  abbrev order : List ℕ
-  order = order_of s
+  abbrev lawful_order : List ℕ
+  lawful_order = order_of s
 
-  pub is_lifted : IsLifted s.rows (lifts s.rows order) (after_lifts s)
-  is_lifted t = get_each (lifted_all s.rows (lifts s.rows order)) 0 s.rows t ∙ ap (λ z. option_map (lifted_all s.rows (lifts s.rows order) z) (slice_get s.rows t)) (zero-add t)
+  pub lawful_is_lifted : IsLifted s.rows (lifts s.rows lawful_order) (after_lifts s)
+  lawful_is_lifted t = get_each (lifted_all s.rows (lifts s.rows lawful_order)) 0 s.rows t ∙ ap (λ z. option_map (lifted_all s.rows (lifts s.rows lawful_order) z) (slice_get s.rows t)) (zero-add t)
 
-  pub is_settled : IsSettled (after_lifts s) (looks (after_lifts s) order) (after_looks s)
-  is_settled t = get_each (settled (after_lifts s) (looks (after_lifts s) order)) 0 (after_lifts s) t ∙ ap (λ z. option_map (settled (after_lifts s) (looks (after_lifts s) order) z) (slice_get (after_lifts s) t)) (zero-add t)
+  pub is_settled : IsSettled (after_lifts s) (looks (after_lifts s) lawful_order) (after_looks s)
+  is_settled t = get_each (settled_row (after_lifts s) (looks (after_lifts s) lawful_order)) 0 (after_lifts s) t ∙ ap (λ z. option_map (settled_row (after_lifts s) (looks (after_lifts s) lawful_order) z) (slice_get (after_lifts s) t)) (zero-add t)
 
   pub registered : IsRegistered s.rows
   registered = record {
@@ -85,23 +85,23 @@ module _ (s : Scanned) (old : IsScanned s) (fine : first_fault s ≡ None) where
     walruses = λ k h. (old.fresh k).walruses h;
   }
 
-  pub numbered : IsNumbered (after_lifts s)
-  numbered = lifting.still_numbered s.rows (after_lifts s) (lifts s.rows order) is_lifted old.numbered
+  pub lawful_numbered : IsNumbered (after_lifts s)
+  lawful_numbered = lifting.still_numbered s.rows (after_lifts s) (lifts s.rows lawful_order) lawful_is_lifted old.numbered
 
   pub same_count : length (after_lifts s) ≡ length s.rows
-  same_count = lifting.same_length s.rows (after_lifts s) (lifts s.rows order) is_lifted
+  same_count = lifting.lift_keep_same_length s.rows (after_lifts s) (lifts s.rows lawful_order) lawful_is_lifted
 
-  pub once : IsOnce (after_lifts s)
-  once = once_lifted s.rows (after_lifts s) (lifts s.rows order) (λ k. (old.fresh k).once) is_lifted
+  pub lawful_once : IsOnce (after_lifts s)
+  lawful_once = once_lifted s.rows (after_lifts s) (lifts s.rows lawful_order) (λ k. (old.fresh k).once) lawful_is_lifted
 
-  pub complete : (r : ℕ) → r < length (after_lifts s) → list_any (nat_eq r) order ≡ true
+  pub complete : (r : ℕ) → r < length (after_lifts s) → list_any (nat_eq r) lawful_order ≡ true
   complete r l = old.complete r (subst (λ v. r < v) same_count l)
 
   pub captures : CapturesAll (after_lifts s) (after_looks s)
-  captures = captures_all (after_lifts s) (after_looks s) order (length order) (subst (λ o. IsSettled (after_lifts s) (looks (after_lifts s) o) (after_looks s)) (sym (take_all (length order) order (omega arith))) is_settled) (omega arith) complete
+  captures = captures_all (after_lifts s) (after_looks s) lawful_order (length lawful_order) (subst (λ o. IsSettled (after_lifts s) (looks (after_lifts s) o) (after_looks s)) (sym (take_all (length lawful_order) lawful_order (omega arith))) is_settled) (omega arith) complete
 
   pub lifts_captured : LiftsCaptured (after_lifts s)
-  lifts_captured = lifted_tables s.rows (after_lifts s) order old.numbered registered is_lifted
+  lifts_captured = lifted_tables s.rows (after_lifts s) lawful_order old.numbered registered lawful_is_lifted
 
   pub nonlocals : NonlocalsFound (after_lifts s)
   nonlocals k n h = by (slice_get (after_lifts s) k) refl (is_declared (entry_at (after_lifts s) k n) h)
@@ -111,20 +111,21 @@ module _ (s : Scanned) (old : IsScanned s) (fine : first_fault s ≡ None) where
       none_within (x ∷ xs) zero r g = omega arith
       none_within (x ∷ xs) (suc i) r g = let l = none_within xs i r g in omega (arith, l)
 
-      by : (o : Option Row) → slice_get (after_lifts s) k ≡ o → (e : Entry) × (entry_at (after_lifts s) k n ≡ Some e) × (e.holds ≡ DeclaredNonlocal) → (b : ℕ) × (look_from (after_lifts s) k n ≡ FreeOf b)
+      by : (o : Option Row) → slice_get (after_lifts s) k ≡ o → (e : Entry) × (entry_at (after_lifts s) k n ≡ Some e) × (e.holds ≡ DeclaredNonlocal)
+          → (b : ℕ) × (look_from (after_lifts s) k n ≡ FreeOf b)
       by None g d = absurd (none_some (sym (ap (entry_of n) g) ∙ d.1))
         where
           none_some : {A : Type 0} {a : A} → None ≡ Some a → ⊥
           none_some h = cc
       by (Some r) g d =
-          let all : wrong_in (after_lifts s) k ≡ None = none_among (wrong_in (after_lifts s)) order k (none_second _ _ fine) (complete k (none_within (after_lifts s) k r g)) in
+          let all : wrong_in (after_lifts s) k ≡ None = none_among (wrong_in (after_lifts s)) lawful_order k (none_second _ _ fine) (complete k (none_within (after_lifts s) k r g)) in
           let here : first_by (wrong_entry (after_lifts s) k) r.entries ≡ None = ap (λ o. first_by (wrong_entry (after_lifts s) k) (entries_of o)) (sym g) ∙ all in
           let one : wrong_entry (after_lifts s) k (n, d.0) ≡ None = none_named (wrong_entry (after_lifts s) k) r.entries n d.0 here (sym (ap (entry_of n) g) ∙ d.1) in
           let two : wrong_nonlocal k n (look_from (after_lifts s) k n) d.0.holds ≡ None = none_second (wrong_class_name (after_lifts s) k n d.0) _ one in
           found_free k n (look_from (after_lifts s) k n) (ap (wrong_nonlocal k n (look_from (after_lifts s) k n)) (sym d.2) ∙ two)
 
   pub handed : HandsOn (after_lifts s)
-  handed = hands_on_found s.rows (after_lifts s) order old.numbered registered is_lifted nonlocals
+  handed = hands_on_found s.rows (after_lifts s) lawful_order old.numbered registered lawful_is_lifted nonlocals
 
   pub names_lead : ClosuresLead (after_lifts s)
-  names_lead = closures_lead (after_lifts s) numbered handed
+  names_lead = closures_lead (after_lifts s) lawful_numbered handed

@@ -7,19 +7,19 @@ use Rattle.py_scope.specs.declared.rows.Holds.TheVariants.{LiftedFree, LiftedMod
 use Rattle.py_scope.specs.declared.rows.Row.{Row}
 use Rattle.py_scope.specs.declared.outward.Meets.TheVariants.{Past, Binding}
 use Rattle.py_scope.specs.Names.{Name, same_name}
-use Rattle.py_scope.specs.Outward.{enclosing, look, touch, touch_here, Passes, parents, meetings, IsNumbered}
+use Rattle.py_scope.specs.Outward.{enclosing_scopes, look, touch, touch_here, Passes, parents, meetings, IsNumbered}
 use Rattle.py_scope.specs.Marks.{asking_of, touch_by, is_class}
 use Rattle.py_scope.specs.Flags.{captured_opt}
 use Rattle.py_scope.specs.Entries.{entry_at, entry_of}
 use Rattle.py_scope.proofs.Captured.{asks_for, wants_for, hands_on}
 use Rattle.py_scope.specs.Registered.{is_fresh}
-use Rattle.py_scope.specs.Lifts.{stages, holds_opt, as_in, lifted, lifted_by, outward_from, IsLifted, kind_of}
+use Rattle.py_scope.specs.Lifts.{stages, holds_opt, as_in, lifted_holds, lifted_by, outward_from, IsLifted, kind_of}
 use Rattle.py_scope.proofs.Chains.{equal_numbers, outward}
 use Rattle.py_scope.proofs.CellLemmas.{asks_opt, asks_listed, asks_wants, lifted_wants}
-use Rattle.py_scope.proofs.LiftKeeps.{same_parents, same_kind_of, same_stages}
+use Rattle.py_scope.proofs.LiftKeeps.{lift_keep_same_parents, same_kind_of, same_stages}
 use Rattle.py_scope.proofs.LiftsCapture.{hits_through, held_in}
-use Rattle.py_scope.proofs.LiftsLead.{in_comprehension, in_function, captured_here, held_here, reaches_through, reaches_holder, stage_function, kind_read}
-use Rattle.py_scope.proofs.LiftsSound.{lifted_is}
+use Rattle.py_scope.proofs.LiftsLead.{in_comprehension, lifts_lead_in_function, captured_here, held_here, reaches_through, reaches_holder, stage_function, kind_read}
+use Rattle.py_scope.proofs.LiftsSound.{lifts_sound_lifted_is}
 
 asks_read : (n : Name) (o : Option Row) → asks_opt (entry_of n o) ≡ true → list_any (same_name n) (asking_of o) ≡ true
 asks_read n None h = cc
@@ -27,10 +27,11 @@ asks_read n (Some t) h = asks_listed t.entries n h
 
 module _ (base new : List Row) (pairs : List (ℕ × Name)) (whole : IsLifted base pairs new) (numbered : IsNumbered base) (fresh : (s : ℕ) (n : Name) → is_fresh (holds_opt (entry_at base s n)) ≡ true)
     (above : (s : ℕ) (n : Name) → (stages base n s).kind ≡ Comprehension → 0 < s) where
-  abbrev Answer : ℕ → Name → Type 0
-  Answer c n = ((wants_for new c n ≡ true) × (is_class (kind_of (slice_get new c)) ≡ false)) ⊎ ((q : ℕ) × (asks_for new q n ≡ true) × (touch_by new q n c ≡ Passes))
+  abbrev LiftsPassAnswer : ℕ → Name → Type 0
+  LiftsPassAnswer c n = ((wants_for new c n ≡ true) × (is_class (kind_of (slice_get new c)) ≡ false)) ⊎ ((q : ℕ) × (asks_for new q n ≡ true) × (touch_by new q n c ≡ Passes))
 
-  passes : (k r : ℕ) (n : Name) (c : ℕ) → r < k → r < length base → (stages base n r).kind ≡ Comprehension → list_any (hits_through base r n) pairs ≡ true → held_in base r n ≡ LiftedFree → touch_by new r n c ≡ Passes → Answer c n
+  passes : (k r : ℕ) (n : Name) (c : ℕ) → r < k → r < length base → (stages base n r).kind ≡ Comprehension → list_any (hits_through base r n) pairs ≡ true
+      → held_in base r n ≡ LiftedFree → touch_by new r n c ≡ Passes → LiftsPassAnswer c n
   passes zero r n c l within i hit held t = absurd (omega arith)
   passes (suc k) r n c l within i hit held t = by (stages base n (parents base r)).kind refl (λ i' h e. passes k (parents base r) n c (omega (arith, below)) (omega (arith, below)) i' h e)
     where
@@ -41,23 +42,25 @@ module _ (base new : List Row) (pairs : List (ℕ × Name)) (whole : IsLifted ba
       there = omega (arith, below)
 
       up : parents new r ≡ parents base r
-      up = ap (λ f. f r) (same_parents base new pairs whole)
+      up = ap (λ f. f r) (lift_keep_same_parents base new pairs whole)
 
-      begins : touch_here (meetings new n (parents base r)) (nat_eq (parents base r) c) (look (meetings new n) (enclosing (parents new) (parents base r))) (touch_by new (parents base r) n c) ≡ Passes
+      begins : touch_here (meetings new n (parents base r)) (nat_eq (parents base r) c) (look (meetings new n) (enclosing_scopes (parents new) (parents base r))) (touch_by new (parents base r) n c) ≡ Passes
       begins = ap (touch (meetings new n) c) (sym (outward (parents new) r (parents base r) up below)) ∙ t
 
-      held_out : lifted (stages base n) (outward_from base (parents base r)) ≡ LiftedFree
-      held_out = ap (lifted (stages base n)) (sym (outward (parents base) r (parents base r) refl below)) ∙ sym (ap (λ x. lifted_by x (stages base n r).holds (lifted (stages base n) (enclosing (parents base) r))) i) ∙ held
+      held_out : lifted_holds (stages base n) (outward_from base (parents base r)) ≡ LiftedFree
+      held_out = ap (lifted_holds (stages base n)) (sym (outward (parents base) r (parents base r) refl below)) ∙ sym (ap (λ x. lifted_by x (stages base n r).holds (lifted_holds (stages base n) (enclosing_scopes (parents base) r))) i) ∙ held
 
       -- it stands here, or the look goes on
-      past : (d : Bool) → nat_eq (parents base r) c ≡ d → meetings new n (parents base r) ≡ Past → wants_for new (parents base r) n ≡ true → is_class (kind_of (slice_get new (parents base r))) ≡ false → (touch_by new (parents base r) n c ≡ Passes → Answer c n) → Answer c n
+      past : (d : Bool) → nat_eq (parents base r) c ≡ d → meetings new n (parents base r) ≡ Past → wants_for new (parents base r) n ≡ true
+          → is_class (kind_of (slice_get new (parents base r))) ≡ false → (touch_by new (parents base r) n c ≡ Passes → LiftsPassAnswer c n)
+          → LiftsPassAnswer c n
       past true e x w f ih = inl (subst (λ z. (wants_for new z n ≡ true) × (is_class (kind_of (slice_get new z)) ≡ false)) (equal_numbers (parents base r) c e) (w, f))
-      past false e x w f ih = ih (sym (λ j. touch_here (x j) (e j) (look (meetings new n) (enclosing (parents new) (parents base r))) (touch_by new (parents base r) n c)) ∙ begins)
+      past false e x w f ih = ih (sym (λ j. touch_here (x j) (e j) (look (meetings new n) (enclosing_scopes (parents new) (parents base r))) (touch_by new (parents base r) n c)) ∙ begins)
 
-      bound : meetings new n (parents base r) ≡ Binding → Answer c n
-      bound x = stops (nat_eq (parents base r) c) (ap (λ y. touch_here y (nat_eq (parents base r) c) (look (meetings new n) (enclosing (parents new) (parents base r))) (touch_by new (parents base r) n c)) (sym x) ∙ begins)
+      bound : meetings new n (parents base r) ≡ Binding → LiftsPassAnswer c n
+      bound x = stops (nat_eq (parents base r) c) (ap (λ y. touch_here y (nat_eq (parents base r) c) (look (meetings new n) (enclosing_scopes (parents new) (parents base r))) (touch_by new (parents base r) n c)) (sym x) ∙ begins)
         where
-          stops : (d : Bool) → touch_here Binding d (look (meetings new n) (enclosing (parents new) (parents base r))) (touch_by new (parents base r) n c) ≡ Passes → Answer c n
+          stops : (d : Bool) → touch_here Binding d (look (meetings new n) (enclosing_scopes (parents new) (parents base r))) (touch_by new (parents base r) n c) ≡ Passes → LiftsPassAnswer c n
           stops true q = cc
           stops false q = cc
 
@@ -65,12 +68,12 @@ module _ (base new : List Row) (pairs : List (ℕ × Name)) (whole : IsLifted ba
       kind_new x e = same_kind_of base new pairs whole (parents base r) ∙ sym (kind_read base new pairs whole numbered fresh n (slice_get base (parents base r))) ∙ e
 
       by : (x : SymbolTableType) → (stages base n (parents base r)).kind ≡ x
-          → ((stages base n (parents base r)).kind ≡ Comprehension → list_any (hits_through base (parents base r) n) pairs ≡ true → held_in base (parents base r) n ≡ LiftedFree → touch_by new (parents base r) n c ≡ Passes → Answer c n)
-          → Answer c n
-      by Module e ih = let q : LiftedModule ≡ LiftedFree = ap (λ x. lifted_by x (stages base n (parents base r)).holds (lifted (stages base n) (enclosing (parents base) (parents base r)))) (sym e) ∙ held_out in cc
-      by Class e ih = let q : LiftedModule ≡ LiftedFree = ap (λ x. lifted_by x (stages base n (parents base r)).holds (lifted (stages base n) (enclosing (parents base) (parents base r)))) (sym e) ∙ held_out in cc
-      by TypeParams e ih = let q : LiftedModule ≡ LiftedFree = ap (λ x. lifted_by x (stages base n (parents base r)).holds (lifted (stages base n) (enclosing (parents base) (parents base r)))) (sym e) ∙ held_out in cc
-      by Function e ih = end (in_function n (slice_get new (parents base r)) (kind_new Function e) caught (ap is_fresh as_before ∙ fresh (parents base r) n) (ap as_in as_before ∙ kept))
+          → ((stages base n (parents base r)).kind ≡ Comprehension → list_any (hits_through base (parents base r) n) pairs ≡ true → held_in base (parents base r) n ≡ LiftedFree → touch_by new (parents base r) n c ≡ Passes → LiftsPassAnswer c n)
+          → LiftsPassAnswer c n
+      by Module e ih = let q : LiftedModule ≡ LiftedFree = ap (λ x. lifted_by x (stages base n (parents base r)).holds (lifted_holds (stages base n) (enclosing_scopes (parents base) (parents base r)))) (sym e) ∙ held_out in cc
+      by Class e ih = let q : LiftedModule ≡ LiftedFree = ap (λ x. lifted_by x (stages base n (parents base r)).holds (lifted_holds (stages base n) (enclosing_scopes (parents base) (parents base r)))) (sym e) ∙ held_out in cc
+      by TypeParams e ih = let q : LiftedModule ≡ LiftedFree = ap (λ x. lifted_by x (stages base n (parents base r)).holds (lifted_holds (stages base n) (enclosing_scopes (parents base) (parents base r)))) (sym e) ∙ held_out in cc
+      by Function e ih = end (lifts_lead_in_function n (slice_get new (parents base r)) (kind_new Function e) caught (ap is_fresh as_before ∙ fresh (parents base r) n) (ap as_in as_before ∙ kept))
         where
           caught : captured_opt (entry_at new (parents base r) n) ≡ true
           caught = captured_here base new pairs whole numbered fresh (parents base r) n there (reaches_holder base new pairs whole numbered fresh r (parents base r) n refl below e hit)
@@ -79,9 +82,9 @@ module _ (base new : List Row) (pairs : List (ℕ × Name)) (whole : IsLifted ba
           as_before = sym (stage_function base new pairs whole numbered fresh n (slice_get new (parents base r)) (kind_new Function e)) ∙ ap (λ f. (f (parents base r)).holds) (same_stages base new pairs whole n) ∙ stage_function base new pairs whole numbered fresh n (slice_get base (parents base r)) (sym (kind_read base new pairs whole numbered fresh n (slice_get base (parents base r))) ∙ e)
 
           kept : as_in (holds_opt (entry_at base (parents base r) n)) ≡ LiftedFree
-          kept = ap as_in (sym (stage_function base new pairs whole numbered fresh n (slice_get base (parents base r)) (sym (kind_read base new pairs whole numbered fresh n (slice_get base (parents base r))) ∙ e))) ∙ ap (λ x. lifted_by x (stages base n (parents base r)).holds (lifted (stages base n) (enclosing (parents base) (parents base r)))) (sym e) ∙ held_out
+          kept = ap as_in (sym (stage_function base new pairs whole numbered fresh n (slice_get base (parents base r)) (sym (kind_read base new pairs whole numbered fresh n (slice_get base (parents base r))) ∙ e))) ∙ ap (λ x. lifted_by x (stages base n (parents base r)).holds (lifted_holds (stages base n) (enclosing_scopes (parents base) (parents base r)))) (sym e) ∙ held_out
 
-          end : (meetings new n (parents base r) ≡ Binding) ⊎ ((meetings new n (parents base r) ≡ Past) × (asks_opt (entry_at new (parents base r) n) ≡ true)) → Answer c n
+          end : (meetings new n (parents base r) ≡ Binding) ⊎ ((meetings new n (parents base r) ≡ Past) × (asks_opt (entry_at new (parents base r) n) ≡ true)) → LiftsPassAnswer c n
           end (inl x) = bound x
           end (inr x) = past (nat_eq (parents base r) c) refl x.0 (asks_wants (entry_at new (parents base r) n) x.1) (ap is_class (kind_new Function e)) (λ g. inr (parents base r, asks_read n (slice_get new (parents base r)) x.1, g))
       by Comprehension e ih = end (in_comprehension n (slice_get new (parents base r)) (kind_new Comprehension e) (held_here base new pairs whole numbered fresh (parents base r) n there through ∙ held_out))
@@ -90,11 +93,12 @@ module _ (base new : List Row) (pairs : List (ℕ × Name)) (whole : IsLifted ba
           through = reaches_through base new pairs whole numbered fresh r (parents base r) n refl below e hit
 
           wanted : wants_for new (parents base r) n ≡ true
-          wanted = lifted_wants (entry_at new (parents base r) n) (lifted_is (entry_at new (parents base r) n) (held_here base new pairs whole numbered fresh (parents base r) n there through ∙ held_out))
+          wanted = lifted_wants (entry_at new (parents base r) n) (lifts_sound_lifted_is (entry_at new (parents base r) n) (held_here base new pairs whole numbered fresh (parents base r) n there through ∙ held_out))
 
-          end : (meetings new n (parents base r) ≡ Past) ⊎ ((meetings new n (parents base r) ≡ Binding) × (hands_on (entry_at new (parents base r) n) ≡ true)) → Answer c n
+          end : (meetings new n (parents base r) ≡ Past) ⊎ ((meetings new n (parents base r) ≡ Binding) × (hands_on (entry_at new (parents base r) n) ≡ true)) → LiftsPassAnswer c n
           end (inl x) = past (nat_eq (parents base r) c) refl x wanted (ap is_class (kind_new Comprehension e)) (ih e through held_out)
           end (inr x) = bound x.0
 
-  pub lifted_passes : (r : ℕ) (n : Name) (c : ℕ) → r < length base → (stages base n r).kind ≡ Comprehension → list_any (hits_through base r n) pairs ≡ true → held_in base r n ≡ LiftedFree → touch_by new r n c ≡ Passes → Answer c n
+  pub lifted_passes : (r : ℕ) (n : Name) (c : ℕ) → r < length base → (stages base n r).kind ≡ Comprehension → list_any (hits_through base r n) pairs ≡ true
+      → held_in base r n ≡ LiftedFree → touch_by new r n c ≡ Passes → LiftsPassAnswer c n
   lifted_passes r n c = passes (suc r) r n c (omega arith)

@@ -12,11 +12,11 @@ use Rattle.py_scope.specs.declared.outward.Meets.TheVariants.{Past}
 use Rattle.py_scope.specs.declared.outward.Found.TheVariants.{Nowhere, FreeOf}
 use Rattle.py_scope.specs.declared.kinds.SymbolScope.TheVariants.{Local, GlobalExplicit, Cell}
 use Rattle.py_scope.specs.Names.{Name, same_name}
-use Rattle.py_scope.specs.Outward.{Passes, counts, enclosing, look_from, meetings, parents, stop_of}
+use Rattle.py_scope.specs.Outward.{Passes, counts, enclosing_scopes, look_from, meetings, parents, stop_of}
 use Rattle.py_scope.specs.Marks.{looks, touch_by, is_class}
 use Rattle.py_scope.specs.Flags.{is_captures, is_passes}
 use Rattle.py_scope.specs.Entries.{entry_at, entry_of}
-use Rattle.py_scope.proofs.Captured.{asks_for, wants_as, wants_for, Needs, is_lifted}
+use Rattle.py_scope.proofs.Captured.{asks_for, wants_as, wants_for, Needs, captured_is_lifted}
 use Rattle.py_scope.specs.Lifts.{lifts, kind_of}
 use Rattle.py_scope.specs.Kinds.{kind_as}
 use Rattle.py_scope.specs.Tables.{is_plain, kind_in}
@@ -25,7 +25,7 @@ use Rattle.py_scope.specs.InOrder.{IsScanned}
 use Rattle.py_scope.specs.Resolved.{first_fault, after_lifts, after_looks}
 use Rattle.py_scope.specs.Resolve.{kind_at, holds_in, binds_in, look_in, is_free_kind, open_kind, is_used, is_free_in, needs, is_needed_inside, is_declared_inside, own_kind, is_own, kind_by_uses}
 use Rattle.py_scope.proofs.NameLemmas.{equal_names, names_same}
-use Rattle.py_scope.proofs.NeededNameLemmas.{passes_look, is_there, passed_below}
+use Rattle.py_scope.proofs.NeededNameLemmas.{passes_look, needed_name_is_there, passed_below}
 use Rattle.py_scope.proofs.SymbolFlagLemmas.{from_looks}
 use Rattle.py_scope.proofs.CellLemmas.{asks_opt, wants_splits, asks_to_wants, opt_to_asks}
 use Rattle.py_scope.proofs.Lawful as lawful
@@ -34,11 +34,11 @@ use Rattle.py_scope.proofs.LiftsLead.{held_here}
 use Rattle.py_scope.proofs.LiftsSound as sound
 use Rattle.py_scope.proofs.LiftsPass.{lifted_passes}
 use Rattle.py_scope.proofs.LiftsModule.{module_nowhere}
-use Rattle.py_scope.proofs.Truth.{either, left_or, right_or, both, and_both, same_truth}
-use Rattle.py_scope.proofs.Based.{is_passed_on, held_is, bound_is, look_is, stop_is, kind_is, never_passed, count_is}
-use Rattle.py_scope.proofs.Needed.{wants_some, wants_held, used_there, open_wants, wants_free, needs_to, needs_from}
+use Rattle.py_scope.proofs.Truth.{truth_either, left_or, truth_right_or, truth_both, and_both, same_truth}
+use Rattle.py_scope.proofs.Based.{is_passed_on, based_held_is, bound_is, based_look_is, stop_is, kind_is, never_passed, based_count_is}
+use Rattle.py_scope.proofs.Needed.{wants_some, wants_held, needed_used_there, open_wants, wants_free, needs_to, needs_from}
 use Rattle.py_scope.proofs.Touched.{touches, some_looked, passed_needs, passing_look}
-use Rattle.py_scope.proofs.Kinded.{sort, made, brought, kind_is_resolved}
+use Rattle.py_scope.proofs.Kinded.{sort, kinded_made, brought, kind_is_resolved}
 
 -- a scope's own name is never free
 own_not_free : (a b : Bool) → is_free_kind (if a then Cell else (if b then GlobalExplicit else Local)) ≡ true → ⊥
@@ -57,7 +57,8 @@ wants_not_own LiftedModule b e = refl
 wants_not_own Passed b e = refl
 
 -- a name that does not stop looks here, and whose own look ends at a binding, is free
-past_free : (k : SymbolTableType) (c : ℕ) (h : Holds) (b : Bool) → stop_of h b ≡ Past → is_passed_on h ≡ false → (h ≡ LiftedModule → ⊥) → (is_free_kind (kind_as k (FreeOf c) h b false) ≡ true) × (is_plain h && b ≡ false)
+past_free : (k : SymbolTableType) (c : ℕ) (h : Holds) (b : Bool) → stop_of h b ≡ Past → is_passed_on h ≡ false → (h ≡ LiftedModule → ⊥)
+    → (is_free_kind (kind_as k (FreeOf c) h b false) ≡ true) × (is_plain h && b ≡ false)
 past_free k c Plain true s p m = cc
 past_free k c Plain false s p m = (refl, refl)
 past_free k c DeclaredGlobal b s p m = cc
@@ -77,86 +78,88 @@ row_present (x ∷ xs) zero l = (x, refl)
 row_present (x ∷ xs) (suc i) l = row_present xs i (omega arith)
 
 module _ (s : Scanned) (old : IsScanned s) (fine : first_fault s ≡ None) where
-  abbrev base : List Row
-  base = after_lifts s
+  abbrev need_law_base : List Row
+  need_law_base = after_lifts s
 
   abbrev Passing : ℕ → Name → Type 0
-  Passing k n = (r : ℕ) × (asks_for base r n ≡ true) × (touch_by base r n k ≡ Passes)
+  Passing k n = (r : ℕ) × (asks_for need_law_base r n ≡ true) × (touch_by need_law_base r n k ≡ Passes)
 
   -- where the look of a scope that wants a name passes, the scope wants it itself and is no class, or a look of one that asks for it passes
-  pub passed_asks : (r k : ℕ) (n : Name) → wants_for base r n ≡ true → touch_by base r n k ≡ Passes → ((wants_for base k n ≡ true) × (is_class (kind_of (slice_get base k)) ≡ false)) ⊎ Passing k n
-  passed_asks r k n w t = split (wants_splits (entry_at base r n) w)
+  pub passed_asks : (r k : ℕ) (n : Name) → wants_for need_law_base r n ≡ true → touch_by need_law_base r n k ≡ Passes
+      → ((wants_for need_law_base k n ≡ true) × (is_class (kind_of (slice_get need_law_base k)) ≡ false)) ⊎ Passing k n
+  passed_asks r k n w t = split (wants_splits (entry_at need_law_base r n) w)
     where
-      lifted : is_lifted (entry_at base r n) ≡ true → ((wants_for base k n ≡ true) × (is_class (kind_of (slice_get base k)) ≡ false)) ⊎ Passing k n
+      lifted : captured_is_lifted (entry_at need_law_base r n) ≡ true → ((wants_for need_law_base k n ≡ true) × (is_class (kind_of (slice_get need_law_base k)) ≡ false)) ⊎ Passing k n
       lifted l =
-          let whole = lawful.is_lifted s old fine in
+          let whole = lawful.lawful_is_lifted s old fine in
           let reg = lawful.registered s old fine in
           let begins = sound.begins_well s.rows reg.walruses (order_of s) in
-          let hit = sound.went_through s.rows base (lifts s.rows (order_of s)) whole old.numbered reg.fresh reg.uncaptured reg.first begins r n l in
-          let kind = sound.through_kind s.rows base (lifts s.rows (order_of s)) whole old.numbered reg.fresh reg.uncaptured reg.first begins r n hit in
-          let inside = sound.is_there s.rows base (lifts s.rows (order_of s)) whole old.numbered reg.fresh reg.uncaptured reg.first begins r n kind in
-          lifted_passes s.rows base (lifts s.rows (order_of s)) whole old.numbered reg.fresh (λ c m q. sound.not_first s.rows base (lifts s.rows (order_of s)) whole old.numbered reg.fresh reg.uncaptured reg.first begins c m q)
-          r n k inside kind hit (sym (held_here s.rows base (lifts s.rows (order_of s)) whole old.numbered reg.fresh r n inside hit) ∙ sound.is_free_held (entry_at base r n) l) t
+          let hit = sound.went_through s.rows need_law_base (lifts s.rows (order_of s)) whole old.numbered reg.fresh reg.uncaptured reg.first begins r n l in
+          let kind = sound.through_kind s.rows need_law_base (lifts s.rows (order_of s)) whole old.numbered reg.fresh reg.uncaptured reg.first begins r n hit in
+          let inside = sound.lifts_sound_is_there s.rows need_law_base (lifts s.rows (order_of s)) whole old.numbered reg.fresh reg.uncaptured reg.first begins r n kind in
+          lifted_passes s.rows need_law_base (lifts s.rows (order_of s)) whole old.numbered reg.fresh (λ c m q. sound.lifts_sound_not_first s.rows need_law_base (lifts s.rows (order_of s)) whole old.numbered reg.fresh reg.uncaptured reg.first begins c m q)
+          r n k inside kind hit (sym (held_here s.rows need_law_base (lifts s.rows (order_of s)) whole old.numbered reg.fresh r n inside hit) ∙ sound.is_free_held (entry_at need_law_base r n) l) t
 
-      split : (asks_opt (entry_at base r n) ≡ true) ⊎ (is_lifted (entry_at base r n) ≡ true) → ((wants_for base k n ≡ true) × (is_class (kind_of (slice_get base k)) ≡ false)) ⊎ Passing k n
-      split (inl a) = inr (r, opt_to_asks base (after_looks s) (lawful.numbered s old fine) (lawful.once s old fine) (lawful.lifts_captured s old fine) (lawful.captures s old fine) r n a, t)
+      split : (asks_opt (entry_at need_law_base r n) ≡ true) ⊎ (captured_is_lifted (entry_at need_law_base r n) ≡ true)
+          → ((wants_for need_law_base k n ≡ true) × (is_class (kind_of (slice_get need_law_base k)) ≡ false)) ⊎ Passing k n
+      split (inl a) = inr (r, opt_to_asks need_law_base (after_looks s) (lawful.lawful_numbered s old fine) (lawful.lawful_once s old fine) (lawful.lifts_captured s old fine) (lawful.captures s old fine) r n a, t)
       split (inr l) = lifted l
 
   -- a scope that needs a name wants it itself, or a look of a scope that asks for it passes
-  pub past_asks : (k : ℕ) (n : Name) → Needs base k n → (wants_for base k n ≡ true) ⊎ Passing k n
+  pub past_asks : (k : ℕ) (n : Name) → Needs need_law_base k n → (wants_for need_law_base k n ≡ true) ⊎ Passing k n
   past_asks k n h = by h.past
     where
-      narrow : ((wants_for base k n ≡ true) × (is_class (kind_of (slice_get base k)) ≡ false)) ⊎ Passing k n → (wants_for base k n ≡ true) ⊎ Passing k n
+      narrow : ((wants_for need_law_base k n ≡ true) × (is_class (kind_of (slice_get need_law_base k)) ≡ false)) ⊎ Passing k n → (wants_for need_law_base k n ≡ true) ⊎ Passing k n
       narrow (inl w) = inl w.0
       narrow (inr p) = inr p
 
-      by : (h.asker ≡ k) ⊎ (touch_by base h.asker n k ≡ Passes) → (wants_for base k n ≡ true) ⊎ Passing k n
-      by (inl q) = inl (subst (λ z. wants_for base z n ≡ true) q h.wants_there)
+      by : (h.asker ≡ k) ⊎ (touch_by need_law_base h.asker n k ≡ Passes) → (wants_for need_law_base k n ≡ true) ⊎ Passing k n
+      by (inl q) = inl (subst (λ z. wants_for need_law_base z n ≡ true) q h.wants_there)
       by (inr t) = narrow (passed_asks h.asker k n h.wants_there t)
 
-  pub asker_there : (r : ℕ) (n : Name) → asks_for base r n ≡ true → r < length base
-  asker_there r n a = is_there base (lawful.numbered s old fine) r n (asks_to_wants base (after_looks s) (lawful.numbered s old fine) (lawful.once s old fine) (lawful.lifts_captured s old fine) (lawful.captures s old fine) r n a)
+  pub asker_there : (r : ℕ) (n : Name) → asks_for need_law_base r n ≡ true → r < length need_law_base
+  asker_there r n a = needed_name_is_there need_law_base (lawful.lawful_numbered s old fine) r n (asks_to_wants need_law_base (after_looks s) (lawful.lawful_numbered s old fine) (lawful.lawful_once s old fine) (lawful.lifts_captured s old fine) (lawful.captures s old fine) r n a)
 
   -- the look from a scope that needs a name ends at a binding
-  pub needing_look : (k : ℕ) (n : Name) (h : Needs base k n) → look_from base k n ≡ FreeOf h.binding
+  pub needing_look : (k : ℕ) (n : Name) (h : Needs need_law_base k n) → look_from need_law_base k n ≡ FreeOf h.binding
   needing_look k n h = by h.past
     where
-      by : (h.asker ≡ k) ⊎ (touch_by base h.asker n k ≡ Passes) → look_from base k n ≡ FreeOf h.binding
-      by (inl q) = ap (λ z. look_from base z n) (sym q) ∙ h.free
-      by (inr q) = sym (passes_look (meetings base n) (parents base) k h.asker (parents base h.asker) q) ∙ h.free
+      by : (h.asker ≡ k) ⊎ (touch_by need_law_base h.asker n k ≡ Passes) → look_from need_law_base k n ≡ FreeOf h.binding
+      by (inl q) = ap (λ z. look_from need_law_base z n) (sym q) ∙ h.free
+      by (inr q) = sym (passes_look (meetings need_law_base n) (parents need_law_base) k h.asker (parents need_law_base h.asker) q) ∙ h.free
 
-  pub needing_there : (k : ℕ) (n : Name) → Needs base k n → k < length base
+  pub needing_there : (k : ℕ) (n : Name) → Needs need_law_base k n → k < length need_law_base
   needing_there k n h = by h.past
     where
-      there : h.asker < length base
-      there = is_there base (lawful.numbered s old fine) h.asker n h.wants_there
+      there : h.asker < length need_law_base
+      there = needed_name_is_there need_law_base (lawful.lawful_numbered s old fine) h.asker n h.wants_there
 
-      by : (h.asker ≡ k) ⊎ (touch_by base h.asker n k ≡ Passes) → k < length base
-      by (inl q) = subst (λ z. z < length base) q there
-      by (inr q) = let l = passed_below base (lawful.numbered s old fine) (meetings base n) h.asker k q in let t = there in omega (arith, l, t)
+      by : (h.asker ≡ k) ⊎ (touch_by need_law_base h.asker n k ≡ Passes) → k < length need_law_base
+      by (inl q) = subst (λ z. z < length need_law_base) q there
+      by (inr q) = let l = passed_below need_law_base (lawful.lawful_numbered s old fine) (meetings need_law_base n) h.asker k q in let t = there in omega (arith, l, t)
 
   -- what a scope holds after the lifts it holds after the looks
-  pub still_there : (k : ℕ) (n : Name) → is_some (entry_at base k n) ≡ true → is_some (entry_at (after_looks s) k n) ≡ true
-  still_there k n i = let u = some_present n (slice_get base k) i in some_looked s old fine k n u.0 u.1 ∙ left_or (is_some (entry_at base k n)) _ i
+  pub still_there : (k : ℕ) (n : Name) → is_some (entry_at need_law_base k n) ≡ true → is_some (entry_at (after_looks s) k n) ≡ true
+  still_there k n i = let u = some_present n (slice_get need_law_base k) i in some_looked s old fine k n u.0 u.1 ∙ left_or (is_some (entry_at need_law_base k n)) _ i
 
   pub used_shown : (k : ℕ) (n : Name) → is_used s.rows k n ≡ true → is_some (entry_at (after_looks s) k n) ≡ true
-  used_shown k n h = still_there k n (used_there s old fine k n h)
+  used_shown k n h = still_there k n (needed_used_there s old fine k n h)
 
   pub needed_shown : (k : ℕ) (n : Name) → needs s.rows k n ≡ true → is_some (entry_at (after_looks s) k n) ≡ true
   needed_shown k n h = by (past_asks k n need)
     where
-      need : Needs base k n
+      need : Needs need_law_base k n
       need = needs_to s old fine k n h
 
-      by : (wants_for base k n ≡ true) ⊎ Passing k n → is_some (entry_at (after_looks s) k n) ≡ true
-      by (inl w) = still_there k n (wants_some (entry_at base k n) w)
+      by : (wants_for need_law_base k n ≡ true) ⊎ Passing k n → is_some (entry_at (after_looks s) k n) ≡ true
+      by (inl w) = still_there k n (wants_some (entry_at need_law_base k n) w)
       by (inr p) =
-          let u = row_present base k (needing_there k n need) in
-          some_looked s old fine k n u.0 u.1 ∙ right_or (is_some (entry_at base k n)) _ (passing_look s old fine (touches base k n) p.0 n (asker_there p.0 n p.1) p.1 (and_both _ _ (names_same n) (ap (λ x. is_passes x || is_captures x) p.2)))
+          let u = row_present need_law_base k (needing_there k n need) in
+          some_looked s old fine k n u.0 u.1 ∙ truth_right_or (is_some (entry_at need_law_base k n)) _ (passing_look s old fine (touches need_law_base k n) p.0 n (asker_there p.0 n p.1) p.1 (and_both _ _ (names_same n) (ap (λ x. is_passes x || is_captures x) p.2)))
 
   module _ (k : ℕ) (n : Name) (e : Entry) (h : entry_at (after_looks s) k n ≡ Some e) where
-    abbrev shown : Bool
-    shown = is_free_kind (kind_in (after_looks s) k n e) || e.free_class
+    abbrev need_law_shown : Bool
+    need_law_shown = is_free_kind (kind_in (after_looks s) k n e) || e.free_class
 
     open_of : is_free_kind (kind_by_uses s.rows k n) ≡ true → is_free_kind (open_kind s.rows k n) ≡ true
     open_of g = by (is_own s.rows k n) g
@@ -166,45 +169,45 @@ module _ (s : Scanned) (old : IsScanned s) (fine : first_fault s ≡ None) where
         by false q = q
 
     -- what the table shows as free, or as handed on, the scope needs
-    shown_needs : shown ≡ true → needs s.rows k n ≡ true
-    shown_needs g = by (either (is_free_kind (kind_in (after_looks s) k n e)) _ g)
+    shown_needs : need_law_shown ≡ true → needs s.rows k n ≡ true
+    shown_needs g = by (truth_either (is_free_kind (kind_in (after_looks s) k n e)) _ g)
       where
-        handed : list_any (passes base k n) (looks base (order_of s)) ≡ true → needs s.rows k n ≡ true
+        handed : list_any (passes need_law_base k n) (looks need_law_base (order_of s)) ≡ true → needs s.rows k n ≡ true
         handed a =
-            let f = from_looks (passes base k n) base (order_of s) a in
-            let z = both (same_name n f.1) _ f.3 in
+            let f = from_looks (passes need_law_base k n) need_law_base (order_of s) a in
+            let z = truth_both (same_name n f.1) _ f.3 in
             let q : n ≡ f.1 = equal_names n f.1 z.0 in
-            needs_from s old fine k n (passed_needs s old fine f.0 k n (ap (asks_for base f.0) q ∙ f.2) (ap (λ m. touch_by base f.0 m k) q ∙ is_passed _ z.1))
+            needs_from s old fine k n (passed_needs s old fine f.0 k n (ap (asks_for need_law_base f.0) q ∙ f.2) (ap (λ m. touch_by need_law_base f.0 m k) q ∙ is_passed _ z.1))
 
         free : is_free_kind (kind_by_uses s.rows k n) ≡ true → (is_passed_on e.holds ≡ false) ⊎ (e.holds ≡ Passed) → needs s.rows k n ≡ true
-        free q (inl u) = let w = open_wants s old fine k n (made s old fine k n e h u).0 (open_of q) in left_or (is_free_in s.rows k n) _ (wants_free s old fine k w.1.0 n w.0 w.1.1)
+        free q (inl u) = let w = open_wants s old fine k n (kinded_made s old fine k n e h u).0 (open_of q) in left_or (is_free_in s.rows k n) _ (wants_free s old fine k w.1.0 n w.0 w.1.1)
         free q (inr p) = needs_from s old fine k n (brought s old fine k n e h p)
 
         by : (is_free_kind (kind_in (after_looks s) k n e) ≡ true) ⊎ (e.free_class ≡ true) → needs s.rows k n ≡ true
         by (inl q) = free (ap is_free_kind (sym (kind_is_resolved s old fine k n e h)) ∙ q) (sort s old fine k n e h)
-        by (inr q) = handed ((both _ _ (sym (class_passes s old fine k n e h) ∙ q)).0)
+        by (inr q) = handed ((truth_both _ _ (sym (class_passes s old fine k n e h) ∙ q)).0)
 
-    free_shown : is_own s.rows k n ≡ false → is_free_kind (open_kind s.rows k n) ≡ true → shown ≡ true
+    free_shown : is_own s.rows k n ≡ false → is_free_kind (open_kind s.rows k n) ≡ true → need_law_shown ≡ true
     free_shown o f = left_or (is_free_kind (kind_in (after_looks s) k n e)) _ (ap is_free_kind (kind_is_resolved s old fine k n e h ∙ ap (λ b. if b then own_kind s.rows k n else open_kind s.rows k n) o) ∙ f)
 
     -- and what the scope needs the table shows so
-    needs_shown : Needs base k n → shown ≡ true
+    needs_shown : Needs need_law_base k n → need_law_shown ≡ true
     needs_shown need = by (past_asks k n need)
       where
         found : look_in s.rows k n ≡ FreeOf need.binding
-        found = sym (look_is s old fine k n) ∙ needing_look k n need
+        found = sym (based_look_is s old fine k n) ∙ needing_look k n need
 
-        wanted : wants_for base k n ≡ true → shown ≡ true
+        wanted : wants_for need_law_base k n ≡ true → need_law_shown ≡ true
         wanted w = free_shown
-            (wants_not_own (holds_in s.rows k n) (binds_in s.rows k n) (sym (wants_held (entry_at base k n) (wants_some (entry_at base k n) w) ∙ (λ j. wants_as (held_is s old fine k n j) (bound_is s old fine k n j))) ∙ w))
-            ((both (is_used s.rows k n) _ (wants_free s old fine k need.binding n w found)).1)
+            (wants_not_own (holds_in s.rows k n) (binds_in s.rows k n) (sym (wants_held (entry_at need_law_base k n) (wants_some (entry_at need_law_base k n) w) ∙ (λ j. wants_as (based_held_is s old fine k n j) (bound_is s old fine k n j))) ∙ w))
+            ((truth_both (is_used s.rows k n) _ (wants_free s old fine k need.binding n w found)).1)
 
         not_module : kind_at s.rows k ≡ Module → ⊥
         not_module q = at k refl
           where
             at : (c : ℕ) → k ≡ c → ⊥
             at zero d = let z : Nowhere ≡ FreeOf need.binding = sym (ap (λ c. look_in s.rows c n) d) ∙ found in cc
-            at (suc c) d = old.only (suc c) (omega arith) (subst (λ z. z < length s.rows) d (subst (λ v. k < v) (count_is s old fine) (needing_there k n need))) (ap (kind_at s.rows) (sym d) ∙ q)
+            at (suc c) d = old.only (suc c) (omega arith) (subst (λ z. z < length s.rows) d (subst (λ v. k < v) (based_count_is s old fine) (needing_there k n need))) (ap (kind_at s.rows) (sym d) ∙ q)
 
         stopped : (x : SymbolTableType) → kind_at s.rows k ≡ x → is_class x ≡ false → counts x n ≡ true
         stopped Module q c = absurd (not_module q)
@@ -213,17 +216,17 @@ module _ (s : Scanned) (old : IsScanned s) (fine : first_fault s ≡ None) where
         stopped Comprehension q c = refl
         stopped TypeParams q c = refl
 
-        passed : (p : Passing k n) → (b : Bool) → is_class (kind_of (slice_get base k)) ≡ b → shown ≡ true
-        passed p true c = right_or (is_free_kind (kind_in (after_looks s) k n e)) _ (class_passes s old fine k n e h ∙ and_both _ _ (passing_look s old fine (passes base k n) p.0 n (asker_there p.0 n p.1) p.1 (and_both _ _ (names_same n) (ap is_passes p.2))) c)
+        passed : (p : Passing k n) → (b : Bool) → is_class (kind_of (slice_get need_law_base k)) ≡ b → need_law_shown ≡ true
+        passed p true c = truth_right_or (is_free_kind (kind_in (after_looks s) k n e)) _ (class_passes s old fine k n e h ∙ and_both _ _ (passing_look s old fine (passes need_law_base k n) p.0 n (asker_there p.0 n p.1) p.1 (and_both _ _ (names_same n) (ap is_passes p.2))) c)
         passed p false c =
             let counted : counts (kind_at s.rows k) n ≡ true = stopped (kind_at s.rows k) refl (ap is_class (sym (kind_is s old fine k)) ∙ c) in
-            let past : stop_of (holds_in s.rows k n) (binds_in s.rows k n) ≡ Past = sym (ap (λ x. if x then stop_of (holds_in s.rows k n) (binds_in s.rows k n) else Past) counted) ∙ sym (stop_is s old fine n k) ∙ passed_past (meetings base n) k (enclosing (parents base) p.0) p.2 in
+            let past : stop_of (holds_in s.rows k n) (binds_in s.rows k n) ≡ Past = sym (ap (λ x. if x then stop_of (holds_in s.rows k n) (binds_in s.rows k n) else Past) counted) ∙ sym (stop_is s old fine n k) ∙ passed_past (meetings need_law_base n) k (enclosing_scopes (parents need_law_base) p.0) p.2 in
             let w = past_free (kind_at s.rows k) need.binding (holds_in s.rows k n) (binds_in s.rows k n) past (never_passed s old fine k n) (λ q. let z : Nowhere ≡ FreeOf need.binding = sym (module_nowhere s old fine k n q) ∙ found in cc) in
             free_shown w.1 (ap (λ x. is_free_kind (kind_as (kind_at s.rows k) x (holds_in s.rows k n) (binds_in s.rows k n) false)) found ∙ w.0)
 
-        by : (wants_for base k n ≡ true) ⊎ Passing k n → shown ≡ true
+        by : (wants_for need_law_base k n ≡ true) ⊎ Passing k n → need_law_shown ≡ true
         by (inl w) = wanted w
-        by (inr p) = passed p (is_class (kind_of (slice_get base k))) refl
+        by (inr p) = passed p (is_class (kind_of (slice_get need_law_base k))) refl
 
-    pub shown_is_needed : shown ≡ needs s.rows k n
+    pub shown_is_needed : need_law_shown ≡ needs s.rows k n
     shown_is_needed = same_truth _ _ shown_needs (λ q. needs_shown (needs_to s old fine k n q))

@@ -4,7 +4,7 @@ use Rattle.py_scope.specs.declared.outward.Meets.{Meets}
 use Rattle.py_scope.specs.declared.outward.Meets.TheVariants.{Past, Binding, Explicit}
 use Rattle.py_scope.specs.declared.outward.Found.TheVariants.{FreeOf}
 use Rattle.py_scope.specs.declared.rows.Row.{Row}
-use Rattle.py_scope.specs.Outward.{IsNumbered, Passes, chain, enclosing, found_at, look, look_from, meetings, parents, touch, touch_here}
+use Rattle.py_scope.specs.Outward.{IsNumbered, Passes, chain, enclosing_scopes, found_at, look, look_from, meetings, parents, touch, touch_here}
 use Rattle.py_scope.specs.Marks.{touch_by}
 use Rattle.py_scope.proofs.Captured.{IsCaptured, ChildNeeds, IsChild, wants, wants_for}
 use Rattle.py_scope.specs.Entries.{entry_of}
@@ -15,22 +15,22 @@ use Rattle.py_scope.specs.Names.{Name}
 
 module _ (m : ℕ → Meets) (p : ℕ → ℕ) where
   -- a look that passes c goes on as the look from c
-  pub passes_look : (c k w : ℕ) → touch m c (chain p k w) ≡ Passes → look m (chain p k w) ≡ look m (enclosing p c)
+  pub passes_look : (c k w : ℕ) → touch m c (chain p k w) ≡ Passes → look m (chain p k w) ≡ look m (enclosing_scopes p c)
   passes_look c zero w h = cc
   passes_look c (suc k) w h = by (nat_eq k w) h (passes_look c k (p k)) (passes_look c k w)
     where
       at : (x : Meets) (b : Bool) → nat_eq k c ≡ b → touch_here x b (look m (chain p k (p k))) (touch m c (chain p k (p k))) ≡ Passes
-          → (touch m c (chain p k (p k)) ≡ Passes → look m (chain p k (p k)) ≡ look m (enclosing p c)) → found_at k x (look m (chain p k (p k))) ≡ look m (enclosing p c)
-      at Past true e g ih = ap (λ z. look m (enclosing p z)) (equal_numbers k c e)
+          → (touch m c (chain p k (p k)) ≡ Passes → look m (chain p k (p k)) ≡ look m (enclosing_scopes p c)) → found_at k x (look m (chain p k (p k))) ≡ look m (enclosing_scopes p c)
+      at Past true e g ih = ap (λ z. look m (enclosing_scopes p z)) (equal_numbers k c e)
       at Past false e g ih = ih g
       at Binding true e g ih = cc
       at Binding false e g ih = cc
       at Explicit b e g ih = cc
 
       by : (b : Bool) → touch m c (if b then k ∷ chain p k (p k) else chain p k w) ≡ Passes
-          → (touch m c (chain p k (p k)) ≡ Passes → look m (chain p k (p k)) ≡ look m (enclosing p c))
-          → (touch m c (chain p k w) ≡ Passes → look m (chain p k w) ≡ look m (enclosing p c))
-          → look m (if b then k ∷ chain p k (p k) else chain p k w) ≡ look m (enclosing p c)
+          → (touch m c (chain p k (p k)) ≡ Passes → look m (chain p k (p k)) ≡ look m (enclosing_scopes p c))
+          → (touch m c (chain p k w) ≡ Passes → look m (chain p k w) ≡ look m (enclosing_scopes p c))
+          → look m (if b then k ∷ chain p k (p k) else chain p k w) ≡ look m (enclosing_scopes p c)
       by true g ih other = at (m k) (nat_eq k c) refl g ih
       by false g ih other = other g
 
@@ -61,23 +61,23 @@ module _ (m : ℕ → Meets) (p : ℕ → ℕ) where
 
 module _ (rows : List Row) (numbered : IsNumbered rows) where
   -- the scopes around a child begin with the scope that it stands in
-  pub around_child : (s c : ℕ) → IsChild rows s c → enclosing (parents rows) c ≡ s ∷ enclosing (parents rows) s
+  pub around_child : (s c : ℕ) → IsChild rows s c → enclosing_scopes (parents rows) c ≡ s ∷ enclosing_scopes (parents rows) s
   around_child s c h = outward (parents rows) c s h.parent (subst (λ v. v < c) h.parent (numbered c h.above h.there))
 
   -- a look that ends at a binding is not the module's
-  pub not_the_module : (m : ℕ → Meets) (c b : ℕ) → look m (enclosing (parents rows) c) ≡ FreeOf b → 0 < c
+  pub not_the_module : (m : ℕ → Meets) (c b : ℕ) → look m (enclosing_scopes (parents rows) c) ≡ FreeOf b → 0 < c
   not_the_module m zero b h = cc
   not_the_module m (suc c) b h = omega arith
 
-  pub is_there : (r : ℕ) (n : Name) → wants_for rows r n ≡ true → r < length rows
-  is_there r n h = by (slice_get rows r) refl h
+  pub needed_name_is_there : (r : ℕ) (n : Name) → wants_for rows r n ≡ true → r < length rows
+  needed_name_is_there r n h = by (slice_get rows r) refl h
     where
       by : (o : Option Row) → slice_get rows r ≡ o → wants (entry_of n o) ≡ true → r < length rows
       by None e g = cc
       by (Some t) e g = slice_get_within rows r t e
 
   -- a look passes only scopes below the one that asks
-  pub passed_below : (m : ℕ → Meets) (r c : ℕ) → touch m c (enclosing (parents rows) r) ≡ Passes → c < r
+  pub passed_below : (m : ℕ → Meets) (r c : ℕ) → touch m c (enclosing_scopes (parents rows) r) ≡ Passes → c < r
   passed_below m r c h = by (nat_le r c) refl
     where
       by : (b : Bool) → nat_le r c ≡ b → c < r
@@ -91,7 +91,7 @@ module _ (rows : List Row) (numbered : IsNumbered rows) where
       by c.0 c.1 c.2
     where
       inside : h.asker < length rows
-      inside = is_there h.asker n h.wants_there
+      inside = needed_name_is_there h.asker n h.wants_there
 
       by : (c : ℕ) → parents rows c ≡ s → (h.asker ≡ c) ⊎ (touch_by rows h.asker n c ≡ Passes) → ChildNeeds rows s n
       by c e (inl q) = record {
@@ -116,8 +116,8 @@ module _ (rows : List Row) (numbered : IsNumbered rows) where
     ends = by h.needs.past;
   }
     where
-      decided : look (meetings rows n) (enclosing (parents rows) h.child) ≡ FreeOf s
-      decided = ap (look (meetings rows n)) (around_child s h.child h.within) ∙ ap (λ x. found_at s x (look (meetings rows n) (enclosing (parents rows) s))) met
+      decided : look (meetings rows n) (enclosing_scopes (parents rows) h.child) ≡ FreeOf s
+      decided = ap (look (meetings rows n)) (around_child s h.child h.within) ∙ ap (λ x. found_at s x (look (meetings rows n) (enclosing_scopes (parents rows) s))) met
 
       by : (h.needs.asker ≡ h.child) ⊎ (touch_by rows h.needs.asker n h.child ≡ Passes) → look_from rows h.needs.asker n ≡ FreeOf s
       by (inl q) = ap (λ z. look_from rows z n) q ∙ decided

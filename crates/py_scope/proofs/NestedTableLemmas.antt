@@ -6,7 +6,7 @@ use Rattle.py_scope.specs.declared.rows.Row.{Row}
 use Rattle.py_scope.specs.declared.symbols.Symbol.{Symbol}
 use Rattle.py_scope.specs.declared.table.SymbolTable.{SymbolTable}
 use Rattle.py_scope.specs.Outward.{parent_of, IsNumbered}
-use Rattle.py_scope.specs.Scanned.{changed}
+use Rattle.py_scope.specs.Scanned.{changed_at}
 use Rattle.py_scope.specs.Tables.{children_of, table_of, tables_from}
 use Rattle.py_scope.proofs.ScanCallLemmas.{get_push_old, get_push_new, length_push, get_changed, length_changed}
 
@@ -58,7 +58,8 @@ drop_whole : {A : Type 0} (xs : List A) → drop (length xs) xs ≡ []
 drop_whole [] = refl
 drop_whole (x ∷ xs) = drop_whole xs
 
-pub nested_first : (all : List Row) (names : List (List Symbol)) (waiting : List (List SymbolTable)) → 0 < length all → length names ≡ length all → waiting ≡ replicate (length all) [] → IsNested all names all names waiting
+pub nested_first : (all : List Row) (names : List (List Symbol)) (waiting : List (List SymbolTable)) → 0 < length all → length names ≡ length all
+    → waiting ≡ replicate (length all) [] → IsNested all names all names waiting
 nested_first all names waiting some same empty = record {
   count = length all;
   above = some;
@@ -75,8 +76,8 @@ module _ (all : List Row) (names : List (List Symbol)) (numbered : IsNumbered al
       (symbols : List (List Symbol)) (own : List Symbol) (symbols_are : symbols ++ own ∷ [] ≡ take (suc k) names)
       (waiting : List (List SymbolTable)) (children : List SymbolTable) (waits : length (waiting ++ children ∷ []) ≡ suc k)
       (lists : (j : ℕ) → j < suc k → slice_get (waiting ++ children ∷ []) j ≡ Some (reverse (children_of j (drop (suc k) all) (tables_from (suc k) (drop (suc k) all) (drop (suc k) names))))) where
-    abbrev later : List SymbolTable
-    later = tables_from (suc k) (drop (suc k) all) (drop (suc k) names)
+    abbrev nested_table_later : List SymbolTable
+    nested_table_later = tables_from (suc k) (drop (suc k) all) (drop (suc k) names)
 
     abbrev table : SymbolTable
     table = table_of row own (reverse children)
@@ -90,24 +91,24 @@ module _ (all : List Row) (names : List (List Symbol)) (numbered : IsNumbered al
     shorter : length waiting ≡ k
     shorter = let l = length_push waiting children in omega (arith, l, waits)
 
-    children_are : reverse children ≡ children_of k (drop (suc k) all) later
-    children_are =
-        let h : Some children ≡ Some (reverse (children_of k (drop (suc k) all) later)) = sym (ap (slice_get (waiting ++ children ∷ [])) (sym shorter) ∙ get_push_new waiting children) ∙ lists k (omega arith) in
-        ap reverse (unwrapped h) ∙ reverse-reverse (children_of k (drop (suc k) all) later)
+    nested_table_children_are : reverse children ≡ children_of k (drop (suc k) all) nested_table_later
+    nested_table_children_are =
+        let h : Some children ≡ Some (reverse (children_of k (drop (suc k) all) nested_table_later)) = sym (ap (slice_get (waiting ++ children ∷ [])) (sym shorter) ∙ get_push_new waiting children) ∙ lists k (omega arith) in
+        ap reverse (unwrapped h) ∙ reverse-reverse (children_of k (drop (suc k) all) nested_table_later)
       where
         unwrapped : {A : Type 0} {x y : A} → Some x ≡ Some y → x ≡ y
         unwrapped h = cc
 
-    tables_are : tables_from k (drop k all) (drop k names) ≡ table ∷ later
-    tables_are = (λ j. tables_from k (drop_at all k row row_is.1 j) (drop_at names k own own_is.1 j)) ∙ ap (λ ts. table_of row own ts ∷ later) (sym children_are)
+    nested_table_tables_are : tables_from k (drop k all) (drop k names) ≡ table ∷ nested_table_later
+    nested_table_tables_are = (λ j. tables_from k (drop_at all k row row_is.1 j) (drop_at names k own own_is.1 j)) ∙ ap (λ ts. table_of row own ts ∷ nested_table_later) (sym nested_table_children_are)
 
     pub nested_done : k ≡ 0 → slice_get (tables_from 0 all names) 0 ≡ Some table
-    nested_done e = subst (λ z. slice_get (tables_from z (drop z all) (drop z names)) 0 ≡ Some table) e (ap (λ ts. slice_get ts 0) tables_are)
+    nested_done e = subst (λ z. slice_get (tables_from z (drop z all) (drop z names)) 0 ≡ Some table) e (ap (λ ts. slice_get ts 0) nested_table_tables_are)
 
     pub nested_parent : 0 < k → row.parent < length waiting
     nested_parent a = subst (λ z. row.parent < z) (sym shorter) (subst (λ z. z < k) (ap parent_of row_is.1) (numbered k a (omega arith)))
 
-    pub nested_next : 0 < k → (after : List (List SymbolTable)) → after ≡ changed (λ ts. ts ++ table ∷ []) row.parent waiting → IsNested all names rows symbols after
+    pub nested_next : 0 < k → (after : List (List SymbolTable)) → after ≡ changed_at (λ ts. ts ++ table ∷ []) row.parent waiting → IsNested all names rows symbols after
     nested_next a after is_after = record {
       count = k;
       above = a;
@@ -118,24 +119,25 @@ module _ (all : List Row) (names : List (List Symbol)) (numbered : IsNumbered al
       lists = λ j l. ap (λ ws. slice_get ws j) is_after ∙ get_changed (λ ts. ts ++ table ∷ []) row.parent waiting j ∙ by j (nat_eq row.parent j) (sym (get_push_old waiting children j (subst (λ z. j < z) (sym shorter) l)) ∙ lists j (omega arith)) ∙ ap (λ ts. Some (reverse ts)) (sym (now j));
     }
       where
-        by : (j : ℕ) (b : Bool) → slice_get waiting j ≡ Some (reverse (children_of j (drop (suc k) all) later))
-            → (if b then option_map (λ ts. ts ++ table ∷ []) (slice_get waiting j) else slice_get waiting j) ≡ Some (reverse (if b then table ∷ children_of j (drop (suc k) all) later else children_of j (drop (suc k) all) later))
-        by j true h = ap (option_map (λ ts. ts ++ table ∷ [])) h ∙ ap Some (sym (reverse_onto (children_of j (drop (suc k) all) later) table []))
+        by : (j : ℕ) (b : Bool) → slice_get waiting j ≡ Some (reverse (children_of j (drop (suc k) all) nested_table_later))
+            → (if b then option_map (λ ts. ts ++ table ∷ []) (slice_get waiting j) else slice_get waiting j) ≡ Some (reverse (if b then table ∷ children_of j (drop (suc k) all) nested_table_later else children_of j (drop (suc k) all) nested_table_later))
+        by j true h = ap (option_map (λ ts. ts ++ table ∷ [])) h ∙ ap Some (sym (reverse_onto (children_of j (drop (suc k) all) nested_table_later) table []))
         by j false h = h
 
-        now : (j : ℕ) → children_of j (drop k all) (tables_from k (drop k all) (drop k names)) ≡ if nat_eq row.parent j then table ∷ children_of j (drop (suc k) all) later else children_of j (drop (suc k) all) later
-        now j = λ i. children_of j (drop_at all k row row_is.1 i) (tables_are i)
+        now : (j : ℕ)
+            → children_of j (drop k all) (tables_from k (drop k all) (drop k names)) ≡ if nat_eq row.parent j then table ∷ children_of j (drop (suc k) all) nested_table_later else children_of j (drop (suc k) all) nested_table_later
+        now j = λ i. children_of j (drop_at all k row row_is.1 i) (nested_table_tables_are i)
 
-  before : (n : ℕ) → 0 < n → (k : ℕ) × (n ≡ suc k)
-  before zero h = absurd (omega arith)
-  before (suc k) h = (k, refl)
+  nested_table_before : (n : ℕ) → 0 < n → (k : ℕ) × (n ≡ suc k)
+  nested_table_before zero h = absurd (omega arith)
+  nested_table_before (suc k) h = (k, refl)
 
   -- in the words of the loop: the last of each list is taken
   module _ (rows0 : List Row) (symbols0 : List (List Symbol)) (waiting0 : List (List SymbolTable)) (h : IsNested all names rows0 symbols0 waiting0)
       (rows : List Row) (row : Row) (symbols : List (List Symbol)) (own : List Symbol) (waiting : List (List SymbolTable)) (children : List SymbolTable)
       (is_rows : rows0 ≡ rows ++ row ∷ []) (is_symbols : symbols0 ≡ symbols ++ own ∷ []) (is_waiting : waiting0 ≡ waiting ++ children ∷ []) where
     k : (k : ℕ) × (h.count ≡ suc k)
-    k = before h.count h.above
+    k = nested_table_before h.count h.above
 
     within' : suc k.0 ≤ length all
     within' = subst (λ n. n ≤ length all) k.1 h.within
@@ -161,5 +163,6 @@ module _ (all : List Row) (names : List (List Symbol)) (numbered : IsNumbered al
     pub nest_parent : 0 < length waiting → row.parent < length waiting
     nest_parent a = nested_parent k.0 within' rows row rows' symbols own symbols' waiting children waits' lists' (subst (λ n. 0 < n) shorter' a)
 
-    pub nest_next : 0 < length waiting → (after : List (List SymbolTable)) → after ≡ changed (λ ts. ts ++ table_of row own (reverse children) ∷ []) row.parent waiting → IsNested all names rows symbols after
+    pub nest_next : 0 < length waiting → (after : List (List SymbolTable))
+        → after ≡ changed_at (λ ts. ts ++ table_of row own (reverse children) ∷ []) row.parent waiting → IsNested all names rows symbols after
     nest_next a = nested_next k.0 within' rows row rows' symbols own symbols' waiting children waits' lists' (subst (λ n. 0 < n) shorter' a)

@@ -8,16 +8,16 @@ use Rattle.py_scope.specs.declared.table_type.SymbolTableType.TheVariants.{Modul
 use Rattle.py_scope.specs.declared.rows.Row.{Row}
 use Rattle.py_scope.specs.declared.roles.Role.{Role}
 use Rattle.py_scope.specs.Names.{Name}
-use Rattle.py_scope.specs.Outward.{chain, enclosing, parents, parent_of, IsNumbered}
+use Rattle.py_scope.specs.Outward.{chain, enclosing_scopes, parents, parent_of, IsNumbered}
 use Rattle.py_scope.specs.Lifts.{kind_of}
-use Rattle.py_scope.specs.Scanned.{Scanned, order_of, entered_row, entered, used_in, changed, with_use, gone_out, inner, nests, IsWithin}
+use Rattle.py_scope.specs.Scanned.{Scanned, order_of, entered_row, entered_scan, used_in, changed_at, with_use, gone_out, inner, nests, IsWithin}
 use Rattle.py_scope.specs.InOrder.{IsFresh, IsScanned}
 use Rattle.py_scope.proofs.Chains.{outward, tells_same, tells_apart, equal_numbers, unequal_numbers}
 use Rattle.py_scope.proofs.Freshness.{fresh_empty, fresh_used}
 
 module _ {A : Type 0} where
-  abbrev nothing : Option A
-  nothing = None
+  abbrev scan_call_nothing : Option A
+  scan_call_nothing = None
 
   pub get_push_old : (xs : List A) (x : A) (k : ℕ) → k < length xs → slice_get (xs ++ x ∷ []) k ≡ slice_get xs k
   get_push_old [] x k h = absurd (omega arith)
@@ -38,10 +38,10 @@ module _ {A : Type 0} where
   length_push [] x = refl
   length_push (y ∷ ys) x = ap suc (length_push ys x)
 
-  pub get_changed : (f : A → A) (i : ℕ) (xs : List A) (k : ℕ) → slice_get (changed f i xs) k ≡ if nat_eq i k then option_map f (slice_get xs k) else slice_get xs k
+  pub get_changed : (f : A → A) (i : ℕ) (xs : List A) (k : ℕ) → slice_get (changed_at f i xs) k ≡ if nat_eq i k then option_map f (slice_get xs k) else slice_get xs k
   get_changed f i [] k = by (nat_eq i k)
     where
-      by : (b : Bool) → nothing ≡ if b then nothing else nothing
+      by : (b : Bool) → scan_call_nothing ≡ if b then scan_call_nothing else scan_call_nothing
       by true = refl
       by false = refl
   get_changed f zero (x ∷ xs) zero = refl
@@ -56,7 +56,7 @@ module _ {A : Type 0} where
           by true e = sym (ap (λ z. nat_eq (suc i) (suc z)) (sym (equal_numbers i k e)) ∙ tells_same (suc i))
           by false e = sym (tells_apart (suc i) (suc k) (λ q. unequal_numbers i k e (omega arith)))
 
-  pub length_changed : (f : A → A) (i : ℕ) (xs : List A) → length (changed f i xs) ≡ length xs
+  pub length_changed : (f : A → A) (i : ℕ) (xs : List A) → length (changed_at f i xs) ≡ length xs
   length_changed f i [] = refl
   length_changed f zero (x ∷ xs) = refl
   length_changed f (suc i) (x ∷ xs) = ap suc (length_changed f i xs)
@@ -66,7 +66,7 @@ pub chain_same : (p q : ℕ → ℕ) (k w : ℕ) → ((j : ℕ) → j < k → p 
 chain_same p q zero w h = refl
 chain_same p q (suc k) w h = λ i. if nat_eq k w then k ∷ (ap (chain p k) (h k (omega arith)) ∙ chain_same p q k (q k) (λ j l. h j (omega arith))) i else chain_same p q k w (λ j l. h j (omega arith)) i
 
-pub enclosing_same : (p q : ℕ → ℕ) (s : ℕ) → ((j : ℕ) → j ≤ s → p j ≡ q j) → enclosing p s ≡ enclosing q s
+pub enclosing_same : (p q : ℕ → ℕ) (s : ℕ) → ((j : ℕ) → j ≤ s → p j ≡ q j) → enclosing_scopes p s ≡ enclosing_scopes q s
 enclosing_same p q s h = ap (chain p s) (h s (omega arith)) ∙ chain_same p q s (q s) (λ j l. h j (omega arith))
 
 any_append : (f : ℕ → Bool) (xs ys : List ℕ) → list_any f xs ≡ true → list_any f (xs ++ ys) ≡ true
@@ -99,18 +99,18 @@ any_slips f (x ∷ xs) y zs h = by (f x) h (any_slips f xs y zs)
 
 -- leaving a scope
 module _ (s : Scanned) (old : IsScanned s) (above : 0 < s.current) where
-  below : parents s.rows s.current < s.current
-  below = old.numbered s.current above old.inside
+  scan_call_below : parents s.rows s.current < s.current
+  scan_call_below = old.numbered s.current above old.inside
 
   same_order : order_of (gone_out s) ≡ order_of s
-  same_order = append_assoc s.left (s.current ∷ []) _ ∙ ap (λ es. s.left ++ s.current ∷ es) (sym (outward (parents s.rows) s.current (parents s.rows s.current) refl below))
+  same_order = append_assoc s.left (s.current ∷ []) _ ∙ ap (λ es. s.left ++ s.current ∷ es) (sym (outward (parents s.rows) s.current (parents s.rows s.current) refl scan_call_below))
 
   pub scanned_left : IsScanned (gone_out s)
   scanned_left = record {
     numbered = old.numbered;
     first = old.first;
     only = old.only;
-    inside = (let i = old.inside in omega (arith, below));
+    inside = (let i = old.inside in omega (arith, scan_call_below));
     below = All-append (λ k. k < length s.rows) s.left (s.current ∷ []) old.below one;
     complete = λ k l. ap (list_any (nat_eq k)) same_order ∙ old.complete k l;
     fresh = old.fresh;
@@ -122,31 +122,31 @@ module _ (s : Scanned) (old : IsScanned s) (above : 0 < s.current) where
 
 -- a use
 module _ (s : Scanned) (n : Name) (role : Role) (old : IsScanned s) where
-  abbrev used : List Row
-  used = changed (used_in n role) s.current s.rows
+  abbrev scan_call_used : List Row
+  scan_call_used = changed_at (used_in n role) s.current s.rows
 
-  kept : {A : Type 0} (f : Option Row → A) → ((row : Row) → f (Some (used_in n role row)) ≡ f (Some row)) → (k : ℕ) → f (slice_get used k) ≡ f (slice_get s.rows k)
-  kept f h k = ap f (get_changed (used_in n role) s.current s.rows k) ∙ by (nat_eq s.current k) (slice_get s.rows k)
+  scan_call_kept : {A : Type 0} (f : Option Row → A) → ((row : Row) → f (Some (used_in n role row)) ≡ f (Some row)) → (k : ℕ) → f (slice_get scan_call_used k) ≡ f (slice_get s.rows k)
+  scan_call_kept f h k = ap f (get_changed (used_in n role) s.current s.rows k) ∙ by (nat_eq s.current k) (slice_get s.rows k)
     where
       by : (b : Bool) (o : Option Row) → f (if b then option_map (used_in n role) o else o) ≡ f o
       by true None = refl
       by true (Some row) = h row
       by false o = refl
 
-  same_length : length used ≡ length s.rows
-  same_length = length_changed (used_in n role) s.current s.rows
+  scan_call_same_length : length scan_call_used ≡ length s.rows
+  scan_call_same_length = length_changed (used_in n role) s.current s.rows
 
-  same_parents : parents used ≡ parents s.rows
-  same_parents = λ j k. kept parent_of (λ row. refl) k j
+  scan_call_same_parents : parents scan_call_used ≡ parents s.rows
+  scan_call_same_parents = λ j k. scan_call_kept parent_of (λ row. refl) k j
 
   pub scanned_used : IsScanned (with_use s n role)
   scanned_used = record {
-    numbered = λ k a l. subst (λ v. v < k) (ap (λ p. p k) (sym same_parents)) (old.numbered k a (subst (λ v. k < v) same_length l));
-    first = kept kind_of (λ row. refl) 0 ∙ old.first;
-    only = λ k a l q. old.only k a (subst (λ v. k < v) same_length l) (sym (kept kind_of (λ row. refl) k) ∙ q);
-    inside = subst (λ v. s.current < v) (sym same_length) old.inside;
-    below = λ k d h. let b = old.below k d h in omega (arith, same_length, b);
-    complete = λ k l. ap (λ p. list_any (nat_eq k) (s.left ++ s.current ∷ enclosing p s.current)) same_parents ∙ old.complete k (subst (λ v. k < v) same_length l);
+    numbered = λ k a l. subst (λ v. v < k) (ap (λ p. p k) (sym scan_call_same_parents)) (old.numbered k a (subst (λ v. k < v) scan_call_same_length l));
+    first = scan_call_kept kind_of (λ row. refl) 0 ∙ old.first;
+    only = λ k a l q. old.only k a (subst (λ v. k < v) scan_call_same_length l) (sym (scan_call_kept kind_of (λ row. refl) k) ∙ q);
+    inside = subst (λ v. s.current < v) (sym scan_call_same_length) old.inside;
+    below = λ k d h. let b = old.below k d h in omega (arith, scan_call_same_length, b);
+    complete = λ k l. ap (λ p. list_any (nat_eq k) (s.left ++ s.current ∷ enclosing_scopes p s.current)) scan_call_same_parents ∙ old.complete k (subst (λ v. k < v) scan_call_same_length l);
     fresh = λ k. subst IsFresh (sym (get_changed (used_in n role) s.current s.rows k)) (by (nat_eq s.current k) (slice_get s.rows k) (old.fresh k));
   }
     where
@@ -157,40 +157,40 @@ module _ (s : Scanned) (n : Name) (role : Role) (old : IsScanned s) where
 
 -- entering a scope
 module _ (s : Scanned) (typ : SymbolTableType) (name : Name) (line : ℕ) (old : IsScanned s) where
-  abbrev row : Row
-  row = entered_row s.rows s.current typ name line
+  abbrev scan_call_row : Row
+  scan_call_row = entered_row s.rows s.current typ name line
 
-  abbrev more : List Row
-  more = s.rows ++ row ∷ []
+  abbrev scan_call_more : List Row
+  scan_call_more = s.rows ++ scan_call_row ∷ []
 
-  longer : length more ≡ suc (length s.rows)
-  longer = length_push s.rows row
+  scan_call_longer : length scan_call_more ≡ suc (length s.rows)
+  scan_call_longer = length_push s.rows scan_call_row
 
-  parent_old : (k : ℕ) → k < length s.rows → parents more k ≡ parents s.rows k
-  parent_old k h = ap parent_of (get_push_old s.rows row k h)
+  parent_old : (k : ℕ) → k < length s.rows → parents scan_call_more k ≡ parents s.rows k
+  parent_old k h = ap parent_of (get_push_old s.rows scan_call_row k h)
 
-  parent_new : parents more (length s.rows) ≡ s.current
-  parent_new = ap parent_of (get_push_new s.rows row)
+  parent_new : parents scan_call_more (length s.rows) ≡ s.current
+  parent_new = ap parent_of (get_push_new s.rows scan_call_row)
 
-  numbered' : IsNumbered more
+  numbered' : IsNumbered scan_call_more
   numbered' k a l = by (nat_eq k (length s.rows)) refl
     where
-      by : (b : Bool) → nat_eq k (length s.rows) ≡ b → parents more k < k
-      by true e = let q : k ≡ length s.rows = equal_numbers k (length s.rows) e in subst (λ z. parents more z < z) (sym q) (subst (λ v. v < length s.rows) (sym parent_new) old.inside)
-      by false e = let h : k < length s.rows = omega (arith, longer, unequal_numbers k (length s.rows) e) in subst (λ v. v < k) (sym (parent_old k h)) (old.numbered k a h)
+      by : (b : Bool) → nat_eq k (length s.rows) ≡ b → parents scan_call_more k < k
+      by true e = let q : k ≡ length s.rows = equal_numbers k (length s.rows) e in subst (λ z. parents scan_call_more z < z) (sym q) (subst (λ v. v < length s.rows) (sym parent_new) old.inside)
+      by false e = let h : k < length s.rows = omega (arith, scan_call_longer, unequal_numbers k (length s.rows) e) in subst (λ v. v < k) (sym (parent_old k h)) (old.numbered k a h)
 
-  around : enclosing (parents more) (length s.rows) ≡ s.current ∷ enclosing (parents s.rows) s.current
-  around = outward (parents more) (length s.rows) s.current parent_new old.inside ∙ ap (λ es. s.current ∷ es) (enclosing_same (parents more) (parents s.rows) s.current (λ j h. let i = old.inside in parent_old j (omega arith)))
+  scan_call_around : enclosing_scopes (parents scan_call_more) (length s.rows) ≡ s.current ∷ enclosing_scopes (parents s.rows) s.current
+  scan_call_around = outward (parents scan_call_more) (length s.rows) s.current parent_new old.inside ∙ ap (λ es. s.current ∷ es) (enclosing_same (parents scan_call_more) (parents s.rows) s.current (λ j h. let i = old.inside in parent_old j (omega arith)))
 
-  pub scanned_entered : IsScanned (entered s typ name line)
+  pub scanned_entered : IsScanned (entered_scan s typ name line)
   scanned_entered = record {
     numbered = numbered';
-    first = ap kind_of (get_push_old s.rows row 0 (let i = old.inside in omega arith)) ∙ old.first;
-    only = λ k a l q. no_module k a q (get_push s.rows row k) l;
-    inside = omega (arith, longer);
-    below = λ k d h. let b = old.below k d h in omega (arith, longer, b);
-    complete = λ k l. ap (λ es. list_any (nat_eq k) (s.left ++ length s.rows ∷ es)) around ∙ whole k l;
-    fresh = λ k. by k (get_push s.rows row k);
+    first = ap kind_of (get_push_old s.rows scan_call_row 0 (let i = old.inside in omega arith)) ∙ old.first;
+    only = λ k a l q. no_module k a q (get_push s.rows scan_call_row k) l;
+    inside = omega (arith, scan_call_longer);
+    below = λ k d h. let b = old.below k d h in omega (arith, scan_call_longer, b);
+    complete = λ k l. ap (λ es. list_any (nat_eq k) (s.left ++ length s.rows ∷ es)) scan_call_around ∙ whole k l;
+    fresh = λ k. by k (get_push s.rows scan_call_row k);
   }
     where
       not_inner : (t : SymbolTableType) → inner t ≡ Module → ⊥
@@ -200,53 +200,59 @@ module _ (s : Scanned) (typ : SymbolTableType) (name : Name) (line : ℕ) (old :
       not_inner Comprehension q = cc
       not_inner TypeParams q = cc
 
-      no_module : (k : ℕ) → 0 < k → kind_of (slice_get more k) ≡ Module → (slice_get more k ≡ slice_get s.rows k) ⊎ (slice_get more k ≡ Some row) → k < length more → ⊥
+      no_module : (k : ℕ) → 0 < k → kind_of (slice_get scan_call_more k) ≡ Module
+          → (slice_get scan_call_more k ≡ slice_get s.rows k) ⊎ (slice_get scan_call_more k ≡ Some scan_call_row) → k < length scan_call_more → ⊥
       no_module k a q (inr e) l = not_inner typ (sym (ap kind_of e) ∙ q)
       no_module k a q (inl e) l = case (nat_eq k (length s.rows)) refl
         where
           case : (b : Bool) → nat_eq k (length s.rows) ≡ b → ⊥
-          case true d = not_inner typ (sym (ap kind_of (get_push_new s.rows row)) ∙ ap (λ z. kind_of (slice_get more z)) (sym (equal_numbers k (length s.rows) d)) ∙ q)
-          case false d = old.only k a (omega (arith, longer, unequal_numbers k (length s.rows) d)) (sym (ap kind_of e) ∙ q)
+          case true d = not_inner typ (sym (ap kind_of (get_push_new s.rows scan_call_row)) ∙ ap (λ z. kind_of (slice_get scan_call_more z)) (sym (equal_numbers k (length s.rows) d)) ∙ q)
+          case false d = old.only k a (omega (arith, scan_call_longer, unequal_numbers k (length s.rows) d)) (sym (ap kind_of e) ∙ q)
 
-      by : (k : ℕ) → (slice_get more k ≡ slice_get s.rows k) ⊎ (slice_get more k ≡ Some row) → IsFresh (slice_get more k)
+      by : (k : ℕ) → (slice_get scan_call_more k ≡ slice_get s.rows k) ⊎ (slice_get scan_call_more k ≡ Some scan_call_row) → IsFresh (slice_get scan_call_more k)
       by k (inl e) = subst IsFresh (sym e) (old.fresh k)
-      by k (inr e) = subst IsFresh (sym e) (fresh_empty row refl)
+      by k (inr e) = subst IsFresh (sym e) (fresh_empty scan_call_row refl)
 
-      whole : (k : ℕ) → k < length more → list_any (nat_eq k) (s.left ++ length s.rows ∷ s.current ∷ enclosing (parents s.rows) s.current) ≡ true
+      whole : (k : ℕ) → k < length scan_call_more → list_any (nat_eq k) (s.left ++ length s.rows ∷ s.current ∷ enclosing_scopes (parents s.rows) s.current) ≡ true
       whole k l = case (nat_eq k (length s.rows)) refl
         where
-          case : (b : Bool) → nat_eq k (length s.rows) ≡ b → list_any (nat_eq k) (s.left ++ length s.rows ∷ s.current ∷ enclosing (parents s.rows) s.current) ≡ true
-          case true e = any_later (nat_eq k) s.left (length s.rows ∷ s.current ∷ enclosing (parents s.rows) s.current) (ap (λ b. b || list_any (nat_eq k) (s.current ∷ enclosing (parents s.rows) s.current)) e)
-          case false e = any_slips (nat_eq k) s.left (length s.rows) (s.current ∷ enclosing (parents s.rows) s.current) (old.complete k (omega (arith, longer, unequal_numbers k (length s.rows) e)))
+          case : (b : Bool) → nat_eq k (length s.rows) ≡ b → list_any (nat_eq k) (s.left ++ length s.rows ∷ s.current ∷ enclosing_scopes (parents s.rows) s.current) ≡ true
+          case true e = any_later (nat_eq k) s.left (length s.rows ∷ s.current ∷ enclosing_scopes (parents s.rows) s.current) (ap (λ b. b || list_any (nat_eq k) (s.current ∷ enclosing_scopes (parents s.rows) s.current)) e)
+          case false e = any_slips (nat_eq k) s.left (length s.rows) (s.current ∷ enclosing_scopes (parents s.rows) s.current) (old.complete k (omega (arith, scan_call_longer, unequal_numbers k (length s.rows) e)))
 
 -- the builder's fields after each call
 abbrev pub scanned : List Row → ℕ → List ℕ → Scanned
 scanned rows current left = record { rows = rows; current = current; left = left }
 
-pub entered_within : (s : Scanned) (typ : SymbolTableType) (name : Name) (line : ℕ) → IsScanned s → IsWithin (entered s typ name line)
+pub entered_within : (s : Scanned) (typ : SymbolTableType) (name : Name) (line : ℕ) → IsScanned s → IsWithin (entered_scan s typ name line)
 entered_within s typ name line old = record { above = (let i = old.inside in omega arith); inside = (let h = length_push s.rows (entered_row s.rows s.current typ name line) in omega arith) }
 
-pub after_leave : (s : Scanned) (row : Row) (left : List ℕ) → s.current < length s.rows → row ≡ slice_index_or s.rows s.current row → left ≡ s.left ++ s.current ∷ [] → scanned s.rows row.parent left ≡ gone_out s
+pub after_leave : (s : Scanned) (row : Row) (left : List ℕ) → s.current < length s.rows → row ≡ slice_index_or s.rows s.current row
+    → left ≡ s.left ++ s.current ∷ [] → scanned s.rows row.parent left ≡ gone_out s
 after_leave s row left within is_row is_left = λ j. scanned s.rows (sym (ap parent_of (slice_get_read s.rows (length s.rows) s.current row refl within is_row)) j) (is_left j)
 
-pub after_enter : (s : Scanned) (rows : List Row) (number : ℕ) (around : Row) (nested : Bool) (typ kind : SymbolTableType) (name : Name) (line : ℕ) → s.current < length s.rows → around ≡ slice_index_or s.rows s.current around → nested ≡ nests (Some around) → kind ≡ inner typ
-    → rows ≡ s.rows ++ record { kind = kind; parent = s.current; head = record { name = name; line_number = line; is_nested = nested }; entries = [] } ∷ [] → number ≡ length s.rows → scanned rows number s.left ≡ entered s typ name line
+pub after_enter : (s : Scanned) (rows : List Row) (number : ℕ) (around : Row) (nested : Bool) (typ kind : SymbolTableType) (name : Name) (line : ℕ)
+    → s.current < length s.rows → around ≡ slice_index_or s.rows s.current around → nested ≡ nests (Some around) → kind ≡ inner typ
+    → rows ≡ s.rows ++ record { kind = kind; parent = s.current; head = record { name = name; line_number = line; is_nested = nested }; entries = [] } ∷ [] → number ≡ length s.rows → scanned rows number s.left ≡ entered_scan s typ name line
 after_enter s rows number around nested typ kind name line within is_around is_nested is_kind is_rows is_number =
     λ j. scanned ((is_rows ∙ ap (λ x. s.rows ++ record { kind = x; parent = s.current; head = record { name = name; line_number = line; is_nested = nested }; entries = [] } ∷ []) is_kind ∙ ap (λ b. s.rows ++ record { kind = inner typ; parent = s.current; head = record { name = name; line_number = line; is_nested = b }; entries = [] } ∷ []) (is_nested ∙ ap nests (sym (slice_get_read s.rows (length s.rows) s.current around refl within is_around)))) j) (is_number j) s.left
 
-pub set_changed : {A : Type 0} (f : A → A) (xs : List A) (i : ℕ) (x : A) → slice_get xs i ≡ Some x → slice_set xs i (f x) ≡ changed f i xs
+pub set_changed : {A : Type 0} (f : A → A) (xs : List A) (i : ℕ) (x : A) → slice_get xs i ≡ Some x → slice_set xs i (f x) ≡ changed_at f i xs
 set_changed f [] i x h = cc
 set_changed f (y ∷ ys) zero x h = let e : y ≡ x = cc in ap (λ z. f z ∷ ys) (sym e)
 set_changed f (y ∷ ys) (suc i) x h = ap (λ zs. y ∷ zs) (set_changed f ys i x h)
 
-pub after_use : (s : Scanned) (n : Name) (role : Role) (row new : Row) → s.current < length s.rows → row ≡ slice_index_or s.rows s.current row → new ≡ used_in n role row → scanned (slice_set s.rows s.current new) s.current s.left ≡ with_use s n role
+pub after_use : (s : Scanned) (n : Name) (role : Role) (row new : Row) → s.current < length s.rows → row ≡ slice_index_or s.rows s.current row
+    → new ≡ used_in n role row → scanned (slice_set s.rows s.current new) s.current s.left ≡ with_use s n role
 after_use s n role row new within is_row is_new = λ j. scanned ((ap (slice_set s.rows s.current) is_new ∙ set_changed (used_in n role) s.rows s.current row (slice_get_read s.rows (length s.rows) s.current row refl within is_row)) j) s.current s.left
 
 chain_below : (p : ℕ → ℕ) (k w i d : ℕ) → i < length (chain p k w) → slice_index_or (chain p k w) i d < k
 chain_below p zero w i d h = absurd (omega arith)
 chain_below p (suc k) w i d h = by (nat_eq k w) i h (λ j l. chain_below p k (p k) j d l) (chain_below p k w i d)
   where
-    by : (b : Bool) (i : ℕ) → i < length (if b then k ∷ chain p k (p k) else chain p k w) → ((j : ℕ) → j < length (chain p k (p k)) → slice_index_or (chain p k (p k)) j d < k) → (i < length (chain p k w) → slice_index_or (chain p k w) i d < k)
+    by : (b : Bool) (i : ℕ) → i < length (if b then k ∷ chain p k (p k) else chain p k w)
+        → ((j : ℕ) → j < length (chain p k (p k)) → slice_index_or (chain p k (p k)) j d < k)
+        → (i < length (chain p k w) → slice_index_or (chain p k w) i d < k)
         → slice_index_or (if b then k ∷ chain p k (p k) else chain p k w) i d < suc k
     by true zero l f g = omega arith
     by true (suc i) l f g = let h = f i (omega arith) in omega (arith, h)
@@ -254,8 +260,8 @@ chain_below p (suc k) w i d h = by (nat_eq k w) i h (λ j l. chain_below p k (p 
 
 -- each scope of the order is there
 pub order_within : (s : Scanned) → IsScanned s → All (λ k. k < length s.rows) (order_of s)
-order_within s old = All-append (λ k. k < length s.rows) s.left (s.current ∷ enclosing (parents s.rows) s.current) old.below rest
+order_within s old = All-append (λ k. k < length s.rows) s.left (s.current ∷ enclosing_scopes (parents s.rows) s.current) old.below rest
   where
-    rest : All (λ k. k < length s.rows) (s.current ∷ enclosing (parents s.rows) s.current)
+    rest : All (λ k. k < length s.rows) (s.current ∷ enclosing_scopes (parents s.rows) s.current)
     rest zero d h = old.inside
     rest (suc k) d h = let i = old.inside in let b = chain_below (parents s.rows) s.current (parents s.rows s.current) k d (omega arith) in omega (arith, b, i)

@@ -1,8 +1,9 @@
 -- The kinds and the symbols of the scopes, one at a time.
-use Rattle.std.proofs.Common.{◌≡◌, refl, sym, ap, ◌∙◌, subst, ℕ, zero, suc, ◌+◌, ◌<◌, Bool, true, false, ◌||◌, List, [], ◌∷◌, ◌++◌, length, take, drop, slice_get, Option, Some, None, IsSome, MatchOption, map, add-one, zero-add, arith}
+use Rattle.std.proofs.Common.{◌≡◌, refl, sym, ap, ◌∙◌, subst, ℕ, zero, suc, ◌+◌, ◌<◌, false, ◌||◌, List, [], ◌∷◌, ◌++◌, length, take, drop, slice_get, Option, Some, None, IsSome, MatchOption, map, add-one, zero-add, arith}
 use Rattle.std.specs.List.{list_any}
 use Rattle.std.specs.Map.{keys_of}
 use Rattle.std.proofs.lemmas.Cmp.{nat_list_eq_equiv}
+use Rattle.py_base.proofs.Booleans.{or_false_left, or_false_right}
 use Rattle.py_scope.specs.declared.kinds.SymbolScope.{SymbolScope}
 use Rattle.py_scope.specs.declared.rows.Entry.{Entry}
 use Rattle.py_scope.specs.declared.rows.Row.{Row}
@@ -49,41 +50,36 @@ rest_some xs rest after i (Some x) l d h = refl
 pub took : {A : Type 0} (rest after : List A) (r : Option A) (x : A) → MatchOption r ((rest ≡ []) × (after ≡ [])) (λ y. rest ≡ y ∷ after) → r ≡ Some x → rest ≡ x ∷ after
 took rest after r x h e = subst (λ o. MatchOption o ((rest ≡ []) × (after ≡ [])) (λ y. rest ≡ y ∷ after)) e h
 
-left_false : (a b : Bool) → a || b ≡ false → a ≡ false
-left_false true b h = cc
-left_false false b h = refl
-
-right_false : (a b : Bool) → a || b ≡ false → b ≡ false
-right_false true b h = cc
-right_false false b h = h
-
-none_at : (n : Name) (es : List (Name × Entry)) (i : ℕ) (p : Name × Entry) → list_any (same_name n) (keys_of es) ≡ false → slice_get es i ≡ Some p → same_name p.0 n ≡ false
-none_at n [] i p h g = cc
-none_at n (e ∷ es) zero p h g = ap (λ z. same_name z n) (sym (key e p g)) ∙ nat_list_eq_equiv.symm e.0 n ∙ left_false _ _ h
+table_row_none_at : (n : Name) (es : List (Name × Entry)) (i : ℕ) (p : Name × Entry) → list_any (same_name n) (keys_of es) ≡ false → slice_get es i ≡ Some p → same_name p.0 n ≡ false
+table_row_none_at n [] i p h g = cc
+table_row_none_at n (e ∷ es) zero p h g = ap (λ z. same_name z n) (sym (key e p g)) ∙ nat_list_eq_equiv.symm e.0 n ∙ or_false_left _ _ h
   where
     key : (e p : Name × Entry) → Some e ≡ Some p → e.0 ≡ p.0
     key e p h = let q : e ≡ p = cc in ap (λ z. z.0) q
-none_at n (e ∷ es) (suc i) p h g = none_at n es i p (right_false _ _ h) g
+table_row_none_at n (e ∷ es) (suc i) p h g = table_row_none_at n es i p (or_false_right _ _ h) g
 
 not_before : (es : List (Name × Entry)) (i : ℕ) (p : Name × Entry) → AreDistinct (keys_of es) → slice_get es i ≡ Some p → list_any (same_name p.0) (keys_of (take i es)) ≡ false
 not_before es zero p d g = refl
 not_before [] (suc i) p d g = refl
-not_before (e ∷ es) (suc i) p d g = λ j. none_at e.0 es i p d.0 g j || not_before es i p d.1 g j
+not_before (e ∷ es) (suc i) p d g = λ j. table_row_none_at e.0 es i p d.0 g j || not_before es i p d.1 g j
 
 with_absent : (n : Name) (es : List (Name × Entry)) (ks : List SymbolScope) → list_any (same_name n) (keys_of es) ≡ false → list_any (λ t. same_name n t.name) (symbols_with es ks) ≡ false
 with_absent n [] ks h = refl
 with_absent n (e ∷ es) [] h = refl
-with_absent n (e ∷ es) (k ∷ ks) h = λ j. left_false (same_name n e.0) _ h j || with_absent n es ks (right_false (same_name n e.0) _ h) j
+with_absent n (e ∷ es) (k ∷ ks) h = λ j. or_false_left (same_name n e.0) _ h j || with_absent n es ks (or_false_right (same_name n e.0) _ h) j
 
 -- a name's symbol is not among those of the names before it
-pub symbol_absent : (es : List (Name × Entry)) (ks : List SymbolScope) (i : ℕ) (p : Name × Entry) → AreDistinct (keys_of es) → slice_get es i ≡ Some p → list_any (λ t. same_name p.0 t.name) (symbols_with (take i es) ks) ≡ false
+pub symbol_absent : (es : List (Name × Entry)) (ks : List SymbolScope) (i : ℕ) (p : Name × Entry) → AreDistinct (keys_of es) → slice_get es i ≡ Some p
+    → list_any (λ t. same_name p.0 t.name) (symbols_with (take i es) ks) ≡ false
 symbol_absent es ks i p d g = with_absent p.0 (take i es) ks (not_before es i p d g)
 
 -- and comes after them
-pub symbols_next : (es : List (Name × Entry)) (ks : List SymbolScope) (i : ℕ) (p : Name × Entry) (k : SymbolScope) → slice_get es i ≡ Some p → slice_get ks i ≡ Some k → symbols_with (take i es) ks ++ symbol_with p k ∷ [] ≡ symbols_with (take (i + 1) es) ks
+pub symbols_next : (es : List (Name × Entry)) (ks : List SymbolScope) (i : ℕ) (p : Name × Entry) (k : SymbolScope) → slice_get es i ≡ Some p
+    → slice_get ks i ≡ Some k → symbols_with (take i es) ks ++ symbol_with p k ∷ [] ≡ symbols_with (take (i + 1) es) ks
 symbols_next es ks i p k g h = go es ks i g h ∙ ap (λ n. symbols_with (take n es) ks) (sym (add-one i))
   where
-    go : (es : List (Name × Entry)) (ks : List SymbolScope) (i : ℕ) → slice_get es i ≡ Some p → slice_get ks i ≡ Some k → symbols_with (take i es) ks ++ symbol_with p k ∷ [] ≡ symbols_with (take (suc i) es) ks
+    go : (es : List (Name × Entry)) (ks : List SymbolScope) (i : ℕ) → slice_get es i ≡ Some p → slice_get ks i ≡ Some k
+        → symbols_with (take i es) ks ++ symbol_with p k ∷ [] ≡ symbols_with (take (suc i) es) ks
     go [] ks i g h = cc
     go (e ∷ es) [] i g h = cc
     go (e ∷ es) (l ∷ ks) zero g h = let a : e ≡ p = cc in let b : l ≡ k = cc in λ j. symbol_with (sym a j) (sym b j) ∷ []

@@ -6,7 +6,7 @@ use Rattle.py_scope.specs.declared.rows.Row.{Row}
 use Rattle.py_scope.specs.declared.symbols.Symbol.{Symbol}
 use Rattle.py_scope.specs.declared.table.SymbolTable.{SymbolTable}
 use Rattle.py_scope.specs.Outward.{IsNumbered}
-use Rattle.py_scope.specs.Scanned.{changed}
+use Rattle.py_scope.specs.Scanned.{changed_at}
 use Rattle.py_scope.specs.Distinct.{names_of, AreDistinct, IsOnce}
 use Rattle.py_scope.specs.Checks.{entries_of}
 use Rattle.py_scope.specs.Tables.{table_of, table_from, symbol_in, symbols_in, all_symbols}
@@ -22,7 +22,8 @@ pub record IsTold (all : List Row) (rows : List Row) (kinds : List (List SymbolS
   pub told : length kinds ≡ length rows
   pub held : length waiting ≡ length rows
 
-pub told_first : (all : List Row) (kinds : List (List SymbolScope)) (waiting : List (List SymbolTable)) → 0 < length all → kinds ≡ all_kinds all 0 all → waiting ≡ replicate (length all) [] → IsTold all all kinds waiting
+pub told_first : (all : List Row) (kinds : List (List SymbolScope)) (waiting : List (List SymbolTable)) → 0 < length all → kinds ≡ all_kinds all 0 all
+    → waiting ≡ replicate (length all) [] → IsTold all all kinds waiting
 told_first all kinds waiting some are empty =
     let same : length (all_symbols all 0 all) ≡ length all = length-all_symbols all 0 all in
     let told : length (all_kinds all 0 all) ≡ length all = length-all_kinds all 0 all in
@@ -40,29 +41,29 @@ module _ (all : List Row) (numbered : IsNumbered all) (rows0 : List Row) (kinds0
   abbrev k : ℕ
   k = length rows
 
-  abbrev names : List (List Symbol)
-  names = all_symbols all 0 all
+  abbrev told_names : List (List Symbol)
+  told_names = all_symbols all 0 all
 
   abbrev symbols : List Symbol
   symbols = symbols_with row.entries own
 
-  longer : length rows0 ≡ suc k
-  longer = ap length is_rows ∙ length_push rows row
+  told_longer : length rows0 ≡ suc k
+  told_longer = ap length is_rows ∙ length_push rows row
 
-  count_is : h.nested.count ≡ suc k
-  count_is = sym h.nested.waits ∙ h.held ∙ longer
+  told_count_is : h.nested.count ≡ suc k
+  told_count_is = sym h.nested.waits ∙ h.held ∙ told_longer
 
-  within : suc k ≤ length all
-  within = subst (λ n. n ≤ length all) count_is h.nested.within
+  told_within : suc k ≤ length all
+  told_within = subst (λ n. n ≤ length all) told_count_is h.nested.within
 
   row_at : (rows ≡ take k all) × (slice_get all k ≡ Some row)
-  row_at = split_take rows row all k (let w = within in omega arith) (sym is_rows ∙ h.nested.rows_are ∙ ap (λ n. take n all) count_is)
+  row_at = split_take rows row all k (let w = told_within in omega arith) (sym is_rows ∙ h.nested.rows_are ∙ ap (λ n. take n all) told_count_is)
 
   own_at : (kinds ≡ take k (all_kinds all 0 all)) × (slice_get (all_kinds all 0 all) k ≡ Some own)
-  own_at = split_take kinds own (all_kinds all 0 all) k (let w = within in let l = length-all_kinds all 0 all in omega arith) (sym is_kinds ∙ h.kinds_are ∙ ap (λ n. take n (all_kinds all 0 all)) longer)
+  own_at = split_take kinds own (all_kinds all 0 all) k (let w = told_within in let l = length-all_kinds all 0 all in omega arith) (sym is_kinds ∙ h.kinds_are ∙ ap (λ n. take n (all_kinds all 0 all)) told_longer)
 
   own_is : own ≡ map {B = SymbolScope} (kind_at all k) row.entries
-  own_is = unwrapped (sym own_at.1 ∙ get_all_kinds all k (let w = within in omega arith)) ∙ ap (λ o. map {B = SymbolScope} (kind_at all k) (entries_of o)) row_at.1
+  own_is = unwrapped (sym own_at.1 ∙ get_all_kinds all k (let w = told_within in omega arith)) ∙ ap (λ o. map {B = SymbolScope} (kind_at all k) (entries_of o)) row_at.1
     where
       unwrapped : {A : Type 0} {x y : A} → Some x ≡ Some y → x ≡ y
       unwrapped h = cc
@@ -70,11 +71,11 @@ module _ (all : List Row) (numbered : IsNumbered all) (rows0 : List Row) (kinds0
   symbols_are : symbols ≡ symbols_in all k
   symbols_are = ap (symbols_with row.entries) own_is ∙ symbols_with-kinds all k row.entries ∙ ap (λ o. map {B = Symbol} (symbol_in all k) (entries_of o)) (sym row_at.1)
 
-  names_next : take (length rows0) names ≡ take k names ++ symbols ∷ []
-  names_next = ap (λ n. take n names) (longer ∙ sym (add-one k)) ∙ take_next names k symbols (get_all_symbols all k (let w = within in omega arith) ∙ ap Some (sym symbols_are))
+  told_names_next : take (length rows0) told_names ≡ take k told_names ++ symbols ∷ []
+  told_names_next = ap (λ n. take n told_names) (told_longer ∙ sym (add-one k)) ∙ take_next told_names k symbols (get_all_symbols all k (let w = told_within in omega arith) ∙ ap Some (sym symbols_are))
 
-  same : length names ≡ length all
-  same = length-all_symbols all 0 all
+  scope_told_same : length told_names ≡ length all
+  scope_told_same = length-all_symbols all 0 all
 
   pub told_same : length own ≡ length row.entries
   told_same = ap length own_is ∙ length-kinds all k row.entries
@@ -82,20 +83,21 @@ module _ (all : List Row) (numbered : IsNumbered all) (rows0 : List Row) (kinds0
   pub told_once : IsOnce all → AreDistinct (keys_of row.entries)
   told_once once = subst (λ o. AreDistinct (names_of o)) row_at.1 (once k)
 
-  pub told_done : length waiting ≡ 0 → table_from all ≡ Some (table_of row symbols (reverse children))
-  told_done = nest_done all names numbered same rows0 (take (length rows0) names) waiting0 h.nested rows row (take k names) symbols waiting children is_rows names_next is_waiting
+  pub scope_told_done : length waiting ≡ 0 → table_from all ≡ Some (table_of row symbols (reverse children))
+  scope_told_done = nest_done all told_names numbered scope_told_same rows0 (take (length rows0) told_names) waiting0 h.nested rows row (take k told_names) symbols waiting children is_rows told_names_next is_waiting
 
   pub told_parent : 0 < length waiting → row.parent < length waiting
-  told_parent = nest_parent all names numbered same rows0 (take (length rows0) names) waiting0 h.nested rows row (take k names) symbols waiting children is_rows names_next is_waiting
+  told_parent = nest_parent all told_names numbered scope_told_same rows0 (take (length rows0) told_names) waiting0 h.nested rows row (take k told_names) symbols waiting children is_rows told_names_next is_waiting
 
-  pub told_next : 0 < length waiting → (after : List (List SymbolTable)) → after ≡ changed (λ ts. ts ++ table_of row symbols (reverse children) ∷ []) row.parent waiting → IsTold all rows kinds after
+  pub told_next : 0 < length waiting → (after : List (List SymbolTable))
+      → after ≡ changed_at (λ ts. ts ++ table_of row symbols (reverse children) ∷ []) row.parent waiting → IsTold all rows kinds after
   told_next a after is_after =
       let l : length waiting0 ≡ suc (length waiting) = ap length is_waiting ∙ length_push waiting children in
       let m : length kinds0 ≡ suc (length kinds) = ap length is_kinds ∙ length_push kinds own in
       let n : length after ≡ length waiting = ap length is_after ∙ length_changed (λ ts. ts ++ table_of row symbols (reverse children) ∷ []) row.parent waiting in
       record {
-        nested = nest_next all names numbered same rows0 (take (length rows0) names) waiting0 h.nested rows row (take k names) symbols waiting children is_rows names_next is_waiting a after is_after;
+        nested = nest_next all told_names numbered scope_told_same rows0 (take (length rows0) told_names) waiting0 h.nested rows row (take k told_names) symbols waiting children is_rows told_names_next is_waiting a after is_after;
         kinds_are = own_at.0;
-        told = (let t = h.told in let g = longer in omega (arith, m, t, g));
-        held = (let t = h.held in let g = longer in omega (arith, l, n, t, g));
+        told = (let t = h.told in let g = told_longer in omega (arith, m, t, g));
+        held = (let t = h.held in let g = told_longer in omega (arith, l, n, t, g));
       }

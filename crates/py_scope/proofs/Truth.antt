@@ -5,27 +5,27 @@ use Rattle.py_scope.specs.declared.rows.Row.{Row}
 use Rattle.py_scope.specs.Resolve.{scopes}
 use Rattle.py_scope.proofs.Chains.{equal_numbers, unequal_numbers, tells_same, tells_apart}
 
-pub either : (a b : Bool) → a || b ≡ true → (a ≡ true) ⊎ (b ≡ true)
-either true b h = inl refl
-either false b h = inr h
+pub truth_either : (a b : Bool) → a || b ≡ true → (a ≡ true) ⊎ (b ≡ true)
+truth_either true b h = inl refl
+truth_either false b h = inr h
 
 pub left_or : (a b : Bool) → a ≡ true → a || b ≡ true
 left_or a b h = ap (λ x. x || b) h
 
-pub right_or : (a b : Bool) → b ≡ true → a || b ≡ true
-right_or true b h = refl
-right_or false b h = h
+pub truth_right_or : (a b : Bool) → b ≡ true → a || b ≡ true
+truth_right_or true b h = refl
+truth_right_or false b h = h
 
-pub both : (a b : Bool) → a && b ≡ true → (a ≡ true) × (b ≡ true)
-both true b h = (refl, h)
-both false b h = cc
+pub truth_both : (a b : Bool) → a && b ≡ true → (a ≡ true) × (b ≡ true)
+truth_both true b h = (refl, h)
+truth_both false b h = cc
 
 pub and_both : (a b : Bool) → a ≡ true → b ≡ true → a && b ≡ true
 and_both a b h g = λ j. h j && g j
 
-pub and_false : (a : Bool) → a && false ≡ false
-and_false true = refl
-and_false false = refl
+pub truth_and_false : (a : Bool) → a && false ≡ false
+truth_and_false true = refl
+truth_and_false false = refl
 
 pub never_both : (b : Bool) → b ≡ true → b ≡ false → ⊥
 never_both b h g = cc
@@ -44,9 +44,10 @@ same_tells a b = by (nat_eq a b) refl
 
 from_range : (f : ℕ → Bool) (a n : ℕ) → list_any f (range_with_len a n) ≡ true → (q : ℕ) × (q < a + n) × (f q ≡ true)
 from_range f a zero h = cc
-from_range f a (suc n) h = by (either (f a) _ h) (from_range f (a + 1) n)
+from_range f a (suc n) h = by (truth_either (f a) _ h) (from_range f (a + 1) n)
   where
-    by : (f a ≡ true) ⊎ (list_any f (range_with_len (a + 1) n) ≡ true) → (list_any f (range_with_len (a + 1) n) ≡ true → (q : ℕ) × (q < a + 1 + n) × (f q ≡ true)) → (q : ℕ) × (q < a + suc n) × (f q ≡ true)
+    by : (f a ≡ true) ⊎ (list_any f (range_with_len (a + 1) n) ≡ true)
+        → (list_any f (range_with_len (a + 1) n) ≡ true → (q : ℕ) × (q < a + 1 + n) × (f q ≡ true)) → (q : ℕ) × (q < a + suc n) × (f q ≡ true)
     by (inl g) ih = (a, omega arith, g)
     by (inr g) ih = let w = ih g in let l : w.0 < a + 1 + n = w.1 in (w.0, omega (arith, l), w.2)
 
@@ -56,7 +57,7 @@ to_range f a (suc n) q l h g = by (nat_eq q a) refl (to_range f (a + 1) n q)
   where
     by : (b : Bool) → nat_eq q a ≡ b → (a + 1 ≤ q → q < a + 1 + n → f q ≡ true → list_any f (range_with_len (a + 1) n) ≡ true) → f a || list_any f (range_with_len (a + 1) n) ≡ true
     by true e ih = left_or (f a) _ (ap f (sym (equal_numbers q a e)) ∙ g)
-    by false e ih = let d = unequal_numbers q a e in right_or (f a) _ (ih (omega (arith, d)) (omega arith) g)
+    by false e ih = let d = unequal_numbers q a e in truth_right_or (f a) _ (ih (omega (arith, d)) (omega arith) g)
 
 module _ (f : ℕ → Bool) (rows : List Row) where
   pub any_scope : list_any f (scopes rows) ≡ true → (q : ℕ) × (q < length rows) × (f q ≡ true)

@@ -11,10 +11,10 @@ use Rattle.py_scope.specs.declared.outward.Found.{Found}
 use Rattle.py_scope.specs.declared.outward.Found.TheVariants.{Nowhere, Globally, FreeOf}
 use Rattle.py_scope.specs.declared.kinds.SymbolScope.TheVariants.{Local, GlobalExplicit, Cell}
 use Rattle.py_scope.specs.Names.{Name}
-use Rattle.py_scope.specs.Outward.{counts, stop_of, enclosing, parents, meetings, Passes}
+use Rattle.py_scope.specs.Outward.{counts, stop_of, enclosing_scopes, parents, meetings, Passes}
 use Rattle.py_scope.specs.Marks.{touch_by}
 use Rattle.py_scope.specs.Entries.{entry_at}
-use Rattle.py_scope.proofs.Captured.{wants_as, wants_for, Needs, hands_on, HasCell, Leads}
+use Rattle.py_scope.proofs.Captured.{wants_as, wants_for, Needs, hands_on, HasCell, CapturedLeads}
 use Rattle.py_scope.specs.Resolve.{hands_on_as, binder, kind_at, stands_in, holds_in, binds_in, look_in, open_kind, needs, is_needed_inside, is_declared_inside, own_kind, is_own, kind_by_uses}
 use Rattle.py_scope.specs.Lifts.{holds_opt}
 use Rattle.py_scope.specs.Kinds.{kind_as, nowhere}
@@ -26,8 +26,8 @@ use Rattle.py_scope.specs.Resolved.{first_fault, after_lifts}
 use Rattle.py_scope.proofs.NeededNameLemmas.{captured_by_child}
 use Rattle.py_scope.proofs.Lawful as lawful
 use Rattle.py_scope.proofs.Apart.{passed_past}
-use Rattle.py_scope.proofs.Truth.{both, and_both, any_scope, some_scope}
-use Rattle.py_scope.proofs.Based.{is_passed_on, held_is, bound_is, stop_is, around_is, count_is, never_passed}
+use Rattle.py_scope.proofs.Truth.{truth_both, and_both, any_scope, some_scope}
+use Rattle.py_scope.proofs.Based.{is_passed_on, based_held_is, bound_is, stop_is, around_is, based_count_is, never_passed}
 use Rattle.py_scope.proofs.Needed.{wants_some, wants_held, needs_to, needs_from, inside_from}
 use Rattle.py_scope.proofs.NeedLaws.{wants_not_own, needing_there}
 
@@ -94,21 +94,21 @@ module _ (rows : List Row) (k : ℕ) (n : Name) where
   parts_cell o c i = λ j. if o j then (if c j && i j then Cell else (if nat_eq k 0 && is_declared_inside rows k n then GlobalExplicit else Local)) else open_kind rows k n
 
 module _ (s : Scanned) (old : IsScanned s) (fine : first_fault s ≡ None) where
-  abbrev base : List Row
-  base = after_lifts s
+  abbrev uses_law_base : List Row
+  uses_law_base = after_lifts s
 
   pub cells_are_needed : CellsAreNeeded s.rows
   cells_are_needed k n = (forth, λ w. parts_cell s.rows k n w.0 w.1 (some_scope (λ c. stands_in s.rows c k && needs s.rows c n) s.rows w.2 (within w.2 w.4) (and_both _ _ w.3 w.4)))
     where
       within : (c : ℕ) → needs s.rows c n ≡ true → c < length s.rows
-      within c q = subst (λ v. c < v) (count_is s old fine) (needing_there s old fine c n (needs_to s old fine c n q))
+      within c q = subst (λ v. c < v) (based_count_is s old fine) (needing_there s old fine c n (needs_to s old fine c n q))
 
       forth : kind_by_uses s.rows k n ≡ Cell → (is_own s.rows k n ≡ true) × (counts (kind_at s.rows k) n ≡ true) × (c : ℕ) × (stands_in s.rows c k ≡ true) × (needs s.rows c n ≡ true)
       forth h =
           let z = cell_parts s.rows k n h in
-          let y = both (counts (kind_at s.rows k) n) _ z.1 in
+          let y = truth_both (counts (kind_at s.rows k) n) _ z.1 in
           let c = any_scope (λ c. stands_in s.rows c k && needs s.rows c n) s.rows y.1 in
-          let x = both (stands_in s.rows c.0 k) _ c.2 in
+          let x = truth_both (stands_in s.rows c.0 k) _ c.2 in
           (z.0, y.0, c.0, x.0, x.1)
 
   pub cells_are_apart : CellsAreApart s.rows
@@ -117,26 +117,26 @@ module _ (s : Scanned) (old : IsScanned s) (fine : first_fault s ≡ None) where
       parts : (is_own s.rows k n ≡ true) × (counts (kind_at s.rows k) n && is_needed_inside s.rows k n ≡ true)
       parts = cell_parts s.rows k n h
 
-      bound : meetings base n k ≡ Binding
-      bound = stop_is s old fine n k ∙ ap (λ c. if c then stop_of (holds_in s.rows k n) (binds_in s.rows k n) else Past) ((both (counts (kind_at s.rows k) n) _ parts.1).0) ∙ own_binds (holds_in s.rows k n) (binds_in s.rows k n) parts.0
+      bound : meetings uses_law_base n k ≡ Binding
+      bound = stop_is s old fine n k ∙ ap (λ c. if c then stop_of (holds_in s.rows k n) (binds_in s.rows k n) else Past) ((truth_both (counts (kind_at s.rows k) n) _ parts.1).0) ∙ own_binds (holds_in s.rows k n) (binds_in s.rows k n) parts.0
 
-      clash : (need : Needs base k n) → (need.asker ≡ k) ⊎ (touch_by base need.asker n k ≡ Passes) → ⊥
+      clash : (need : Needs uses_law_base k n) → (need.asker ≡ k) ⊎ (touch_by uses_law_base need.asker n k ≡ Passes) → ⊥
       clash need (inl q) =
-          let w : wants_for base k n ≡ true = subst (λ z. wants_for base z n ≡ true) q need.wants_there in
-          let wanted : wants_as (holds_in s.rows k n) (binds_in s.rows k n) ≡ true = sym (wants_held (entry_at base k n) (wants_some (entry_at base k n) w) ∙ (λ j. wants_as (held_is s old fine k n j) (bound_is s old fine k n j))) ∙ w in
+          let w : wants_for uses_law_base k n ≡ true = subst (λ z. wants_for uses_law_base z n ≡ true) q need.wants_there in
+          let wanted : wants_as (holds_in s.rows k n) (binds_in s.rows k n) ≡ true = sym (wants_held (entry_at uses_law_base k n) (wants_some (entry_at uses_law_base k n) w) ∙ (λ j. wants_as (based_held_is s old fine k n j) (bound_is s old fine k n j))) ∙ w in
           let z : true ≡ false = sym parts.0 ∙ wants_not_own (holds_in s.rows k n) (binds_in s.rows k n) wanted in cc
-      clash need (inr q) = let z : Binding ≡ Past = sym bound ∙ passed_past (meetings base n) k (enclosing (parents base) need.asker) q in cc
+      clash need (inr q) = let z : Binding ≡ Past = sym bound ∙ passed_past (meetings uses_law_base n) k (enclosing_scopes (parents uses_law_base) need.asker) q in cc
 
       by : (b : Bool) → needs s.rows k n ≡ b → b ≡ false
       by true q = let need = needs_to s old fine k n q in absurd (clash need need.past)
       by false q = refl
 
   -- a scope with a cell for a name resolves it to a cell
-  cell_resolves : (e : ℕ) (n : Name) → HasCell base e n → kind_by_uses s.rows e n ≡ Cell
+  cell_resolves : (e : ℕ) (n : Name) → HasCell uses_law_base e n → kind_by_uses s.rows e n ≡ Cell
   cell_resolves e n h = parts_cell s.rows e n
-      (binds_own (holds_in s.rows e n) (binds_in s.rows e n) (sym (ap (λ c. if c then stop_of (holds_in s.rows e n) (binds_in s.rows e n) else Past) counted) ∙ bound) (ap hands_on_as (sym (held_is s old fine e n)) ∙ sym (hands_held (entry_at base e n)) ∙ h.own) (λ q. let z = never_passed s old fine e n in let y : true ≡ false = sym (ap is_passed_on q) ∙ z in cc))
+      (binds_own (holds_in s.rows e n) (binds_in s.rows e n) (sym (ap (λ c. if c then stop_of (holds_in s.rows e n) (binds_in s.rows e n) else Past) counted) ∙ bound) (ap hands_on_as (sym (based_held_is s old fine e n)) ∙ sym (hands_held (entry_at uses_law_base e n)) ∙ h.own) (λ q. let z = never_passed s old fine e n in let y : true ≡ false = sym (ap is_passed_on q) ∙ z in cc))
       counted
-      (inside_from s old fine e n (captured_by_child base (lawful.numbered s old fine) e n h.captured))
+      (inside_from s old fine e n (captured_by_child uses_law_base (lawful.lawful_numbered s old fine) e n h.captured))
     where
       bound : (if counts (kind_at s.rows e) n then stop_of (holds_in s.rows e n) (binds_in s.rows e n) else Past) ≡ Binding
       bound = sym (stop_is s old fine n e) ∙ h.binds
@@ -148,7 +148,7 @@ module _ (s : Scanned) (old : IsScanned s) (fine : first_fault s ≡ None) where
           by true q = refl
           by false q = cc
 
-  leads_to : (n : Name) (es : List ℕ) (b : ℕ) → Leads base n es b → LeadsTo s.rows n es b
+  leads_to : (n : Name) (es : List ℕ) (b : ℕ) → CapturedLeads uses_law_base n es b → LeadsTo s.rows n es b
   leads_to n [] b h = h
   leads_to n (e ∷ es) b (inl h) = inl (cell_resolves e n h.0, h.1)
   leads_to n (e ∷ es) b (inr h) = inr (needs_from s old fine e n h.0, leads_to n es b h.1)
@@ -157,6 +157,6 @@ module _ (s : Scanned) (old : IsScanned s) (fine : first_fault s ≡ None) where
   names_lead c n h =
       let w = lawful.names_lead s old fine c n (needs_to s old fine c n h) in (
         w.0,
-        sym (λ j. binder (λ e. stop_is s old fine n e j) (λ e. (hands_held (entry_at base e n) ∙ ap hands_on_as (held_is s old fine e n)) j) (around_is s old fine c j)) ∙ w.1,
-        subst (λ es. LeadsTo s.rows n es w.0) (around_is s old fine c) (leads_to n (enclosing (parents base) c) w.0 w.2),
+        sym (λ j. binder (λ e. stop_is s old fine n e j) (λ e. (hands_held (entry_at uses_law_base e n) ∙ ap hands_on_as (based_held_is s old fine e n)) j) (around_is s old fine c j)) ∙ w.1,
+        subst (λ es. LeadsTo s.rows n es w.0) (around_is s old fine c) (leads_to n (enclosing_scopes (parents uses_law_base) c) w.0 w.2),
       )

@@ -7,7 +7,7 @@ use Rattle.py_scope.specs.declared.kinds.SymbolScope.{SymbolScope}
 use Rattle.py_scope.specs.declared.kinds.SymbolScope.TheVariants.{Unknown, Local, GlobalExplicit, GlobalImplicit, Free, Cell}
 use Rattle.py_scope.specs.Names.{Name}
 use Rattle.py_scope.specs.Resolve.{resolve, needs}
-use Rattle.py_scope.specs.Worked.{Call, Enters, Uses, Leaves, played, closure, passing_class, walrus_in_function, walrus_in_module}
+use Rattle.py_scope.specs.Worked.{Call, Enters, Uses, Leaves, scan_of_calls, closure, passing_class, walrus_in_function, walrus_in_module}
 
 -- a scope and a name, what it is there, the scope whose cell it reads, and whether the scope needs it from outside
 abbrev pub Answer : Type 0
@@ -18,7 +18,7 @@ answer rows q = (q.0, q.1, (resolve rows q.0 q.1).kind, (resolve rows q.0 q.1).b
 
 -- these answers are the program's
 abbrev pub Answers : List Call → List Answer → Type 0
-Answers calls answers = map {B = Answer} (answer (played calls).rows) answers ≡ answers
+Answers calls answers = map {B = Answer} (answer (scan_of_calls calls).rows) answers ≡ answers
 
 abbrev pub ClosureResolves : Type 0
 ClosureResolves = Answers closure ((0, codes "f", Local, None, false) ∷ (1, codes "x", Cell, Some 1, false) ∷ (2, codes "x", Free, Some 1, true) ∷ [])

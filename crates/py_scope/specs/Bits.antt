@@ -11,7 +11,7 @@ intersects bits mask = not (bit_and bits mask == 0)
 abbrev pub no_roles : SymbolFlags
 no_roles = record { 0 = 0 }
 
--- ASSIGNED, PARAMETER, IMPORTED or ITER among the roles, or a walrus in a comprehension within binds the name here
+-- ASSIGNED, PARAMETER, IMPORTED or ITER among the roles, or a walrus in a nested comprehension binds the name here
 abbrev pub is_bound : Entry → Bool
 is_bound s = s.assigned_within || intersects s.roles.0 0x096
 

@@ -7,7 +7,7 @@ use Rattle.py_scope.specs.declared.error.SymbolTableError.{SymbolTableError}
 use Rattle.py_scope.specs.declared.refusal.Refusal.{Refusal}
 use Rattle.py_scope.specs.Refusals.{text_of}
 
--- the text of the refusal, at this location; want of memory may come in its place
+-- the text of the refusal, at this location; out of memory may come in its place
 abbrev pub TellsFault : ScanFault → Option SourceLocation → Option Refusal → Option SourceLocation → Type 0
 TellsFault (Text t) at None location = ⊥
 TellsFault (Text t) at (Some r) location = (t ≡ text_of r) × (at ≡ location)
@@ -21,6 +21,6 @@ Tells e o location = TellsFault e.error e.location o location
 abbrev pub TellsRefusal : SymbolTableError → Refusal → Option SourceLocation → Type 0
 TellsRefusal e r location = Tells e (Some r) location
 
--- want of memory
+-- out of memory
 abbrev pub TellsNone : SymbolTableError → Type 0
 TellsNone e = Tells e None None

@@ -14,7 +14,7 @@ use Rattle.py_scope.specs.Marks.{is_class}
 use Rattle.py_scope.specs.Entries.{entry_at}
 use Rattle.py_scope.specs.Symbols.{AreApart}
 use Rattle.py_scope.specs.Tables.{is_plain, tables_from}
-use Rattle.py_scope.specs.Resolve.{scopes, kind_at, around, stands_in, declared, is_held, binder_in, is_free_kind, is_used, is_free_past, needs, is_own, resolve}
+use Rattle.py_scope.specs.Resolve.{scopes, kind_at, around, stands_in, last_declaration, is_held, binder_in, is_free_kind, is_used, is_free_past, needs, is_own, resolve}
 
 -- the symbol is free, or it has FREE_CLASS: a class hands the name on
 abbrev pub is_from_outside : Symbol → Bool
@@ -23,13 +23,13 @@ is_from_outside t = is_free_kind t.scope || intersects t.flags.0 0x100
 abbrev pub has_symbol : List Symbol → Name → Bool
 has_symbol ts n = list_any (λ t. same_name n t.name) ts
 
--- a class hands the name on: it is free in a scope within, and the look from there ends outside
+-- a class hands the name on: it is free in a nested scope, and the look from there ends outside
 abbrev pub hands_through : List Row → ℕ → Name → Bool
 hands_through rows k n = is_class (kind_at rows k) && list_any (is_free_past rows k n) (scopes rows)
 
 -- the flags of the uses, ASSIGNED where a walrus within stores the name, FREE_CLASS where the scope hands it on
 abbrev pub flags_by_uses : List Row → ℕ → Name → ℕ
-flags_by_uses rows k n = bit_or (bit_or (bits_of (entry_at rows k n)) (if is_held rows k n && is_plain (declared rows k n) then 0x002 else 0)) (if hands_through rows k n then 0x100 else 0)
+flags_by_uses rows k n = bit_or (bit_or (bits_of (entry_at rows k n)) (if is_held rows k n && is_plain (last_declaration rows k n) then 0x002 else 0)) (if hands_through rows k n then 0x100 else 0)
 
 -- the symbols of scope k say what the uses say: one for each name that the scope uses, that a walrus within stores, or that it needs,
 -- with the kind to which it resolves

@@ -12,7 +12,7 @@ use Rattle.py_scope.specs.declared.refusal.Fault.{Fault}
 use Rattle.py_scope.specs.declared.refusal.Fault.TheVariants.{Refused, OutOfMemory}
 use Rattle.py_scope.specs.Names.{Name, lookup, put}
 use Rattle.py_scope.specs.Bits.{no_roles, is_stored_by_walrus, is_iterated}
-use Rattle.py_scope.specs.Outward.{enclosing, parents}
+use Rattle.py_scope.specs.Outward.{enclosing_scopes, parents}
 use Rattle.py_scope.specs.Marks.{with_entries, from_scope}
 
 -- the kind of a scope and what it holds of the name: what a lift reads
@@ -62,9 +62,9 @@ lifted_by Comprehension holds rest = rest
 lifted_by TypeParams holds rest = LiftedModule
 
 -- how the comprehensions on the way hold the name; the list goes outward
-abbrev pub lifted : (ℕ → Stage) → List ℕ → Holds
-lifted g [] = LiftedModule
-lifted g (e ∷ es) = lifted_by (g e).kind (g e).holds (lifted g es)
+abbrev pub lifted_holds : (ℕ → Stage) → List ℕ → Holds
+lifted_holds g [] = LiftedModule
+lifted_holds g (e ∷ es) = lifted_by (g e).kind (g e).holds (lifted_holds g es)
 
 abbrev pub refused_by : Name → SymbolTableType → Bool → Option Refusal → Option Refusal
 refused_by n Module iterated rest = None
@@ -116,18 +116,18 @@ assigned_as LiftedGlobal before = true
 assigned_as LiftedModule before = true
 assigned_as Passed before = true
 
-abbrev pub holding : Entry → Entry
-holding s = record { holds = s.holds; roles = s.roles; assigned_within = assigned_as s.holds s.assigned_within; free_class = s.free_class; captured = true }
+abbrev pub holding_entry : Entry → Entry
+holding_entry s = record { holds = s.holds; roles = s.roles; assigned_within = assigned_as s.holds s.assigned_within; free_class = s.free_class; captured = true }
 
 -- the scope after one lift of n, which the comprehensions on the way hold as k
 abbrev pub after_lift : Lift → Holds → Name → Row → Row
 after_lift Stays k n t = t
 after_lift Through k n t = with_entries t (put t.entries n (held_as k (or_absent (lookup n t.entries))))
-after_lift Holder k n t = with_entries t (put t.entries n (holding (or_absent (lookup n t.entries))))
+after_lift Holder k n t = with_entries t (put t.entries n (holding_entry (or_absent (lookup n t.entries))))
 
 -- the rows after one lift along the list
 abbrev pub IsLiftedAlong : List Row → Name → List ℕ → List Row → Type 0
-IsLiftedAlong old n es new = (t : ℕ) → slice_get new t ≡ option_map (after_lift (lift_of (stages old n) t es) (lifted (stages old n) es) n) (slice_get old t)
+IsLiftedAlong old n es new = (t : ℕ) → slice_get new t ≡ option_map (after_lift (lift_of (stages old n) t es) (lifted_holds (stages old n) es) n) (slice_get old t)
 
 abbrev pub IsRefusal : Fault → Option Refusal → Type 0
 IsRefusal (Refused r) o = o ≡ Some r
@@ -148,11 +148,11 @@ walruses_of (Some t) = walruses t.entries
 
 -- the comprehension and the scopes around it
 abbrev pub outward_from : List Row → ℕ → List ℕ
-outward_from rows s = s ∷ enclosing (parents rows) s
+outward_from rows s = s ∷ enclosing_scopes (parents rows) s
 
 -- what the lift of the name p.1 from the comprehension p.0 does to scope t
 abbrev pub lift_effect : List Row → ℕ × Name → ℕ → Row → Row
-lift_effect rows p t u = after_lift (lift_of (stages rows p.1) t (outward_from rows p.0)) (lifted (stages rows p.1) (outward_from rows p.0)) p.1 u
+lift_effect rows p t u = after_lift (lift_of (stages rows p.1) t (outward_from rows p.0)) (lifted_holds (stages rows p.1) (outward_from rows p.0)) p.1 u
 
 -- scope t after these lifts, each as the rows were before all of them
 abbrev pub lifted_all : List Row → List (ℕ × Name) → ℕ → Row → Row
@@ -175,7 +175,7 @@ first_of_two (Some r) o = Some r
 -- the first refusal among these lifts; the comprehension itself is not asked
 abbrev pub first_refusal : List Row → List (ℕ × Name) → Option Refusal
 first_refusal base [] = None
-first_refusal base (p ∷ ps) = first_of_two (refusal p.1 (stages base p.1) (enclosing (parents base) p.0)) (first_refusal base ps)
+first_refusal base (p ∷ ps) = first_of_two (refusal p.1 (stages base p.1) (enclosing_scopes (parents base) p.0)) (first_refusal base ps)
 
 abbrev pub kind_of : Option Row → SymbolTableType
 kind_of None = Module

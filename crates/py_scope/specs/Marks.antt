@@ -7,7 +7,7 @@ use Rattle.py_scope.specs.declared.rows.Entry.{Entry}
 use Rattle.py_scope.specs.declared.rows.Row.{Row}
 use Rattle.py_scope.specs.Names.{Name, lookup, put}
 use Rattle.py_scope.specs.Bits.{no_roles}
-use Rattle.py_scope.specs.Outward.{Touch, Leaves, Passes, Captures, touch, enclosing, parents, meetings, asking}
+use Rattle.py_scope.specs.Outward.{Touch, Leaves, Passes, Captures, touch, enclosing_scopes, parents, meetings, asked_outward}
 
 abbrev pub is_class : SymbolTableType → Bool
 is_class Module = false
@@ -25,17 +25,17 @@ or_new None = new_entry
 or_new (Some s) = s
 
 -- a look passed: a class notes it
-abbrev pub passing : SymbolTableType → Entry → Entry
-passing kind s = record { holds = s.holds; roles = s.roles; assigned_within = s.assigned_within; free_class = s.free_class || is_class kind; captured = s.captured }
+abbrev pub passed_entry : SymbolTableType → Entry → Entry
+passed_entry kind s = record { holds = s.holds; roles = s.roles; assigned_within = s.assigned_within; free_class = s.free_class || is_class kind; captured = s.captured }
 
 -- a look ended
-abbrev pub capturing : Entry → Entry
-capturing s = record { holds = s.holds; roles = s.roles; assigned_within = s.assigned_within; free_class = s.free_class; captured = true }
+abbrev pub captured_entry : Entry → Entry
+captured_entry s = record { holds = s.holds; roles = s.roles; assigned_within = s.assigned_within; free_class = s.free_class; captured = true }
 
-abbrev pub touched : Touch → SymbolTableType → Entry → Entry
-touched Leaves kind s = s
-touched Passes kind s = passing kind s
-touched Captures kind s = capturing s
+abbrev pub touched_entry : Touch → SymbolTableType → Entry → Entry
+touched_entry Leaves kind s = s
+touched_entry Passes kind s = passed_entry kind s
+touched_entry Captures kind s = captured_entry s
 
 abbrev pub with_entries : Row → List (Name × Entry) → Row
 with_entries t es = record { kind = t.kind; parent = t.parent; head = t.head; entries = es }
@@ -43,12 +43,12 @@ with_entries t es = record { kind = t.kind; parent = t.parent; head = t.head; en
 -- the scope after a look for n
 abbrev pub after : Touch → Name → Row → Row
 after Leaves n t = t
-after Passes n t = with_entries t (put t.entries n (passing t.kind (or_new (lookup n t.entries))))
-after Captures n t = with_entries t (put t.entries n (capturing (or_new (lookup n t.entries))))
+after Passes n t = with_entries t (put t.entries n (passed_entry t.kind (or_new (lookup n t.entries))))
+after Captures n t = with_entries t (put t.entries n (captured_entry (or_new (lookup n t.entries))))
 
 -- what the look from scope s for name n does to scope t
 abbrev pub touch_by : List Row → ℕ → Name → ℕ → Touch
-touch_by rows s n t = touch (meetings rows n) t (enclosing (parents rows) s)
+touch_by rows s n t = touch (meetings rows n) t (enclosing_scopes (parents rows) s)
 
 -- the rows after one look
 abbrev pub IsLooked : List Row → ℕ → Name → List Row → Type 0
@@ -56,7 +56,7 @@ IsLooked old s n new = (t : ℕ) → slice_get new t ≡ option_map (after (touc
 
 abbrev pub asking_of : Option Row → List Name
 asking_of None = []
-asking_of (Some t) = asking t.entries
+asking_of (Some t) = asked_outward t.entries
 
 -- the looks of one scope for these names
 abbrev pub from_scope : ℕ → List Name → List (ℕ × Name)
@@ -67,8 +67,8 @@ abbrev pub looks : List Row → List ℕ → List (ℕ × Name)
 looks rows order = flat_map (λ s. from_scope s (asking_of (slice_get rows s))) order
 
 -- scope t after these looks, each as the rows were before all of them
-abbrev pub settled : List Row → List (ℕ × Name) → ℕ → Row → Row
-settled base pairs t table = fold (λ x p. after (touch_by base p.0 p.1 t) p.1 x) table pairs
+abbrev pub settled_row : List Row → List (ℕ × Name) → ℕ → Row → Row
+settled_row base pairs t table = fold (λ x p. after (touch_by base p.0 p.1 t) p.1 x) table pairs
 
 abbrev pub IsSettled : List Row → List (ℕ × Name) → List Row → Type 0
-IsSettled base pairs new = (t : ℕ) → slice_get new t ≡ option_map (settled base pairs t) (slice_get base t)
+IsSettled base pairs new = (t : ℕ) → slice_get new t ≡ option_map (settled_row base pairs t) (slice_get base t)

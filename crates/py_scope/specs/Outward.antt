@@ -53,23 +53,23 @@ abbrev pub asks : Entry → Bool
 asks s = asks_as s.holds (is_bound s)
 
 -- the names for which a scope asks outward, in order
-abbrev pub asking : List (Name × Entry) → List Name
-asking [] = []
-asking (e ∷ es) = if asks e.1 then e.0 ∷ asking es else asking es
+abbrev pub asked_outward : List (Name × Entry) → List Name
+asked_outward [] = []
+asked_outward (e ∷ es) = if asks e.1 then e.0 ∷ asked_outward es else asked_outward es
 
 -- the names for which one symbol asks
 abbrev pub asking_in : Option (Name × Entry) → List Name
 asking_in None = []
 asking_in (Some e) = if asks e.1 then e.0 ∷ [] else []
 
--- from the numbers below k the scope `want`, the scope around it, and so on
+-- from the numbers below k the scope `want`, the enclosing scope, and so on
 abbrev pub chain : (ℕ → ℕ) → ℕ → ℕ → List ℕ
 chain parent zero want = []
 chain parent (suc k) want = if nat_eq k want then k ∷ chain parent k (parent k) else chain parent k want
 
 -- the enclosing scopes, nearest first
-abbrev pub enclosing : (ℕ → ℕ) → ℕ → List ℕ
-enclosing parent s = chain parent s (parent s)
+abbrev pub enclosing_scopes : (ℕ → ℕ) → ℕ → List ℕ
+enclosing_scopes parent s = chain parent s (parent s)
 
 abbrev pub found_at : ℕ → Meets → Found → Found
 found_at e Past rest = rest
@@ -122,10 +122,10 @@ parents rows k = parent_of (slice_get rows k)
 abbrev pub meetings : List Row → Name → ℕ → Meets
 meetings rows n e = meets_of n (slice_get rows e)
 
--- each scope but the first stands after the scope around it
+-- each scope but the first stands after the enclosing scope
 abbrev pub IsNumbered : List Row → Type 0
 IsNumbered rows = (k : ℕ) → 0 < k → k < length rows → parents rows k < k
 
 -- what the look from s for n ends with
 abbrev pub look_from : List Row → ℕ → Name → Found
-look_from rows s n = look (meetings rows n) (enclosing (parents rows) s)
+look_from rows s n = look (meetings rows n) (enclosing_scopes (parents rows) s)

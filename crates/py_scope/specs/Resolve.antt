@@ -13,7 +13,7 @@ use Rattle.py_scope.specs.declared.outward.Found.TheVariants.{Nowhere, Globally,
 use Rattle.py_scope.specs.declared.kinds.SymbolScope.{SymbolScope}
 use Rattle.py_scope.specs.declared.kinds.SymbolScope.TheVariants.{Unknown, Local, GlobalExplicit, GlobalImplicit, Free, Cell}
 use Rattle.py_scope.specs.Names.{Name, same_name}
-use Rattle.py_scope.specs.Outward.{look, counts, stop_of, enclosing, parents}
+use Rattle.py_scope.specs.Outward.{look, counts, stop_of, enclosing_scopes, parents}
 use Rattle.py_scope.specs.Entries.{entry_at}
 use Rattle.py_scope.specs.Roles.{bound_opt}
 use Rattle.py_scope.specs.Lifts.{as_in, outward_from, holds_opt, kind_of, is_comprehension, walruses_of}
@@ -55,7 +55,7 @@ kind_at rows k = kind_of (slice_get rows k)
 
 -- the scopes around k, the nearest first
 abbrev pub around : List Row → ℕ → List ℕ
-around rows k = enclosing (parents rows) k
+around rows k = enclosing_scopes (parents rows) k
 
 -- c stands directly in k
 abbrev pub stands_in : List Row → ℕ → ℕ → Bool
@@ -64,8 +64,8 @@ stands_in rows c k = nat_lt 0 c && nat_eq (parents rows c) k
 -- First: how a scope holds a name, and whether it binds it
 
 -- the last declaration of n in k, if there is one
-abbrev pub declared : List Row → ℕ → Name → Holds
-declared rows k n = holds_opt (entry_at rows k n)
+abbrev pub last_declaration : List Row → ℕ → Name → Holds
+last_declaration rows k n = holds_opt (entry_at rows k n)
 
 -- a walrus in the comprehension q stores n
 abbrev pub stores : List Row → ℕ → Name → Bool
@@ -90,15 +90,15 @@ is_held rows k n = is_function (kind_at rows k) && list_any (λ q. stores rows q
 
 -- a name whose holder is h: free where h is a function, unless h declares it global; else the module's
 abbrev pub lifted_to : List Row → ℕ → Name → Holds
-lifted_to rows h n = if is_function (kind_at rows h) then as_in (declared rows h n) else LiftedModule
+lifted_to rows h n = if is_function (kind_at rows h) then as_in (last_declaration rows h n) else LiftedModule
 
 -- how k holds n: as its holder says where it is lifted through k, else as k declares it
 abbrev pub holds_in : List Row → ℕ → Name → Holds
-holds_in rows k n = if goes_through rows k n then lifted_to rows (holder rows (outward_from rows k)) n else declared rows k n
+holds_in rows k n = if goes_through rows k n then lifted_to rows (holder rows (outward_from rows k)) n else last_declaration rows k n
 
 -- a use in k binds n, or a walrus within does and k does not declare it
 abbrev pub binds_in : List Row → ℕ → Name → Bool
-binds_in rows k n = bound_opt (entry_at rows k n) || (is_held rows k n && is_plain (declared rows k n))
+binds_in rows k n = bound_opt (entry_at rows k n) || (is_held rows k n && is_plain (last_declaration rows k n))
 
 -- Second: the look outward, and the kind but for cells
 
@@ -119,7 +119,7 @@ open_kind rows k n = kind_as (kind_at rows k) (look_in rows k n) (holds_in rows 
 abbrev pub binder_in : List Row → ℕ → Name → Option ℕ
 binder_in rows k n = binder (stops_in rows n) (λ e. hands_on_as (holds_in rows e n)) (around rows k)
 
--- Fourth: which scopes need a name from outside
+-- Fourth: which scopes need a free variable
 
 abbrev pub is_free_kind : SymbolScope → Bool
 is_free_kind Unknown = false
@@ -147,7 +147,7 @@ ends_among (FreeOf b) ks = among b ks
 abbrev pub is_free_past : List Row → ℕ → Name → ℕ → Bool
 is_free_past rows c n d = is_free_in rows d n && (among c (around rows d) && ends_among (look_in rows d n) (around rows c))
 
--- c needs n from outside: n is free in c itself, or in a scope within whose look ends outside
+-- c needs n from outside: n is free in c itself, or in a nested scope whose look ends outside
 abbrev pub needs : List Row → ℕ → Name → Bool
 needs rows c n = is_free_in rows c n || list_any (is_free_past rows c n) (scopes rows)
 

@@ -3,7 +3,7 @@ use Rattle.std.specs.Prelude.{ℕ, suc, List, [], ◌∷◌, Option}
 use Rattle.py_scope.specs.declared.rows.Row.{Row}
 use Rattle.py_scope.specs.declared.refusal.Refusal.{Refusal}
 use Rattle.py_scope.specs.declared.table.SymbolTable.{SymbolTable}
-use Rattle.py_scope.specs.Marks.{looks, settled}
+use Rattle.py_scope.specs.Marks.{looks, settled_row}
 use Rattle.py_scope.specs.Lifts.{lifts, lifted_all, first_refusal, first_of_two}
 use Rattle.py_scope.specs.Checks.{first_wrong}
 use Rattle.py_scope.specs.Tables.{table_from}
@@ -20,7 +20,7 @@ lifted_rows rows order = each_row (lifted_all rows (lifts rows order)) 0 rows
 
 -- each look outward marks the scopes that it passes and the one where it ends
 abbrev pub settled_rows : List Row → List ℕ → List Row
-settled_rows rows order = each_row (settled rows (looks rows order)) 0 rows
+settled_rows rows order = each_row (settled_row rows (looks rows order)) 0 rows
 
 -- the first fault: walruses are lifted before any name is looked for
 abbrev pub first_fault_of : List Row → List ℕ → Option Refusal
@@ -33,8 +33,8 @@ abbrev pub first_fault : Scanned → Option Refusal
 first_fault s = first_fault_of s.rows (order_of s)
 
 -- the table of the program
-abbrev pub resolved : Scanned → Option SymbolTable
-resolved s = resolved_of s.rows (order_of s)
+abbrev pub resolved_table : Scanned → Option SymbolTable
+resolved_table s = resolved_of s.rows (order_of s)
 
 -- the scopes once walruses are lifted, and once the looks outward have marked them
 abbrev pub after_lifts : Scanned → List Row

@@ -49,8 +49,8 @@ abbrev pub register : List (Name × Entry) → Name → Role → List (Name × E
 register es n r = put es n (with_role r (or_absent (lookup n es)))
 
 -- the entries of a scope with these uses
-abbrev pub registered : List (Name × Role) → List (Name × Entry)
-registered uses = fold (λ es u. register es u.0 u.1) [] uses
+abbrev pub registered_entries : List (Name × Role) → List (Name × Entry)
+registered_entries uses = fold (λ es u. register es u.0 u.1) [] uses
 
 abbrev pub bound_opt : Option Entry → Bool
 bound_opt None = false

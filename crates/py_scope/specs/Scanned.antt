@@ -6,7 +6,7 @@ use Rattle.py_scope.specs.declared.roles.Role.{Role}
 use Rattle.py_scope.specs.declared.roles.Role.TheVariants.{Used, Assigned, Imported, Parameter, AnnotatedParameter, AnnotationAssigned, Walrus, Iterated, Global, Nonlocal}
 use Rattle.py_scope.specs.declared.rows.Row.{Row}
 use Rattle.py_scope.specs.Names.{Name, lookup}
-use Rattle.py_scope.specs.Outward.{enclosing, parents}
+use Rattle.py_scope.specs.Outward.{enclosing_scopes, parents}
 use Rattle.py_scope.specs.Marks.{with_entries}
 use Rattle.py_scope.specs.Roles.{register}
 use Rattle.py_scope.specs.Lifts.{kind_of, is_comprehension}
@@ -21,13 +21,13 @@ pub record Scanned : Type 0 where
 
 -- the scopes with the children of each before it, in the order in which they are left; those that are open are left from the inside outward
 abbrev pub order_of : Scanned → List ℕ
-order_of s = s.left ++ s.current ∷ enclosing (parents s.rows) s.current
+order_of s = s.left ++ s.current ∷ enclosing_scopes (parents s.rows) s.current
 
 abbrev pub module_row : Row
 module_row = record { kind = Module; parent = 0; head = record { name = codes "top"; line_number = 0; is_nested = false }; entries = [] }
 
-abbrev pub begun : Scanned
-begun = record { rows = module_row ∷ []; current = 0; left = [] }
+abbrev pub initial_scan : Scanned
+initial_scan = record { rows = module_row ∷ []; current = 0; left = [] }
 
 abbrev pub is_function : SymbolTableType → Bool
 is_function Module = false
@@ -36,12 +36,12 @@ is_function Function = true
 is_function Comprehension = false
 is_function TypeParams = false
 
--- a scope stands in a function where the scope around it does or is one
+-- a scope stands in a function where the enclosing scope does or is one
 abbrev pub nests : Option Row → Bool
 nests None = false
 nests (Some r) = r.head.is_nested || is_function r.kind
 
--- a module stands in nothing: a scope within that is entered as one is a function
+-- a module stands in nothing: a nested scope that is entered as one is a function
 abbrev pub inner : SymbolTableType → SymbolTableType
 inner Module = Function
 inner Class = Class
@@ -52,8 +52,8 @@ inner TypeParams = TypeParams
 abbrev pub entered_row : List Row → ℕ → SymbolTableType → Name → ℕ → Row
 entered_row rows around typ name line = record { kind = inner typ; parent = around; head = record { name = name; line_number = line; is_nested = nests (slice_get rows around) }; entries = [] }
 
-abbrev pub entered : Scanned → SymbolTableType → Name → ℕ → Scanned
-entered s typ name line = record { rows = s.rows ++ entered_row s.rows s.current typ name line ∷ []; current = length s.rows; left = s.left }
+abbrev pub entered_scan : Scanned → SymbolTableType → Name → ℕ → Scanned
+entered_scan s typ name line = record { rows = s.rows ++ entered_row s.rows s.current typ name line ∷ []; current = length s.rows; left = s.left }
 
 -- a walrus outside comprehensions assigns
 abbrev pub walrus_in : SymbolTableType → Role
@@ -79,13 +79,13 @@ abbrev pub used_in : Name → Role → Row → Row
 used_in n r row = with_entries row (register row.entries n (role_in row.kind r))
 
 -- the list with one element changed
-abbrev pub changed : {A : Type 0} → (A → A) → ℕ → List A → List A
-changed f i [] = []
-changed f zero (x ∷ xs) = f x ∷ xs
-changed f (suc i) (x ∷ xs) = x ∷ changed f i xs
+abbrev pub changed_at : {A : Type 0} → (A → A) → ℕ → List A → List A
+changed_at f i [] = []
+changed_at f zero (x ∷ xs) = f x ∷ xs
+changed_at f (suc i) (x ∷ xs) = x ∷ changed_at f i xs
 
 abbrev pub with_use : Scanned → Name → Role → Scanned
-with_use s n r = record { rows = changed (used_in n r) s.current s.rows; current = s.current; left = s.left }
+with_use s n r = record { rows = changed_at (used_in n r) s.current s.rows; current = s.current; left = s.left }
 
 -- a scope other than the module is open
 pub record IsWithin (s : Scanned) : Type 0 where
@@ -118,4 +118,4 @@ holder_in rows (k ∷ ks) = if is_comprehension (kind_of (slice_get rows k)) the
 
 -- what the scope is in which a walrus in the open one binds
 abbrev pub holder_here : Scanned → SymbolTableType
-holder_here s = holder_in s.rows (s.current ∷ enclosing (parents s.rows) s.current)
+holder_here s = holder_in s.rows (s.current ∷ enclosing_scopes (parents s.rows) s.current)

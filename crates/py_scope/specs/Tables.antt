@@ -49,7 +49,7 @@ is_shared rows s n e = nat_eq s 0 && ((is_plain e.holds && is_bound e) && global
 abbrev pub kind_in : List Row → ℕ → Name → Entry → SymbolScope
 kind_in rows s n e = if is_shared rows s n e then GlobalExplicit else kind_of_entry (kind_of (slice_get rows s)) (look_from rows s n) e
 
--- the roles, ASSIGNED where a walrus in a comprehension within binds the name, FREE_CLASS where a class hands it on
+-- the roles, ASSIGNED where a walrus in a nested comprehension binds the name, FREE_CLASS where a class hands it on
 abbrev pub flags_in : Entry → ℕ
 flags_in e = bit_or (bit_or e.roles.0 (if e.assigned_within then 0x002 else 0)) (if e.free_class then 0x100 else 0)
 

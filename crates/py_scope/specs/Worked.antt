@@ -11,7 +11,7 @@ use Rattle.py_scope.specs.declared.refusal.Declaration as declaration
 use Rattle.py_scope.specs.declared.refusal.Refusal as refusal
 use Rattle.py_scope.specs.Names.{Name}
 use Rattle.py_scope.specs.Tables.{all_symbols}
-use Rattle.py_scope.specs.Scanned.{Scanned, begun, entered, with_use, gone_out, refused_here}
+use Rattle.py_scope.specs.Scanned.{Scanned, initial_scan, entered_scan, with_use, gone_out, refused_here}
 use Rattle.py_scope.specs.Resolved.{first_fault, after_looks}
 
 pub data Call : Type 0 where
@@ -20,12 +20,12 @@ pub data Call : Type 0 where
   Leaves : Call
 
 abbrev pub after_call : Scanned → Call → Scanned
-after_call s (Enters typ name) = entered s typ name 1
+after_call s (Enters typ name) = entered_scan s typ name 1
 after_call s (Uses role name) = with_use s name role
 after_call s Leaves = gone_out s
 
-abbrev pub played : List Call → Scanned
-played calls = fold after_call begun calls
+abbrev pub scan_of_calls : List Call → Scanned
+scan_of_calls calls = fold after_call initial_scan calls
 
 -- a name, its kind and its flags
 abbrev pub shown_symbol : Symbol → Name × SymbolScope × ℕ
@@ -35,15 +35,15 @@ abbrev pub shown_symbols : List Symbol → List (Name × SymbolScope × ℕ)
 shown_symbols ts = map {B = Name × SymbolScope × ℕ} shown_symbol ts
 
 -- the symbols of each scope, in preorder
-abbrev pub shown : List Call → List (List (Name × SymbolScope × ℕ))
-shown calls = map {B = List (Name × SymbolScope × ℕ)} shown_symbols (all_symbols (after_looks (played calls)) 0 (after_looks (played calls)))
+abbrev pub shown_tables : List Call → List (List (Name × SymbolScope × ℕ))
+shown_tables calls = map {B = List (Name × SymbolScope × ℕ)} shown_symbols (all_symbols (after_looks (scan_of_calls calls)) 0 (after_looks (scan_of_calls calls)))
 
 -- def f(x): return lambda: x
 abbrev pub closure : List Call
 closure = Enters Function (codes "f") ∷ Uses Parameter (codes "x") ∷ Enters Function (codes "lambda") ∷ Uses Used (codes "x") ∷ Leaves ∷ Leaves ∷ Uses Assigned (codes "f") ∷ []
 
 abbrev pub ClosureShown : Type 0
-ClosureShown = shown closure ≡ ((codes "f", Local, 0x002) ∷ []) ∷ ((codes "x", Cell, 0x004) ∷ []) ∷ ((codes "x", Free, 0x001) ∷ []) ∷ []
+ClosureShown = shown_tables closure ≡ ((codes "f", Local, 0x002) ∷ []) ∷ ((codes "x", Cell, 0x004) ∷ []) ∷ ((codes "x", Free, 0x001) ∷ []) ∷ []
 
 -- def f(y):
 --     class A:
@@ -56,7 +56,7 @@ passing_class =
 
 abbrev pub PassingClassShown : Type 0
 PassingClassShown =
-    shown passing_class
+    shown_tables passing_class
     ≡ ((codes "f", Local, 0x002) ∷ [])
     ∷ ((codes "y", Cell, 0x004) ∷ (codes "A", Local, 0x002) ∷ [])
     ∷ ((codes "__class__", Cell, 0x002) ∷ (codes "y", Local, 0x102) ∷ (codes "g", Local, 0x002) ∷ [])
@@ -69,7 +69,7 @@ walrus_in_function = Enters Function (codes "f") ∷ Enters Comprehension (codes
 
 abbrev pub WalrusInFunctionShown : Type 0
 WalrusInFunctionShown =
-    shown walrus_in_function
+    shown_tables walrus_in_function
     ≡ ((codes "f", Local, 0x002) ∷ [])
     ∷ ((codes "z", GlobalImplicit, 0x001) ∷ (codes "y", Cell, 0x002) ∷ [])
     ∷ ((codes ".0", Local, 0x004) ∷ (codes "v", Local, 0x081) ∷ (codes "y", Free, 0x042) ∷ [])
@@ -81,7 +81,7 @@ walrus_in_module = Enters Comprehension (codes "genexpr") ∷ Uses Parameter (co
 
 abbrev pub WalrusInModuleShown : Type 0
 WalrusInModuleShown =
-    shown walrus_in_module
+    shown_tables walrus_in_module
     ≡ ((codes "z", Unknown, 0x001) ∷ [])
     ∷ ((codes ".0", Local, 0x004) ∷ (codes "v", Local, 0x081) ∷ (codes "y", GlobalImplicit, 0x042) ∷ [])
     ∷ ((codes "y", GlobalImplicit, 0x001) ∷ [])
@@ -89,16 +89,16 @@ WalrusInModuleShown =
 
 -- def f(x): global x
 abbrev pub GlobalParameterRefused : Type 0
-GlobalParameterRefused = refused_here (played (Enters Function (codes "f") ∷ Uses Parameter (codes "x") ∷ [])) (codes "x") Global ≡ Some (refusal.TheVariants.Parameter declaration.TheVariants.Global (codes "x"))
+GlobalParameterRefused = refused_here (scan_of_calls (Enters Function (codes "f") ∷ Uses Parameter (codes "x") ∷ [])) (codes "x") Global ≡ Some (refusal.TheVariants.Parameter declaration.TheVariants.Global (codes "x"))
 
 -- [y := 0 for y in z], where y is both iterated and assigned
 abbrev pub IteratedWalrusRefused : Type 0
-IteratedWalrusRefused = refused_here (played (Enters Comprehension (codes "genexpr") ∷ Uses Iterated (codes "y") ∷ [])) (codes "y") Walrus ≡ Some refusal.TheVariants.IteratedAndAssigned
+IteratedWalrusRefused = refused_here (scan_of_calls (Enters Comprehension (codes "genexpr") ∷ Uses Iterated (codes "y") ∷ [])) (codes "y") Walrus ≡ Some refusal.TheVariants.IteratedAndAssigned
 
 -- def f(): nonlocal x
 abbrev pub UnboundNonlocalRefused : Type 0
-UnboundNonlocalRefused = first_fault (played (Enters Function (codes "f") ∷ Uses Nonlocal (codes "x") ∷ Leaves ∷ Uses Assigned (codes "f") ∷ [])) ≡ Some (refusal.TheVariants.NoBinding (codes "x"))
+UnboundNonlocalRefused = first_fault (scan_of_calls (Enters Function (codes "f") ∷ Uses Nonlocal (codes "x") ∷ Leaves ∷ Uses Assigned (codes "f") ∷ [])) ≡ Some (refusal.TheVariants.NoBinding (codes "x"))
 
 -- global x; nonlocal x
 abbrev pub ModuleNonlocalRefused : Type 0
-ModuleNonlocalRefused = first_fault (played (Uses Global (codes "x") ∷ Uses Nonlocal (codes "x") ∷ [])) ≡ Some (refusal.TheVariants.NoEnclosingScope (codes "x"))
+ModuleNonlocalRefused = first_fault (scan_of_calls (Uses Global (codes "x") ∷ Uses Nonlocal (codes "x") ∷ [])) ≡ Some (refusal.TheVariants.NoEnclosingScope (codes "x"))

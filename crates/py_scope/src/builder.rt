@@ -1,11 +1,11 @@
 //! The scopes of a program as a scan meets them, and the tables that follow from them.
 ghost use Rattle.std.specs.Prelude.{◌≡◌, ◌<◌, IfOk, OnOk, OnErr, IfErr, Some, None, IsTrue, ◌↔◌, ◌∷◌, length, slice_get};
 ghost use Rattle.py_scope.specs.Declarations.{refused_use};
-ghost use Rattle.py_scope.specs.Scanned.{begun, entered, with_use, gone_out, order_of, role_in, used_in, inner, nests, refused_in, refused_here, kind_here, holder_here, holder_in, IsWithin};
-ghost use Rattle.py_scope.specs.Outward.{enclosing, parents, IsNumbered};
+ghost use Rattle.py_scope.specs.Scanned.{initial_scan, entered_scan, with_use, gone_out, order_of, role_in, used_in, inner, nests, refused_in, refused_here, kind_here, holder_here, holder_in, IsWithin};
+ghost use Rattle.py_scope.specs.Outward.{enclosing_scopes, parents, IsNumbered};
 ghost use Rattle.py_scope.specs.Lifts.{kind_of};
 ghost use Rattle.py_scope.specs.declared.table_type.SymbolTableType.TheVariants.{Module};
-ghost use Rattle.py_scope.specs.Resolved.{first_fault, resolved};
+ghost use Rattle.py_scope.specs.Resolved.{first_fault, resolved_table};
 ghost use Rattle.py_scope.specs.Laws.{TableFollows};
 ghost use Rattle.py_scope.specs.Faults.{Tells, TellsRefusal};
 
@@ -121,7 +121,7 @@ fn holder_from(rows: &[Row], at: usize) -> SymbolTableType
     requires numbered { IsNumbered rows.now }
     requires first { kind_of (slice_get rows.now 0) ≡ Module }
     requires within { at < length rows.now }
-    ensures { result ≡ holder_in rows.now (at ∷ enclosing (parents rows.now) at) }
+    ensures { result ≡ holder_in rows.now (at ∷ enclosing_scopes (parents rows.now) at) }
 {
     let row = &rows[at];
     match row.kind {
@@ -136,7 +136,7 @@ impl ScopeBuilder {
     /// # Errors
     /// There is no memory for it.
     pub fn new(alloc: Global) -> Result<ScopeBuilder, AllocError>
-        ensures { IfOk result (λ builder. builder ≡ begun) }
+        ensures { IfOk result (λ builder. builder ≡ initial_scan) }
     {
         let head = Head {
             name: Text::from_string(String::from_str(alloc, "top")?),
@@ -170,7 +170,7 @@ impl ScopeBuilder {
         name: Text,
         line_number: u32,
     ) -> Result<(), AllocError>
-        ensures ok { OnOk result (self.new ≡ entered self.old typ name line_number) }
+        ensures ok { OnOk result (self.new ≡ entered_scan self.old typ name line_number) }
         ensures within { OnOk result (IsWithin self.new) }
         ensures err { OnErr result (self.new ≡ self.old) }
     {
@@ -260,7 +260,7 @@ impl ScopeBuilder {
     /// The first fault: walruses in comprehensions come first, then names declared nonlocal and class names in type
     /// parameters, the scopes inside before those around them. None of these has a location. Or there is no memory.
     pub fn finish(self) -> Result<SymbolTable, SymbolTableError>
-        ensures table { IfOk result (λ table. resolved self ≡ Some table) }
+        ensures table { IfOk result (λ table. resolved_table self ≡ Some table) }
         ensures follows { IfOk result (λ table. TableFollows self.rows table) }
         ensures allowed { OnOk result (first_fault self ≡ None) }
         ensures refused { IfErr result (λ e. Tells e (first_fault self) None) }

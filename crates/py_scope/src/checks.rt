@@ -80,7 +80,7 @@ fn is_class(kind: SymbolTableType) -> bool
     matches!(kind, SymbolTableType::Class)
 }
 
-/// Whether a scope of this kind uses a name that the class around it binds, as type parameters may not.
+/// Whether a scope of this kind uses a name that the enclosing class binds, as type parameters may not.
 fn hides(kind: SymbolTableType, around: &Row, name: &Text, entry: Entry) -> bool
     ensures { result ≡ hides kind (Some around.now) name.now entry }
 {

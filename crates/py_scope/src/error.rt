@@ -27,7 +27,7 @@ pub struct SymbolTableError {
 }
 
 impl SymbolTableError {
-    /// The fault of a refused program, or want of memory for its text.
+    /// The fault of a refused program, or out of memory for its text.
     pub fn refused(
         alloc: Global,
         refusal: &Refusal,
@@ -44,7 +44,7 @@ impl SymbolTableError {
         }
     }
 
-    /// Want of memory, which has no location.
+    /// Out of memory, which has no location.
     pub fn out_of_memory() -> SymbolTableError
         ensures { TellsNone result }
     {

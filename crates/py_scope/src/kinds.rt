@@ -1,7 +1,7 @@
 //! The kind to which a name resolves.
 ghost use Rattle.std.specs.Prelude.{◌≡◌, ◌<◌, ℕ, length, slice_get, ◌∷◌, List, if◌then◌else◌};
 ghost use Rattle.py_scope.specs.declared.kinds.SymbolScope.TheVariants.{Cell, Local};
-ghost use Rattle.py_scope.specs.Outward.{IsNumbered, enclosing, look, look_from, meetings, parents};
+ghost use Rattle.py_scope.specs.Outward.{IsNumbered, enclosing_scopes, look, look_from, meetings, parents};
 ghost use Rattle.py_scope.specs.Lifts.{kind_of};
 ghost use Rattle.py_scope.specs.Kinds.{nowhere, kind_found, kind_of_entry};
 
@@ -24,7 +24,7 @@ pub enum SymbolScope {
 fn look_at(rows: &[Row], at: usize, name: &Text) -> Found
     requires numbered { IsNumbered rows.now }
     requires within { at < length rows.now }
-    ensures { result ≡ look (meetings rows.now name.now) (at ∷ enclosing (parents rows.now) at) }
+    ensures { result ≡ look (meetings rows.now name.now) (at ∷ enclosing_scopes (parents rows.now) at) }
 {
     let row = &rows[at];
     let parent = row.parent;

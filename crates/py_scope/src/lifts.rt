@@ -1,12 +1,12 @@
 //! A walrus in a comprehension binds in the nearest enclosing scope that is no comprehension.
 ghost use Rattle.std.specs.Prelude.{◌≡◌, ◌+◌, ◌<◌, ℕ, length, OnOk, IfOk, IfErr, None, Some, slice_get, option_map, [], ◌∷◌, ◌++◌, All, List};
 ghost use Rattle.std.specs.Map.Iter.{deref_pair};
-ghost use Rattle.py_scope.specs.Outward.{enclosing, parents, IsNumbered};
+ghost use Rattle.py_scope.specs.Outward.{enclosing_scopes, parents, IsNumbered};
 ghost use Rattle.py_scope.specs.Names.{lookup};
 ghost use Rattle.py_scope.specs.Marks.{from_scope};
 ghost use Rattle.py_scope.specs.declared.table_type.SymbolTableType.TheVariants.{Module, Comprehension};
 ghost use Rattle.py_scope.specs.declared.refusal.Refusal.TheVariants.{RebindsIterated};
-ghost use Rattle.py_scope.specs.Lifts.{Stage, stages, as_in, assigned_as, or_absent, iterated_opt, lifted, refusal, after_lift, Through, Holder, IsLiftedAlong, IsRefusal, outward_from, walruses, walruses_in, kind_of, WalrusesInComprehensions, first_refusal, lifts, lifts_of, is_comprehension, IsLifted};
+ghost use Rattle.py_scope.specs.Lifts.{Stage, stages, as_in, assigned_as, or_absent, iterated_opt, lifted_holds, refusal, after_lift, Through, Holder, IsLiftedAlong, IsRefusal, outward_from, walruses, walruses_in, kind_of, WalrusesInComprehensions, first_refusal, lifts, lifts_of, is_comprehension, IsLifted};
 
 use crate::flags::SymbolFlags;
 use crate::refusal::{Fault, Refusal};
@@ -118,10 +118,10 @@ fn lift_from(alloc: Global, rows: &mut Vec<Row>, at: usize, name: &Text) -> Resu
     requires numbered { IsNumbered rows.old.items }
     requires within { at < length rows.old.items }
     requires module { (stages rows.old.items name.now 0).kind ≡ Module }
-    ensures held { IfOk result (λ held. held ≡ lifted (stages rows.old.items name.now) (at ∷ enclosing (parents rows.old.items) at)) }
-    ensures allowed { OnOk result (refusal name.now (stages rows.old.items name.now) (at ∷ enclosing (parents rows.old.items) at) ≡ None) }
-    ensures lifted { OnOk result (IsLiftedAlong rows.old.items name.now (at ∷ enclosing (parents rows.old.items) at) rows.new.items) }
-    ensures refused { IfErr result (λ e. IsRefusal e (refusal name.now (stages rows.old.items name.now) (at ∷ enclosing (parents rows.old.items) at))) }
+    ensures held { IfOk result (λ held. held ≡ lifted_holds (stages rows.old.items name.now) (at ∷ enclosing_scopes (parents rows.old.items) at)) }
+    ensures allowed { OnOk result (refusal name.now (stages rows.old.items name.now) (at ∷ enclosing_scopes (parents rows.old.items) at) ≡ None) }
+    ensures lifted { OnOk result (IsLiftedAlong rows.old.items name.now (at ∷ enclosing_scopes (parents rows.old.items) at) rows.new.items) }
+    ensures refused { IfErr result (λ e. IsRefusal e (refusal name.now (stages rows.old.items name.now) (at ∷ enclosing_scopes (parents rows.old.items) at))) }
 {
     if at == 0 {
         return Ok(Holds::LiftedModule);
@@ -159,9 +159,9 @@ fn lift_one(alloc: Global, rows: &mut Vec<Row>, scope: usize, name: &Text) -> Re
     requires above { 0 < scope }
     requires module { (stages rows.old.items name.now 0).kind ≡ Module }
     requires comprehension { (stages rows.old.items name.now scope).kind ≡ Comprehension }
-    ensures allowed { OnOk result (refusal name.now (stages rows.old.items name.now) (enclosing (parents rows.old.items) scope) ≡ None) }
+    ensures allowed { OnOk result (refusal name.now (stages rows.old.items name.now) (enclosing_scopes (parents rows.old.items) scope) ≡ None) }
     ensures lifted { OnOk result (IsLiftedAlong rows.old.items name.now (outward_from rows.old.items scope) rows.new.items) }
-    ensures refused { IfErr result (λ e. IsRefusal e (refusal name.now (stages rows.old.items name.now) (enclosing (parents rows.old.items) scope))) }
+    ensures refused { IfErr result (λ e. IsRefusal e (refusal name.now (stages rows.old.items name.now) (enclosing_scopes (parents rows.old.items) scope))) }
 {
     let parent = rows[scope].parent;
     match lift_from(alloc, rows, parent, name) {

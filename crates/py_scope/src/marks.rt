@@ -1,7 +1,7 @@
 //! The looks outward of every scope, which mark the scopes that they pass and those where they end.
 ghost use Rattle.std.specs.Prelude.{◌≡◌, ◌+◌, ◌<◌, ℕ, length, OnOk, IfOk, slice_get, option_map, [], ◌∷◌, ◌++◌, All, List};
 ghost use Rattle.std.specs.Map.Iter.{deref_pair};
-ghost use Rattle.py_scope.specs.Outward.{asking, asking_in, look, enclosing, parents, meetings, touch, IsNumbered, Passes, Captures};
+ghost use Rattle.py_scope.specs.Outward.{asked_outward, asking_in, look, enclosing_scopes, parents, meetings, touch, IsNumbered, Passes, Captures};
 ghost use Rattle.py_scope.specs.Marks.{after, IsLooked, IsSettled, looks, is_class, or_new};
 
 use crate::flags::SymbolFlags;
@@ -74,8 +74,8 @@ fn mark_from(
 ) -> Result<Found, AllocError>
     requires numbered { IsNumbered rows.old.items }
     requires within { at < length rows.old.items }
-    ensures found { IfOk result (λ found. found ≡ look (meetings rows.old.items name.now) (at ∷ enclosing (parents rows.old.items) at)) }
-    ensures marked { OnOk result ((t : ℕ) → slice_get rows.new.items t ≡ option_map (after (touch (meetings rows.old.items name.now) t (at ∷ enclosing (parents rows.old.items) at)) name.now) (slice_get rows.old.items t)) }
+    ensures found { IfOk result (λ found. found ≡ look (meetings rows.old.items name.now) (at ∷ enclosing_scopes (parents rows.old.items) at)) }
+    ensures marked { OnOk result ((t : ℕ) → slice_get rows.new.items t ≡ option_map (after (touch (meetings rows.old.items name.now) t (at ∷ enclosing_scopes (parents rows.old.items) at)) name.now) (slice_get rows.old.items t)) }
 {
     match look_in(name, &rows[at]) {
         Meets::Explicit => Ok(Found::Globally),
@@ -128,7 +128,7 @@ fn push_asking(
 
 /// The names for which this scope asks outward, in order.
 fn asking(alloc: Global, entries: &Entries) -> Result<Vec<Text>, AllocError>
-    ensures { IfOk result (λ names. names.items ≡ asking entries.now) }
+    ensures { IfOk result (λ names. names.items ≡ asked_outward entries.now) }
 {
     let mut names = Vec::new(alloc);
     for i in 0..entries.len() {

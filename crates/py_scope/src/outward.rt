@@ -1,6 +1,6 @@
 //! The look outward from a scope.
 ghost use Rattle.std.specs.Prelude.{◌≡◌, ◌<◌, ℕ, length, OnOk, IfOk, slice_get, option_map, All};
-ghost use Rattle.py_scope.specs.Outward.{meets, counts, stop_of, asks, asking, is_free, look, chain, enclosing, parents, meetings, touch, IsNumbered, Passes, Captures};
+ghost use Rattle.py_scope.specs.Outward.{meets, counts, stop_of, asks, asked_outward, is_free, look, chain, enclosing_scopes, parents, meetings, touch, IsNumbered, Passes, Captures};
 ghost use Rattle.py_scope.specs.Marks.{after, IsLooked, IsSettled, looks};
 
 use crate::rows::{Entry, Holds, Row};

@@ -37,7 +37,7 @@ pub enum Refusal {
     NoBinding(Text),
     /// A name of the module was declared nonlocal after it was declared global.
     NoEnclosingScope(Text),
-    /// A scope of type parameters uses a name that the class around it binds.
+    /// A scope of type parameters uses a name that the enclosing class binds.
     ClassName(Text),
     /// A `match` statement.
     Match,

@@ -1,7 +1,7 @@
 //! From the scopes of a program to its table.
 ghost use Rattle.std.specs.Prelude.{◌≡◌, ◌<◌, ◌∷◌, ◌++◌, All, length, slice_get, IfOk, OnOk, IfErr, Some, None};
 ghost use Rattle.py_scope.specs.declared.table_type.SymbolTableType.TheVariants.{Module};
-ghost use Rattle.py_scope.specs.Outward.{enclosing, parents, IsNumbered};
+ghost use Rattle.py_scope.specs.Outward.{enclosing_scopes, parents, IsNumbered};
 ghost use Rattle.py_scope.specs.Lifts.{kind_of, WalrusesInComprehensions, IsRefusal};
 ghost use Rattle.py_scope.specs.Distinct.{IsOnce};
 ghost use Rattle.py_scope.specs.Resolved.{first_fault_of, resolved_of};
@@ -19,7 +19,7 @@ use std::alloc::{AllocError, Global};
 pub(crate) fn close(rows: &[Row], current: usize, left: &mut Vec<usize>) -> Result<(), AllocError>
     requires numbered { IsNumbered rows.now }
     requires within { current < length rows.now }
-    ensures { OnOk result (left.new.items ≡ left.old.items ++ current ∷ enclosing (parents rows.now) current) }
+    ensures { OnOk result (left.new.items ≡ left.old.items ++ current ∷ enclosing_scopes (parents rows.now) current) }
 {
     let mut at = current;
     left.push(at)?;

@@ -1,4 +1,4 @@
-//! The scopes while they are collected and resolved: one list in preorder, each with the number of the scope around it.
+//! The scopes while they are collected and resolved: one list in preorder, each with the number of the enclosing scope.
 ghost use Rattle.std.specs.Prelude.{◌≡◌, ◌<◌, List, length, slice_get, [], OnOk, OnErr};
 ghost use Rattle.std.specs.Option.{option_map};
 ghost use Rattle.std.specs.Map.Iter.{deref_pair};
@@ -41,7 +41,7 @@ pub struct Entry {
     pub holds: Holds,
     /// The flags of the roles in which the scope uses the name.
     pub roles: SymbolFlags,
-    /// A walrus in a comprehension within binds the name here.
+    /// A walrus in a nested comprehension binds the name here.
     pub assigned_within: bool,
     /// A class that a look outward passed.
     pub free_class: bool,
@@ -181,7 +181,7 @@ pub struct Head {
     pub is_nested: bool,
 }
 
-/// A scope: what it is, the number of the scope around it, its head, and its names.
+/// A scope: what it is, the number of the enclosing scope, its head, and its names.
 #[derive(Drop)]
 pub struct Row {
     pub kind: SymbolTableType,

@@ -63,7 +63,7 @@ impl<T> StackStack<T> {
     /// value, and the stack is what the function left without it.
     ///
     /// # Errors
-    /// For want of memory alone the value comes back. The function is not called then, and nothing has changed.
+    /// For out of memory alone the value comes back. The function is not called then, and nothing has changed.
     pub fn with_append<F, R>(&mut self, x: T, f: F) -> Result<(R, T), T>
     where
         F: FnOnce(&mut StackStack<T>) -> R,

@@ -7,7 +7,7 @@ ghost use Rattle.py_scope.specs.Names.{Name, same_name};
 ghost use Rattle.py_scope.specs.Outward.{IsNumbered};
 ghost use Rattle.std.specs.Map.{keys_of};
 ghost use Rattle.py_scope.specs.Distinct.{AreDistinct, IsOnce};
-ghost use Rattle.py_scope.specs.Scanned.{changed};
+ghost use Rattle.py_scope.specs.Scanned.{changed_at};
 ghost use Rattle.py_scope.specs.Tables.{is_plain, global_within, is_shared, kind_in, flags_in, table_of, table_from};
 ghost use Rattle.py_scope.specs.Making.{kinds_at, kinds_in, all_kinds, symbol_with, symbols_with};
 
@@ -215,7 +215,7 @@ fn wait(
     table: SymbolTable,
 ) -> Result<(), AllocError>
     requires { scope < length waiting.old.items }
-    ensures { OnOk result (waiting.new.items ≡ changed (λ ts. ts ++ table ∷ []) scope waiting.old.items) }
+    ensures { OnOk result (waiting.new.items ≡ changed_at (λ ts. ts ++ table ∷ []) scope waiting.old.items) }
 {
     push_table(&mut waiting[scope], table)?;
     Ok(())

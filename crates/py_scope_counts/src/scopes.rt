@@ -77,7 +77,7 @@ pub fn scopes_in_expr(expr: &Expr, postponed: bool, count: usize) -> Option<usiz
     }
 }
 
-/// The lambda itself is scanned behind its defaults.
+/// The lambda itself is scanned after its defaults.
 #[cycle(scopes)]
 fn scopes_in_lambda(e: &ExprLambda, postponed: bool, count: usize) -> Option<usize>
     ensures { IsSum result (count + counts.scopes_in postponed (view.lambda_tree e.now)) }

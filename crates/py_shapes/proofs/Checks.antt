@@ -2,7 +2,7 @@
 use Rattle.std.proofs.Common.{◌≡◌, ◌++◌, not, nat_eq, List, [], ◌∷◌, length, refl, arith, Option, Result, Ok, Err}
 use Rattle.std.proofs.lemmas.Grind.{common_steps}
 use Rattle.std.specs.Result.{result_err}
-use Rattle.py_shapes.specs.Valid.{checked, count, first, has_generator, opt_count}
+use Rattle.py_shapes.specs.Valid.{first_malformed, count, first, has_generator, opt_count}
 use Rattle.py_tree.specs.View.{exprs, expr_tree, generators, opt_exprs}
 use Rattle.py_tree.specs.declared.expressions.ComprehensionOf.{ComprehensionOf}
 use Rattle.py_tree.specs.declared.expressions.Expr.{Expr}
@@ -14,7 +14,7 @@ abbrev pub followed : Result (Unit {0}) Malformed → Result (Unit {0}) Malforme
 followed (Ok _) next = next
 followed (Err shape) next = Err shape
 
-pub checked_append : (a b : List Malformed) → checked (a ++ b) ≡ followed (checked a) (checked b)
+pub checked_append : (a b : List Malformed) → first_malformed (a ++ b) ≡ followed (first_malformed a) (first_malformed b)
 checked_append [] b = refl
 checked_append (shape ∷ a) b = refl
 
@@ -30,7 +30,7 @@ pub generators_given : (xs : List (ComprehensionOf Expr)) → has_generator (gen
 generators_given [] = refl
 generators_given (x ∷ xs) = grind (arith, common_steps)
 
-pub err_checked : (shapes : List Malformed) → result_err (checked shapes) ≡ first shapes
+pub err_checked : (shapes : List Malformed) → result_err (first_malformed shapes) ≡ first shapes
 err_checked [] = refl
 err_checked (shape ∷ shapes) = refl
 

@@ -30,13 +30,13 @@ abbrev pub among : List ℕ → List (List ℕ) → Bool
 among name names = list_any (λ other. pointwise nat_eq name other) names
 
 -- whether a name of the first is one of the second
-abbrev pub meeting : List (List ℕ) → List (List ℕ) → Bool
-meeting names others = list_any (λ name. among name others) names
+abbrev pub names_meet : List (List ℕ) → List (List ℕ) → Bool
+names_meet names others = list_any (λ name. among name others) names
 
 -- whether a name stands twice
-abbrev pub repeated : List (List ℕ) → Bool
-repeated [] = false
-repeated (name ∷ names) = among name names || repeated names
+abbrev pub has_repeat : List (List ℕ) → Bool
+has_repeat [] = false
+has_repeat (name ∷ names) = among name names || has_repeat names
 
 abbrev pub is_given : tree.OptExpr → Bool
 is_given tree.no_expr = false
@@ -47,7 +47,7 @@ abbrev pub defaults : tree.Args → List Bool
 defaults tree.no_args = []
 defaults (tree.more_args a default others) = is_given default ∷ defaults others
 
--- whether one without a default stands behind one that has it
-abbrev pub disordered : List Bool → Bool
-disordered [] = false
-disordered (given ∷ others) = (given && list_any not others) || disordered others
+-- whether one without a default stands after one that has it
+abbrev pub has_disorder : List Bool → Bool
+has_disorder [] = false
+has_disorder (given ∷ others) = (given && list_any not others) || has_disorder others

@@ -8,7 +8,7 @@ use Rattle.py_tree.specs.declared.statements.Alias.{Alias}
 use Rattle.py_base.specs.declared.shapes.Malformed.{Malformed}
 use Rattle.py_base.specs.declared.shapes.Malformed.TheVariants.{WrongMode, NoOperand, NoTarget, NoGenerator, UnevenLists, CauseAlone, NameWithoutType, EmptyName, StrayDot, SameParameter, DefaultOrder}
 use Rattle.py_shapes.specs.Names.{has_dot, has_empty_segment, is_empty, opt_any}
-use Rattle.py_shapes.specs.Parameters.{defaults, disordered, is_given, parameter_names, repeated}
+use Rattle.py_shapes.specs.Parameters.{defaults, has_disorder, is_given, parameter_names, has_repeat}
 
 -- the shape, where the test holds
 abbrev pub when : Bool → Malformed → List Malformed
@@ -62,8 +62,8 @@ imports_shapes (x ∷ xs) = import_shapes x ++ imports_shapes xs
 -- no two parameters are one name in the class, and among the positional ones those without default come first
 abbrev pub parameters_shapes : (class : Option (List ℕ)) → tree.Arguments → List Malformed
 parameters_shapes class (tree.arguments posonlyargs args vararg kwonlyargs kwarg) =
-    when (repeated (parameter_names class (tree.arguments posonlyargs args vararg kwonlyargs kwarg))) SameParameter
-    ++ when (disordered (defaults posonlyargs ++ defaults args)) DefaultOrder
+    when (has_repeat (parameter_names class (tree.arguments posonlyargs args vararg kwonlyargs kwarg))) SameParameter
+    ++ when (has_disorder (defaults posonlyargs ++ defaults args)) DefaultOrder
 
 -- the class is the innermost one around the node, by which parameters are mangled
 abbrev mutual
@@ -213,6 +213,6 @@ first [] = None
 first (shape ∷ shapes) = Some shape
 
 -- nothing is wrong, or this is the first that is
-abbrev pub checked : List Malformed → Result (Unit {0}) Malformed
-checked [] = Ok tt
-checked (shape ∷ shapes) = Err shape
+abbrev pub first_malformed : List Malformed → Result (Unit {0}) Malformed
+first_malformed [] = Ok tt
+first_malformed (shape ∷ shapes) = Err shape

@@ -1,7 +1,7 @@
 //! The shapes of the parts of statements.
 ghost use Rattle.std.specs.Prelude.{◌≡◌, ◌++◌};
 ghost use Rattle.std.specs.Option.{option_copied};
-ghost use Rattle.py_shapes.specs.Valid.{checked, expr_shapes, opt_expr_shapes, type_params_shapes, type_param_shapes, with_items_shapes};
+ghost use Rattle.py_shapes.specs.Valid.{first_malformed, expr_shapes, opt_expr_shapes, type_params_shapes, type_param_shapes, with_items_shapes};
 ghost use Rattle.py_tree.specs.View as view;
 
 use crate::checks_exprs::{check_expr, check_optional};
@@ -14,7 +14,7 @@ use py_tree::{Malformed, TypeParam, WithItem};
 /// The first of the shapes that the definition of the same name asks for and that is not there.
 #[tactic(auto, using(crate::proofs::Steps::type_params_step))]
 pub fn check_type_params(class: Option<&str>, items: &[TypeParam]) -> Result<(), Malformed>
-    ensures { result ≡ checked (type_params_shapes (option_copied class.entry) (view.type_params items.now)) }
+    ensures { result ≡ first_malformed (type_params_shapes (option_copied class.entry) (view.type_params items.now)) }
 {
     for item in items {
         check_type_param(class, item)?;
@@ -24,7 +24,7 @@ pub fn check_type_params(class: Option<&str>, items: &[TypeParam]) -> Result<(),
 
 #[tactic(auto, using(crate::proofs::Checks::checks))]
 fn check_type_param(class: Option<&str>, item: &TypeParam) -> Result<(), Malformed>
-    ensures { result ≡ checked (type_param_shapes (option_copied class.entry) (view.type_param_tree item.now)) }
+    ensures { result ≡ first_malformed (type_param_shapes (option_copied class.entry) (view.type_param_tree item.now)) }
 {
     match item {
         TypeParam::TypeVar(p) => {
@@ -42,7 +42,7 @@ fn check_type_param(class: Option<&str>, item: &TypeParam) -> Result<(), Malform
 /// The first of the shapes that the definition of the same name asks for and that is not there.
 #[tactic(auto, using(crate::proofs::Steps::items_step))]
 pub fn check_items(class: Option<&str>, items: &[WithItem]) -> Result<(), Malformed>
-    ensures { result ≡ checked (with_items_shapes (option_copied class.entry) (view.with_items items.now)) }
+    ensures { result ≡ first_malformed (with_items_shapes (option_copied class.entry) (view.with_items items.now)) }
 {
     for item in items {
         check_item(class, item)?;
@@ -52,7 +52,7 @@ pub fn check_items(class: Option<&str>, items: &[WithItem]) -> Result<(), Malfor
 
 #[tactic(auto, using(crate::proofs::Checks::checks))]
 fn check_item(class: Option<&str>, item: &WithItem) -> Result<(), Malformed>
-    ensures { result ≡ checked (expr_shapes (option_copied class.entry) (view.expr_tree item.now.context_expr.value) ++ opt_expr_shapes (option_copied class.entry) (view.opt_box view.expr_tree item.now.optional_vars)) }
+    ensures { result ≡ first_malformed (expr_shapes (option_copied class.entry) (view.expr_tree item.now.context_expr.value) ++ opt_expr_shapes (option_copied class.entry) (view.opt_box view.expr_tree item.now.optional_vars)) }
 {
     check_expr(class, &item.context_expr)?;
     check_optional(class, &item.optional_vars)

@@ -1,7 +1,7 @@
 //! Identifiers and paths of modules.
 ghost use Rattle.std.specs.Prelude.{◌≡◌, ◌||◌};
 ghost use Rattle.py_shapes.specs.Names.{has_dot, has_empty_segment, is_empty, opt_any};
-ghost use Rattle.py_shapes.specs.Valid.{aliases_shapes, alias_shapes, checked, imports_shapes, import_shapes, names_shapes, name_shapes, opt_name_shapes, path_shapes};
+ghost use Rattle.py_shapes.specs.Valid.{aliases_shapes, alias_shapes, first_malformed, imports_shapes, import_shapes, names_shapes, name_shapes, opt_name_shapes, path_shapes};
 ghost use Rattle.std.specs.List.{list_any};
 
 use py_tree::{Alias, Malformed, Text};
@@ -39,7 +39,7 @@ fn has_empty_segment(path: &Text) -> bool
 /// # Errors
 /// The first of the shapes that the definition of the same name asks for and that is not there.
 pub fn check_name(id: &Text) -> Result<(), Malformed>
-    ensures { result ≡ checked (name_shapes id.now) }
+    ensures { result ≡ first_malformed (name_shapes id.now) }
 {
     if is_empty(id) {
         return Err(Malformed::EmptyName);
@@ -55,7 +55,7 @@ pub fn check_name(id: &Text) -> Result<(), Malformed>
 /// # Errors
 /// The first of the shapes that the definition of the same name asks for and that is not there.
 pub fn check_optional_name(name: &Option<Text>) -> Result<(), Malformed>
-    ensures { result ≡ checked (opt_name_shapes name.now) }
+    ensures { result ≡ first_malformed (opt_name_shapes name.now) }
 {
     match name {
         Some(id) => check_name(id),
@@ -68,7 +68,7 @@ pub fn check_optional_name(name: &Option<Text>) -> Result<(), Malformed>
 /// # Errors
 /// The first of the shapes that the definition of the same name asks for and that is not there.
 pub fn check_names(names: &[Text]) -> Result<(), Malformed>
-    ensures { result ≡ checked (names_shapes names.now) }
+    ensures { result ≡ first_malformed (names_shapes names.now) }
 {
     if some_are_empty(names) {
         return Err(Malformed::EmptyName);
@@ -96,7 +96,7 @@ fn some_have_dots(names: &[Text]) -> bool
 /// # Errors
 /// The first of the shapes that the definition of the same name asks for and that is not there.
 pub fn check_module(path: &Option<Text>) -> Result<(), Malformed>
-    ensures { result ≡ checked (path_shapes path.now) }
+    ensures { result ≡ first_malformed (path_shapes path.now) }
 {
     match path {
         Some(path) if has_empty_segment(path) => Err(Malformed::EmptyName),
@@ -110,7 +110,7 @@ pub fn check_module(path: &Option<Text>) -> Result<(), Malformed>
 /// The first of the shapes that the definition of the same name asks for and that is not there.
 #[tactic(auto, using(crate::proofs::Checks::checks))]
 pub fn check_aliases(names: &[Alias]) -> Result<(), Malformed>
-    ensures { result ≡ checked (aliases_shapes names.now) }
+    ensures { result ≡ first_malformed (aliases_shapes names.now) }
 {
     for alias in names {
         check_alias(alias)?;
@@ -119,7 +119,7 @@ pub fn check_aliases(names: &[Alias]) -> Result<(), Malformed>
 }
 
 fn check_alias(alias: &Alias) -> Result<(), Malformed>
-    ensures { result ≡ checked (alias_shapes alias.now) }
+    ensures { result ≡ first_malformed (alias_shapes alias.now) }
 {
     if is_empty(&alias.name) || optional_is_empty(&alias.asname) {
         return Err(Malformed::EmptyName);
@@ -136,7 +136,7 @@ fn check_alias(alias: &Alias) -> Result<(), Malformed>
 /// The first of the shapes that the definition of the same name asks for and that is not there.
 #[tactic(auto, using(crate::proofs::Checks::checks))]
 pub fn check_imports(names: &[Alias]) -> Result<(), Malformed>
-    ensures { result ≡ checked (imports_shapes names.now) }
+    ensures { result ≡ first_malformed (imports_shapes names.now) }
 {
     for alias in names {
         check_import(alias)?;
@@ -146,7 +146,7 @@ pub fn check_imports(names: &[Alias]) -> Result<(), Malformed>
 
 #[tactic(auto, unfolding(crate::specs::Valid::import_shapes))]
 fn check_import(alias: &Alias) -> Result<(), Malformed>
-    ensures { result ≡ checked (import_shapes alias.now) }
+    ensures { result ≡ first_malformed (import_shapes alias.now) }
 {
     if has_empty_segment(&alias.name) || optional_is_empty(&alias.asname) {
         return Err(Malformed::EmptyName);

@@ -4,8 +4,8 @@ ghost use Rattle.std.specs.Prelude.{◌≡◌, ◌++◌, not};
 ghost use Rattle.std.specs.List.{list_any};
 ghost use Rattle.std.specs.Option.{option_copied};
 ghost use Rattle.py_base.specs.Mangle.{mangled_in};
-ghost use Rattle.py_shapes.specs.Parameters.{among, args_names, defaults, disordered, end_names, is_given, meeting, opt_arg_names, parameter_names, repeated};
-ghost use Rattle.py_shapes.specs.Valid.{checked, parameters_shapes};
+ghost use Rattle.py_shapes.specs.Parameters.{among, args_names, defaults, has_disorder, end_names, is_given, names_meet, opt_arg_names, parameter_names, has_repeat};
+ghost use Rattle.py_shapes.specs.Valid.{first_malformed, parameters_shapes};
 ghost use Rattle.py_tree.specs.View as view;
 
 use py_base::same_mangled;
@@ -25,7 +25,7 @@ fn is_among(class: Option<&str>, name: &str, items: &[ArgWithDefault]) -> bool
 
 /// Whether two of the parameters have one name.
 fn is_repeated(class: Option<&str>, items: &[ArgWithDefault]) -> bool
-    ensures { result ≡ repeated (args_names (option_copied class.entry) (view.args view.expr_tree items.now)) }
+    ensures { result ≡ has_repeat (args_names (option_copied class.entry) (view.args view.expr_tree items.now)) }
 {
     for i in 0..items.len() {
         if is_among(class, items[i].def.arg.as_str(), &items[i + 1..]) {
@@ -37,7 +37,7 @@ fn is_repeated(class: Option<&str>, items: &[ArgWithDefault]) -> bool
 
 /// Whether a parameter of the first list has the name of one of the second.
 fn some_meet(class: Option<&str>, items: &[ArgWithDefault], others: &[ArgWithDefault]) -> bool
-    ensures { result ≡ meeting (args_names (option_copied class.entry) (view.args view.expr_tree items.now)) (args_names (option_copied class.entry) (view.args view.expr_tree others.now)) }
+    ensures { result ≡ names_meet (args_names (option_copied class.entry) (view.args view.expr_tree items.now)) (args_names (option_copied class.entry) (view.args view.expr_tree others.now)) }
 {
     for item in items {
         if is_among(class, item.def.arg.as_str(), others) {
@@ -48,9 +48,9 @@ fn some_meet(class: Option<&str>, items: &[ArgWithDefault], others: &[ArgWithDef
 }
 
 /// Whether a parameter of the list has the name of the other one, where there is one.
-#[tactic(auto, using(crate::proofs::Repeated::parts))]
+#[tactic(auto, using(crate::proofs::Repeated::repeated_parts))]
 fn some_meets(class: Option<&str>, items: &[ArgWithDefault], other: &Option<Box<Arg>>) -> bool
-    ensures { result ≡ meeting (args_names (option_copied class.entry) (view.args view.expr_tree items.now)) (opt_arg_names (option_copied class.entry) (view.opt_arg view.expr_tree other.now)) }
+    ensures { result ≡ names_meet (args_names (option_copied class.entry) (view.args view.expr_tree items.now)) (opt_arg_names (option_copied class.entry) (view.opt_arg view.expr_tree other.now)) }
 {
     match other {
         Some(param) => is_among(class, param.arg.as_str(), items),
@@ -60,7 +60,7 @@ fn some_meets(class: Option<&str>, items: &[ArgWithDefault], other: &Option<Box<
 
 /// Whether both are there and have one name.
 fn both_meet(class: Option<&str>, param: &Option<Box<Arg>>, other: &Option<Box<Arg>>) -> bool
-    ensures { result ≡ meeting (opt_arg_names (option_copied class.entry) (view.opt_arg view.expr_tree param.now)) (opt_arg_names (option_copied class.entry) (view.opt_arg view.expr_tree other.now)) }
+    ensures { result ≡ names_meet (opt_arg_names (option_copied class.entry) (view.opt_arg view.expr_tree param.now)) (opt_arg_names (option_copied class.entry) (view.opt_arg view.expr_tree other.now)) }
 {
     match (param, other) {
         (Some(param), Some(other)) => {
@@ -71,25 +71,25 @@ fn both_meet(class: Option<&str>, param: &Option<Box<Arg>>, other: &Option<Box<A
 }
 
 /// Whether a parameter of the list has the name of `*args` or `**kwargs`.
-#[tactic(auto, using(crate::proofs::Repeated::parts))]
+#[tactic(auto, using(crate::proofs::Repeated::repeated_parts))]
 fn meets_ends(class: Option<&str>, items: &[ArgWithDefault], params: &Arguments) -> bool
-    ensures { result ≡ meeting (args_names (option_copied class.entry) (view.args view.expr_tree items.now)) (end_names (option_copied class.entry) (view.arguments view.expr_tree params.now)) }
+    ensures { result ≡ names_meet (args_names (option_copied class.entry) (view.args view.expr_tree items.now)) (end_names (option_copied class.entry) (view.arguments view.expr_tree params.now)) }
 {
     some_meets(class, items, &params.vararg) || some_meets(class, items, &params.kwarg)
 }
 
 /// Whether a parameter of the list has the name of one that is no positional one.
-#[tactic(auto, using(crate::proofs::Repeated::parts))]
+#[tactic(auto, using(crate::proofs::Repeated::repeated_parts))]
 fn meets_keyword(class: Option<&str>, items: &[ArgWithDefault], params: &Arguments) -> bool
-    ensures { result ≡ meeting (args_names (option_copied class.entry) (view.args view.expr_tree items.now)) (args_names (option_copied class.entry) (view.args view.expr_tree params.now.kwonlyargs) ++ end_names (option_copied class.entry) (view.arguments view.expr_tree params.now)) }
+    ensures { result ≡ names_meet (args_names (option_copied class.entry) (view.args view.expr_tree items.now)) (args_names (option_copied class.entry) (view.args view.expr_tree params.now.kwonlyargs) ++ end_names (option_copied class.entry) (view.arguments view.expr_tree params.now)) }
 {
     some_meet(class, items, params.kwonlyargs.as_slice()) || meets_ends(class, items, params)
 }
 
 /// Whether two keyword-only parameters, `*args` and `**kwargs` have one name.
-#[tactic(auto, using(crate::proofs::Repeated::parts))]
+#[tactic(auto, using(crate::proofs::Repeated::repeated_parts))]
 fn keyword_repeated(class: Option<&str>, params: &Arguments) -> bool
-    ensures { result ≡ repeated (args_names (option_copied class.entry) (view.args view.expr_tree params.now.kwonlyargs) ++ end_names (option_copied class.entry) (view.arguments view.expr_tree params.now)) }
+    ensures { result ≡ has_repeat (args_names (option_copied class.entry) (view.args view.expr_tree params.now.kwonlyargs) ++ end_names (option_copied class.entry) (view.arguments view.expr_tree params.now)) }
 {
     let kwonlyargs = params.kwonlyargs.as_slice();
     is_repeated(class, kwonlyargs)
@@ -98,9 +98,9 @@ fn keyword_repeated(class: Option<&str>, params: &Arguments) -> bool
 }
 
 /// Whether two parameters have one name.
-#[tactic(auto, using(crate::proofs::Repeated::parts))]
+#[tactic(auto, using(crate::proofs::Repeated::repeated_parts))]
 fn same_parameter(class: Option<&str>, params: &Arguments) -> bool
-    ensures { result ≡ repeated (parameter_names (option_copied class.entry) (view.arguments view.expr_tree params.now)) }
+    ensures { result ≡ has_repeat (parameter_names (option_copied class.entry) (view.arguments view.expr_tree params.now)) }
 {
     let posonlyargs = params.posonlyargs.as_slice();
     let args = params.args.as_slice();
@@ -145,9 +145,9 @@ fn some_lack(items: &[ArgWithDefault]) -> bool
     false
 }
 
-/// Whether a parameter without a default stands behind one with a default.
+/// Whether a parameter without a default stands after one with a default.
 fn is_disordered(items: &[ArgWithDefault]) -> bool
-    ensures { result ≡ disordered (defaults (view.args view.expr_tree items.now)) }
+    ensures { result ≡ has_disorder (defaults (view.args view.expr_tree items.now)) }
 {
     let mut seen = false;
     for item in items {
@@ -160,10 +160,10 @@ fn is_disordered(items: &[ArgWithDefault]) -> bool
     false
 }
 
-/// Whether a positional parameter without a default stands behind one with a default.
+/// Whether a positional parameter without a default stands after one with a default.
 #[tactic(auto, using(crate::proofs::Repeated::disordered_append))]
 fn wrong_order(params: &Arguments) -> bool
-    ensures { result ≡ disordered (defaults (view.args view.expr_tree params.now.posonlyargs) ++ defaults (view.args view.expr_tree params.now.args)) }
+    ensures { result ≡ has_disorder (defaults (view.args view.expr_tree params.now.posonlyargs) ++ defaults (view.args view.expr_tree params.now.args)) }
 {
     let posonlyargs = params.posonlyargs.as_slice();
     let args = params.args.as_slice();
@@ -175,7 +175,7 @@ fn wrong_order(params: &Arguments) -> bool
 /// # Errors
 /// The first of the shapes that the definition of the same name asks for and that is not there.
 pub fn check_parameters(class: Option<&str>, params: &Arguments) -> Result<(), Malformed>
-    ensures { result ≡ checked (parameters_shapes (option_copied class.entry) (view.arguments view.expr_tree params.now)) }
+    ensures { result ≡ first_malformed (parameters_shapes (option_copied class.entry) (view.arguments view.expr_tree params.now)) }
 {
     if same_parameter(class, params) {
         return Err(Malformed::SameParameter);

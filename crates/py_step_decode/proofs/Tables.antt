@@ -3,7 +3,7 @@ use Rattle.std.proofs.Common.{◌≡◌, ◌≢◌, ◌<◌, ◌≤◌, ◌-◌,
 use Rattle.std.specs.Option.{option_map}
 use Rattle.std.proofs.lemmas.Option.{slice_get-map}
 use Rattle.py_bytecode.specs.Objects as obj
-use Rattle.py_bytecode.specs.Objects.{Const, listed, consts_of}
+use Rattle.py_bytecode.specs.Objects.{Const, const_list, consts_of}
 use Rattle.py_bytecode.specs.Decode.{tables, value_of}
 use Rattle.py_bytecode.specs.Values.{Constant, Child}
 use Rattle.py_bytecode.specs.View.{constant, object}
@@ -30,25 +30,26 @@ cells_are c = ap (λ o. (tables o).cells) (object_is c)
 
 -- ---- constants
 
-listed_of : (cs : List Const) → listed (consts_of cs) ≡ cs
-listed_of [] = refl
-listed_of (c ∷ cs) = ap (λ ds. c ∷ ds) (listed_of cs)
+table_listed_of : (cs : List Const) → const_list (consts_of cs) ≡ cs
+table_listed_of [] = refl
+table_listed_of (c ∷ cs) = ap (λ ds. c ∷ ds) (table_listed_of cs)
 
 pub constant_at : (c : CodeObject) (n : ℕ) → slice_get (tables (object c)).constants n ≡ option_map constant (slice_get c.constants n)
 constant_at c n =
     ap (λ o. slice_get (obj.constants o) n) (object_is c)
-    ∙ ap (λ cs. slice_get cs n) (listed_of (map constant c.constants))
+    ∙ ap (λ cs. slice_get cs n) (table_listed_of (map constant c.constants))
     ∙ slice_get-map constant c.constants n
 
 pub code_value : (b : Box CodeObject Global) → short_value (value_of (constant (view.Code b))) ≡ Child AChild
 code_value b = ap (λ k. short_value (value_of k)) (constant_Code b)
 
 -- what is no code is itself
-plain_layer : (x : ConstantData-F ConstantData CodeObject) → ((b : Box CodeObject Global) → roll-ConstantData x ≢ view.Code b) → short_value (value_of (constant (roll-ConstantData x))) ≡ Constant (constant (roll-ConstantData x))
-plain_layer (ConstantData-F.Code b) h = absurd (h b (view.rolls-Code b))
-plain_layer x h = subst (λ k. short_value (value_of k) ≡ Constant k) (sym (constant_roll x)) refl
+table_plain_layer : (x : ConstantData-F ConstantData CodeObject) → ((b : Box CodeObject Global) → roll-ConstantData x ≢ view.Code b)
+    → short_value (value_of (constant (roll-ConstantData x))) ≡ Constant (constant (roll-ConstantData x))
+table_plain_layer (ConstantData-F.Code b) h = absurd (h b (view.rolls-Code b))
+table_plain_layer x h = subst (λ k. short_value (value_of k) ≡ Constant k) (sym (constant_roll x)) refl
 
 pub plain_value : (k : ConstantData) → ((b : Box CodeObject Global) → k ≢ view.Code b) → short_value (value_of (constant k)) ≡ Constant (constant k)
 plain_value k h =
     let e = roll-out-ConstantData k in
-    subst (λ (j : ConstantData). short_value (value_of (constant j)) ≡ Constant (constant j)) e (plain_layer (out-ConstantData k) (λ b d. h b (sym e ∙ d)))
+    subst (λ (j : ConstantData). short_value (value_of (constant j)) ≡ Constant (constant j)) e (table_plain_layer (out-ConstantData k) (λ b d. h b (sym e ∙ d)))

@@ -56,6 +56,6 @@ instr_of Instr.WithCleanupStart = machine.WithCleanupStart
 instr_of Instr.WithCleanupFinish = machine.WithCleanupFinish
 
 -- what stands at a place, where an instruction does
-abbrev pub decoded : Option Instr → Option (machine.Instr Known ℕ)
-decoded None = None
-decoded (Some i) = Some (instr_of i)
+abbrev pub decoded_instr : Option Instr → Option (machine.Instr Known ℕ)
+decoded_instr None = None
+decoded_instr (Some i) = Some (instr_of i)

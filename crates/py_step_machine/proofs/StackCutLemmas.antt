@@ -8,28 +8,28 @@ use Rattle.py_bytecode.specs.Machine.{Block}
 use Rattle.py_answers.specs.Told.{Known}
 use Rattle.py_step_decode.specs.declared.instructions.Entry.{Entry as Entry1}
 use Rattle.py_step_decode.specs.Instructions.{entry_of}
-use Rattle.py_step_machine.specs.State.{State, state, fails, stacked}
-use Rattle.py_step_machine.specs.Leaving.{cutting}
+use Rattle.py_step_machine.specs.State.{State, state, fails, machine_stack}
+use Rattle.py_step_machine.specs.Leaving.{cut_stack}
 
 module _ (h : ℕ) (es : List Entry1) (bs : List (Block Known ℕ)) (slot : Option (Value Known)) (w : World Known) where
   abbrev Z : State
-  Z = state (stacked es) bs slot w
+  Z = state (machine_stack es) bs slot w
 
-  long : length (stacked es) ≡ length es
-  long = length-map es entry_of
+  stack_cut_long : length (machine_stack es) ≡ length es
+  stack_cut_long = length-map es entry_of
 
   -- a height above the present one
-  pub cut_above : length es < h → cutting h (state (stacked es) bs slot w) ≡ fails Wrong (state (stacked es) bs slot w)
-  unfolding cutting
+  pub cut_above : length es < h → cut_stack h (state (machine_stack es) bs slot w) ≡ fails Wrong (state (machine_stack es) bs slot w)
+  unfolding cut_stack
   cut_above l =
-      let no : nat_le h (length (stacked es)) ≡ false = lt-leb h (length (stacked es)) (rw long l) in
-      ap (λ b. choose b (Ok (tt, record Z { stack = drop (length (stacked es) - h) (stacked es) })) (fails Wrong Z)) no
+      let no : nat_le h (length (machine_stack es)) ≡ false = lt-leb h (length (machine_stack es)) (rw stack_cut_long l) in
+      ap (λ b. choose b (Ok (tt, record Z { stack = drop (length (machine_stack es) - h) (machine_stack es) })) (fails Wrong Z)) no
 
   -- one that is not
-  pub cut_within : h ≤ length es → cutting h (state (stacked es) bs slot w) ≡ Ok (tt, state (stacked (drop (length es - h) es)) bs slot w)
-  unfolding cutting
+  pub cut_within : h ≤ length es → cut_stack h (state (machine_stack es) bs slot w) ≡ Ok (tt, state (machine_stack (drop (length es - h) es)) bs slot w)
+  unfolding cut_stack
   cut_within l =
-      let yes : nat_le h (length (stacked es)) ≡ true = le-leb h (length (stacked es)) (rw long l) in
-      ap (λ b. choose b (Ok (tt, record Z { stack = drop (length (stacked es) - h) (stacked es) })) (fails Wrong Z)) yes
-      ∙ ap (λ n. Ok (tt, record Z { stack = drop (n - h) (stacked es) })) long
+      let yes : nat_le h (length (machine_stack es)) ≡ true = le-leb h (length (machine_stack es)) (rw stack_cut_long l) in
+      ap (λ b. choose b (Ok (tt, record Z { stack = drop (length (machine_stack es) - h) (machine_stack es) })) (fails Wrong Z)) yes
+      ∙ ap (λ n. Ok (tt, record Z { stack = drop (n - h) (machine_stack es) })) stack_cut_long
       ∙ ap (λ x. Ok (tt, record Z { stack = x })) (drop-map entry_of (length es - h) es)

@@ -11,15 +11,15 @@ use Rattle.py_step_machine.specs.Does.{pop_cell_tuple, pop_cells, pop_value, pop
 use Rattle.py_step_machine.proofs.ProgramStopLemmas.{halts_on, halts_same}
 
 -- one operand more is the first, once they are turned round
-pub turned : (xs : List StepValue) (x : StepValue) → values_of (reverse (xs ++ x ∷ [])) ≡ value_of x ∷ values_of (reverse xs)
-turned xs x = ap values_of (reverse-append xs (x ∷ []))
+pub taken_value_turned : (xs : List StepValue) (x : StepValue) → values_of (reverse (xs ++ x ∷ [])) ≡ value_of x ∷ values_of (reverse xs)
+taken_value_turned xs x = ap values_of (reverse-append xs (x ∷ []))
 
 pub values_joined : (a b : List StepValue) → values_of (a ++ b) ≡ values_of a ++ values_of b
 values_joined [] b = refl
 values_joined (x ∷ a) b = ap (λ l. value_of x ∷ l) (values_joined a b)
 
-one_less : (n : ℕ) → 0 < n → n ≡ suc (n - 1)
-one_less n h = omega (arith, h)
+taken_value_one_less : (n : ℕ) → 0 < n → n ≡ suc (n - 1)
+taken_value_one_less n h = omega (arith, h)
 
 -- ---- values
 
@@ -32,10 +32,10 @@ module _ (n : ℕ) (h : 0 < n) (xs : List (Value Known)) (s : State) where
   first_value m = refl
 
   one_value : pop_values n xs s ≡ (pop_value s >>= rest_values)
-  one_value = ap (λ m. pop_values m xs s) (one_less n h) ∙ first_value (n - 1)
+  one_value = ap (λ m. pop_values m xs s) (taken_value_one_less n h) ∙ first_value (n - 1)
 
-  pub taken : (s1 : State) (v : Value Known) → pop_value s ≡ Ok (v, s1) → pop_values n xs s ≡ pop_values (n - 1) (v ∷ xs) s1
-  taken s1 v e = one_value ∙ ap (λ d. d >>= rest_values) e
+  pub taken_value_taken : (s1 : State) (v : Value Known) → pop_value s ≡ Ok (v, s1) → pop_values n xs s ≡ pop_values (n - 1) (v ∷ xs) s1
+  taken_value_taken s1 v e = one_value ∙ ap (λ d. d >>= rest_values) e
 
   pub taken_halts : (s1 : State) (e : Stop) → Halts e s1 (pop_value s) → Halts e s1 (pop_values n xs s)
   taken_halts s1 e f = halts_same e s1 (pop_value s >>= rest_values) (pop_values n xs s) one_value (halts_on e s1 (pop_value s) rest_values f)
@@ -55,7 +55,7 @@ module _ (n : ℕ) (h : 0 < n) (s : State) where
   first_cells m = refl
 
   one_tuple : pop_cells n s ≡ (pop_cell_tuple s >>= rest_cells)
-  one_tuple = ap (λ m. pop_cells m s) (one_less n h) ∙ first_cells (n - 1)
+  one_tuple = ap (λ m. pop_cells m s) (taken_value_one_less n h) ∙ first_cells (n - 1)
 
   pub cells_taken : (s1 : State) (u : Unit {0}) → pop_cell_tuple s ≡ Ok (u, s1) → pop_cells n s ≡ pop_cells (n - 1) s1
   cells_taken s1 u e = one_tuple ∙ ap (λ d. d >>= rest_cells) e

@@ -13,18 +13,18 @@ use Rattle.py_step_machine.specs.declared.held.Stop.{Stop}
 use Rattle.py_step_machine.specs.declared.held.End.{End}
 
 -- the exception that an answer raised
-abbrev pub raised : ℕ → values.Value Known
-raised n = Given n 0
+abbrev pub raised_value : ℕ → values.Value Known
+raised_value n = Given n 0
 
 abbrev pub slot_of : Option ℕ → Option (values.Value Known)
 slot_of None = None
-slot_of (Some n) = Some (raised n)
+slot_of (Some n) = Some (raised_value n)
 
 abbrev pub reason_of : Reason → machine.Reason Known ℕ
 reason_of (Reason.Break p) = machine.BreakTo p
 reason_of (Reason.Continue p) = machine.ContinueTo p
 reason_of (Reason.Return e) = machine.ReturnOf (entry_of e)
-reason_of (Reason.Raise n) = machine.RaiseOf (raised n)
+reason_of (Reason.Raise n) = machine.RaiseOf (raised_value n)
 
 abbrev pub kept_of : Option Reason → Option (machine.Reason Known ℕ)
 kept_of None = None
@@ -43,16 +43,16 @@ stop_of (Halt.Raised n) = Stop.Leaves (Reason.Raise n)
 stop_of Halt.Stopped = Stop.Stopped
 stop_of Halt.OutOfMemory = Stop.OutOfMemory
 
--- how a run ends; want of memory is no end of a run
+-- how a run ends; out of memory is no end of a run
 abbrev pub ending_of : End → values.Outcome Known
 ending_of (End.Returned e) = values.Returned (entry_of e)
-ending_of (End.Raised n) = values.RaisedOut (raised n)
+ending_of (End.Raised n) = values.RaisedOut (raised_value n)
 ending_of End.Stopped = values.Stopped
 ending_of End.Wrong = values.Wrong
 ending_of End.Leaked = values.Leaked
 ending_of End.OutOfMemory = values.Going
 
--- an instruction and the place behind it
+-- an instruction and the place after it
 abbrev pub fetched_as : Option (Instr × ℕ) → machine.Fetched Known ℕ
 fetched_as None = machine.Nothing
 fetched_as (Some x) = machine.Found (instr_of x.0) x.1

@@ -11,7 +11,7 @@ use Rattle.py_step_machine.specs.declared.held.End.{End}
 use Rattle.py_step_machine.specs.Held.{ending_of}
 use Rattle.py_step_machine.specs.Short.{short_fetched}
 use Rattle.py_step_machine.specs.State.{Run, Running, ◌>>=◌}
-use Rattle.py_step_machine.specs.Leaving.{stepping, keeping}
+use Rattle.py_step_machine.specs.Leaving.{step_fetched, keep_to_limit}
 
 -- what stands at a unit
 abbrev pub fetch : Object → ℕ → Fetched Object ℕ
@@ -20,15 +20,15 @@ fetch o place = fetch_unit (tables o) (head o).instructions place
 -- the instruction at a unit, and then the limit of height
 unfoldable pub unit_step : Object → ℕ → Running ℕ
 unit_step o place s = do
-  p ← stepping (short_fetched (fetch o place)) s
-  keeping (head o).max_stackdepth p.0 p.1
+  p ← step_fetched (short_fetched (fetch o place)) s
+  keep_to_limit (head o).max_stackdepth p.0 p.1
 
 -- so many steps from a place
-unfoldable pub running : Object → (fuel place : ℕ) → Running ℕ
-running o zero place s = Ok (place, s)
-running o (suc n) place s = do
+unfoldable pub run_steps : Object → (fuel place : ℕ) → Running ℕ
+run_steps o zero place s = Ok (place, s)
+run_steps o (suc n) place s = do
   p ← unit_step o place s
-  running o n p.0 p.1
+  run_steps o n p.0 p.1
 
 -- returned cells count as None
 abbrev pub final_value : Entry Known → Value Known

@@ -11,7 +11,7 @@ use Rattle.py_step_machine.specs.declared.held.Stop.{Stop}
 use Rattle.py_step_machine.specs.declared.held.End.{End}
 use Rattle.py_step_machine.specs.declared.machine.Machine.{Machine}
 use Rattle.py_step_decode.specs.Instructions.{entry_of}
-use Rattle.py_step_machine.specs.Held.{block_of, reason_of, slot_of, raised}
+use Rattle.py_step_machine.specs.Held.{block_of, reason_of, slot_of, raised_value}
 
 pub record State : Type 0 where
   pub stack : List (Entry Known)
@@ -22,14 +22,14 @@ pub record State : Type 0 where
 abbrev pub state : List (Entry Known) → List (machine.Block Known ℕ) → Option (Value Known) → World Known → State
 state s bs slot w = record { stack = s; blocks = bs; slot = slot; world = w }
 
-abbrev pub stacked : List Entry1 → List (Entry Known)
-stacked es = map entry_of es
+abbrev pub machine_stack : List Entry1 → List (Entry Known)
+machine_stack es = map entry_of es
 
-abbrev pub blocked : List Block1 → List (machine.Block Known ℕ)
-blocked bs = map block_of bs
+abbrev pub machine_blocks : List Block1 → List (machine.Block Known ℕ)
+machine_blocks bs = map block_of bs
 
 abbrev pub state_of : Machine → State
-state_of m = state (stacked m.stack) (blocked m.blocks) (slot_of m.slot) (world_of m.log)
+state_of m = state (machine_stack m.stack) (machine_blocks m.blocks) (slot_of m.slot) (world_of m.log)
 
 -- what comes after a value, whatever comes in place of one
 infixl 10 ◌>>=◌
@@ -56,7 +56,7 @@ ends o s = Err (Ends (ran s.world.events o))
 abbrev pub leaves : {A : Type 0} → machine.Reason Known ℕ → Doing A
 leaves r s = Err (Leaves r s)
 
--- an instruction stops so in this state; want of memory is free
+-- an instruction stops so in this state; out of memory is free
 abbrev pub Halts : {A : Type 0} → Stop → State → Did A → Type 0
 Halts (Stop.Leaves r) s d = d ≡ Err (Leaves (reason_of r) s)
 Halts Stop.Stopped s d = d ≡ Err (Ends (ran s.world.events Stopped))
@@ -81,14 +81,14 @@ abbrev pub fails : {A : Type 0} → Outcome Known → Running A
 fails o s = Err (ran s.world.events o)
 
 -- a configuration, seen as a run
-abbrev pub gone : Config Known ℕ → Run ℕ
-gone (At p s bs slot w) = Ok (p, state s bs slot w)
-gone (Over events o) = Err (ran events o)
+abbrev pub run_of_config : Config Known ℕ → Run ℕ
+run_of_config (At p s bs slot w) = Ok (p, state s bs slot w)
+run_of_config (Over events o) = Err (ran events o)
 
--- a run ends so, with these events; want of memory is free
+-- a run ends so, with these events; out of memory is free
 abbrev pub Fails : {A : Type 0} → End → List (Event Known) → Run A → Type 0
 Fails (End.Returned e) events d = d ≡ Err (ran events (Returned (entry_of e)))
-Fails (End.Raised n) events d = d ≡ Err (ran events (RaisedOut (raised n)))
+Fails (End.Raised n) events d = d ≡ Err (ran events (RaisedOut (raised_value n)))
 Fails End.Stopped events d = d ≡ Err (ran events Stopped)
 Fails End.Wrong events d = d ≡ Err (ran events Wrong)
 Fails End.Leaked events d = d ≡ Err (ran events Leaked)

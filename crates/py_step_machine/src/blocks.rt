@@ -2,9 +2,9 @@
 ghost use Rattle.std.specs.Prelude.{◌≡◌, ◌∷◌, []};
 ghost use Rattle.py_bytecode.specs.Machine.{exception, has_loop};
 ghost use Rattle.py_answers.specs.Told as told;
-ghost use Rattle.py_step_machine.specs.Does.{ending_finally, entering_finally, finishing_cleanup, last_block, leaving, pop_last, popping_block, popping_exception, reraising, returning, setting_except, setting_finally, setting_loop, setting_with, starting_cleanup, unless_dropped};
+ghost use Rattle.py_step_machine.specs.Does.{ending_finally, entering_finally, finishing_cleanup, last_block, leave_in_loop, pop_last, popping_block, popping_exception, reraise_slot, return_top, setting_except, setting_finally, setting_loop, setting_with, starting_cleanup, unless_dropped};
 ghost use Rattle.py_step_machine.specs.Held.{block_of, kept_of, reason_of};
-ghost use Rattle.py_step_machine.specs.State.{Does, blocked, state_of};
+ghost use Rattle.py_step_machine.specs.State.{Does, machine_blocks, state_of};
 
 use crate::held::{Block, Reason, Stop};
 use crate::machine::Machine;
@@ -89,7 +89,7 @@ impl<'c> Machine<'c> {
 
     // Whether a loop is among the blocks.
     fn has_loop(&self) -> bool
-        ensures { result ≡ has_loop (blocked self.now.blocks) }
+        ensures { result ≡ has_loop (machine_blocks self.now.blocks) }
     {
         for depth in 0..self.blocks.height() {
             let Some(block) = self.blocks.below(depth) else {
@@ -103,9 +103,9 @@ impl<'c> Machine<'c> {
     }
 
     /// Leaves blocks for a `break` or `continue`; outside a loop it is wrong.
-    #[tactic(auto, unfolding(crate::specs::Does::leaving))]
+    #[tactic(auto, unfolding(crate::specs::Does::leave_in_loop))]
     pub fn leave(&mut self, reason: Reason<'c>) -> Result<usize, Stop<'c>>
-        ensures { Does (λ p. p) result (state_of self.new) (leaving (reason_of reason.entry) (state_of self.old)) }
+        ensures { Does (λ p. p) result (state_of self.new) (leave_in_loop (reason_of reason.entry) (state_of self.old)) }
     {
         if self.has_loop() {
             Err(Stop::Leaves(reason))
@@ -114,9 +114,9 @@ impl<'c> Machine<'c> {
         }
     }
 
-    #[tactic(auto, unfolding(crate::specs::Does::returning))]
+    #[tactic(auto, unfolding(crate::specs::Does::return_top))]
     pub fn return_value(&mut self) -> Result<usize, Stop<'c>>
-        ensures { Does (λ p. p) result (state_of self.new) (returning (state_of self.old)) }
+        ensures { Does (λ p. p) result (state_of self.new) (return_top (state_of self.old)) }
     {
         let entry = self.pop_entry()?;
         Err(Stop::Leaves(Reason::Return(entry)))
@@ -169,9 +169,9 @@ impl<'c> Machine<'c> {
         }
     }
 
-    #[tactic(auto, unfolding(crate::specs::Does::reraising))]
+    #[tactic(auto, unfolding(crate::specs::Does::reraise_slot))]
     pub fn reraise(&mut self, next: usize) -> Result<usize, Stop<'c>>
-        ensures { Does (λ p. p) result (state_of self.new) (reraising next (state_of self.old)) }
+        ensures { Does (λ p. p) result (state_of self.new) (reraise_slot next (state_of self.old)) }
     {
         if let Some(answer) = self.slot {
             return Err(Stop::Leaves(Reason::Raise(answer)));

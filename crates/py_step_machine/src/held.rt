@@ -33,7 +33,7 @@ pub enum Block<'c> {
         height: usize,
         old: Option<u32>,
     },
-    /// Keeps the reason of a leaving, too, where one goes on behind it.
+    /// Keeps the reason of a leaving, too, where one goes on after it.
     FinallyHandler {
         height: usize,
         reason: Option<Reason<'c>>,

@@ -3,8 +3,8 @@ ghost use Rattle.std.specs.Prelude.{◌≡◌};
 ghost use Rattle.py_bytecode.specs.Machine.{slot_for};
 ghost use Rattle.py_step_decode.specs.Instructions.{instr_of};
 ghost use Rattle.py_step_machine.specs.Does.{does};
-ghost use Rattle.py_step_machine.specs.Held.{block_of, ending_of, raised, reason_of, slot_of};
-ghost use Rattle.py_step_machine.specs.Leaving.{cutting, handling, leaving_block, leaving_except, leaving_finally, leaving_handler, leaving_loop, out_of, passing, settled, unwinding};
+ghost use Rattle.py_step_machine.specs.Held.{block_of, ending_of, raised_value, reason_of, slot_of};
+ghost use Rattle.py_step_machine.specs.Leaving.{cut_stack, handle_at, leaving_block, leaving_except, leaving_finally, leaving_handler, leaving_loop, out_of, pass_block, settled_run, unwind_run};
 ghost use Rattle.py_step_machine.specs.State.{Runs, state_of};
 
 use crate::held::{Block, End, Reason, Stop};
@@ -15,7 +15,7 @@ impl<'c> Machine<'c> {
     // Cuts the stack to a height; one above the present one is wrong.
     #[tactic(auto, using(crate::proofs::StackCutLemmas::cut_above, crate::proofs::StackCutLemmas::cut_within))]
     fn cut(&mut self, height: usize) -> Result<(), End<'c>>
-        ensures { Runs (λ u. u) result (state_of self.new) (cutting height (state_of self.old)) }
+        ensures { Runs (λ u. u) result (state_of self.new) (cut_stack height (state_of self.old)) }
     {
         if self.stack.height() < height {
             return Err(End::Wrong);
@@ -25,9 +25,9 @@ impl<'c> Machine<'c> {
     }
 
     // Cuts the stack at a block that does not take the reason.
-    #[tactic(auto, unfolding(crate::specs::Leaving::passing))]
+    #[tactic(auto, unfolding(crate::specs::Leaving::pass_block))]
     fn pass(&mut self, height: usize) -> Result<Option<usize>, End<'c>>
-        ensures { Runs (λ p. p) result (state_of self.new) (passing height (state_of self.old)) }
+        ensures { Runs (λ p. p) result (state_of self.new) (pass_block height (state_of self.old)) }
     {
         self.cut(height)?;
         Ok(None)
@@ -52,14 +52,14 @@ impl<'c> Machine<'c> {
     }
 
     // The exception of an answer goes to a handler.
-    #[tactic(auto, unfolding(crate::specs::Leaving::handling))]
+    #[tactic(auto, unfolding(crate::specs::Leaving::handle_at))]
     fn handle(
         &mut self,
         height: usize,
         handler: usize,
         answer: u32,
     ) -> Result<Option<usize>, End<'c>>
-        ensures { Runs (λ p. p) result (state_of self.new) (handling height handler (raised answer) (state_of self.old)) }
+        ensures { Runs (λ p. p) result (state_of self.new) (handle_at height handler (raised_value answer) (state_of self.old)) }
     {
         self.cut(height)?;
         let old = self.slot;
@@ -134,7 +134,7 @@ impl<'c> Machine<'c> {
 
     // Leaves blocks until one takes the reason, and gives the place where the run goes on.
     fn unwind(&mut self, reason: Reason<'c>) -> Result<usize, End<'c>>
-        ensures { Runs (λ p. p) result (state_of self.new) (unwinding (reason_of reason.entry) (state_of self.old)) }
+        ensures { Runs (λ p. p) result (state_of self.new) (unwind_run (reason_of reason.entry) (state_of self.old)) }
     {
         while let Some(block) = self.blocks.pop() {
             if let Some(place) = self.leave_block(block, reason)? {
@@ -146,7 +146,7 @@ impl<'c> Machine<'c> {
 
     /// Does an instruction, and leaves blocks where it says so.
     pub fn perform(&mut self, instr: Instr<'c>, next: usize) -> Result<usize, End<'c>>
-        ensures { Runs (λ p. p) result (state_of self.new) (settled (does (instr_of instr.entry) next (state_of self.old))) }
+        ensures { Runs (λ p. p) result (state_of self.new) (settled_run (does (instr_of instr.entry) next (state_of self.old))) }
     {
         match self.act(instr, next) {
             Ok(place) => Ok(place),

@@ -1,5 +1,5 @@
 //! Entries moved and copied, and jumps.
-ghost use Rattle.py_step_machine.specs.Does.{doubling, doubling2, iterating, jumping_if, jumping_if_or_pop, popping, rotating2, rotating3};
+ghost use Rattle.py_step_machine.specs.Does.{duplicate_top, doubling2, for_iter, jumping_if, jumping_if_or_pop, pop_top, rotating2, rotating3};
 ghost use Rattle.py_step_machine.specs.State.{Does, state_of};
 
 use crate::held::Stop;
@@ -7,9 +7,9 @@ use crate::machine::{Machine, shortened};
 use py_step_decode::Entry;
 
 impl<'c> Machine<'c> {
-    #[tactic(auto, unfolding(crate::specs::Does::popping))]
+    #[tactic(auto, unfolding(crate::specs::Does::pop_top))]
     pub fn pop(&mut self, next: usize) -> Result<usize, Stop<'c>>
-        ensures { Does (λ p. p) result (state_of self.new) (popping next (state_of self.old)) }
+        ensures { Does (λ p. p) result (state_of self.new) (pop_top next (state_of self.old)) }
     {
         self.pop_entry()?;
         Ok(next)
@@ -39,9 +39,9 @@ impl<'c> Machine<'c> {
         Ok(next)
     }
 
-    #[tactic(auto, unfolding(crate::specs::Does::doubling))]
+    #[tactic(auto, unfolding(crate::specs::Does::duplicate_top))]
     pub fn duplicate(&mut self, next: usize) -> Result<usize, Stop<'c>>
-        ensures { Does (λ p. p) result (state_of self.new) (doubling next (state_of self.old)) }
+        ensures { Does (λ p. p) result (state_of self.new) (duplicate_top next (state_of self.old)) }
     {
         let top = self.entry_below(0)?;
         self.stack.push(top)?;
@@ -93,9 +93,9 @@ impl<'c> Machine<'c> {
     }
 
     /// The iterator stays where it is, and goes where there is no next value.
-    #[tactic(auto, unfolding(crate::specs::Does::iterating))]
+    #[tactic(auto, unfolding(crate::specs::Does::for_iter))]
     pub fn iterate(&mut self, target: usize, next: usize) -> Result<usize, Stop<'c>>
-        ensures { Does (λ p. p) result (state_of self.new) (iterating target next (state_of self.old)) }
+        ensures { Does (λ p. p) result (state_of self.new) (for_iter target next (state_of self.old)) }
     {
         let iterator = self.operand_below(0)?;
         match self.ask_next(iterator)? {

@@ -2,8 +2,8 @@
 ghost use Rattle.std.specs.Prelude.{◌≡◌};
 ghost use Rattle.py_bytecode.specs.Machine.{builds_tuple};
 ghost use Rattle.py_answers.specs.Log.{operation_of};
-ghost use Rattle.py_step_machine.specs.Does.{appending, applying, cells_above, importing, joining, joins_cells, making, operating, unpacking};
-ghost use Rattle.py_step_machine.specs.State.{Does, stacked, state_of};
+ghost use Rattle.py_step_machine.specs.Does.{append_value, apply_operation, cells_above, import_member, join_cell_tuple, joins_cells, build_function, run_operation, unpack_top};
+ghost use Rattle.py_step_machine.specs.State.{Does, machine_stack, state_of};
 
 use crate::held::Stop;
 use crate::machine::Machine;
@@ -20,7 +20,7 @@ fn builds_tuple(op: Instruction) -> bool
 
 impl<'c> Machine<'c> {
     /// Does an operation on so many values, or joins a tuple of cells.
-    #[tactic(auto, unfolding(crate::specs::Does::operating))]
+    #[tactic(auto, unfolding(crate::specs::Does::run_operation))]
     pub fn operate(
         &mut self,
         operation: Operation<'_>,
@@ -28,7 +28,7 @@ impl<'c> Machine<'c> {
         gives: Option<u32>,
         next: usize,
     ) -> Result<usize, Stop<'c>>
-        ensures { Does (λ p. p) result (state_of self.new) (operating (operation_of operation.entry) takes gives next (state_of self.old)) }
+        ensures { Does (λ p. p) result (state_of self.new) (run_operation (operation_of operation.entry) takes gives next (state_of self.old)) }
     {
         if self.joins(operation.op, takes) {
             self.join_cells(takes, next)
@@ -37,7 +37,7 @@ impl<'c> Machine<'c> {
         }
     }
 
-    #[tactic(auto, using(crate::proofs::PushLemmas::counted), unfolding(crate::specs::Does::applying))]
+    #[tactic(auto, using(crate::proofs::PushLemmas::push_counted), unfolding(crate::specs::Does::apply_operation))]
     fn apply(
         &mut self,
         operation: Operation<'_>,
@@ -45,7 +45,7 @@ impl<'c> Machine<'c> {
         gives: Option<u32>,
         next: usize,
     ) -> Result<usize, Stop<'c>>
-        ensures { Does (λ p. p) result (state_of self.new) (applying (operation_of operation.entry) takes gives next (state_of self.old)) }
+        ensures { Does (λ p. p) result (state_of self.new) (apply_operation (operation_of operation.entry) takes gives next (state_of self.old)) }
     {
         let operands = self.pop_values(takes)?;
         let answer = self.ask_for(operation, operands, gives)?;
@@ -53,9 +53,9 @@ impl<'c> Machine<'c> {
         Ok(next)
     }
 
-    #[tactic(auto, unfolding(crate::specs::Does::joining))]
+    #[tactic(auto, unfolding(crate::specs::Does::join_cell_tuple))]
     fn join_cells(&mut self, count: u32, next: usize) -> Result<usize, Stop<'c>>
-        ensures { Does (λ p. p) result (state_of self.new) (joining count next (state_of self.old)) }
+        ensures { Does (λ p. p) result (state_of self.new) (join_cell_tuple count next (state_of self.old)) }
     {
         self.pop_cells(count)?;
         self.stack.push(Entry::Cells)?;
@@ -64,19 +64,19 @@ impl<'c> Machine<'c> {
 
     // Whether an operation on so many entries builds a tuple of cells.
     fn joins(&self, op: Instruction, takes: u32) -> bool
-        ensures { result ≡ joins_cells (builds_tuple op) takes (stacked self.now.stack) }
+        ensures { result ≡ joins_cells (builds_tuple op) takes (machine_stack self.now.stack) }
     {
         builds_tuple(op) && takes > 0 && self.has_cells_on_top()
     }
 
     #[tactic(auto, using(crate::proofs::PeekLemmas::cells_seen))]
     fn has_cells_on_top(&self) -> bool
-        ensures { result ≡ cells_above 1 (stacked self.now.stack) }
+        ensures { result ≡ cells_above 1 (machine_stack self.now.stack) }
     {
         matches!(self.stack.below(0), Some(Entry::Cells))
     }
 
-    #[tactic(auto, unfolding(crate::specs::Does::making))]
+    #[tactic(auto, unfolding(crate::specs::Does::build_function))]
     pub fn make_function(
         &mut self,
         flags: u32,
@@ -84,7 +84,7 @@ impl<'c> Machine<'c> {
         others: u32,
         next: usize,
     ) -> Result<usize, Stop<'c>>
-        ensures { Does (λ p. p) result (state_of self.new) (making flags closure others next (state_of self.old)) }
+        ensures { Does (λ p. p) result (state_of self.new) (build_function flags closure others next (state_of self.old)) }
     {
         let named = self.pop_values(2)?;
         self.pop_closure(closure)?;
@@ -99,9 +99,9 @@ impl<'c> Machine<'c> {
     }
 
     /// Does an operation on the value on top, which stays.
-    #[tactic(auto, unfolding(crate::specs::Does::importing))]
+    #[tactic(auto, unfolding(crate::specs::Does::import_member))]
     pub fn import(&mut self, operation: Operation<'_>, next: usize) -> Result<usize, Stop<'c>>
-        ensures { Does (λ p. p) result (state_of self.new) (importing (operation_of operation.entry) next (state_of self.old)) }
+        ensures { Does (λ p. p) result (state_of self.new) (import_member (operation_of operation.entry) next (state_of self.old)) }
     {
         let module = self.operand_below(0)?;
         let operands = alone(self.alloc, module)?;
@@ -110,7 +110,7 @@ impl<'c> Machine<'c> {
     }
 
     /// Does an operation on so many values and the collection that lies so deep below them, which stays.
-    #[tactic(auto, unfolding(crate::specs::Does::appending))]
+    #[tactic(auto, unfolding(crate::specs::Does::append_value))]
     pub fn append(
         &mut self,
         operation: Operation<'_>,
@@ -118,7 +118,7 @@ impl<'c> Machine<'c> {
         depth: u32,
         next: usize,
     ) -> Result<usize, Stop<'c>>
-        ensures { Does (λ p. p) result (state_of self.new) (appending (operation_of operation.entry) others depth next (state_of self.old)) }
+        ensures { Does (λ p. p) result (state_of self.new) (append_value (operation_of operation.entry) others depth next (state_of self.old)) }
     {
         let elements = self.pop_values(others)?;
         let collection = self.operand_below(depth as usize)?;
@@ -129,14 +129,14 @@ impl<'c> Machine<'c> {
     }
 
     /// Does an operation that gives so many values, the first on top.
-    #[tactic(auto, unfolding(crate::specs::Does::unpacking))]
+    #[tactic(auto, unfolding(crate::specs::Does::unpack_top))]
     pub fn unpack(
         &mut self,
         operation: Operation<'_>,
         count: u32,
         next: usize,
     ) -> Result<usize, Stop<'c>>
-        ensures { Does (λ p. p) result (state_of self.new) (unpacking (operation_of operation.entry) count next (state_of self.old)) }
+        ensures { Does (λ p. p) result (state_of self.new) (unpack_top (operation_of operation.entry) count next (state_of self.old)) }
     {
         let value = self.pop_operand()?;
         let operands = alone(self.alloc, value)?;

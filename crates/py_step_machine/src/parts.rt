@@ -1,13 +1,13 @@
 //! Operands made of others, and the values of an answer on a stack.
 ghost use Rattle.std.specs.Prelude.{◌≡◌, ◌∷◌, ◌++◌, [], IfOk, OnOk};
 ghost use Rattle.py_bytecode.specs.Machine.{push, stack_of};
-ghost use Rattle.py_bytecode.specs.Values.{given};
+ghost use Rattle.py_bytecode.specs.Values.{given_values};
 ghost use Rattle.py_answers.specs.Told.{value_of, values_of};
-ghost use Rattle.py_step_machine.specs.State.{stacked};
+ghost use Rattle.py_step_machine.specs.State.{machine_stack};
 
+use crate::pile::Pile;
 use py_answers::StepValue;
 use py_base::List;
-use py_stack::Pile;
 use py_step_decode::{Entry, Value};
 use std::alloc::{AllocError, Global};
 
@@ -36,7 +36,7 @@ pub fn alone(alloc: Global, operand: StepValue) -> Result<List<StepValue>, Alloc
 
 /// Puts so many values of an answer on a stack, the last on top.
 pub fn push_given(stack: &mut Pile<Entry<'_>>, answer: u32, count: u32) -> Result<(), AllocError>
-    ensures { OnOk result (stacked stack.new ≡ push (given count answer 0) (stacked stack.old)) }
+    ensures { OnOk result (machine_stack stack.new ≡ push (given_values count answer 0) (machine_stack stack.old)) }
 {
     for index in 0..count {
         stack.push(Entry::It(Value::Given { answer, index }))?;
@@ -46,7 +46,7 @@ pub fn push_given(stack: &mut Pile<Entry<'_>>, answer: u32, count: u32) -> Resul
 
 /// Puts so many values of an answer on a stack, the first on top.
 pub fn push_reversed(stack: &mut Pile<Entry<'_>>, answer: u32, count: u32) -> Result<(), AllocError>
-    ensures { OnOk result (stacked stack.new ≡ stack_of (given count answer 0) (stacked stack.old)) }
+    ensures { OnOk result (machine_stack stack.new ≡ stack_of (given_values count answer 0) (machine_stack stack.old)) }
 {
     let mut index = count;
     while index > 0 {

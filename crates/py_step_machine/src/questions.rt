@@ -3,7 +3,7 @@
 ghost use Rattle.py_answers.specs.Log.{counted_by, next_given, operation_of};
 ghost use Rattle.py_answers.specs.Told as told;
 ghost use Rattle.py_step_machine.specs.Does.{asks_delete, asks_for, asks_for_none, asks_for_one, asks_load, asks_next, asks_raise, asks_store, asks_truth};
-ghost use Rattle.py_step_machine.specs.Held.{raised};
+ghost use Rattle.py_step_machine.specs.Held.{raised_value};
 ghost use Rattle.py_step_machine.specs.State.{Does, state_of};
 
 use crate::held::Stop;
@@ -16,7 +16,7 @@ impl<'c> Machine<'c> {
     /// Loads a name. The value is that of the answer with this number.
     #[tactic(auto, unfolding(crate::specs::Does::asks_load))]
     pub fn ask_load(&mut self, name: &Text) -> Result<u32, Stop<'c>>
-        ensures { Does raised result (state_of self.new) (asks_load name.now (state_of self.old)) }
+        ensures { Does raised_value result (state_of self.new) (asks_load name.now (state_of self.old)) }
     {
         Ok(self.log.load(name)?)
     }
@@ -57,7 +57,7 @@ impl<'c> Machine<'c> {
         operation: Operation<'_>,
         operands: List<StepValue>,
     ) -> Result<u32, Stop<'c>>
-        ensures { Does raised result (state_of self.new) (asks_for_one (operation_of operation.entry) (told.values_of operands) (state_of self.old)) }
+        ensures { Does raised_value result (state_of self.new) (asks_for_one (operation_of operation.entry) (told.values_of operands) (state_of self.old)) }
     {
         Ok(self.log.operate(operation, operands, Some(1))?)
     }

@@ -7,18 +7,18 @@ ghost use Rattle.py_bytecode.specs.View.{object};
 ghost use Rattle.py_answers.specs.Scripts.{answers_of};
 ghost use Rattle.py_answers.specs.Told.{all_told, outcome_of, short, trace_of};
 ghost use Rattle.py_step_machine.specs.Held.{fetched_as};
-ghost use Rattle.py_step_machine.specs.Leaving.{keeping};
-ghost use Rattle.py_step_machine.specs.Running.{fetch, lacks_memory, running, unit_step, went_to};
+ghost use Rattle.py_step_machine.specs.Leaving.{keep_to_limit};
+ghost use Rattle.py_step_machine.specs.Running.{fetch, lacks_memory, run_steps, unit_step, went_to};
 ghost use Rattle.py_step_machine.specs.Short.{short_fetched};
 ghost use Rattle.py_step_machine.specs.State.{Runs, state, state_of};
 ghost use Rattle.py_decode.specs.Reading.{IsReading};
 
 use crate::held::End;
 use crate::machine::{Machine, shortened};
+use crate::pile::Pile;
 use py_answers::{Log, Outcome, Script, StepValue, Trace};
 use py_bytecode::{CodeObject, ConstantData};
 use py_decode::{UnitRead, read_all, read_in};
-use py_stack::Pile;
 use py_step_decode::{Entry, Instr, decode};
 use std::alloc::{AllocError, Global};
 
@@ -52,7 +52,7 @@ fn fuel(code: &CodeObject, script: &Script) -> u128
     answers * units
 }
 
-// The instruction at a unit, and the place behind it. None where none stands there.
+// The instruction at a unit, and the place after it. None where none stands there.
 fn fetch<'c>(
     code: &'c CodeObject,
     reads: &[Option<UnitRead>],
@@ -108,7 +108,7 @@ impl<'c> Machine<'c> {
     // A state above the code's limit of height is wrong.
     #[tactic(auto, using(crate::proofs::Heights::stacked_height))]
     fn keep(&mut self, code: &CodeObject, place: usize) -> Result<usize, End<'c>>
-        ensures { Runs (λ p. p) result (state_of self.new) (keeping (head (object code.now)).max_stackdepth place (state_of self.old)) }
+        ensures { Runs (λ p. p) result (state_of self.new) (keep_to_limit (head (object code.now)).max_stackdepth place (state_of self.old)) }
     {
         if self.stack.height() > code.max_stackdepth as usize {
             return Err(End::Wrong);
@@ -124,7 +124,7 @@ impl<'c> Machine<'c> {
         fuel: u128,
     ) -> Result<usize, End<'c>>
         requires { IsReading (object code.now) reads.now }
-        ensures { Runs (λ p. p) result (state_of self.new) (running (object code.now) fuel 0 (state_of self.old)) }
+        ensures { Runs (λ p. p) result (state_of self.new) (run_steps (object code.now) fuel 0 (state_of self.old)) }
     {
         let mut place = 0;
         let mut left = fuel;

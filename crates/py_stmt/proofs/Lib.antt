@@ -1,11 +1,6 @@
 pub mod LocationLemmas
-pub mod OpenBlockLemmas
 pub mod Parts
 pub mod FunctionParts
-pub mod KeptFunctions
-pub mod KeptImports
-pub mod KeptGenerics
 pub mod TypeParameterFunctionLemmas
 pub mod ClassCallLemmas
-pub mod KeptClasses
 pub mod Lasts

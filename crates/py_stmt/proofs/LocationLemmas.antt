@@ -1,11 +1,12 @@
 -- A statement begins with the move to its location: it does not matter who moves there first.
 use Rattle.std.proofs.Common.{◌≡◌, refl}
 use Rattle.py_tree.specs.Tree as tree
-use Rattle.py_emission_parts.specs.Emitting.{State, located, move}
+use Rattle.py_emission_parts.specs.Emitting.{State, with_location, move}
+use Rattle.py_emission_parts.specs.Running.{run}
 use Rattle.py_emission.specs.EmissionStmts.{emission_of_stmt}
 
-pub entering : (x : tree.Stmt) (s : State) → emission_of_stmt x s ≡ emission_of_stmt x (located (tree.stmt_location x) s)
-unfolding move located
+pub entering : (x : tree.Stmt) (s : State) → run (emission_of_stmt x) s ≡ run (emission_of_stmt x) (with_location (tree.stmt_location x) s)
+unfolding move with_location
 entering (tree.FunctionDef at name params body decorators returns generic) s = refl
 entering (tree.AsyncFunctionDef at name params body decorators returns generic) s = refl
 entering (tree.ClassDef at name bases named body decorators generic) s = refl

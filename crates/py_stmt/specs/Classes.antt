@@ -16,7 +16,7 @@ use Rattle.py_emission_parts.specs.EmissionParts.{Keywords, elements}
 use Rattle.py_emission.specs.Emission.{all_emissions, keyword_emissions}
 use Rattle.py_emission.specs.EmissionDefs.{class_function, class_scope, emission_of_built}
 use Rattle.py_emission.specs.EmissionStmts.{emission_of_rest}
-use Rattle.py_expr_parts.specs.Calls.{arguments, calling, taken}
+use Rattle.py_expr_parts.specs.Calls.{arguments, call_of_type, taken_type}
 use Rattle.py_stmt_simple.specs.Generics.{hidden_made, some_params}
 use Rattle.py_stmt_parts.specs.Generics.{params_flag}
 
@@ -38,9 +38,9 @@ function_emission path flags name body = class_function path flags name body (em
 abbrev pub part_emission : (path : List ℕ) → StmtClassDefOf Stmt → Emission
 part_emission path s = some_params (class_params s) ▸ function_emission path (params_flag (class_params s)) s.name (class_body s)
 
--- what builds a class is called with a function and a name, and with what stands in the brackets behind these two
+-- what builds a class is called with a function and a name, and with what stands in the brackets after these two
 abbrev pub class_built : (function name : Emission) → List (Element Emission Emission) → Keywords → Emission
-class_built f x es ks = emit op.LoadBuildClass 0 ▸ f ▸ x ▸ arguments 2 es ks ▸ calling false (taken 2 es ks)
+class_built f x es ks = emit op.LoadBuildClass 0 ▸ f ▸ x ▸ arguments 2 es ks ▸ call_of_type false (taken_type 2 es ks)
 
 -- a class of this function, as its parts are emitted
 abbrev pub built_of : (name : List ℕ) → (function : Emission) → (bases : tree.Exprs) → tree.Keywords → Emission
@@ -50,14 +50,14 @@ built_of name f bases ks = class_built f (emit_constant op.LoadConst (const.str 
 abbrev pub built_emission : (path : List ℕ) → StmtClassDefOf Stmt → Emission
 built_emission path s = built_of s.name (part_emission path s) (exprs expr_tree s.bases) (keywords expr_tree s.keywords)
 
--- one with type parameters, which is built in a hidden scope
+-- one with type parameters, which is built in a type-parameter scope
 abbrev pub generic_emission : (path : List ℕ) → StmtClassDefOf Stmt → Emission
 generic_emission path s = hidden_made 0 s.name (built_emission path s) ▸ emit_count op.CallFunctionPositional 0
 
 -- one by whether it has some
-abbrev pub placed : (path : List ℕ) → StmtClassDefOf Stmt → tree.TypeParams → Emission
-placed path s tree.no_type_params = built_emission path s
-placed path s (tree.more_type_params t ts) = generic_emission path s
+abbrev pub emitted_class : (path : List ℕ) → StmtClassDefOf Stmt → tree.TypeParams → Emission
+emitted_class path s tree.no_type_params = built_emission path s
+emitted_class path s (tree.more_type_params t ts) = generic_emission path s
 
 -- what is emitted in the class's own scope
 abbrev pub own_emission : tree.Stmts → Emission

@@ -40,11 +40,11 @@ plain_emission s = emission_of_def s.name (params_of s) (body_of s) (opt_box exp
 abbrev pub generic_emission : StmtFunctionDefOf Stmt → Emission
 generic_emission s = emission_of_generic_def s.name (params_of s) (body_of s) (opt_box expr_tree s.returns) (type_params s.type_params) (body_emission (body_of s))
 
--- behind its defaults, where it is made with these flags
+-- after its defaults, where it is made with these flags
 abbrev pub value_emission : (flags : ℕ) → StmtFunctionDefOf Stmt → Emission
 value_emission flags s = function_value flags s.name (params_of s) (body_of s) (opt_box expr_tree s.returns) (body_emission (body_of s))
 
--- in its hidden scope, which is handed these defaults
+-- in its type-parameter scope, which is handed these defaults
 abbrev pub hidden_value : Defaults → StmtFunctionDefOf Stmt → Emission
 hidden_value d s = load_handed (handed_by d) ▸ emission_of_params (type_params s.type_params) ▸ value_emission (given_flags d true) s
 

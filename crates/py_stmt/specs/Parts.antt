@@ -2,11 +2,12 @@
 use Rattle.std.specs.Prelude.{ℕ, List, Bool, Option}
 use Rattle.py_tree.specs.Tree as tree
 use Rattle.py_bytecode.specs.declared.instruction.Instruction.TheVariants as op
-use Rattle.py_emission_parts.specs.Emitting.{Emission, ◌▸◌, begin, emit, in_loop, jump, new_block}
+use Rattle.py_emission_parts.specs.Emitting.{Emission, ◌▸◌, emit, in_loop, jump, with_block}
+use Rattle.py_emission_parts.specs.Running.{Action, begin, on_done, run}
 use Rattle.py_emission.specs.ControlEmissions.{before_last, named_body, to_last}
 use Rattle.py_emission.specs.EmissionStmts.{emission_of_stmts}
-use Rattle.py_stmt_simple.specs.Parts.{each_begun, emission_of_match}
-use Rattle.py_stmt_parts.specs.Parts.{handled}
+use Rattle.py_stmt_simple.specs.Parts.{emission_of_match}
+use Rattle.py_stmt_parts.specs.Parts.{handler_exit}
 
 -- one turn of a loop
 abbrev pub each_turn : (store body : Emission) → (start other end : ℕ) → Emission
@@ -16,30 +17,22 @@ each_turn store body start other end = jump op.ForIter other ▸ store ▸ in_lo
 abbrev pub each_ended : (orelse : Emission) → Emission
 each_ended orelse = emit op.PopBlock 0 ▸ orelse
 
-abbrev pub each_by_parts : (iter store body orelse : Emission) → Emission
-each_by_parts iter store body orelse =
-    new_block (λ start. new_block (λ other. new_block (λ end. each_begun iter ▸ begin start ▸ each_turn store body start other end ▸ begin other ▸ each_ended orelse ▸ begin end)))
-
 -- the body of a `try`, from which no exception comes
-abbrev pub guarded : (last : Bool) → (body : Emission) → (catch other end : ℕ) → Emission
-guarded last body catch other end = before_last last end ▸ jump op.SetupExcept catch ▸ body ▸ emit op.PopBlock 0 ▸ jump op.Jump other
+abbrev pub guarded_body : (last : Bool) → (body : Emission) → (catch other end : ℕ) → Emission
+guarded_body last body catch other end = before_last last end ▸ jump op.SetupExcept catch ▸ body ▸ emit op.PopBlock 0 ▸ jump op.Jump other
 
--- the else part, and the way into the last part
-abbrev pub unguarded : (last : Bool) → (orelse : Emission) → Emission
-unguarded last orelse = orelse ▸ to_last last
+-- the else part, and the way into the finally block
+abbrev pub unguarded_else : (last : Bool) → (orelse : Emission) → Emission
+unguarded_else last orelse = orelse ▸ to_last last
 
-abbrev pub try_by_parts : (last : Bool) → (body : Emission) → (handlers : (end : ℕ) → Emission) → (orelse finalbody : Emission) → Emission
-try_by_parts last body handlers orelse finalbody =
-    new_block (λ catch. new_block (λ other. new_block (λ end. guarded last body catch other end ▸ begin catch ▸ handlers end ▸ begin other ▸ unguarded last orelse ▸ begin end ▸ finalbody)))
-
--- one handler, which is followed by the others
-abbrev pub one_handler : (last : Bool) → (end : ℕ) → (matches : (next : ℕ) → Emission) → (body : Emission) → Emission
-one_handler last end matches body = new_block (λ next. matches next ▸ body ▸ handled last end ▸ begin next)
+-- one handler; the others follow in a block of their own
+abbrev pub one_handler : (last : Bool) → (end : ℕ) → (matches : (next : ℕ) → Emission) → (body : Emission) → Action
+one_handler last end matches body s = on_done (run (matches s.blocks ▸ body ▸ handler_exit last end) (with_block s)) (begin s.blocks)
 
 -- a handler without a type has no name
 abbrev pub emission_of_caught : (type : tree.OptExpr) → (name : Option (List ℕ)) → (body : Emission) → Emission
 emission_of_caught tree.no_expr name body = body
 emission_of_caught (tree.some_expr e) name body = named_body name body
 
-abbrev pub emission_of_handler : (type : tree.OptExpr) → (name : Option (List ℕ)) → (body : tree.Stmts) → (last : Bool) → (end : ℕ) → Emission
+abbrev pub emission_of_handler : (type : tree.OptExpr) → (name : Option (List ℕ)) → (body : tree.Stmts) → (last : Bool) → (end : ℕ) → Action
 emission_of_handler type name body last end = one_handler last end (emission_of_match type name) (emission_of_caught type name (emission_of_stmts body))

@@ -1,15 +1,16 @@
 //! Definitions of classes.
 ghost use Rattle.std.specs.Prelude.{◌≡◌};
 ghost use Rattle.py_tree.specs.View.{class_def_tree, expr_tree, exprs, stmt_tree, stmts};
-ghost use Rattle.py_emission_parts.specs.Children.{decorated};
+ghost use Rattle.py_emission_parts.specs.Running.{run};
+ghost use Rattle.py_emission_parts.specs.Children.{decorated_value};
 ghost use Rattle.py_emission_parts.specs.Within.{class_within};
 ghost use Rattle.py_emission_parts.specs.EmissionParts.{values};
 ghost use Rattle.py_emission.specs.Emission.{all_emissions};
 ghost use Rattle.py_emission.specs.EmissionStmts.{emission_of_stmt};
 ghost use Rattle.py_emit.specs.States.{AreMade, Emits, Same, rest, state};
 ghost use Rattle.py_expr_scopes.specs.Functions.{Gives};
-ghost use Rattle.py_stmt.specs.Classes.{built_emission, class_emission, class_params, function_emission, generic_emission, own_emission, own_scope, part_emission, placed};
-ghost use Rattle.py_stmt_simple.specs.Generics.{hidden_made, hidden_scope, returned};
+ghost use Rattle.py_stmt.specs.Classes.{built_emission, class_emission, class_params, function_emission, generic_emission, own_emission, own_scope, part_emission, emitted_class};
+ghost use Rattle.py_stmt_simple.specs.Generics.{hidden_made, hidden_scope, returned_value};
 
 use crate::functions::compile_rest;
 use py_base::CodegenError;
@@ -25,7 +26,7 @@ use py_tree::{StmtClassDef, Stmts, Text};
 
 /// Emits the definition of a class, and what stores it under its name.
 #[cycle(code)]
-#[tactic(auto, using(py_stmt_parts::proofs::Steps::steps))]
+#[tactic(auto, using(py_stmt_parts::proofs::Steps::step_steps))]
 pub(crate) fn compile_class_def(em: &mut Emitter, s: &StmtClassDef) -> Result<(), CodegenError>
     requires at { (state em.old).location ≡ s.now.location }
     ensures { Emits result (emission_of_stmt (class_def_tree s.now)) em.old em.new }
@@ -38,7 +39,7 @@ pub(crate) fn compile_class_def(em: &mut Emitter, s: &StmtClassDef) -> Result<()
 /// functions are).
 #[cycle(code)]
 pub(crate) fn compile_decorated(em: &mut Emitter, s: &StmtClassDef) -> Result<(), CodegenError>
-    ensures { Emits result (decorated (values (all_emissions (exprs expr_tree s.now.decorator_list))) (class_emission s.now)) em.old em.new }
+    ensures { Emits result (decorated_value (values (all_emissions (exprs expr_tree s.now.decorator_list))) (class_emission s.now)) em.old em.new }
 {
     compile_expressions(em, s.decorator_list.as_slice())?;
     compile_class(em, s)?;
@@ -54,11 +55,11 @@ fn compile_class(em: &mut Emitter, s: &StmtClassDef) -> Result<(), CodegenError>
     compile_placed(em, s, path)
 }
 
-/// Emits a class with this qualified name. One with type parameters is built in a hidden scope (language reference,
+/// Emits a class with this qualified name. One with type parameters is built in a type-parameter scope (language reference,
 /// "Generic classes").
 #[cycle(code)]
 fn compile_placed(em: &mut Emitter, s: &StmtClassDef, path: Text) -> Result<(), CodegenError>
-    ensures { Emits result (placed path s.now (class_params s.now)) em.old em.new }
+    ensures { Emits result (emitted_class path s.now (class_params s.now)) em.old em.new }
 {
     match s.type_params.as_slice() {
         [] => compile_built(em, s, path),
@@ -66,7 +67,7 @@ fn compile_placed(em: &mut Emitter, s: &StmtClassDef, path: Text) -> Result<(), 
     }
 }
 
-/// Emits the function of a hidden scope, in which the class is built, and its call.
+/// Emits the function of a type-parameter scope, in which the class is built, and its call.
 #[cycle(code)]
 fn compile_generic(em: &mut Emitter, s: &StmtClassDef, path: Text) -> Result<(), CodegenError>
     ensures { Emits result (generic_emission path s.now) em.old em.new }
@@ -75,7 +76,7 @@ fn compile_generic(em: &mut Emitter, s: &StmtClassDef, path: Text) -> Result<(),
     em.emit_count(Instruction::CallFunctionPositional, 0)
 }
 
-/// Emits the function of a hidden scope, in which a class is built.
+/// Emits the function of a type-parameter scope, in which a class is built.
 #[cycle(code)]
 fn make_around(em: &mut Emitter, s: &StmtClassDef, path: Text) -> Result<(), CodegenError>
     ensures { Emits result (hidden_made 0 s.now.name (built_emission path s.now)) em.old em.new }
@@ -84,14 +85,14 @@ fn make_around(em: &mut Emitter, s: &StmtClassDef, path: Text) -> Result<(), Cod
     make_hidden(em, s.name.as_str(), code)
 }
 
-/// Emits the hidden scope of a class, and lays its code out.
+/// Emits the type-parameter scope of a class, and lays its code out.
 #[cycle(code)]
 fn compile_hidden_scope(
     em: &mut Emitter,
     s: &StmtClassDef,
     path: Text,
 ) -> Result<CodeObject, CodegenError>
-    ensures goes { Gives result (state em.new) (λ k. hidden_scope 0 s.now.name (built_emission path s.now) k (state em.old)) }
+    ensures goes { Gives result (state em.new) (λ k. run (hidden_scope 0 s.now.name (built_emission path s.now) k) (state em.old)) }
     ensures same { Same result (rest em.new) (rest em.old) }
 {
     enter_hidden(em, s.name.as_str(), 0)?;
@@ -99,10 +100,10 @@ fn compile_hidden_scope(
     em.leave_scope()
 }
 
-/// Emits what a hidden scope holds: the class and its return.
+/// Emits what a type-parameter scope holds: the class and its return.
 #[cycle(code)]
 fn return_built(em: &mut Emitter, s: &StmtClassDef, path: Text) -> Result<(), CodegenError>
-    ensures { Emits result (returned (built_emission path s.now)) em.old em.new }
+    ensures { Emits result (returned_value (built_emission path s.now)) em.old em.new }
 {
     compile_built(em, s, path)?;
     emit!(em, Instruction::ReturnValue);
@@ -152,7 +153,7 @@ fn compile_class_scope(
     body: &Stmts,
     path: Text,
 ) -> Result<CodeObject, CodegenError>
-    ensures goes { Gives result (state em.new) (λ k. own_scope (class_within path name.now) name.now (stmts stmt_tree body.now) k (state em.old)) }
+    ensures goes { Gives result (state em.new) (λ k. run (own_scope (class_within path name.now) name.now (stmts stmt_tree body.now) k) (state em.old)) }
     ensures same { Same result (rest em.new) (rest em.old) }
 {
     let full = em.text(path.as_str())?;
@@ -163,7 +164,7 @@ fn compile_class_scope(
 
 /// Emits what a class's own scope holds: its names, room for annotations where there are any, its statements and its end.
 #[cycle(code)]
-#[tactic(auto, using(crate::proofs::FunctionParts::rest_is))]
+#[tactic(auto, using(crate::proofs::FunctionParts::function_part_rest_is))]
 fn compile_inner(em: &mut Emitter, body: &Stmts, path: Text) -> Result<(), CodegenError>
     requires loops { AreMade (rest em.old).context.loop_blocks }
     requires path { path ≡ (state em.old).around.context.path }

@@ -1,7 +1,8 @@
 //! Definitions of functions.
 ghost use Rattle.std.specs.Prelude.{◌≡◌, ◌≤◌, drop, length};
 ghost use Rattle.py_tree.specs.View.{expr_tree, exprs, function_def_tree, stmt_tree, stmts};
-ghost use Rattle.py_emission_parts.specs.Children.{decorated};
+ghost use Rattle.py_emission_parts.specs.Running.{run};
+ghost use Rattle.py_emission_parts.specs.Children.{decorated_value};
 ghost use Rattle.py_emission_parts.specs.Within.{function_inside};
 ghost use Rattle.py_emission_parts.specs.EmissionParts.{values};
 ghost use Rattle.py_emission.specs.Emission.{all_emissions};
@@ -11,7 +12,7 @@ ghost use Rattle.py_expr_scopes.specs.Functions.{Gives};
 ghost use Rattle.py_stmt.specs.Functions.{body_emission, def_emission, generic_emission, hidden_function, hidden_value, inner_emission, plain_emission, scope_emission, value_emission, within_path};
 ghost use Rattle.py_stmt_simple.specs.Functions.{made_emission};
 ghost use Rattle.py_stmt_parts.specs.Generics.{given_flags, handed_by};
-ghost use Rattle.py_stmt_simple.specs.Generics.{hidden_scope, returned};
+ghost use Rattle.py_stmt_simple.specs.Generics.{hidden_scope, returned_value};
 
 use crate::statements::compile_statement;
 use py_base::{CodegenError, CodegenErrorType};
@@ -28,7 +29,7 @@ use py_tree::{Stmt, StmtFunctionDef, Stmts, Text};
 
 /// Emits the definition of a function, and what stores it under its name.
 #[cycle(code)]
-#[tactic(auto, using(py_stmt_parts::proofs::Steps::steps))]
+#[tactic(auto, using(py_stmt_parts::proofs::Steps::step_steps))]
 pub(crate) fn compile_function_def(
     em: &mut Emitter,
     s: &StmtFunctionDef,
@@ -43,14 +44,14 @@ pub(crate) fn compile_function_def(
 /// Emits decorators, the function and their calls.
 #[cycle(code)]
 pub(crate) fn compile_decorated(em: &mut Emitter, s: &StmtFunctionDef) -> Result<(), CodegenError>
-    ensures { Emits result (decorated (values (all_emissions (exprs expr_tree s.now.decorator_list))) (def_emission s.now)) em.old em.new }
+    ensures { Emits result (decorated_value (values (all_emissions (exprs expr_tree s.now.decorator_list))) (def_emission s.now)) em.old em.new }
 {
     compile_expressions(em, s.decorator_list.as_slice())?;
     compile_function(em, s)?;
     call_decorators(em, s.decorator_list.as_slice())
 }
 
-/// Emits a function. One with type parameters is made in a hidden scope (language reference, "Generic functions").
+/// Emits a function. One with type parameters is made in a type-parameter scope (language reference, "Generic functions").
 #[cycle(code)]
 fn compile_function(em: &mut Emitter, s: &StmtFunctionDef) -> Result<(), CodegenError>
     ensures { Emits result (def_emission s.now) em.old em.new }
@@ -61,7 +62,7 @@ fn compile_function(em: &mut Emitter, s: &StmtFunctionDef) -> Result<(), Codegen
     }
 }
 
-/// Emits a function without type parameters behind its defaults.
+/// Emits a function without type parameters after its defaults.
 #[cycle(code)]
 fn compile_plain(em: &mut Emitter, s: &StmtFunctionDef) -> Result<(), CodegenError>
     ensures { Emits result (plain_emission s.now) em.old em.new }
@@ -70,7 +71,7 @@ fn compile_plain(em: &mut Emitter, s: &StmtFunctionDef) -> Result<(), CodegenErr
     compile_value(em, s, defaults, false)
 }
 
-/// Emits the function of a hidden scope, in which the function is made, and its call with the defaults, which are evaluated
+/// Emits the function of a type-parameter scope, in which the function is made, and its call with the defaults, which are evaluated
 /// outside it.
 #[cycle(code)]
 fn compile_generic(em: &mut Emitter, s: &StmtFunctionDef) -> Result<(), CodegenError>
@@ -81,7 +82,7 @@ fn compile_generic(em: &mut Emitter, s: &StmtFunctionDef) -> Result<(), CodegenE
     call_hidden(em, &s.args, handed_count(defaults))
 }
 
-/// Emits the function of a hidden scope, in which a function is made.
+/// Emits the function of a type-parameter scope, in which a function is made.
 #[cycle(code)]
 fn make_around(
     em: &mut Emitter,
@@ -94,14 +95,14 @@ fn make_around(
     make_hidden(em, s.name.as_str(), code)
 }
 
-/// Emits the hidden scope of a function, which is handed these defaults, and lays its code out.
+/// Emits the type-parameter scope of a function, which is handed these defaults, and lays its code out.
 #[cycle(code)]
 fn compile_hidden_scope(
     em: &mut Emitter,
     s: &StmtFunctionDef,
     defaults: Defaults,
 ) -> Result<CodeObject, CodegenError>
-    ensures goes { Gives result (state em.new) (λ k. hidden_scope (length (handed_by defaults)) s.now.name (hidden_value defaults s.now) k (state em.old)) }
+    ensures goes { Gives result (state em.new) (λ k. run (hidden_scope (length (handed_by defaults)) s.now.name (hidden_value defaults s.now) k) (state em.old)) }
     ensures same { Same result (rest em.new) (rest em.old) }
 {
     enter_hidden(em, s.name.as_str(), handed_count(defaults))?;
@@ -109,21 +110,21 @@ fn compile_hidden_scope(
     em.leave_scope()
 }
 
-/// Emits what a hidden scope holds: the function and its return.
+/// Emits what a type-parameter scope holds: the function and its return.
 #[cycle(code)]
 fn return_value(
     em: &mut Emitter,
     s: &StmtFunctionDef,
     defaults: Defaults,
 ) -> Result<(), CodegenError>
-    ensures { Emits result (returned (hidden_value defaults s.now)) em.old em.new }
+    ensures { Emits result (returned_value (hidden_value defaults s.now)) em.old em.new }
 {
     compile_within(em, s, defaults)?;
     emit!(em, Instruction::ReturnValue);
     Ok(())
 }
 
-/// Emits a function behind the defaults that its hidden scope is handed and behind its type parameters.
+/// Emits a function after the defaults that its type-parameter scope is handed and after its type parameters.
 #[cycle(code)]
 fn compile_within(
     em: &mut Emitter,
@@ -137,7 +138,7 @@ fn compile_within(
     compile_value(em, s, defaults, true)
 }
 
-/// Emits a function behind its defaults and its type parameters: its own scope, what makes it, and what stores its
+/// Emits a function after its defaults and its type parameters: its own scope, what makes it, and what stores its
 /// docstring.
 #[cycle(code)]
 fn compile_value(
@@ -176,7 +177,7 @@ fn compile_function_scope(
     name: Text,
     path: Text,
 ) -> Result<CodeObject, CodegenError>
-    ensures goes { Gives result (state em.new) (λ k. scope_emission (within_path path) name s.now k (state em.old)) }
+    ensures goes { Gives result (state em.new) (λ k. run (scope_emission (within_path path) name s.now k) (state em.old)) }
     ensures same { Same result (rest em.new) (rest em.old) }
 {
     enter_function(em, &s.args, name, Naming::Function { path })?;
@@ -196,7 +197,7 @@ fn compile_inner(em: &mut Emitter, s: &StmtFunctionDef) -> Result<(), CodegenErr
 
 /// Emits the statements of a function but its docstring, and a return of None where no return ends them.
 #[cycle(code)]
-#[tactic(auto, using(crate::proofs::FunctionParts::rest_is))]
+#[tactic(auto, using(crate::proofs::FunctionParts::function_part_rest_is))]
 fn compile_body(em: &mut Emitter, body: &Stmts) -> Result<(), CodegenError>
     requires loops { AreMade (rest em.old).context.loop_blocks }
     ensures { Emits result (body_emission (stmts stmt_tree body.now)) em.old em.new }

@@ -1,4 +1,4 @@
-//! Statements behind imports from the future.
+//! Statements after imports from the future.
 ghost use Rattle.py_tree.specs.View.{stmt_tree, stmts};
 ghost use Rattle.py_emission.specs.EmissionFutures.{emission_behind};
 ghost use Rattle.py_emission.specs.EmissionMods.{emission_of_block, emission_of_prompt};
@@ -28,7 +28,7 @@ pub fn compile_file(em: &mut Emitter, body: &[Stmt]) -> Result<(), CodegenError>
     Ok(())
 }
 
-/// Emits a block behind future imports: the value of its last statement is returned.
+/// Emits a block after future imports: the value of its last statement is returned.
 ///
 /// # Errors
 /// The first compile fault of the statements, with its location; MissingCell; or OutOfMemory.

@@ -5,7 +5,7 @@ ghost use Rattle.py_emission_parts.specs.Emitting.{◌▸◌, emit_constant};
 ghost use Rattle.py_emission.specs.EmissionMods.{emission_of_block, emission_of_single, emission_of_value};
 ghost use Rattle.py_emission.specs.EmissionStmts.{emission_of_stmt, emission_of_stmts};
 ghost use Rattle.py_emit.specs.States.{AreMade, Emits, rest};
-ghost use Rattle.py_stmt.specs.Interactive.{all_prompted, prompted, shown};
+ghost use Rattle.py_stmt.specs.Interactive.{all_prompted, prompted_stmt, shown_stmt};
 
 use crate::statements::{compile_statement, compile_statements};
 use crate::{classes, functions};
@@ -16,7 +16,7 @@ use py_expr::compile_return;
 use py_stmt_simple::{print_value, show_value, store_and_return};
 use py_tree::{Stmt, StmtClassDef, StmtFunctionDef};
 
-/// Emits statements at a prompt behind others: an expression that stands there itself is printed, and the last is returned too; after
+/// Emits statements at a prompt after others: an expression that stands there itself is printed, and the last is returned too; after
 /// another last statement None is returned.
 ///
 /// # Errors
@@ -36,7 +36,7 @@ pub(crate) fn compile_single(em: &mut Emitter, body: &[Stmt]) -> Result<(), Code
 /// Emits statements at a prompt, the last of which is given apart.
 fn compile_single_parts(em: &mut Emitter, first: &[Stmt], last: &Stmt) -> Result<(), CodegenError>
     requires loops { AreMade (rest em.old).context.loop_blocks }
-    ensures { Emits result (all_prompted (stmts stmt_tree first.now) ▸ shown (stmt_tree last.now)) em.old em.new }
+    ensures { Emits result (all_prompted (stmts stmt_tree first.now) ▸ shown_stmt (stmt_tree last.now)) em.old em.new }
 {
     compile_prompted(em, first)?;
     compile_shown(em, last)
@@ -57,7 +57,7 @@ fn compile_prompted(em: &mut Emitter, body: &[Stmt]) -> Result<(), CodegenError>
 #[tactic(auto, using(py_tree::proofs::View::trees))]
 fn compile_prompted_one(em: &mut Emitter, statement: &Stmt) -> Result<(), CodegenError>
     requires loops { AreMade (rest em.old).context.loop_blocks }
-    ensures { Emits result (prompted (stmt_tree statement.now)) em.old em.new }
+    ensures { Emits result (prompted_stmt (stmt_tree statement.now)) em.old em.new }
 {
     match statement {
         Stmt::Expr(s) => print_value(em, &s.value),
@@ -69,7 +69,7 @@ fn compile_prompted_one(em: &mut Emitter, statement: &Stmt) -> Result<(), Codege
 #[tactic(auto, using(py_tree::proofs::View::trees))]
 fn compile_shown(em: &mut Emitter, statement: &Stmt) -> Result<(), CodegenError>
     requires loops { AreMade (rest em.old).context.loop_blocks }
-    ensures { Emits result (shown (stmt_tree statement.now)) em.old em.new }
+    ensures { Emits result (shown_stmt (stmt_tree statement.now)) em.old em.new }
 {
     match statement {
         Stmt::Expr(s) => show_value(em, &s.value),
@@ -114,7 +114,7 @@ fn compile_block_parts(em: &mut Emitter, first: &[Stmt], last: &Stmt) -> Result<
 }
 
 /// Emits the last statement of a block, and the return of its value.
-#[tactic(auto, using(py_tree::proofs::View::trees, py_stmt_parts::proofs::Steps::steps))]
+#[tactic(auto, using(py_tree::proofs::View::trees, py_stmt_parts::proofs::Steps::step_steps))]
 fn compile_value(em: &mut Emitter, statement: &Stmt) -> Result<(), CodegenError>
     requires loops { AreMade (rest em.old).context.loop_blocks }
     ensures { Emits result (emission_of_value (stmt_tree statement.now)) em.old em.new }
@@ -131,7 +131,7 @@ fn compile_value(em: &mut Emitter, statement: &Stmt) -> Result<(), CodegenError>
 }
 
 /// Emits a function that is stored and returned.
-#[tactic(auto, using(py_stmt_parts::proofs::Steps::steps))]
+#[tactic(auto, using(py_stmt_parts::proofs::Steps::step_steps))]
 fn return_function(em: &mut Emitter, s: &StmtFunctionDef) -> Result<(), CodegenError>
     ensures { Emits result (emission_of_value (function_def_tree s.now)) em.old em.new }
 {
@@ -141,7 +141,7 @@ fn return_function(em: &mut Emitter, s: &StmtFunctionDef) -> Result<(), CodegenE
 }
 
 /// Emits a class that is stored and returned.
-#[tactic(auto, using(py_stmt_parts::proofs::Steps::steps))]
+#[tactic(auto, using(py_stmt_parts::proofs::Steps::step_steps))]
 fn return_class(em: &mut Emitter, s: &StmtClassDef) -> Result<(), CodegenError>
     ensures { Emits result (emission_of_value (class_def_tree s.now)) em.old em.new }
 {

@@ -3,9 +3,10 @@ ghost use Rattle.std.specs.Prelude.{◌≡◌, ◌<◌};
 ghost use Rattle.py_tree.specs.View.{expr_tree, stmt_tree, stmts, while_tree};
 ghost use Rattle.py_emission_parts.specs.Emitting.{in_loop};
 ghost use Rattle.py_emission.specs.Emission.{emission, emission_of_store};
+ghost use Rattle.py_emission.specs.ControlEmissions.{for_each};
 ghost use Rattle.py_emission.specs.EmissionStmts.{emission_of_stmt, emission_of_stmts};
 ghost use Rattle.py_emit.specs.States.{AreMade, Emits, rest, state};
-ghost use Rattle.py_stmt.specs.Parts.{each_by_parts, each_ended, each_turn};
+ghost use Rattle.py_stmt.specs.Parts.{each_ended, each_turn};
 
 use crate::statements::compile_statements;
 use py_base::CodegenError;
@@ -18,10 +19,10 @@ use py_tree::{Stmt, StmtFor, StmtWhile};
 
 /// Emits a loop over the values of an iterator. Its else part runs where there are no more, and stands outside its block.
 #[cycle(code)]
-#[tactic(auto, using(py_stmt_parts::proofs::Steps::steps))]
+#[tactic(auto, using(py_stmt_parts::proofs::Steps::step_steps))]
 pub(crate) fn compile_for(em: &mut Emitter, s: &StmtFor) -> Result<(), CodegenError>
     requires loops { AreMade (rest em.old).context.loop_blocks }
-    ensures { Emits result (each_by_parts (emission (expr_tree s.now.iter.value)) (emission_of_store (expr_tree s.now.target.value)) (emission_of_stmts (stmts stmt_tree s.now.body)) (emission_of_stmts (stmts stmt_tree s.now.orelse))) em.old em.new }
+    ensures { Emits result (for_each (emission (expr_tree s.now.iter.value)) (emission_of_store (expr_tree s.now.target.value)) (emission_of_stmts (stmts stmt_tree s.now.body)) (emission_of_stmts (stmts stmt_tree s.now.orelse))) em.old em.new }
 {
     let start = em.new_block()?;
     let other = em.new_block()?;
@@ -68,7 +69,7 @@ fn end_each(em: &mut Emitter, orelse: &[Stmt]) -> Result<(), CodegenError>
 
 /// Emits a loop. Its else part runs where the test ends it, and stands outside its block.
 #[cycle(code)]
-#[tactic(auto, using(py_stmt_parts::proofs::Steps::steps))]
+#[tactic(auto, using(py_stmt_parts::proofs::Steps::step_steps))]
 pub(crate) fn compile_while(em: &mut Emitter, s: &StmtWhile) -> Result<(), CodegenError>
     requires loops { AreMade (rest em.old).context.loop_blocks }
     requires at { (state em.old).location ≡ s.now.location }

@@ -1,10 +1,10 @@
-//! `try`, its handlers and its last part.
+//! `try`, its handlers and its finally block.
 ghost use Rattle.std.specs.Prelude.{◌≡◌, ◌<◌};
 ghost use Rattle.py_tree.specs.View.{expr_tree, handlers as handler_trees, opt_box, stmt_tree, stmts, try_tree};
-ghost use Rattle.py_emission.specs.ControlEmissions.{finally_do, forgotten, named_body};
+ghost use Rattle.py_emission.specs.ControlEmissions.{finally_do, forgotten, named_body, try_body};
 ghost use Rattle.py_emission.specs.EmissionStmts.{emission_of_handlers, emission_of_last, emission_of_stmt, emission_of_stmts};
-ghost use Rattle.py_emit.specs.States.{AreMade, Emits, rest, state};
-ghost use Rattle.py_stmt.specs.Parts.{emission_of_caught, emission_of_handler, guarded, try_by_parts, unguarded};
+ghost use Rattle.py_emit.specs.States.{AreMade, Does, Emits, rest, state};
+ghost use Rattle.py_stmt.specs.Parts.{emission_of_caught, emission_of_handler, guarded_body, unguarded_else};
 
 use crate::statements::compile_statements;
 use py_base::CodegenError;
@@ -15,9 +15,9 @@ use py_stmt_parts::{enter_last, forget, leave_handler, set_up_last};
 use py_stmt_simple::compile_match;
 use py_tree::{ExceptHandler, Stmt, StmtTry, Text};
 
-/// Emits a body, what handles its exceptions, an else part, and a last part that runs on every way out.
+/// Emits a body, what handles its exceptions, an else part, and a finally block that runs on every way out.
 #[cycle(code)]
-#[tactic(auto, using(py_stmt_parts::proofs::Steps::steps))]
+#[tactic(auto, using(py_stmt_parts::proofs::Steps::step_steps))]
 pub(crate) fn compile_try(em: &mut Emitter, s: &StmtTry) -> Result<(), CodegenError>
     requires loops { AreMade (rest em.old).context.loop_blocks }
     requires at { (state em.old).location ≡ s.now.location }
@@ -26,12 +26,12 @@ pub(crate) fn compile_try(em: &mut Emitter, s: &StmtTry) -> Result<(), CodegenEr
     compile_parts(em, s, !s.finalbody.is_empty())
 }
 
-/// Emits the parts of a `try`, which has a last part where `last` says so.
+/// Emits the parts of a `try`, which has a finally block where `last` says so.
 #[cycle(code)]
-#[tactic(auto, using(py_stmt_parts::proofs::Steps::steps))]
+#[tactic(auto, using(py_stmt_parts::proofs::Steps::step_steps))]
 fn compile_parts(em: &mut Emitter, s: &StmtTry, last: bool) -> Result<(), CodegenError>
     requires loops { AreMade (rest em.old).context.loop_blocks }
-    ensures { Emits result (try_by_parts last (emission_of_stmts (stmts stmt_tree s.now.body)) (emission_of_handlers (handler_trees stmt_tree s.now.handlers) last) (emission_of_stmts (stmts stmt_tree s.now.orelse)) (emission_of_last (stmts stmt_tree s.now.finalbody) (emission_of_stmts (stmts stmt_tree s.now.finalbody)))) em.old em.new }
+    ensures { Emits result (try_body last (emission_of_stmts (stmts stmt_tree s.now.body)) (emission_of_handlers (handler_trees stmt_tree s.now.handlers) last) (emission_of_stmts (stmts stmt_tree s.now.orelse)) (emission_of_last (stmts stmt_tree s.now.finalbody) (emission_of_stmts (stmts stmt_tree s.now.finalbody)))) em.old em.new }
 {
     let catch = em.new_block()?;
     let other = em.new_block()?;
@@ -46,7 +46,7 @@ fn compile_parts(em: &mut Emitter, s: &StmtTry, last: bool) -> Result<(), Codege
 }
 
 /// Emits the body of a `try`: an exception goes to the first of the blocks, its end to the second, and every way out to the
-/// third where there is a last part.
+/// third where there is a finally block.
 #[cycle(code)]
 fn compile_guarded(
     em: &mut Emitter,
@@ -58,7 +58,7 @@ fn compile_guarded(
     requires catch { blocks.0.0 < 0xffff_ffff }
     requires other { blocks.1.0 < 0xffff_ffff }
     requires end { blocks.2.0 < 0xffff_ffff }
-    ensures { Emits result (guarded last (emission_of_stmts (stmts stmt_tree body.now)) blocks.0.0 blocks.1.0 blocks.2.0) em.old em.new }
+    ensures { Emits result (guarded_body last (emission_of_stmts (stmts stmt_tree body.now)) blocks.0.0 blocks.1.0 blocks.2.0) em.old em.new }
 {
     let (catch, other, end) = blocks;
     set_up_last(em, last, end)?;
@@ -69,17 +69,17 @@ fn compile_guarded(
     Ok(())
 }
 
-/// Emits an else part and what enters the last part.
+/// Emits an else part and what enters the finally block.
 #[cycle(code)]
 fn compile_unguarded(em: &mut Emitter, orelse: &[Stmt], last: bool) -> Result<(), CodegenError>
     requires loops { AreMade (rest em.old).context.loop_blocks }
-    ensures { Emits result (unguarded last (emission_of_stmts (stmts stmt_tree orelse.now))) em.old em.new }
+    ensures { Emits result (unguarded_else last (emission_of_stmts (stmts stmt_tree orelse.now))) em.old em.new }
 {
     compile_statements(em, orelse)?;
     enter_last(em, last)
 }
 
-/// Emits the last part, where there is one.
+/// Emits the finally block, where there is one.
 #[cycle(code)]
 fn compile_last(em: &mut Emitter, body: &[Stmt]) -> Result<(), CodegenError>
     requires loops { AreMade (rest em.old).context.loop_blocks }
@@ -112,9 +112,9 @@ fn compile_handlers(
     Ok(())
 }
 
-/// Emits one handler: an exception that it does not take goes on behind it.
+/// Emits one handler: an exception that it does not take goes on after it.
 #[cycle(code)]
-#[tactic(auto, using(py_stmt_parts::proofs::Steps::steps))]
+#[tactic(auto, using(py_stmt_parts::proofs::Steps::step_steps))]
 fn compile_handler(
     em: &mut Emitter,
     handler: &ExceptHandler,
@@ -123,7 +123,7 @@ fn compile_handler(
 ) -> Result<(), CodegenError>
     requires loops { AreMade (rest em.old).context.loop_blocks }
     requires end { end.0 < 0xffff_ffff }
-    ensures { Emits result (emission_of_handler (opt_box expr_tree handler.now.type_) handler.now.name (stmts stmt_tree handler.now.body) last end.0) em.old em.new }
+    ensures { Does result (emission_of_handler (opt_box expr_tree handler.now.type_) handler.now.name (stmts stmt_tree handler.now.body) last end.0) em.old em.new }
 {
     let next = em.new_block()?;
     compile_match(em, &handler.type_, &handler.name, next)?;
@@ -158,7 +158,7 @@ fn compile_named(em: &mut Emitter, name: &Option<Text>, body: &[Stmt]) -> Result
 }
 
 #[cycle(code)]
-#[tactic(auto, using(py_stmt_parts::proofs::Steps::steps))]
+#[tactic(auto, using(py_stmt_parts::proofs::Steps::step_steps))]
 fn compile_forgetting(em: &mut Emitter, name: &Text, body: &[Stmt]) -> Result<(), CodegenError>
     requires loops { AreMade (rest em.old).context.loop_blocks }
     ensures { Emits result (finally_do (emission_of_stmts (stmts stmt_tree body.now)) (forgotten name.now)) em.old em.new }

@@ -1,9 +1,8 @@
 -- The parts of a class: where its scope stands, the names with which it begins, and its end.
-use Rattle.std.proofs.Common.{◌≡◌, ℕ, ◌^◌, List, Bool, Option, refl, sym, ap, ◌∙◌}
-use Rattle.std.specs.Prelude.{codes, nat_lt}
+use Rattle.std.proofs.Common.{◌≡◌, ℕ, List, Bool, Option, refl, sym, ap, ◌∙◌}
+use Rattle.std.specs.Prelude.{codes}
 use Rattle.std.specs.List.{list_any}
 use Rattle.py_base.specs.declared.location.SourceLocation.{SourceLocation}
-use Rattle.py_bytecode.specs.declared.instruction.Instruction.{Instruction}
 use Rattle.py_bytecode.specs.declared.instruction.Instruction.TheVariants as op
 use Rattle.py_bytecode.specs.Equality.{text_eq}
 use Rattle.py_bytecode.specs.Objects as const
@@ -11,49 +10,41 @@ use Rattle.py_scope.specs.declared.table_type.SymbolTableType.TheVariants as kin
 use Rattle.py_emission_parts.specs.Classes.{cell_returned, class_end, class_names}
 use Rattle.py_emission_parts.specs.Within.{doc_const}
 use Rattle.py_emission_parts.specs.Context.{inside, with_path}
-use Rattle.py_emission_parts.specs.Emitting.{Around, Done, Emission, State, ◌▸◌, begun, by_context, emit, emit_constant, emit_name, go_on, with_name, with_step}
-use Rattle.py_emit.specs.States.{entered}
+use Rattle.py_emission_parts.specs.Emitting.{Around, Done, Emission, State, ◌▸◌, initial_state, by_context, emit_constant, emit_name}
+use Rattle.py_emission_parts.specs.Running.{Action, go_on, run}
+use Rattle.py_emission_parts.proofs.GrowthLemmas.{around_stays}
+use Rattle.py_emit.specs.States.{nested_context}
 use Rattle.py_emit.specs.declared.context.Naming.TheVariants as naming
-use Rattle.py_emit.proofs.Joined.{between, chosen_done, joined, went}
-use Rattle.py_stmt_parts.specs.Classes.{cells_kept, copied, stored_as}
+use Rattle.py_emit.proofs.Joined.{joined_actions, went}
+use Rattle.py_stmt_parts.specs.Classes.{cells_kept, copied_name, stored_as}
 
 -- around the names within it stands that path
-pub entered_path : (name path : List ℕ) (s : State) (at : SourceLocation) (n : ℕ) → (begun (entered kind.Class (naming.Class name path) s) at n).around.context.path ≡ path
+pub entered_path : (name path : List ℕ) (s : State) (at : SourceLocation) (n : ℕ) → (initial_state (nested_context kind.Class (naming.Class name path) s) at n).around.context.path ≡ path
 unfolding inside with_path
 entered_path name path s at n = refl
-
--- an instruction with a name changes nothing of what stands around
-name_around : (i : Instruction) (x : List ℕ) (s r : State) → emit_name i x s ≡ Done r → r.around ≡ s.around
-unfolding emit_name emit with_name with_step
-name_around i x s r e = sym (ap (λ (y : State). y.around) (chosen_done (nat_lt _ (2 ^ 32)) _ r e).1)
-
-copied_around : (x y : List ℕ) (s r : State) → copied x y s ≡ Done r → r.around ≡ s.around
-copied_around x y s r e =
-    let m = between (emit_name op.LoadGlobal x s) (emit_name op.StoreLocal y) r e in
-    name_around op.StoreLocal y m.mid r m.second ∙ name_around op.LoadGlobal x s m.mid m.first
 
 -- the names after the module
 abbrev pub titles : (doc : Option (List ℕ)) → Emission
 titles doc = by_context (λ c. emit_constant op.LoadConst (const.str c.path)) ▸ emit_name op.StoreLocal (codes "__qualname__") ▸ stored_as (codes "__doc__") (doc_const doc)
 
 -- the module comes first
-pub module_first : (doc : Option (List ℕ)) (s : State) → class_names doc s ≡ go_on (copied (codes "__name__") (codes "__module__") s) (titles doc)
-module_first doc s = ap (λ (f : Emission). f s) (sym (joined (emit_name op.LoadGlobal (codes "__name__")) (emit_name op.StoreLocal (codes "__module__")) (titles doc)))
+pub module_first : (doc : Option (List ℕ)) (s : State) → run (class_names doc) s ≡ go_on (run (copied_name (codes "__name__") (codes "__module__")) s) (titles doc)
+module_first doc s = ap (λ (f : Action). f s) (sym (joined_actions (emit_name op.LoadGlobal (codes "__name__")) (emit_name op.StoreLocal (codes "__module__")) (titles doc)))
 
 -- and then the qualified name, which is the path
-titles_as : (doc : Option (List ℕ)) (path : List ℕ) (s : State) → path ≡ s.around.context.path → titles doc s ≡ go_on (stored_as (codes "__qualname__") (const.str path) s) (stored_as (codes "__doc__") (doc_const doc))
+titles_as : (doc : Option (List ℕ)) (path : List ℕ) (s : State) → path ≡ s.around.context.path → run (titles doc) s ≡ go_on (run (stored_as (codes "__qualname__") (const.str path)) s) (stored_as (codes "__doc__") (doc_const doc))
 unfolding by_context
 titles_as doc path s e =
-    ap (λ p. (emit_constant op.LoadConst (const.str p) ▸ emit_name op.StoreLocal (codes "__qualname__") ▸ stored_as (codes "__doc__") (doc_const doc)) s) (sym e)
-    ∙ ap (λ (f : Emission). f s) (sym (joined (emit_constant op.LoadConst (const.str path)) (emit_name op.StoreLocal (codes "__qualname__")) (stored_as (codes "__doc__") (doc_const doc))))
+    ap (λ p. run (emit_constant op.LoadConst (const.str p) ▸ emit_name op.StoreLocal (codes "__qualname__") ▸ stored_as (codes "__doc__") (doc_const doc)) s) (sym e)
+    ∙ ap (λ (f : Action). f s) (sym (joined_actions (emit_constant op.LoadConst (const.str path)) (emit_name op.StoreLocal (codes "__qualname__")) (stored_as (codes "__doc__") (doc_const doc))))
 
-pub titles_next : (doc : Option (List ℕ)) (path : List ℕ) (s r : State) → path ≡ s.around.context.path → copied (codes "__name__") (codes "__module__") s ≡ Done r → class_names doc s ≡ go_on (stored_as (codes "__qualname__") (const.str path) r) (stored_as (codes "__doc__") (doc_const doc))
+pub titles_next : (doc : Option (List ℕ)) (path : List ℕ) (s r : State) → path ≡ s.around.context.path → run (copied_name (codes "__name__") (codes "__module__")) s ≡ Done r → run (class_names doc) s ≡ go_on (run (stored_as (codes "__qualname__") (const.str path)) r) (stored_as (codes "__doc__") (doc_const doc))
 titles_next doc path s r e g =
     module_first doc s
-    ∙ went _ (titles doc) r g
-    ∙ titles_as doc path r (e ∙ sym (ap (λ (x : Around). x.context.path) (copied_around (codes "__name__") (codes "__module__") s r g)))
+    ∙ went _ (run (titles doc)) r g
+    ∙ titles_as doc path r (e ∙ sym (ap (λ (x : Around). x.context.path) (around_stays (copied_name (codes "__name__") (codes "__module__")) s r g)))
 
 -- the end of a class by whether it has the cell
-pub end_as : (kept : Bool) (s : State) → kept ≡ list_any (text_eq (codes "__class__")) s.around.context.cells → class_end s ≡ cell_returned (cells_kept kept) s
+pub end_as : (kept : Bool) (s : State) → kept ≡ list_any (text_eq (codes "__class__")) s.around.context.cells → run class_end s ≡ run (cell_returned (cells_kept kept)) s
 unfolding by_context
-end_as kept s e = ap (λ b. cell_returned (cells_kept b) s) (sym e)
+end_as kept s e = ap (λ b. run (cell_returned (cells_kept b)) s) (sym e)

@@ -6,8 +6,8 @@ use Rattle.py_emission_parts.specs.Children.{load_cell}
 use Rattle.py_emission_parts.specs.Emitting.{Emission, ◌▸◌, emit, emit_constant, emit_name}
 
 -- a global name is stored under another
-abbrev pub copied : (from to : List ℕ) → Emission
-copied from to = emit_name op.LoadGlobal from ▸ emit_name op.StoreLocal to
+abbrev pub copied_name : (from to : List ℕ) → Emission
+copied_name from to = emit_name op.LoadGlobal from ▸ emit_name op.StoreLocal to
 
 -- a constant is stored under a name
 abbrev pub stored_as : (name : List ℕ) → Const → Emission

@@ -1,4 +1,4 @@
--- The defaults that a hidden scope is handed, and the flags of what is made with type parameters.
+-- The defaults that a type-parameter scope is handed, and the flags of what is made with type parameters.
 use Rattle.std.specs.Prelude.{ℕ, ◌+◌, List, [], ◌∷◌, ◌++◌, Bool, true, false, ◌||◌, codes}
 use Rattle.py_tree.specs.Tree as tree
 use Rattle.py_name_uses.specs.Parts.{has_default}
@@ -14,7 +14,7 @@ abbrev pub name_if : (name : List ℕ) → Bool → List (List ℕ)
 name_if name false = []
 name_if name true = name ∷ []
 
--- the names under which a hidden scope has these defaults
+-- the names under which a type-parameter scope has these defaults
 abbrev pub handed_by : Defaults → List (List ℕ)
 handed_by d = name_if (codes ".defaults") d.positional ++ name_if (codes ".kwdefaults") d.keyword
 

@@ -2,7 +2,7 @@
 ghost use Rattle.std.specs.Prelude.{◌≡◌, ◌≤◌, drop, length};
 ghost use Rattle.py_tree.specs.View.{stmt_tree, stmts};
 ghost use Rattle.py_emission.specs.EmissionDefs.{emission_of_setup};
-ghost use Rattle.py_emission.specs.Predicates.{annotated};
+ghost use Rattle.py_emission.specs.Predicates.{any_annotates};
 ghost use Rattle.py_emit.specs.States.{Emits};
 
 use crate::docs::statements_from;
@@ -16,7 +16,7 @@ use py_tree::Stmts;
 /// no handlers. The place is at most the length of the body.
 pub fn find_ann(body: &Stmts, from: usize) -> bool
     requires { from ≤ length body.now }
-    ensures { result ≡ annotated (stmts stmt_tree (drop from body.now)) }
+    ensures { result ≡ any_annotates (stmts stmt_tree (drop from body.now)) }
 {
     has_annotation(statements_from(body, from))
 }

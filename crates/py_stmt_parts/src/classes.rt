@@ -3,13 +3,14 @@ ghost use Rattle.std.specs.Prelude.{◌≡◌, ◌≤◌, drop, length, suc, IfE
 ghost use Rattle.py_tree.specs.View.{stmt_tree, stmts};
 ghost use Rattle.py_bytecode.specs.Objects.{str};
 ghost use Rattle.py_bytecode.specs.View.{constant, object};
-ghost use Rattle.py_emission_parts.specs.Children.{code_head, made};
+ghost use Rattle.py_emission_parts.specs.Children.{made_function};
+ghost use Rattle.py_emission_parts.specs.Running.{code_head};
 ghost use Rattle.py_emission_parts.specs.Classes.{cell_returned, class_end, class_names, class_shape};
 ghost use Rattle.py_emission_parts.specs.Within.{doc_const};
-ghost use Rattle.py_emission_parts.specs.Emitting.{begun, by_level};
+ghost use Rattle.py_emission_parts.specs.Emitting.{initial_state, by_level};
 ghost use Rattle.py_emission.specs.Texts.{after_doc, doc_of};
-ghost use Rattle.py_emit.specs.States.{Emits, IsStarved, entered, entered_rest, rest, state};
-ghost use Rattle.py_stmt_parts.specs.Classes.{cell_kept, cells_kept, copied, stored_as};
+ghost use Rattle.py_emit.specs.States.{Emits, IsStarved, nested_context, entered_rest, rest, state};
+ghost use Rattle.py_stmt_parts.specs.Classes.{cell_kept, cells_kept, copied_name, stored_as};
 
 use crate::docs::split_doc;
 use bitflags::Flags;
@@ -29,19 +30,19 @@ pub fn make_class(
     flags: MakeFunctionFlags,
     code: CodeObject,
 ) -> Result<(), CodegenError>
-    ensures { Emits result (made flags.0 name.now (object code)) em.old em.new }
+    ensures { Emits result (made_function flags.0 name.now (object code)) em.old em.new }
 {
     let name = em.text(name)?;
     em.make_function(flags, name, code)
 }
 
-/// Goes into the scope of a class of this name, around whose names this path stands; the scope around waits.
+/// Goes into the scope of a class of this name, around whose names this path stands; the enclosing scope waits.
 ///
 /// # Errors
 /// OutOfMemory alone.
 pub fn enter_class(em: &mut Emitter, name: &str, path: Text) -> Result<(), CodegenError>
-    ensures state { OnOk result (state em.new ≡ begun (entered SymbolTableType.Class (Naming.Class name.now path) (state em.old)) (state em.old).location (suc (state em.old).next)) }
-    ensures rest { OnOk result (rest em.new ≡ entered_rest em.old.scope (code_head (entered SymbolTableType.Class (Naming.Class name.now path) (state em.old)) (class_shape name.now) (state em.old).location) (rest em.old)) }
+    ensures state { OnOk result (state em.new ≡ initial_state (nested_context SymbolTableType.Class (Naming.Class name.now path) (state em.old)) (state em.old).location (suc (state em.old).next)) }
+    ensures rest { OnOk result (rest em.new ≡ entered_rest em.old.scope (code_head (nested_context SymbolTableType.Class (Naming.Class name.now path) (state em.old)) (class_shape name.now) (state em.old).location) (rest em.old)) }
     ensures err { IfErr result (λ e. IsStarved e (rest em.old).path) }
 {
     let obj_name = em.text(name)?;
@@ -57,7 +58,7 @@ pub fn enter_class(em: &mut Emitter, name: &str, path: Text) -> Result<(), Codeg
 }
 
 /// Emits the names with which a class begins, around whose names this path stands. Answers the place at which the
-/// statements behind the docstring begin.
+/// statements after the docstring begin.
 ///
 /// # Errors
 /// OutOfMemory alone.
@@ -90,7 +91,7 @@ fn name_class(em: &mut Emitter, path: Text, doc: Option<Text>) -> Result<(), Cod
 
 /// Emits what stores a global name under another.
 fn copy_name(em: &mut Emitter, from: &str, to: &str) -> Result<(), CodegenError>
-    ensures { Emits result (copied from.now to.now) em.old em.new }
+    ensures { Emits result (copied_name from.now to.now) em.old em.new }
 {
     em.emit_name(Instruction::LoadGlobal, from)?;
     em.emit_name(Instruction::StoreLocal, to)

@@ -2,8 +2,8 @@
 ghost use Rattle.std.specs.Prelude.{◌≡◌};
 ghost use Rattle.py_tree.specs.View.{expr_tree, exprs, stmt_tree, stmts};
 ghost use Rattle.py_bytecode.specs.View.{object};
-ghost use Rattle.py_emission_parts.specs.Context.{qualified};
-ghost use Rattle.py_emission_parts.specs.Children.{decorations, documented, made};
+ghost use Rattle.py_emission_parts.specs.Context.{qualified_under};
+ghost use Rattle.py_emission_parts.specs.Children.{decorations, docstring_store, made_function};
 ghost use Rattle.py_emission_parts.specs.Emitting.{by_context, by_level};
 ghost use Rattle.py_emission_parts.specs.EmissionParts.{values};
 ghost use Rattle.py_emission.specs.Emission.{all_emissions};
@@ -74,7 +74,7 @@ pub fn make_named(
     flags: MakeFunctionFlags,
     code: CodeObject,
 ) -> Result<(), CodegenError>
-    ensures { Emits result (by_context (λ c. made flags.0 (qualified c name.now) (object code))) em.old em.new }
+    ensures { Emits result (by_context (λ c. made_function flags.0 (qualified_under c name.now) (object code))) em.old em.new }
 {
     let full = em.qualified(name)?;
     em.make_function(flags, full, code)
@@ -86,7 +86,7 @@ pub fn make_named(
 /// OutOfMemory alone.
 #[tactic(auto, unfolding(py_emission_parts::specs::Emitting::by_level, py_emit::specs::States::rest))]
 pub fn store_doc(em: &mut Emitter, body: &Stmts) -> Result<(), CodegenError>
-    ensures { Emits result (by_level (λ l. documented (doc_of l (stmts stmt_tree body.now)))) em.old em.new }
+    ensures { Emits result (by_level (λ l. docstring_store (doc_of l (stmts stmt_tree body.now)))) em.old em.new }
 {
     match split_doc(em.alloc(), body, em.opts()) {
         Ok((doc, _)) => store_text(em, doc),
@@ -97,7 +97,7 @@ pub fn store_doc(em: &mut Emitter, body: &Stmts) -> Result<(), CodegenError>
 /// Emits what stores a docstring to the function that lies there, where there is one.
 #[tactic(auto, using(py_bytecode::proofs::View::views))]
 fn store_text(em: &mut Emitter, doc: Option<Text>) -> Result<(), CodegenError>
-    ensures { Emits result (documented doc) em.old em.new }
+    ensures { Emits result (docstring_store doc) em.old em.new }
 {
     match doc {
         Some(value) => {

@@ -4,6 +4,7 @@ ghost use Rattle.py_tree.specs.View.{stmt_tree};
 ghost use Rattle.py_name_uses.specs.Parts.{names_annotations};
 ghost use Rattle.py_emission.specs.EmissionFutures.{check_features, emission_of_future};
 ghost use Rattle.py_emission.specs.Futures.{future_of, is_feature};
+ghost use Rattle.py_emission_parts.specs.Running.{run};
 ghost use Rattle.py_emit.specs.States.{Emits, IsTold, postponed_rest, rest, state};
 ghost use Rattle.py_stmt_parts.specs.Futures.{AreChanged, Entered, IsRefusing, NoFuture, Opens, changed_rest, future, restored_state};
 
@@ -13,7 +14,7 @@ use py_emit::{Emitter, refuse};
 use py_name_uses::names::{is_future, names_annotations};
 use py_tree::{Alias, Stmt, StmtImportFrom};
 
-/// Where the statements begin that stand behind future imports, and whether one of these postpones annotations.
+/// Where the statements begin that stand after future imports, and whether one of these postpones annotations.
 #[derive(Clone, Copy)]
 pub struct Opening {
     /// How many statements stand before the others.
@@ -66,7 +67,7 @@ pub fn enter_future(
     postponed: bool,
 ) -> Result<bool, CodegenError>
     ensures entered { IfOk result (λ after. Entered (emission_of_future (future s.now)) (names_annotations s.now.names) (state em.old) (state em.new) postponed after) }
-    ensures refused { IfErr result (λ e. IsRefusing e (emission_of_future (future s.now) (state em.old))) }
+    ensures refused { IfErr result (λ e. IsRefusing e (run (emission_of_future (future s.now)) (state em.old))) }
     ensures rest { IfOk result (λ after. AreChanged postponed after (rest em.old) (rest em.new)) }
     ensures told { IfErr result (λ e. IsTold e (rest em.old).path) }
 {
@@ -103,7 +104,7 @@ fn as_future(statement: &Stmt) -> Option<&StmtImportFrom>
 }
 
 /// Emits a future import, and answers whether it postpones the annotations of what follows.
-#[tactic(auto, using(crate::proofs::Steps::steps))]
+#[tactic(auto, using(crate::proofs::Steps::step_steps))]
 fn compile_future(em: &mut Emitter, s: &StmtImportFrom) -> Result<bool, CodegenError>
     ensures postpones { IfOk result (λ p. p ≡ names_annotations s.now.names) }
     ensures emits { Emits result (emission_of_future (future s.now)) em.old em.new }

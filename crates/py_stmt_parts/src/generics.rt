@@ -1,15 +1,16 @@
-//! Type parameters without a bound (PEP 695; language reference, "Type parameter lists"), and the hidden scope around
+//! Type parameters without a bound (PEP 695; language reference, "Type parameter lists"), and the type-parameter scope around
 //! what is generic.
 ghost use Rattle.std.specs.Prelude.{◌≡◌, ◌+◌, length, suc, IfErr, IfOk, OnOk};
 ghost use Rattle.py_tree.specs.View.{arguments, expr_tree, type_params as param_trees};
 ghost use Rattle.py_bytecode.specs.Objects.{str};
 ghost use Rattle.py_bytecode.specs.View.{object};
-ghost use Rattle.py_emission_parts.specs.Children.{code_head, made};
-ghost use Rattle.py_emission_parts.specs.Emitting.{begun, emit_constant};
+ghost use Rattle.py_emission_parts.specs.Children.{made_function};
+ghost use Rattle.py_emission_parts.specs.Running.{code_head};
+ghost use Rattle.py_emission_parts.specs.Emitting.{initial_state, emit_constant};
 ghost use Rattle.py_emission_parts.specs.TypeParameters.{hidden_shape, kept_as, load_handed, plain};
 ghost use Rattle.py_emission_parts.specs.Within.{hidden_name};
-ghost use Rattle.py_emission.specs.Emission.{unsupported};
-ghost use Rattle.py_emit.specs.States.{Emits, IsStarved, entered, entered_rest, rest, state};
+ghost use Rattle.py_emission.specs.Emission.{unsupported_node};
+ghost use Rattle.py_emit.specs.States.{Emits, IsStarved, nested_context, entered_rest, rest, state};
 ghost use Rattle.py_expr_scopes.specs.Functions.{flag_if};
 ghost use Rattle.py_stmt_parts.specs.Generics.{defaults_of, given_flags, handed_by, name_if, params_flag};
 
@@ -38,9 +39,9 @@ pub fn params_flag(params: &[TypeParam]) -> MakeFunctionFlags
 ///
 /// # Errors
 /// NotImplementedYet, always.
-#[tactic(auto, using(crate::proofs::Steps::steps))]
+#[tactic(auto, using(crate::proofs::Steps::step_steps))]
 pub fn refuse_param(em: &mut Emitter, location: SourceLocation) -> Result<(), CodegenError>
-    ensures { Emits result (unsupported location) em.old em.new }
+    ensures { Emits result (unsupported_node location) em.old em.new }
 {
     em.set_location(location);
     refuse_unsupported(em)
@@ -92,7 +93,7 @@ pub fn given_defaults(params: &Arguments) -> Defaults
     }
 }
 
-/// How many values a hidden scope is handed.
+/// How many values a type-parameter scope is handed.
 pub fn handed_count(defaults: Defaults) -> u32
     ensures { result ≡ length (handed_by defaults) }
 {
@@ -112,7 +113,7 @@ pub fn made_flags(defaults: Defaults, annotated: bool, generic: bool) -> MakeFun
     MakeFunctionFlags::from_bits_retain(params + positional + keyword + notes)
 }
 
-/// Emits the loads of the defaults that a hidden scope is handed.
+/// Emits the loads of the defaults that a type-parameter scope is handed.
 ///
 /// # Errors
 /// OutOfMemory alone.
@@ -124,7 +125,7 @@ pub fn load_defaults(em: &mut Emitter, defaults: Defaults) -> Result<(), Codegen
     load_if(em, ".kwdefaults", defaults.keyword)
 }
 
-/// Emits the load of a value that a hidden scope is handed, where it is.
+/// Emits the load of a value that a type-parameter scope is handed, where it is.
 fn load_if(em: &mut Emitter, name: &str, handed: bool) -> Result<(), CodegenError>
     ensures { Emits result (load_handed (name_if name.now handed)) em.old em.new }
 {
@@ -134,13 +135,13 @@ fn load_if(em: &mut Emitter, name: &str, handed: bool) -> Result<(), CodegenErro
     Ok(())
 }
 
-/// Goes into the hidden scope around what has this name, which is handed so many values; the scope around waits.
+/// Goes into the type-parameter scope around what has this name, which is handed so many values; the enclosing scope waits.
 ///
 /// # Errors
 /// OutOfMemory alone.
 pub fn enter_hidden(em: &mut Emitter, name: &str, count: u32) -> Result<(), CodegenError>
-    ensures state { OnOk result (state em.new ≡ begun (entered SymbolTableType.TypeParams Naming.AsAround (state em.old)) (state em.old).location (suc (state em.old).next)) }
-    ensures rest { OnOk result (rest em.new ≡ entered_rest em.old.scope (code_head (entered SymbolTableType.TypeParams Naming.AsAround (state em.old)) (hidden_shape count name.now) (state em.old).location) (rest em.old)) }
+    ensures state { OnOk result (state em.new ≡ initial_state (nested_context SymbolTableType.TypeParams Naming.AsAround (state em.old)) (state em.old).location (suc (state em.old).next)) }
+    ensures rest { OnOk result (rest em.new ≡ entered_rest em.old.scope (code_head (nested_context SymbolTableType.TypeParams Naming.AsAround (state em.old)) (hidden_shape count name.now) (state em.old).location) (rest em.old)) }
     ensures err { IfErr result (λ e. IsStarved e (rest em.old).path) }
 {
     let obj_name = hidden_text(em, name)?;
@@ -154,12 +155,12 @@ pub fn enter_hidden(em: &mut Emitter, name: &str, count: u32) -> Result<(), Code
     em.open_scope(head, SymbolTableType::TypeParams, Naming::AsAround)
 }
 
-/// Makes a function of the code of a hidden scope, under the name of the scope.
+/// Makes a function of the code of a type-parameter scope, under the name of the scope.
 ///
 /// # Errors
 /// MissingCell, as `Emitter::make_function` has it, or OutOfMemory.
 pub fn make_hidden(em: &mut Emitter, name: &str, code: CodeObject) -> Result<(), CodegenError>
-    ensures { Emits result (made 0 (hidden_name name.now) (object code)) em.old em.new }
+    ensures { Emits result (made_function 0 (hidden_name name.now) (object code)) em.old em.new }
 {
     let full = hidden_text(em, name)?;
     make_named(em, full, code)
@@ -167,12 +168,12 @@ pub fn make_hidden(em: &mut Emitter, name: &str, code: CodeObject) -> Result<(),
 
 /// Makes a function of code under this name, with nothing beside it.
 fn make_named(em: &mut Emitter, name: Text, code: CodeObject) -> Result<(), CodegenError>
-    ensures { Emits result (made 0 name (object code)) em.old em.new }
+    ensures { Emits result (made_function 0 name (object code)) em.old em.new }
 {
     em.make_function(MakeFunctionFlags::from_bits_retain(0), name, code)
 }
 
-/// The name of the hidden scope around what has this name.
+/// The name of the type-parameter scope around what has this name.
 ///
 /// # Errors
 /// OutOfMemory alone.

@@ -6,7 +6,7 @@ ghost use Rattle.py_emission_parts.specs.Accesses.{emission_of_stored};
 ghost use Rattle.py_emission_parts.specs.Emitting.{◌▸◌, emit as emitting, emit_constant};
 ghost use Rattle.py_emission.specs.EmissionImports.{emission_of_alias, emission_of_attributes, emission_of_from, emission_of_import, emission_of_imported, emission_of_module, emission_of_names, emission_of_star, emission_of_taken};
 ghost use Rattle.py_emission.specs.EmissionStmts.{emission_of_import_from};
-ghost use Rattle.py_emission.specs.Imports.{asked, asked_all, further_segments, package_name};
+ghost use Rattle.py_emission.specs.Imports.{asked_tuple, asked_all, further_segments, package_name};
 ghost use Rattle.py_emit.specs.States.{Emits};
 
 use py_base::{CodegenError, CodegenErrorType};
@@ -140,7 +140,7 @@ fn load_level(em: &mut Emitter, level: u32) -> Result<(), CodegenError>
 /// # Errors
 /// InvalidFuturePlacement for one from the future, FunctionImportStar where a function takes all names, SyntaxError where a
 /// name that is stored is `__debug__`, or OutOfMemory.
-#[tactic(auto, using(crate::proofs::Steps::steps))]
+#[tactic(auto, using(crate::proofs::Steps::step_steps))]
 pub fn compile_import_from(em: &mut Emitter, s: &StmtImportFrom) -> Result<(), CodegenError>
     ensures { Emits result (emission_of_import_from s.now.«module» s.now.names s.now.level) em.old em.new }
 {
@@ -193,7 +193,7 @@ fn ask_all(em: &mut Emitter, s: &StmtImportFrom) -> Result<(), CodegenError>
 
 /// Emits the import of a module that is asked for some names, and takes each of them from it.
 fn import_names(em: &mut Emitter, s: &StmtImportFrom) -> Result<(), CodegenError>
-    ensures { Emits result (emission_of_module s.now.«module» s.now.level (asked s.now.names) ▸ emission_of_names s.now.names) em.old em.new }
+    ensures { Emits result (emission_of_module s.now.«module» s.now.level (asked_tuple s.now.names) ▸ emission_of_names s.now.names) em.old em.new }
 {
     ask_names(em, s)?;
     take_names(em, s.names.as_slice())
@@ -201,7 +201,7 @@ fn import_names(em: &mut Emitter, s: &StmtImportFrom) -> Result<(), CodegenError
 
 /// Emits the import of a module that is asked for some names.
 fn ask_names(em: &mut Emitter, s: &StmtImportFrom) -> Result<(), CodegenError>
-    ensures { Emits result (emission_of_module s.now.«module» s.now.level (asked s.now.names)) em.old em.new }
+    ensures { Emits result (emission_of_module s.now.«module» s.now.level (asked_tuple s.now.names)) em.old em.new }
 {
     match asked_names(em.alloc(), s.names.as_slice()) {
         Ok(names) => import_module(em, &s.module, s.level, names),

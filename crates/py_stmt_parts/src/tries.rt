@@ -1,8 +1,8 @@
-//! The parts of a `try` that hold no statements: what goes to its last part, and how its handlers end.
+//! The parts of a `try` that hold no statements: what goes to its finally block, and how its handlers end.
 ghost use Rattle.std.specs.Prelude.{◌<◌};
-ghost use Rattle.py_emission.specs.ControlEmissions.{before_last, caught, forgotten, to_last};
+ghost use Rattle.py_emission.specs.ControlEmissions.{before_last, caught_name, forgotten, to_last};
 ghost use Rattle.py_emit.specs.States.{Emits};
-ghost use Rattle.py_stmt_parts.specs.Parts.{handled};
+ghost use Rattle.py_stmt_parts.specs.Parts.{handler_exit};
 
 use py_base::CodegenError;
 use py_bytecode::{ConstantData, Instruction};
@@ -10,7 +10,7 @@ use py_emit::{Emitter, NameUsage, emit};
 use py_ir::BlockIdx;
 use py_tree::Text;
 
-/// Emits what sets a last part up, where there is one, which stands at this block.
+/// Emits what sets a finally block up, where there is one, which stands at this block.
 ///
 /// # Errors
 /// OutOfMemory alone.
@@ -24,7 +24,7 @@ pub fn set_up_last(em: &mut Emitter, last: bool, end: BlockIdx) -> Result<(), Co
     Ok(())
 }
 
-/// Emits what enters a last part, where there is one.
+/// Emits what enters a finally block, where there is one.
 ///
 /// # Errors
 /// OutOfMemory alone.
@@ -43,7 +43,7 @@ pub fn enter_last(em: &mut Emitter, last: bool) -> Result<(), CodegenError>
 /// # Errors
 /// SyntaxError where a name that is stored is `__debug__`, or OutOfMemory.
 pub fn store_caught(em: &mut Emitter, name: &Option<Text>) -> Result<(), CodegenError>
-    ensures { Emits result (caught name.now) em.old em.new }
+    ensures { Emits result (caught_name name.now) em.old em.new }
 {
     match name {
         None => {
@@ -73,7 +73,7 @@ pub fn forget(em: &mut Emitter, name: &Text) -> Result<(), CodegenError>
 /// OutOfMemory alone.
 pub fn leave_handler(em: &mut Emitter, last: bool, end: BlockIdx) -> Result<(), CodegenError>
     requires end { end.0 < 0xffff_ffff }
-    ensures { Emits result (handled last end.0) em.old em.new }
+    ensures { Emits result (handler_exit last end.0) em.old em.new }
 {
     emit!(em, Instruction::PopException);
     enter_last(em, last)?;

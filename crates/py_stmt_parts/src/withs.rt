@@ -1,8 +1,8 @@
 //! What leaves the items of a `with`.
 ghost use Rattle.std.specs.Prelude.{◌≡◌, ◌<◌, [], ◌∷◌, ◌++◌, IfErr, OnOk};
-ghost use Rattle.py_emit.specs.States.{Emits, IsStarved, rest, state};
+ghost use Rattle.py_emit.specs.States.{Does, IsStarved, rest, state};
 ghost use Rattle.py_emit.specs.Steps.{IsOpen};
-ghost use Rattle.py_stmt_parts.specs.Managing.{AllOpen, left, left_all};
+ghost use Rattle.py_stmt_parts.specs.Managing.{AllOpen, item_exit, left_all};
 
 use py_base::{CodegenError, CodegenErrorType};
 use py_bytecode::Instruction;
@@ -10,7 +10,7 @@ use py_emit::{Emitter, emit};
 use py_ir::BlockIdx;
 use py_tree::{List, SourceLocation};
 
-/// Puts a block behind the others.
+/// Puts a block after the others.
 ///
 /// # Errors
 /// OutOfMemory alone; then there are the same blocks.
@@ -39,7 +39,7 @@ pub fn leave_items(
     ends: List<BlockIdx>,
 ) -> Result<(), CodegenError>
     requires open { AllOpen ends (state em.old) }
-    ensures { Emits result (left_all location.now ends) em.old em.new }
+    ensures { Does result (left_all location.now ends) em.old em.new }
 {
     let mut ends = ends;
     while let Some(end) = ends.pop() {
@@ -49,7 +49,7 @@ pub fn leave_items(
 }
 
 /// Emits what leaves an item on every way out of what it manages.
-#[tactic(auto, using(crate::proofs::Steps::steps))]
+#[tactic(auto, using(crate::proofs::Steps::step_steps))]
 fn leave_item(
     em: &mut Emitter,
     location: &SourceLocation,
@@ -57,7 +57,7 @@ fn leave_item(
 ) -> Result<(), CodegenError>
     requires open { IsOpen end.0 (state em.old) }
     requires below { end.0 < 0xffff_ffff }
-    ensures { Emits result (left location.now end.0) em.old em.new }
+    ensures { Does result (item_exit location.now end.0) em.old em.new }
 {
     em.set_location(*location);
     emit!(em, Instruction::PopBlock);

@@ -1,9 +1,6 @@
-pub mod KeptControl
-pub mod OpenBlockLemmas
 pub mod AssignmentTargetLemmas
 pub mod EmissionGroupLemmas
 pub mod WithEntryLemmas
 pub mod AnnotationLemmas
-pub mod KeptNotes
 pub mod PromptLemmas
 pub mod TypeParameterLemmas

@@ -5,6 +5,7 @@ use Rattle.py_tree.specs.View.{type_params}
 use Rattle.py_tree.specs.declared.statements.TypeParam.{TypeParam}
 use Rattle.py_bytecode.specs.declared.instruction.Instruction.TheVariants as op
 use Rattle.py_emission_parts.specs.Emitting.{◌▸◌, emit_count}
+use Rattle.py_emission_parts.specs.Running.{run}
 use Rattle.py_emission_parts.specs.TypeParameters.{generic_alias}
 use Rattle.py_emission.specs.Emission.{emission}
 use Rattle.py_emission.specs.EmissionDefs.{alias_value, emission_of_params, param_emissions}
@@ -21,6 +22,7 @@ params_there [] h = absurd (omega (arith, h))
 params_there (x ∷ xs) h = refl
 
 -- an alias with some
-pub alias_there : (name : List ℕ) (xs : List TypeParam) (e : tree.Expr) → 1 ≤ length xs → alias_value name (type_params xs) e ≡ hidden_made 0 name (generic_alias name (emission_of_params (type_params xs)) (emission e)) ▸ emit_count op.CallFunctionPositional 0
+pub alias_there : (name : List ℕ) (xs : List TypeParam) (e : tree.Expr) → 1 ≤ length xs
+    → run (alias_value name (type_params xs) e) ≡ run (hidden_made 0 name (generic_alias name (emission_of_params (type_params xs)) (emission e)) ▸ emit_count op.CallFunctionPositional 0)
 alias_there name [] e h = absurd (omega (arith, h))
 alias_there name (x ∷ xs) e h = refl

@@ -1,4 +1,4 @@
--- What is left to emit at a prompt, behind future imports and expressions.
+-- What is left to emit at a prompt, after future imports and expressions.
 use Rattle.std.specs.Prelude.{◌≡◌, ◌≢◌, ℕ, List, Bool, false, Some, Result, Ok, Err, drop}
 use Rattle.py_base.specs.declared.location.LocatedError.{LocatedError}
 use Rattle.py_tree.specs.Tree as tree
@@ -9,7 +9,8 @@ use Rattle.py_base.specs.declared.errors.CodegenErrorType.TheVariants as error
 use Rattle.py_bytecode.specs.declared.instruction.Instruction.TheVariants as op
 use Rattle.py_name_uses.specs.Parts.{names_annotations}
 use Rattle.py_emission.specs.Emission.{emission}
-use Rattle.py_emission_parts.specs.Emitting.{Emission, Refused, State, ◌▸◌, emit, go_on}
+use Rattle.py_emission_parts.specs.Emitting.{Emission, Refused, State, ◌▸◌, emit}
+use Rattle.py_emission_parts.specs.Running.{on_done, run}
 use Rattle.py_emission.specs.EmissionFutures.{emission_of_future}
 use Rattle.py_emission.specs.EmissionMods.{emission_of_prompt, emission_of_single}
 use Rattle.py_emission.specs.Futures.{future_of}
@@ -17,7 +18,7 @@ use Rattle.py_emission.specs.Imports.{from_future}
 use Rattle.py_stmt_simple.specs.declared.futures.Begin.{Begin}
 use Rattle.py_stmt_simple.specs.declared.futures.Begin.TheVariants as begin
 use Rattle.py_stmt_parts.specs.declared.futures.Opening.{Opening}
-use Rattle.py_stmt_parts.specs.Futures.{future, restored}
+use Rattle.py_stmt_parts.specs.Futures.{future, restore_postponed}
 
 -- what stands before other statements at a prompt
 abbrev pub begin_postpones : Begin → Bool
@@ -46,12 +47,12 @@ followers (begin.Value s) = 1
 
 -- what is emitted at a prompt goes on here, from the statements that are left
 abbrev pub Prompted : (before now : State) → List Stmt → (count : ℕ) → (postponed : Bool) → Type 0
-Prompted s m all n c = emission_of_prompt (stmts stmt_tree all) s ≡ go_on (emission_of_prompt (stmts stmt_tree (drop n all)) m) (restored c s.around.context.postponed)
+Prompted s m all n c = run (emission_of_prompt (stmts stmt_tree all)) s ≡ on_done (run (emission_of_prompt (stmts stmt_tree (drop n all))) m) (restore_postponed c s.around.context.postponed)
 
 -- or it is refused
 abbrev pub Prompts : Result Opening (LocatedError CodegenErrorType) → (before now : State) → List Stmt → Type 0
-Prompts (Ok o) s m all = emission_of_prompt (stmts stmt_tree all) s ≡ go_on (emission_of_single (stmts stmt_tree (drop o.count all)) m) (restored o.postponed s.around.context.postponed)
-Prompts (Err x) s m all = x.error ≢ error.OutOfMemory → emission_of_prompt (stmts stmt_tree all) s ≡ Refused x.error x.location
+Prompts (Ok o) s m all = run (emission_of_prompt (stmts stmt_tree all)) s ≡ on_done (run (emission_of_single (stmts stmt_tree (drop o.count all))) m) (restore_postponed o.postponed s.around.context.postponed)
+Prompts (Err x) s m all = x.error ≢ error.OutOfMemory → run (emission_of_prompt (stmts stmt_tree all)) s ≡ Refused x.error x.location
 
 -- neither a future import nor an expression that others follow begins these statements
 abbrev pub NoBegin : List Stmt → Type 0

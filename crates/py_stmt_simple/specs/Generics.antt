@@ -1,26 +1,26 @@
--- What is emitted of type parameters and of hidden scopes.
+-- What is emitted of type parameters and of type-parameter scopes.
 use Rattle.std.specs.Prelude.{ℕ, List}
 use Rattle.py_tree.specs.Tree as tree
 use Rattle.py_bytecode.specs.declared.instruction.Instruction.TheVariants as op
 use Rattle.py_bytecode.specs.Objects.{Object}
-use Rattle.py_emission_parts.specs.Children.{child, emission_of_defaults, made}
+use Rattle.py_emission_parts.specs.Children.{child, emission_of_defaults, made_function}
 use Rattle.py_emission_parts.specs.Emitting.{Emission, ◌▸◌, emit, emit_count, keep}
 use Rattle.py_emission_parts.specs.TypeParameters.{hidden_shape}
 use Rattle.py_emission_parts.specs.Within.{hidden_inside, hidden_name}
 use Rattle.py_emission.specs.Emission.{default_emissions}
 use Rattle.py_emission.specs.EmissionDefs.{emission_of_params}
 
--- what is made in a hidden scope is returned
-abbrev pub returned : (value : Emission) → Emission
-returned v = v ▸ emit op.ReturnValue 0
+-- what is made in a type-parameter scope is returned
+abbrev pub returned_value : (value : Emission) → Emission
+returned_value v = v ▸ emit op.ReturnValue 0
 
--- a hidden scope, which takes so many values, and what follows with its code object
+-- a type-parameter scope, which takes so many values, and what follows with its code object
 abbrev pub hidden_scope : (count : ℕ) → (name : List ℕ) → (value : Emission) → (Object → Emission) → Emission
-hidden_scope n name v k = child hidden_inside (hidden_shape n name) (returned v) k
+hidden_scope n name v k = child hidden_inside (hidden_shape n name) (returned_value v) k
 
--- the function of a hidden scope
+-- the function of a type-parameter scope
 abbrev pub hidden_made : (count : ℕ) → (name : List ℕ) → (value : Emission) → Emission
-hidden_made n name v = hidden_scope n name v (made 0 (hidden_name name))
+hidden_made n name v = hidden_scope n name v (made_function 0 (hidden_name name))
 
 -- its call with the defaults
 abbrev pub hidden_called : tree.Arguments → (count : ℕ) → Emission

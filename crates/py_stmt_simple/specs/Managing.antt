@@ -7,7 +7,8 @@ use Rattle.py_bytecode.specs.declared.instruction.Instruction.TheVariants as op
 use Rattle.py_dataflow.specs.declared.info.BlockIdx.{BlockIdx}
 use Rattle.py_base.specs.declared.errors.CodegenErrorType.{CodegenErrorType}
 use Rattle.py_base.specs.declared.errors.CodegenErrorType.TheVariants as error
-use Rattle.py_emission_parts.specs.Emitting.{Emission, Refused, State, ◌▸◌, jump, move, new_block}
+use Rattle.py_emission_parts.specs.Emitting.{Emission, Refused, State, ◌▸◌, jump, move, with_block}
+use Rattle.py_emission_parts.specs.Running.{Action, ◌▹◌, run}
 use Rattle.py_emission.specs.Emission.{emission_of_store}
 use Rattle.py_emission.specs.EmissionStmts.{emission_of_items}
 use Rattle.py_stmt_parts.specs.Managing.{left_all}
@@ -16,14 +17,14 @@ use Rattle.py_stmt_parts.specs.Managing.{left_all}
 abbrev pub stored_at : tree.Expr → Emission
 stored_at t = move (tree.expr_location t) ▸ emission_of_store t
 
--- an item is entered, and its value stored
-abbrev pub entered : SourceLocation → (item store : Emission) → Emission
-entered at item store = new_block (λ end. item ▸ move at ▸ jump op.SetupWith end ▸ store)
+-- an item is entered, and its value stored; a block is made for its end
+abbrev pub item_entry : SourceLocation → (item store : Emission) → Action
+item_entry at item store s = run (item ▸ move at ▸ jump op.SetupWith s.blocks ▸ store) (with_block s)
 
 -- from one state to another the items are entered, which end at these blocks
 pub record AreEntered (at : SourceLocation) (items : tree.WithItems) (s r : State) (ends : List BlockIdx) : Type 0 where
-  pub goes : (body : Emission) → emission_of_items at items body s ≡ (body ▸ left_all at ends) r
+  pub goes : (body : Emission) → run (emission_of_items at items body) s ≡ (run body ▹ left_all at ends) r
 
 -- the items are refused whatever they manage
 pub record IsRefusing (e : LocatedError CodegenErrorType) (at : SourceLocation) (items : tree.WithItems) (s : State) : Type 0 where
-  pub goes : (body : Emission) → e.error ≢ error.OutOfMemory → emission_of_items at items body s ≡ Refused e.error e.location
+  pub goes : (body : Emission) → e.error ≢ error.OutOfMemory → run (emission_of_items at items body) s ≡ Refused e.error e.location

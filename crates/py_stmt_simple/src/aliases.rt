@@ -2,6 +2,7 @@
 ghost use Rattle.std.specs.Prelude.{◌≡◌};
 ghost use Rattle.py_tree.specs.View.{expr_tree, type_alias_tree, type_params as param_trees};
 ghost use Rattle.py_bytecode.specs.declared.instruction.Instruction.TheVariants as op;
+ghost use Rattle.py_emission_parts.specs.Running.{run};
 ghost use Rattle.py_emission_parts.specs.Accesses.{emission_of_stored};
 ghost use Rattle.py_emission_parts.specs.Emitting.{◌▸◌, emit_count};
 ghost use Rattle.py_emission_parts.specs.TypeParameters.{generic_alias, plain_alias};
@@ -10,7 +11,7 @@ ghost use Rattle.py_emission.specs.EmissionDefs.{alias_value, emission_of_alias,
 ghost use Rattle.py_emission.specs.EmissionStmts.{emission_of_stmt};
 ghost use Rattle.py_emit.specs.States.{Emits, Same, rest, state};
 ghost use Rattle.py_expr_scopes.specs.Functions.{Gives};
-ghost use Rattle.py_stmt_simple.specs.Generics.{hidden_made, hidden_scope, returned};
+ghost use Rattle.py_stmt_simple.specs.Generics.{hidden_made, hidden_scope, returned_value};
 
 use crate::generics::compile_type_params;
 use py_base::CodegenError;
@@ -25,7 +26,7 @@ use py_tree::{Expr, StmtTypeAlias, TypeParam};
 ///
 /// # Errors
 /// The first compile fault of the alias, with its location; MissingCell; or OutOfMemory.
-#[tactic(auto, using(py_stmt_parts::proofs::Steps::steps))]
+#[tactic(auto, using(py_stmt_parts::proofs::Steps::step_steps))]
 pub fn compile_type_alias(em: &mut Emitter, s: &StmtTypeAlias) -> Result<(), CodegenError>
     requires at { (state em.old).location ≡ s.now.location }
     ensures { Emits result (emission_of_stmt (type_alias_tree s.now)) em.old em.new }
@@ -62,7 +63,7 @@ fn store_alias(
     em.compile_name(NameUsage::Store, name)
 }
 
-/// Emits the alias of this name. One with type parameters is made in a hidden scope (language reference, "Generic type
+/// Emits the alias of this name. One with type parameters is made in a type-parameter scope (language reference, "Generic type
 /// aliases").
 fn compile_alias_value(
     em: &mut Emitter,
@@ -89,7 +90,7 @@ fn make_plain(em: &mut Emitter, name: &str, value: &Expr) -> Result<(), CodegenE
     Ok(())
 }
 
-/// Emits the function of a hidden scope, in which an alias is made, and its call.
+/// Emits the function of a type-parameter scope, in which an alias is made, and its call.
 fn call_generic(
     em: &mut Emitter,
     name: &str,
@@ -102,7 +103,7 @@ fn call_generic(
     em.emit_count(Instruction::CallFunctionPositional, 0)
 }
 
-/// Emits the function of a hidden scope, in which an alias is made.
+/// Emits the function of a type-parameter scope, in which an alias is made.
 fn make_generic(
     em: &mut Emitter,
     name: &str,
@@ -115,14 +116,14 @@ fn make_generic(
     make_hidden(em, name, code)
 }
 
-/// Emits the hidden scope of an alias, and lays its code out.
+/// Emits the type-parameter scope of an alias, and lays its code out.
 fn compile_alias_scope(
     em: &mut Emitter,
     name: &str,
     params: &[TypeParam],
     value: &Expr,
 ) -> Result<CodeObject, CodegenError>
-    ensures goes { Gives result (state em.new) (λ k. hidden_scope 0 name.now (generic_alias name.now (emission_of_params (param_trees params.now)) (emission (expr_tree value.now))) k (state em.old)) }
+    ensures goes { Gives result (state em.new) (λ k. run (hidden_scope 0 name.now (generic_alias name.now (emission_of_params (param_trees params.now)) (emission (expr_tree value.now))) k) (state em.old)) }
     ensures same { Same result (rest em.new) (rest em.old) }
 {
     enter_hidden(em, name, 0)?;
@@ -137,7 +138,7 @@ fn return_alias(
     params: &[TypeParam],
     value: &Expr,
 ) -> Result<(), CodegenError>
-    ensures { Emits result (returned (generic_alias name.now (emission_of_params (param_trees params.now)) (emission (expr_tree value.now)))) em.old em.new }
+    ensures { Emits result (returned_value (generic_alias name.now (emission_of_params (param_trees params.now)) (emission (expr_tree value.now)))) em.old em.new }
 {
     make_alias(em, name, params, value)?;
     emit!(em, Instruction::ReturnValue);

@@ -25,7 +25,7 @@ use py_tree::{
 /// # Errors
 /// MalformedTree where there is no target; the first compile fault of the assignment, with its location; MissingCell;
 /// or OutOfMemory.
-#[tactic(auto, using(py_stmt_parts::proofs::Steps::steps))]
+#[tactic(auto, using(py_stmt_parts::proofs::Steps::step_steps))]
 pub fn compile_assign(em: &mut Emitter, s: &StmtAssign) -> Result<(), CodegenError>
     requires at { (state em.old).location ≡ s.now.location }
     ensures { Emits result (emission_of_stmt (assign_tree s.now)) em.old em.new }
@@ -129,7 +129,7 @@ fn augment_subscript(
 ///
 /// # Errors
 /// The first compile fault of the assignment, with its location; MissingCell; or OutOfMemory.
-#[tactic(auto, using(py_stmt_parts::proofs::Steps::steps))]
+#[tactic(auto, using(py_stmt_parts::proofs::Steps::step_steps))]
 pub fn compile_ann_assign(em: &mut Emitter, s: &StmtAnnAssign) -> Result<(), CodegenError>
     requires at { (state em.old).location ≡ s.now.location }
     ensures { Emits result (emission_of_stmt (ann_assign_tree s.now)) em.old em.new }

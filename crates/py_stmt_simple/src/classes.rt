@@ -10,7 +10,7 @@ use py_expr_parts::calls::emit_call;
 use py_stmt_parts::load_text;
 use py_tree::{Exprs, Keyword, List};
 
-/// Emits the call of what builds a class, behind which the function of the class lies: the name of the class and its bases
+/// Emits the call of what builds a class, after which the function of the class lies: the name of the class and its bases
 /// are the other arguments, with its keywords.
 ///
 /// # Errors

@@ -2,6 +2,7 @@
 ghost use Rattle.std.specs.Prelude.{◌≡◌, ◌≤◌, ◌<◌, ◌+◌, false, drop, get_or, length, IfErr, IfNone, IfOk, IfSome, if◌then◌else◌};
 ghost use Rattle.py_tree.specs.View.{expr_tree, stmt_tree};
 ghost use Rattle.py_emission_parts.specs.Emitting.{◌▸◌, emit as emitting};
+ghost use Rattle.py_emission_parts.specs.Running.{run};
 ghost use Rattle.py_emission.specs.Emission.{emission};
 ghost use Rattle.py_emit.specs.States.{IsTold, rest, state};
 ghost use Rattle.py_stmt_parts.specs.Futures.{AreChanged, Entered, IsRefusing, changed_rest};
@@ -73,7 +74,7 @@ fn as_begin(statement: &Stmt, more: bool) -> Option<Begin<'_>>
 /// so. Answers whether they are postponed by it or, as is told, by one before.
 fn enter_begin(em: &mut Emitter, begin: Begin<'_>, postponed: bool) -> Result<bool, CodegenError>
     ensures entered { IfOk result (λ after. Entered (begin_emission begin.entry) (begin_postpones begin.entry) (state em.old) (state em.new) postponed after) }
-    ensures refused { IfErr result (λ e. IsRefusing e (begin_emission begin.entry (state em.old))) }
+    ensures refused { IfErr result (λ e. IsRefusing e (run (begin_emission begin.entry) (state em.old))) }
     ensures rest { IfOk result (λ after. AreChanged postponed after (rest em.old) (rest em.new)) }
     ensures told { IfErr result (λ e. IsTold e (rest em.old).path) }
 {
@@ -86,7 +87,7 @@ fn enter_begin(em: &mut Emitter, begin: Begin<'_>, postponed: bool) -> Result<bo
 /// Emits an expression that stands at a prompt, and what prints it. Answers whether annotations are postponed, as is told.
 fn enter_value(em: &mut Emitter, s: &StmtExpr, postponed: bool) -> Result<bool, CodegenError>
     ensures entered { IfOk result (λ after. Entered (emission (expr_tree s.now.value.value) ▸ emitting Instruction.PrintExpr 0) false (state em.old) (state em.new) postponed after) }
-    ensures refused { IfErr result (λ e. IsRefusing e ((emission (expr_tree s.now.value.value) ▸ emitting Instruction.PrintExpr 0) (state em.old))) }
+    ensures refused { IfErr result (λ e. IsRefusing e (run (emission (expr_tree s.now.value.value) ▸ emitting Instruction.PrintExpr 0) (state em.old))) }
     ensures rest { IfOk result (λ after. AreChanged postponed after (rest em.old) (rest em.new)) }
     ensures told { IfErr result (λ e. IsTold e (rest em.old).path) }
 {

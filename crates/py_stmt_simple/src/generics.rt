@@ -1,8 +1,8 @@
-//! Type parameters (PEP 695; language reference, "Type parameter lists"): each is kept under its name in a hidden scope
+//! Type parameters (PEP 695; language reference, "Type parameter lists"): each is kept under its name in a type-parameter scope
 //! around what is generic, which is called at once.
 ghost use Rattle.py_tree.specs.View.{arguments, expr_tree, type_param_tree, type_params as param_trees, type_var_tree};
 ghost use Rattle.py_emission_parts.specs.EmissionParts.{in_turn};
-ghost use Rattle.py_emission_parts.specs.TypeParameters.{bounded};
+ghost use Rattle.py_emission_parts.specs.TypeParameters.{bounded_type_var};
 ghost use Rattle.py_emission.specs.Emission.{emission};
 ghost use Rattle.py_emission.specs.EmissionDefs.{emission_of_param, emission_of_params, param_emissions};
 ghost use Rattle.py_emit.specs.States.{Emits};
@@ -73,7 +73,7 @@ fn compile_type_var(em: &mut Emitter, p: &TypeParamTypeVar) -> Result<(), Codege
 
 /// Emits a type parameter with a bound.
 fn compile_bounded(em: &mut Emitter, bound: &Expr, name: &str) -> Result<(), CodegenError>
-    ensures { Emits result (bounded (emission (expr_tree bound.now)) name.now) em.old em.new }
+    ensures { Emits result (bounded_type_var (emission (expr_tree bound.now)) name.now) em.old em.new }
 {
     compile_expression(em, bound)?;
     load_text(em, name)?;
@@ -81,7 +81,7 @@ fn compile_bounded(em: &mut Emitter, bound: &Expr, name: &str) -> Result<(), Cod
     keep_param(em, name)
 }
 
-/// Emits the call of a hidden scope's function with the defaults of these parameters (PEP 695: they are evaluated outside
+/// Emits the call of a type-parameter scope's function with the defaults of these parameters (PEP 695: they are evaluated outside
 /// it). They make so many values.
 ///
 /// # Errors

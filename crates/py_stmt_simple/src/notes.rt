@@ -3,7 +3,7 @@ ghost use Rattle.std.specs.Prelude.{◌≡◌, ◌+◌, ◌<◌, ◌≤◌, ◌^
 ghost use Rattle.py_tree.specs.View.{args, arguments, expr_tree, opt_arg, opt_box};
 ghost use Rattle.py_emission_parts.specs.Children.{some_emitted};
 ghost use Rattle.py_emission_parts.specs.Within.{some_flag};
-ghost use Rattle.py_emission_parts.specs.EmissionParts.{built, in_turn};
+ghost use Rattle.py_emission_parts.specs.EmissionParts.{counted_build, in_turn};
 ghost use Rattle.py_emission.specs.EmissionDefs.{arg_notes, emission_of_note, notes, opt_arg_note, opt_note};
 ghost use Rattle.py_emit.specs.States.{Emits};
 ghost use Rattle.py_expr_scopes.specs.Functions.{flag_if};
@@ -24,7 +24,7 @@ pub(crate) fn compile_notes(
     returns: &Option<Box<Expr>>,
 ) -> Result<bool, CodegenError>
     ensures any { IfOk result (λ any. some_flag 0x02 (notes (arguments expr_tree params.now) (opt_box expr_tree returns.now)) ≡ flag_if 0x02 any) }
-    ensures emits { Emits result (some_emitted (built Instruction.BuildMap) (notes (arguments expr_tree params.now) (opt_box expr_tree returns.now))) em.old em.new }
+    ensures emits { Emits result (some_emitted (counted_build Instruction.BuildMap) (notes (arguments expr_tree params.now) (opt_box expr_tree returns.now))) em.old em.new }
 {
     let count = compile_each_note(em, params, returns)?;
     build_some(em, Instruction::BuildMap, count)

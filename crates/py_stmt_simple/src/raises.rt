@@ -3,7 +3,7 @@ ghost use Rattle.std.specs.Prelude.{◌≡◌};
 ghost use Rattle.py_tree.specs.Tree.{some_expr};
 ghost use Rattle.py_tree.specs.View.{expr_tree, opt_box, raise_tree};
 ghost use Rattle.py_emission.specs.Emission.{emission_of_test};
-ghost use Rattle.py_emission.specs.ControlEmissions.{asserted};
+ghost use Rattle.py_emission.specs.ControlEmissions.{assertion_of};
 ghost use Rattle.py_emission.specs.EmissionStmts.{emission_of_assert, emission_of_message, emission_of_raise, emission_of_stmt};
 ghost use Rattle.py_emission.specs.Predicates.{message_count};
 ghost use Rattle.py_emit.specs.States.{Emits, state};
@@ -19,7 +19,7 @@ use py_tree::{Expr, StmtAssert, StmtRaise};
 ///
 /// # Errors
 /// The first compile fault of the statement, with its location; MissingCell; or OutOfMemory.
-#[tactic(auto, using(py_stmt_parts::proofs::Steps::steps))]
+#[tactic(auto, using(py_stmt_parts::proofs::Steps::step_steps))]
 pub fn compile_raise(em: &mut Emitter, s: &StmtRaise) -> Result<(), CodegenError>
     requires at { (state em.old).location ≡ s.now.location }
     ensures { Emits result (emission_of_stmt (raise_tree s.now)) em.old em.new }
@@ -62,9 +62,9 @@ pub fn compile_assert(em: &mut Emitter, s: &StmtAssert) -> Result<(), CodegenErr
     pass_assertion(em, s)
 }
 
-#[tactic(auto, using(py_stmt_parts::proofs::Steps::steps))]
+#[tactic(auto, using(py_stmt_parts::proofs::Steps::step_steps))]
 fn compile_asserted(em: &mut Emitter, s: &StmtAssert) -> Result<(), CodegenError>
-    ensures { Emits result (asserted (emission_of_test (expr_tree s.now.test.value)) (emission_of_message (opt_box expr_tree s.now.msg)) (message_count (opt_box expr_tree s.now.msg))) em.old em.new }
+    ensures { Emits result (assertion_of (emission_of_test (expr_tree s.now.test.value)) (emission_of_message (opt_box expr_tree s.now.msg)) (message_count (opt_box expr_tree s.now.msg))) em.old em.new }
 {
     let end = em.new_block()?;
     compile_jump_if(em, &s.test, true, end)?;

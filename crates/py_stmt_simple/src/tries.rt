@@ -2,7 +2,7 @@
 ghost use Rattle.std.specs.Prelude.{◌<◌};
 ghost use Rattle.py_tree.specs.View.{expr_tree, opt_box};
 ghost use Rattle.py_emission.specs.Emission.{emission};
-ghost use Rattle.py_emission.specs.ControlEmissions.{caught, typed_match};
+ghost use Rattle.py_emission.specs.ControlEmissions.{caught_name, typed_match};
 ghost use Rattle.py_emit.specs.States.{Emits};
 ghost use Rattle.py_stmt_simple.specs.Parts.{emission_of_match};
 
@@ -14,7 +14,7 @@ use py_ir::BlockIdx;
 use py_stmt_parts::store_caught;
 use py_tree::{Expr, Text};
 
-/// Emits what goes on behind a handler where the exception is of another type, and else stores or drops it.
+/// Emits what goes on after a handler where the exception is of another type, and else stores or drops it.
 ///
 /// # Errors
 /// The first compile fault of the type, with its location; SyntaxError where there is a type and the name is
@@ -44,7 +44,7 @@ fn compile_typed(
     next: BlockIdx,
 ) -> Result<(), CodegenError>
     requires next { next.0 < 0xffff_ffff }
-    ensures { Emits result (typed_match (emission (expr_tree type_.now)) (caught name.now) next.0) em.old em.new }
+    ensures { Emits result (typed_match (emission (expr_tree type_.now)) (caught_name name.now) next.0) em.old em.new }
 {
     emit!(em, Instruction::Duplicate);
     compile_expression(em, type_)?;

@@ -3,10 +3,10 @@ ghost use Rattle.std.specs.Prelude.{◌≡◌, ◌<◌, IfErr, IfOk};
 ghost use Rattle.py_tree.specs.View.{expr_tree, opt_box, with_items};
 ghost use Rattle.py_emission.specs.Emission.{emission};
 ghost use Rattle.py_emission.specs.EmissionStmts.{emission_of_item};
-ghost use Rattle.py_emit.specs.States.{Emits, Same, rest, state};
+ghost use Rattle.py_emit.specs.States.{Does, Emits, Same, rest, state};
 ghost use Rattle.py_emit.specs.Steps.{IsOpen};
 ghost use Rattle.py_stmt_parts.specs.Managing.{AllOpen};
-ghost use Rattle.py_stmt_simple.specs.Managing.{AreEntered, IsRefusing, entered, stored_at};
+ghost use Rattle.py_stmt_simple.specs.Managing.{AreEntered, IsRefusing, item_entry, stored_at};
 
 use py_base::CodegenError;
 use py_bytecode::Instruction;
@@ -39,7 +39,7 @@ pub fn enter_items(
 }
 
 /// Emits an item, what enters it, and what stores the value that it gives. Answers the block at which it ends.
-#[tactic(auto, using(py_stmt_parts::proofs::Steps::steps))]
+#[tactic(auto, using(py_stmt_parts::proofs::Steps::step_steps))]
 fn enter_item(
     em: &mut Emitter,
     location: &SourceLocation,
@@ -48,7 +48,7 @@ fn enter_item(
     ensures number { IfOk result (λ end. end.0 ≡ (state em.old).blocks) }
     ensures below { IfOk result (λ end. end.0 < 0xffff_ffff) }
     ensures open { IfOk result (λ end. IsOpen end.0 (state em.new)) }
-    ensures emits { Emits result (entered location.now (emission (expr_tree item.now.context_expr.value)) (emission_of_item (opt_box expr_tree item.now.optional_vars))) em.old em.new }
+    ensures emits { Does result (item_entry location.now (emission (expr_tree item.now.context_expr.value)) (emission_of_item (opt_box expr_tree item.now.optional_vars))) em.old em.new }
 {
     let end = em.new_block()?;
     compile_expression(em, &item.context_expr)?;
@@ -72,7 +72,7 @@ fn store_entered(em: &mut Emitter, target: &Option<Box<Expr>>) -> Result<(), Cod
 }
 
 /// Emits the store to a target, which stands where the target does.
-#[tactic(auto, using(py_stmt_parts::proofs::Steps::steps))]
+#[tactic(auto, using(py_stmt_parts::proofs::Steps::step_steps))]
 fn store_at(em: &mut Emitter, target: &Expr) -> Result<(), CodegenError>
     ensures { Emits result (stored_at (expr_tree target.now)) em.old em.new }
 {

@@ -14,14 +14,14 @@ use Rattle.py_scope.specs.Laws.{CellsAreApart, LeadsTo, SymbolsFollow, TableFoll
 use Rattle.py_scope.specs.Names.{Name, same_name}
 use Rattle.py_scope.specs.Lifts.{kind_of}
 use Rattle.py_scope.specs.Entries.{entry_at, entry_of}
-use Rattle.py_scope.specs.Resolve.{around, binder_in, binds_in, declared, holds_in, is_held, is_used, kind_at, needs, resolve}
+use Rattle.py_scope.specs.Resolve.{around, binder_in, binds_in, last_declaration, holds_in, is_held, is_used, kind_at, needs, resolve}
 use Rattle.py_scope.specs.Resolved.{first_fault}
 use Rattle.py_scope.specs.Roles.{bound_opt}
 use Rattle.py_scope.specs.Scanned.{Scanned, is_function}
 use Rattle.py_scope.specs.Tables.{is_plain}
 use Rattle.py_scope.proofs.NameLemmas.{equal_names, names_same}
 use Rattle.py_scope.proofs.SymbolLists.{none_past}
-use Rattle.py_scope.proofs.Truth.{both, either, left_or, never_both, right_or, same_truth}
+use Rattle.py_scope.proofs.Truth.{truth_both, truth_either, left_or, never_both, truth_right_or, same_truth}
 use Rattle.py_scope.proofs.UsesLaws as laws
 use Rattle.py_name_uses.specs.Steps.{Done, State, Step, begun_state}
 use Rattle.py_name_uses.specs.declared.usage.Usage.TheVariants.{Load}
@@ -50,8 +50,8 @@ pub none_refused : (o : Option Refusal) → fault_of o ≡ [] → o ≡ None
 none_refused None h = refl
 none_refused (Some r) h = absurd cc
 
-pub stands : (s : Scanned) → IsOrderly s → first_fault s ≡ None → Stands s.rows
-stands s i fine = record {
+pub entered_scope_stands : (s : Scanned) → IsOrderly s → first_fault s ≡ None → Stands s.rows
+entered_scope_stands s i fine = record {
   numbered = i.scanned.numbered;
   ordered = i.preorder.rows;
   lead = laws.names_lead s i.scanned fine;
@@ -60,10 +60,10 @@ stands s i fine = record {
 }
 
 pub scans_stand : ScansStand
-scans_stand body s e h = stands s.scopes (program_orderly body s e) (none_refused (first_fault s.scopes) h)
+scans_stand body s e h = entered_scope_stands s.scopes (program_orderly body s e) (none_refused (first_fault s.scopes) h)
 
 pub values_stand : ValuesStand
-values_stand value s e h = stands s.scopes (value_orderly value s e) (none_refused (first_fault s.scopes) h)
+values_stand value s e h = entered_scope_stands s.scopes (value_orderly value s e) (none_refused (first_fault s.scopes) h)
 
 -- cells
 pub cell_kind : (k : SymbolScope) → is_cell_kind k ≡ true → k ≡ Cell
@@ -78,49 +78,51 @@ cell_kind Cell h = refl
 module _ (n : Name) (test : Symbol → Bool) where
   pub any_named : (ts : List Symbol) → list_any (λ t. same_name n t.name && test t) ts ≡ true → (i : ℕ) × (t : Symbol) × (slice_get ts i ≡ Some t) × (n ≡ t.name) × (test t ≡ true)
   any_named [] h = cc
-  any_named (t ∷ ts) h = by (either (same_name n t.name && test t) _ h) (any_named ts)
+  any_named (t ∷ ts) h = by (truth_either (same_name n t.name && test t) _ h) (any_named ts)
     where
       by : (same_name n t.name && test t ≡ true) ⊎ (list_any (λ t. same_name n t.name && test t) ts ≡ true)
           → (list_any (λ t. same_name n t.name && test t) ts ≡ true → (i : ℕ) × (u : Symbol) × (slice_get ts i ≡ Some u) × (n ≡ u.name) × (test u ≡ true))
           → (i : ℕ) × (u : Symbol) × (slice_get (t ∷ ts) i ≡ Some u) × (n ≡ u.name) × (test u ≡ true)
-      by (inl g) ih = let w = both (same_name n t.name) (test t) g in (0, t, refl, equal_names n t.name w.0, w.1)
+      by (inl g) ih = let w = truth_both (same_name n t.name) (test t) g in (0, t, refl, equal_names n t.name w.0, w.1)
       by (inr g) ih = let w = ih g in (suc w.0, w.1, w.2, w.3, w.4)
 
 pub symbol_named : (n : Name) (ts : List Symbol) → has_symbol ts n ≡ true → (i : ℕ) × (t : Symbol) × (slice_get ts i ≡ Some t) × (n ≡ t.name)
 symbol_named n [] h = cc
-symbol_named n (t ∷ ts) h = by (either (same_name n t.name) _ h) (symbol_named n ts)
+symbol_named n (t ∷ ts) h = by (truth_either (same_name n t.name) _ h) (symbol_named n ts)
   where
-    by : (same_name n t.name ≡ true) ⊎ (has_symbol ts n ≡ true) → (has_symbol ts n ≡ true → (i : ℕ) × (u : Symbol) × (slice_get ts i ≡ Some u) × (n ≡ u.name)) → (i : ℕ) × (u : Symbol) × (slice_get (t ∷ ts) i ≡ Some u) × (n ≡ u.name)
+    by : (same_name n t.name ≡ true) ⊎ (has_symbol ts n ≡ true) → (has_symbol ts n ≡ true → (i : ℕ) × (u : Symbol) × (slice_get ts i ≡ Some u) × (n ≡ u.name))
+        → (i : ℕ) × (u : Symbol) × (slice_get (t ∷ ts) i ≡ Some u) × (n ≡ u.name)
     by (inl g) ih = (0, t, refl, equal_names n t.name g)
     by (inr g) ih = let w = ih g in (suc w.0, w.1, w.2, w.3)
 
 -- and such a test is met where one of them meets it
-pub named_any : (n : Name) (test : Symbol → Bool) (ts : List Symbol) (i : ℕ) (t : Symbol) → slice_get ts i ≡ Some t → n ≡ t.name → test t ≡ true → list_any (λ u. same_name n u.name && test u) ts ≡ true
+pub named_any : (n : Name) (test : Symbol → Bool) (ts : List Symbol) (i : ℕ) (t : Symbol) → slice_get ts i ≡ Some t → n ≡ t.name → test t ≡ true
+    → list_any (λ u. same_name n u.name && test u) ts ≡ true
 named_any n test [] i t g q h = cc
 named_any n test (x ∷ xs) zero t g q h = let e : x ≡ t = unwrapped g in left_or (same_name n x.name && test x) _ (ap (λ u. same_name n u.name && test u) e ∙ (λ j. same_name (q j) t.name && h j) ∙ ap (λ b. b && true) (names_same t.name))
   where
     unwrapped : {A : Type 0} {a b : A} → Some a ≡ Some b → a ≡ b
     unwrapped h = cc
-named_any n test (x ∷ xs) (suc i) t g q h = right_or (same_name n x.name && test x) _ (named_any n test xs i t g q h)
+named_any n test (x ∷ xs) (suc i) t g q h = truth_right_or (same_name n x.name && test x) _ (named_any n test xs i t g q h)
 
 -- a scope that binds a name is there, and has a symbol of the name
 pub binds_there : (rows : List Row) (k : ℕ) (n : Name) → binds_in rows k n ≡ true → slice_get rows k ≡ None → ⊥
-binds_there rows k n h g = by (either (bound_opt (entry_at rows k n)) _ h)
+binds_there rows k n h g = by (truth_either (bound_opt (entry_at rows k n)) _ h)
   where
-    by : (bound_opt (entry_at rows k n) ≡ true) ⊎ (is_held rows k n && is_plain (declared rows k n) ≡ true) → ⊥
+    by : (bound_opt (entry_at rows k n) ≡ true) ⊎ (is_held rows k n && is_plain (last_declaration rows k n) ≡ true) → ⊥
     by (inl q) = let z : false ≡ true = ap (λ o. bound_opt (entry_of n o)) (sym g) ∙ q in cc
-    by (inr q) = let z : false ≡ true = ap (λ o. is_function (kind_of o)) (sym g) ∙ (both (is_function (kind_at rows k)) _ (both (is_held rows k n) _ q).0).0 in cc
+    by (inr q) = let z : false ≡ true = ap (λ o. is_function (kind_of o)) (sym g) ∙ (truth_both (is_function (kind_at rows k)) _ (truth_both (is_held rows k n) _ q).0).0 in cc
 
 pub binds_shown : (rows : List Row) (k : ℕ) (n : Name) → binds_in rows k n ≡ true → is_used rows k n || (is_held rows k n || needs rows k n) ≡ true
-binds_shown rows k n h = by (either (bound_opt (entry_at rows k n)) _ h)
+binds_shown rows k n h = by (truth_either (bound_opt (entry_at rows k n)) _ h)
   where
     some_bound : (o : Option Entry) → bound_opt o ≡ true → is_some o ≡ true
     some_bound None q = cc
     some_bound (Some e) q = refl
 
-    by : (bound_opt (entry_at rows k n) ≡ true) ⊎ (is_held rows k n && is_plain (declared rows k n) ≡ true) → is_used rows k n || (is_held rows k n || needs rows k n) ≡ true
+    by : (bound_opt (entry_at rows k n) ≡ true) ⊎ (is_held rows k n && is_plain (last_declaration rows k n) ≡ true) → is_used rows k n || (is_held rows k n || needs rows k n) ≡ true
     by (inl q) = left_or (is_used rows k n) _ (left_or (is_some (entry_at rows k n)) _ (some_bound (entry_at rows k n) q))
-    by (inr q) = right_or (is_used rows k n) _ (left_or (is_held rows k n) _ (both (is_held rows k n) _ q).0)
+    by (inr q) = truth_right_or (is_used rows k n) _ (left_or (is_held rows k n) _ (truth_both (is_held rows k n) _ q).0)
 
 pub get_within : {A : Type 0} (xs : List A) (k : ℕ) (x : A) → slice_get xs k ≡ Some x → k < length xs
 get_within [] k x h = cc
@@ -133,7 +135,7 @@ module _ (rows : List Row) (st : Stands rows) (table : SymbolTable) (follows : T
   cell_there n e = by (slice_get follows.symbols e) refl
     where
       own_bound : (resolve rows e n).kind ≡ Cell → binds_in rows e n ≡ true
-      own_bound q = (both (is_plain (holds_in rows e n)) _ ((st.needed e n).0 q).0).1
+      own_bound q = (truth_both (is_plain (holds_in rows e n)) _ ((st.needed e n).0 q).0).1
 
       there : (o : Option Row) → slice_get rows e ≡ o → slice_get follows.symbols e ≡ None → (resolve rows e n).kind ≡ Cell → ⊥
       there None g h q = binds_there rows e n (own_bound q) g

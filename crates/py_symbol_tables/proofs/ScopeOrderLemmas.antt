@@ -7,27 +7,27 @@ use Rattle.py_scope.specs.declared.rows.Row.{Row}
 use Rattle.py_scope.specs.declared.table_type.SymbolTableType.{SymbolTableType}
 use Rattle.py_scope.specs.Names.{Name}
 use Rattle.py_scope.specs.Outward.{parents, parent_of}
-use Rattle.py_scope.specs.Scanned.{Scanned, entered, entered_row, refused_here, with_use}
+use Rattle.py_scope.specs.Scanned.{Scanned, entered_scan, entered_row, refused_here, with_use}
 use Rattle.py_scope.proofs.ScanCallLemmas.{get_push_new, get_push_old, length_push}
-use Rattle.py_name_uses.specs.Steps.{State, Outcome, Done, Refused, Step, ◌▸◌, go_on, in_class, inside, leave, nothing, noted, postpone, refuse, set_class, unless_refused, use_name, written}
+use Rattle.py_name_uses.specs.Steps.{State, Outcome, Done, Refused, Step, ◌▸◌, go_on, in_class, inside, leave, nothing, noted_use, postpone, refuse, set_class, unless_refused, use_name, written_name}
 use Rattle.py_scan.proofs.Induction.{Closed}
 use Rattle.py_scan.proofs.OpenScopeLemmas.{EndsStaying, Stays, ends_after, noted_stays, stays_refl}
 use Rattle.py_symbol_tables.proofs.Preorder.{IsOrderly, orderly_entered, orderly_left, orderly_used}
 
 -- the scope is open that was, and the scopes are in order
-pub record Keeps (s t : Scanned) : Type 0 where
+pub record ScopeOrderKeeps (s t : Scanned) : Type 0 where
   pub stays : Stays s t
   pub ordered : IsOrderly t
 
 abbrev pub EndsOrderly : Scanned → Outcome → Type 0
-EndsOrderly s (Done t) = Keeps s t.scopes
+EndsOrderly s (Done t) = ScopeOrderKeeps s t.scopes
 EndsOrderly s (Refused fault at) = Unit {0}
 
 -- a step that keeps them in order
 abbrev pub Orders : Step → Type 0
 Orders f = (s : State) → IsOrderly s.scopes → EndsOrderly s.scopes (f s)
 
-pub as_it_was : (s : Scanned) → IsOrderly s → Keeps s s
+pub as_it_was : (s : Scanned) → IsOrderly s → ScopeOrderKeeps s s
 as_it_was s i = record { stays = stays_refl s; ordered = i }
 
 pub then_orders : (f g : Step) → Orders f → Orders g → Orders (f ▸ g)
@@ -45,22 +45,22 @@ abbrev EndsOrdered : Outcome → Type 0
 EndsOrdered (Done t) = IsOrderly t.scopes
 EndsOrdered (Refused fault at) = Unit {0}
 
-noted_ordered : (r : Role) (n : Name) (at : SourceLocation) (s : State) → IsOrderly s.scopes → EndsOrdered (noted r n at s)
+noted_ordered : (r : Role) (n : Name) (at : SourceLocation) (s : State) → IsOrderly s.scopes → EndsOrdered (noted_use r n at s)
 noted_ordered r n at s i = go (refused_here s.scopes n r)
   where
     go : (o : Option Refusal) → EndsOrdered (go_on (unless_refused o at s) (λ t. Done (record { scopes = with_use t.scopes n r; class = t.class; postponed = t.postponed })))
     go None = orderly_used s.scopes n r i
     go (Some x) = tt
 
-pub noted_orders : (r : Role) (n : Name) (at : SourceLocation) → Orders (noted r n at)
-noted_orders r n at s i = go (noted r n at s) (noted_stays r n at s i.scanned.inside) (noted_ordered r n at s i)
+pub noted_orders : (r : Role) (n : Name) (at : SourceLocation) → Orders (noted_use r n at)
+noted_orders r n at s i = go (noted_use r n at s) (noted_stays r n at s i.scanned.inside) (noted_ordered r n at s i)
   where
     go : (o : Outcome) → EndsStaying s.scopes o → EndsOrdered o → EndsOrderly s.scopes o
     go (Done t) a b = record { stays = a; ordered = b }
     go (Refused fault loc) a b = tt
 
 pub use_orders : (r : Role) (n : Name) (at : SourceLocation) → Orders (use_name r n at)
-use_orders r n at s i = noted_orders r (written s n) at s i
+use_orders r n at s i = noted_orders r (written_name s n) at s i
 
 -- what is done in a scope, which is left then
 pub inside_orders : (kind : SymbolTableType) (n : Name) (at : SourceLocation) (f : Step) → Orders f → Orders (inside kind n at f)
@@ -73,7 +73,7 @@ inside_orders kind n at f a s i = go (f within) (a within (orderly_entered s.sco
     row = entered_row rows s.scopes.current kind n at.row
 
     within : State
-    within = record { scopes = entered s.scopes kind n at.row; class = s.class; postponed = s.postponed }
+    within = record { scopes = entered_scan s.scopes kind n at.row; class = s.class; postponed = s.postponed }
 
     longer : length (rows ++ row ∷ []) ≡ suc (length rows)
     longer = length_push rows row

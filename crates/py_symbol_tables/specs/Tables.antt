@@ -14,7 +14,7 @@ use Rattle.py_scope.specs.declared.error.SymbolTableError.{SymbolTableError}
 use Rattle.py_scope.specs.declared.refusal.Refusal.{Refusal}
 use Rattle.py_scope.specs.declared.table.SymbolTable.{SymbolTable}
 use Rattle.py_scope.specs.Refusals.{text_of}
-use Rattle.py_scope.specs.Resolved.{first_fault, resolved}
+use Rattle.py_scope.specs.Resolved.{first_fault, resolved_table}
 use Rattle.py_name_uses.specs.Steps.{Outcome, Done, Refused}
 use Rattle.py_scan.specs.Scan.{scan_program, scan_value}
 
@@ -34,7 +34,7 @@ faults_of (Refused error location) = record { error = error; location = location
 
 -- the table to which the scopes resolve
 abbrev pub table_of : Outcome → Option SymbolTable
-table_of (Done s) = resolved s.scopes
+table_of (Done s) = resolved_table s.scopes
 table_of (Refused error location) = None
 
 -- the faults of the scopes of a file, and of an expression
@@ -48,12 +48,12 @@ value_faults e = faults_of (scan_value e)
 abbrev pub too_large : TreeLimit → ℕ → ℕ → List Fault
 too_large which limit n = if nat_lt n limit then [] else record { error = fault.TooLarge which; location = None } ∷ []
 
-abbrev pub malformed : Malformed → Fault
-malformed shape = record { error = fault.Malformed shape; location = None }
+abbrev pub malformed_fault : Malformed → Fault
+malformed_fault shape = record { error = fault.Malformed shape; location = None }
 
 -- the faults of a tree of this nesting, size and shapes
 abbrev pub tree_faults : ℕ → ℕ → List Malformed → List Fault
-tree_faults depth size shapes = too_large limit.Depth (2 ^ 10) depth ++ (too_large limit.Nodes (2 ^ 22) size ++ map malformed shapes)
+tree_faults depth size shapes = too_large limit.Depth (2 ^ 10) depth ++ (too_large limit.Nodes (2 ^ 22) size ++ map malformed_fault shapes)
 
 -- those of the tree come before those of the scopes
 abbrev pub program_faults : tree.Stmts → List Fault
@@ -66,6 +66,6 @@ expr_faults e = tree_faults (expr_nesting e + 1) (expr_size e + 1) (expr_shapes 
 abbrev pub IsFirst : SymbolTableError → List Fault → Type 0
 IsFirst e fs = e.error ≢ fault.OutOfMemory → (rest : List Fault) × (fs ≡ record { error = e.error; location = e.location } ∷ rest)
 
--- want of memory has no place
+-- out of memory has no place
 abbrev pub IsPlaced : SymbolTableError → Type 0
 IsPlaced e = e.error ≡ fault.OutOfMemory → e.location ≡ None

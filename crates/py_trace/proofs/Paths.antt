@@ -2,7 +2,7 @@
 use Rattle.std.proofs.Common.{◌≡◌, ℕ, List, [], ◌∷◌, ◌++◌, map, Option, Some, None, Result, Ok, Err, refl, ap, ◌∙◌, subst, option_map, IfOk}
 use Rattle.std.specs.Prelude.{option_and_then, slice_get}
 use Rattle.std.proofs.lemmas.Option.{slice_get-map}
-use Rattle.py_bytecode.specs.Objects.{Const, Object, constants, consts_of, listed}
+use Rattle.py_bytecode.specs.Objects.{Const, Object, constants, consts_of, const_list}
 use Rattle.py_bytecode.specs.View.{constant, object}
 use Rattle.py_bytecode.specs.declared.code.CodeObject.{CodeObject}
 use Rattle.py_bytecode.specs.declared.code.ConstantData.{ConstantData}
@@ -13,18 +13,18 @@ use Rattle.py_trace.specs.Dues.{ByCode, OfCode}
 use Rattle.py_trace.specs.Words.{Asked}
 
 -- a path with places in front
-abbrev pub behind : (front : List ℕ) → Option (List ℕ) → Option (List ℕ)
-behind front rest = option_map (λ path. front ++ path) rest
+abbrev pub path_behind : (front : List ℕ) → Option (List ℕ) → Option (List ℕ)
+path_behind front rest = option_map (λ path. front ++ path) rest
 
-listed_of : (cs : List Const) → listed (consts_of cs) ≡ cs
-listed_of [] = refl
-listed_of (c ∷ cs) = ap (λ ds. c ∷ ds) (listed_of cs)
+path_listed_of : (cs : List Const) → const_list (consts_of cs) ≡ cs
+path_listed_of [] = refl
+path_listed_of (c ∷ cs) = ap (λ ds. c ∷ ds) (path_listed_of cs)
 
 -- what stands at a place among the constants of a code object
 slice_of : (c : CodeObject) (place : ℕ) → slice_get (constants (object c)) place ≡ option_map constant (slice_get c.constants place)
 slice_of c place =
     ap (λ o. slice_get (constants o) place) (object_is c)
-    ∙ ap (λ cs. slice_get cs place) (listed_of (map constant c.constants))
+    ∙ ap (λ cs. slice_get cs place) (path_listed_of (map constant c.constants))
     ∙ slice_get-map constant c.constants place
 
 pub at_constant : (c : CodeObject) (place : ℕ) (item : ConstantData) → slice_get c.constants place ≡ Some item → code_at place (object c) ≡ code_in (constant item)
@@ -34,5 +34,6 @@ pub at_nothing : (c : CodeObject) (place : ℕ) → slice_get c.constants place 
 at_nothing c place e = ap (option_and_then code_in) (slice_of c place ∙ ap (option_map constant) e)
 
 -- what is due for the code at the end of a path
-pub by_code : {E : Type 0} (asked : Asked) (o : Object) (path : List ℕ) (found : Option Object) (r : Result Due E) → found ≡ code_along path o → path ≡ asked.path → IfOk r (ByCode asked found) → IfOk r (OfCode asked o)
+pub by_code : {E : Type 0} (asked : Asked) (o : Object) (path : List ℕ) (found : Option Object) (r : Result Due E) → found ≡ code_along path o
+    → path ≡ asked.path → IfOk r (ByCode asked found) → IfOk r (OfCode asked o)
 by_code asked o path found r at same due = subst (λ p. IfOk r (ByCode asked (code_along p o))) same (subst (λ f. IfOk r (ByCode asked f)) at due)

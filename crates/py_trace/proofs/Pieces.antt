@@ -9,5 +9,5 @@ appends_on (Some x) None d text at n p q = absurd p
 appends_on (Some x) (Some y) None text at n p q = absurd q
 appends_on (Some x) (Some y) (Some z) text at n p q = rw (q, p, take-add at n text) (append_assoc x (take at text) (take n (drop at text)))
 
-pub rest_is : (text : List ℕ) (at : ℕ) → take (length text - at) (drop at text) ≡ drop at text
-rest_is text at = take_all (length text - at) (drop at text) (simp length-drop (omega arith))
+pub piece_rest_is : (text : List ℕ) (at : ℕ) → take (length text - at) (drop at text) ≡ drop at text
+piece_rest_is text at = take_all (length text - at) (drop at text) (simp length-drop (omega arith))

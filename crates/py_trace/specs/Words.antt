@@ -15,12 +15,12 @@ pub record Asked : Type 0 where
 abbrev pub asked_of : Request → Asked
 asked_of r = record { script = r.script.answers; path = r.path.items }
 
--- the number that decimal digits say behind a number
+-- the number that decimal digits say after a number
 abbrev pub number_behind : (high : ℕ) → List ℕ → ℕ
 number_behind high [] = high
 number_behind high (c ∷ cs) = number_behind (high * 10 + (c - 48)) cs
 
--- one digit behind a number, and digits alone, where the number stays below 2 ^ 32
+-- one digit after a number, and digits alone, where the number stays below 2 ^ 32
 abbrev pub with_digit : (high byte : ℕ) → Option ℕ
 with_digit high byte = if is_ascii_digit byte && nat_lt (high * 10 + (byte - 48)) (2 ^ 32) then Some (high * 10 + (byte - 48)) else None
 

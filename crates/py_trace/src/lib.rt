@@ -12,4 +12,5 @@ mod writing;
 
 pub use engine::trace;
 pub use report::{Due, Report, Status};
-pub use words::Words;
+pub use tracing::due_of;
+pub use words::{Request, Words};

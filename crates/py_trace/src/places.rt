@@ -36,7 +36,7 @@ fn place_of(word: &str) -> Option<usize>
 }
 
 /// The place that the digits say.
-#[tactic(auto, using(crate::proofs::Digits::counting))]
+#[tactic(auto, using(crate::proofs::Digits::digit_counting))]
 fn place_in(digits: &[u8]) -> Option<usize>
     ensures { result ≡ place_behind 0 digits.now }
 {
@@ -47,7 +47,7 @@ fn place_in(digits: &[u8]) -> Option<usize>
     Some(place)
 }
 
-/// The number with one digit more behind it, where it is one and the number stays below 2^32.
+/// The number with one digit more after it, where it is one and the number stays below 2^32.
 fn with_digit(high: usize, byte: u8) -> Option<usize>
     requires { high < 2 ^ 32 }
     ensures value { result ≡ with_digit high byte }

@@ -143,7 +143,8 @@ exprs_map g [] = refl
 exprs_map g (x ∷ xs) = ap (tree.more_exprs (g x)) (exprs_map g xs)
 
 -- h is how the option of each key is mapped
-pub opt_exprs_map : (g : Expr → tree.Expr) (h : Option Expr → Option tree.Expr) (same : (x : Option Expr) → opt_expr (λ (x : tree.Expr). x) (h x) ≡ opt_expr g x) (xs : List (Option Expr)) → opt_exprs (λ (x : tree.Expr). x) (map h xs) ≡ opt_exprs g xs
+pub opt_exprs_map : (g : Expr → tree.Expr) (h : Option Expr → Option tree.Expr) (same : (x : Option Expr) → opt_expr (λ (x : tree.Expr). x) (h x) ≡ opt_expr g x) (xs : List (Option Expr))
+    → opt_exprs (λ (x : tree.Expr). x) (map h xs) ≡ opt_exprs g xs
 opt_exprs_map g h same [] = refl
 opt_exprs_map g h same (x ∷ xs) = cc (same x, opt_exprs_map g h same xs)
 
@@ -161,19 +162,23 @@ keywords_map : (g : Expr → tree.Expr) (xs : List (KeywordOf Expr)) → keyword
 keywords_map g [] = refl
 keywords_map g (x ∷ xs) = ap (tree.more_keywords x.arg (g x.value)) (keywords_map g xs)
 
-list_comp_map : (g : Expr → tree.Expr) (xs : List (ComprehensionOf Expr)) → generators (λ (x : tree.Expr). x) (map ((expr.TheShapes.former-Expr-ListComp-0-at-10).map Expr tree.Expr g) xs) ≡ generators g xs
+list_comp_map : (g : Expr → tree.Expr) (xs : List (ComprehensionOf Expr))
+    → generators (λ (x : tree.Expr). x) (map ((expr.TheShapes.former-Expr-ListComp-0-at-10).map Expr tree.Expr g) xs) ≡ generators g xs
 list_comp_map g [] = refl
 list_comp_map g (x ∷ xs) = cc (exprs_map g x.ifs, list_comp_map g xs)
 
-set_comp_map : (g : Expr → tree.Expr) (xs : List (ComprehensionOf Expr)) → generators (λ (x : tree.Expr). x) (map ((expr.TheShapes.former-Expr-SetComp-0-at-10).map Expr tree.Expr g) xs) ≡ generators g xs
+set_comp_map : (g : Expr → tree.Expr) (xs : List (ComprehensionOf Expr))
+    → generators (λ (x : tree.Expr). x) (map ((expr.TheShapes.former-Expr-SetComp-0-at-10).map Expr tree.Expr g) xs) ≡ generators g xs
 set_comp_map g [] = refl
 set_comp_map g (x ∷ xs) = cc (exprs_map g x.ifs, set_comp_map g xs)
 
-generator_exp_map : (g : Expr → tree.Expr) (xs : List (ComprehensionOf Expr)) → generators (λ (x : tree.Expr). x) (map ((expr.TheShapes.former-Expr-GeneratorExp-0-at-10).map Expr tree.Expr g) xs) ≡ generators g xs
+generator_exp_map : (g : Expr → tree.Expr) (xs : List (ComprehensionOf Expr))
+    → generators (λ (x : tree.Expr). x) (map ((expr.TheShapes.former-Expr-GeneratorExp-0-at-10).map Expr tree.Expr g) xs) ≡ generators g xs
 generator_exp_map g [] = refl
 generator_exp_map g (x ∷ xs) = cc (exprs_map g x.ifs, generator_exp_map g xs)
 
-dict_comp_map : (g : Expr → tree.Expr) (xs : List (ComprehensionOf Expr)) → generators (λ (x : tree.Expr). x) (map ((expr.TheShapes.former-Expr-DictComp-0-at-12).map Expr tree.Expr g) xs) ≡ generators g xs
+dict_comp_map : (g : Expr → tree.Expr) (xs : List (ComprehensionOf Expr))
+    → generators (λ (x : tree.Expr). x) (map ((expr.TheShapes.former-Expr-DictComp-0-at-12).map Expr tree.Expr g) xs) ≡ generators g xs
 dict_comp_map g [] = refl
 dict_comp_map g (x ∷ xs) = cc (exprs_map g x.ifs, dict_comp_map g xs)
 

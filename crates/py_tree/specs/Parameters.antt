@@ -21,5 +21,5 @@ defaults_of [] = []
 defaults_of (x ∷ xs) = with_default x.default (defaults_of xs)
 
 -- the parameters that have a default, or those that lack one
-abbrev pub parted : (given : Bool) → List (ArgWithDefaultOf Expr) → List (ArgWithDefaultOf Expr)
-parted given xs = filter (λ x. beq (has_default x) given) xs
+abbrev pub params_by_default : (given : Bool) → List (ArgWithDefaultOf Expr) → List (ArgWithDefaultOf Expr)
+params_by_default given xs = filter (λ x. beq (has_default x) given) xs

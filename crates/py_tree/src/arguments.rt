@@ -1,14 +1,14 @@
 //! Parameters of functions and lambdas.
 ghost use Rattle.std.specs.Prelude.{◌≡◌, ◌++◌, slice_get, length};
 ghost use Rattle.std.specs.Option.{option_copied, is_some};
-ghost use Rattle.py_tree.specs.Parameters.{defaults_of, has_default, parted};
+ghost use Rattle.py_tree.specs.Parameters.{defaults_of, has_default, params_by_default};
 
 use crate::{ArgWithDefault, Arguments, Expr};
 
 impl Arguments {
     /// The i-th default, from 0, of the positional parameters, the positional-only ones first. None where there are
     /// not so many.
-    #[tactic(auto, using(crate::proofs::Defaults::joined))]
+    #[tactic(auto, using(crate::proofs::Defaults::default_joined))]
     pub fn default_at(&self, i: usize) -> Option<&Expr>
         ensures { option_copied result ≡ slice_get (defaults_of self.now.posonlyargs ++ defaults_of self.now.args) i }
     {
@@ -24,7 +24,7 @@ impl Arguments {
     /// The i-th keyword-only parameter, from 0, of those that have a default, or of those that lack one. None where
     /// there are not so many.
     pub fn kwonly_at(&self, i: usize, with_default: bool) -> Option<&ArgWithDefault>
-        ensures { option_copied result ≡ slice_get (parted with_default self.now.kwonlyargs) i }
+        ensures { option_copied result ≡ slice_get (params_by_default with_default self.now.kwonlyargs) i }
     {
         let mut left = i;
         for item in self.kwonlyargs.as_slice() {

@@ -1,1 +1,3 @@
+mod FormLemmas
+mod Forms
 mod Throughout

@@ -1,1 +1,2 @@
 pub mod Flawless
+pub mod Formed

@@ -1,6 +1,6 @@
-//! The law of the verifier: a code that a compile call answers has no flaw.
+//! The laws of the verifier: a code that a compile call answers has no verification error, and is well formed.
 #![tactic(auto)]
 
 mod laws;
 
-pub use laws::compiled_is_flawless;
+pub use laws::{compiled_is_flawless, compiled_is_well_formed};

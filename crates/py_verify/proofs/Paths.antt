@@ -9,18 +9,19 @@ use Rattle.py_verify.specs.declared.verdict.Spot.{Spot}
 use Rattle.py_verify.specs.declared.search.Pass.{Pass}
 use Rattle.py_dataflow.specs.Sound.{sound}
 use Rattle.py_verify.specs.Flaws.{IsFlaw, unit_count}
-use Rattle.py_verify.specs.Nested.{HoldsFrom, carried, is_limit}
+use Rattle.py_verify.specs.Nested.{HoldsFrom, path_place, is_limit}
 use Rattle.py_verify.specs.Searching.{looks_for, Unflawed, Clear, Found, Ready, ReadyAmong, ClearAmong, FoundAmong}
 use Rattle.py_verify.proofs.Lawful.{of_walks, sound_unflawed}
 
--- a flaw of a code among constants is one of the code around it
-pub around : (o d : Object) (level i : ℕ) (path : List ℕ) (unit : ℕ) (kind : FlawKind) → slice_get (constants o) i ≡ Some (code d) → HoldsFrom (level + 1) d path unit kind → HoldsFrom level o (carried i ∷ path) unit kind
-around o d level i path unit kind e h =
+-- a verification error of a code among constants is one of the enclosing code
+pub path_around : (o d : Object) (level i : ℕ) (path : List ℕ) (unit : ℕ) (kind : FlawKind) → slice_get (constants o) i ≡ Some (code d)
+    → HoldsFrom (level + 1) d path unit kind → HoldsFrom level o (path_place i ∷ path) unit kind
+path_around o d level i path unit kind e h =
     let q : level + 1 + length path ≡ level + suc (length path) = omega arith in
     (h.0, (i, d, e, refl, h.1), subst (λ n. IsFlaw h.0 n unit kind) q h.2)
 
 module _ (pass : Pass) (o : Object) where
-  -- a code is clear where it has no flaw itself, and its constants are clear
+  -- a code is clear where it has no verification error itself, and its constants are clear
   pub clear : (level : ℕ) → Unflawed pass o level → ClearAmong pass (constants o) (level + 1) → Clear pass o level
   clear level u a [] unit kind l h =
       let q : level + 0 ≡ level = omega arith in
@@ -33,14 +34,14 @@ module _ (pass : Pass) (o : Object) where
   pub found_among : (old new : List ℕ) (spot : Spot) → FoundAmong pass (constants o) old new spot → Found pass o old new spot
   found_among old new spot f = go f.0 f.1 f.2 f.3.0 f.3.1 f.3.2
     where
-      go : (i : ℕ) (c : Const) → slice_get (constants o) i ≡ Some c → (d : Object) → c ≡ code d → Found pass d (old ++ carried i ∷ []) new spot → Found pass o old new spot
+      go : (i : ℕ) (c : Const) → slice_get (constants o) i ≡ Some c → (d : Object) → c ≡ code d → Found pass d (old ++ path_place i ∷ []) new spot → Found pass o old new spot
       go i c e d ec g =
-          let q : length (old ++ carried i ∷ []) + 1 ≡ length old + 1 + 1 = (let z = length-append old (carried i ∷ []) in omega (arith, z)) in
+          let q : length (old ++ path_place i ∷ []) + 1 ≡ length old + 1 + 1 = (let z = length-append old (path_place i ∷ []) in omega (arith, z)) in
           let h : HoldsFrom (length old + 1 + 1) d g.path spot.unit spot.kind = subst (λ n. HoldsFrom n d g.path spot.unit spot.kind) q g.holds in
           record {
-            path = carried i ∷ g.path;
-            new_is = g.new_is ∙ append_assoc old (carried i ∷ []) g.path;
-            holds = around o d (length old + 1) i g.path spot.unit spot.kind (e ∙ ap Some ec) h;
+            path = path_place i ∷ g.path;
+            new_is = g.new_is ∙ append_assoc old (path_place i ∷ []) g.path;
+            holds = path_around o d (length old + 1) i g.path spot.unit spot.kind (e ∙ ap Some ec) h;
             sought = g.sought;
           }
 
@@ -53,13 +54,13 @@ module _ (pass : Pass) (o : Object) where
   pub ready_among : (level : ℕ) → Ready pass o level → Unflawed pass o level → ReadyAmong pass (constants o) (level + 1)
   ready_among level r u i c e d ec = record {
     deep = (let n = not_deepest pass level refl r u in let l = r.deep in omega (arith, n, l));
-    limits = λ w path unit kind l h. r.limits w (carried i ∷ path) unit kind l (around o d level i path unit kind (e ∙ ap Some ec) h);
+    limits = λ w path unit kind l h. r.limits w (path_place i ∷ path) unit kind l (path_around o d level i path unit kind (e ∙ ap Some ec) h);
   }
 
 module _ (o : Object) (level : ℕ) where
   -- a code that meets no limit has fewer than 2^32 units
-  pub few_units : Clear Pass.Limits o level → unit_count o < 2 ^ 32
-  few_units k = elim (cases_lt (unit_count o) (2 ^ 32)) [
+  pub path_few_units : Clear Pass.Limits o level → unit_count o < 2 ^ 32
+  path_few_units k = elim (cases_lt (unit_count o) (2 ^ 32)) [
     | inl l ↦ l
     | inr l ↦ absurd (k [] 0 FlawKind.TooManyUnits refl (o, refl, (refl, l)))
   ]

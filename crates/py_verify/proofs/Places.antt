@@ -1,4 +1,4 @@
--- No walk comes to a place behind the end of the code, so no flaw of walks is there.
+-- No walk comes to a place after the end of the code, so no verification error of walks is there.
 use Rattle.std.proofs.Common.{◌≡◌, ℕ, zero, suc, ◌+◌, ◌-◌, ◌*◌, ◌%◌, ◌^◌, ◌<◌, ◌≤◌, List, [], ◌∷◌, drop, length, Bool, true, false, Option, Some, None, refl, sym, inl, inr, ap, ◌∙◌, subst, arith}
 use Rattle.std.specs.Prelude.{if◌then◌else◌}
 use Rattle.std.proofs.lemmas.List.{length-drop}
@@ -24,9 +24,9 @@ module _ (u : CodeUnit) (us : List CodeUnit) (at : ℕ) where
   ends_if true operand r h e = let z = h operand e in omega (arith, z)
   ends_if false operand r h e = let z = ap (λ (q : Read). q.next) (same_Some (record { op = u.op; operand = operand; next = suc at }) r e) in omega (arith, z)
 
-ends : (us : List CodeUnit) (high at : ℕ) (r : Read) → read_from high at us ≡ Some r → r.next ≤ at + length us
-ends [] high at r e = absurd (cc)
-ends (u ∷ us) high at r e = ends_if u us at (is_prefix u.op) ((high * 256 + u.arg) % 2 ^ 32) r (λ h d. ends us h (suc at) r d) e
+place_ends : (us : List CodeUnit) (high at : ℕ) (r : Read) → read_from high at us ≡ Some r → r.next ≤ at + length us
+place_ends [] high at r e = absurd (cc)
+place_ends (u ∷ us) high at r e = ends_if u us at (is_prefix u.op) ((high * 256 + u.arg) % 2 ^ 32) r (λ h d. place_ends us h (suc at) r d) e
 
 units_there : (us : List CodeUnit) (high at : ℕ) (r : Read) → read_from high at us ≡ Some r → 0 < length us
 units_there [] high at r e = absurd (cc)
@@ -37,7 +37,7 @@ module _ (o : Object) where
   read_ends p r e =
       let rest : List CodeUnit = drop p (head o).instructions in
       let some = units_there rest 0 p r e in
-      let last = ends rest 0 p r e in
+      let last = place_ends rest 0 p r e in
       let long : length rest ≡ unit_count o - p = length-drop p (head o).instructions in
       omega (arith, some, last, long)
 
@@ -73,7 +73,7 @@ module _ (o : Object) where
   reached_low : (p : ℕ) (t : State) → Reached (code_look o) 0 p t → p ≤ unit_count o
   reached_low p t h = walk_low h.0 p t h.1
 
-  -- the place of a flaw
+  -- the place of a verification error
   pub flaw_low : (unit : ℕ) (kind : FlawKind) → WalkFlaw o unit kind → unit ≤ unit_count o
   flaw_low unit FlawKind.TooDeep w = absurd w
   flaw_low unit FlawKind.TooManyUnits w = absurd w

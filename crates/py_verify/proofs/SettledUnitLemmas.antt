@@ -9,14 +9,14 @@ use Rattle.py_dataflow.specs.declared.known.KnownState.{KnownState}
 use Rattle.py_dataflow.specs.declared.known.Change.{Change}
 use Rattle.py_dataflow.specs.declared.known.Refused.{Refused}
 use Rattle.py_dataflow.specs.Walks.{State, falls_to, jumps_to, Edge, Falls, Jumps}
-use Rattle.py_dataflow.specs.Known.{state_of, state_at, arrival, Arrives, IsUneven, Unfit, Moves, combined}
+use Rattle.py_dataflow.specs.Known.{state_of, state_at, arrival, Arrives, IsUneven, Unfit, Moves, combined_change}
 use Rattle.py_dataflow.specs.Shown.{Covered, Closed_at, Grows}
 use Rattle.py_dataflow.specs.Sound.{code_look}
 use Rattle.py_dataflow.proofs.ArrivalLemmas.{moves_combine, arrives_covers, arrives_grows, arrives_shown, refused_at}
 use Rattle.py_verify.specs.declared.walk.Exits.{Exits}
 use Rattle.py_verify.specs.declared.walk.Progress.{Progress}
 use Rattle.py_verify.specs.Flaws.{unit_count}
-use Rattle.py_verify.specs.Stepping.{Comes, KnownIn, IsListed, Steps, Settled, IsWorking, HaltsAt, halted, FallsOn, JumpsOn, IsExits}
+use Rattle.py_verify.specs.Stepping.{Comes, KnownIn, IsListed, Steps, Settled, IsWorking, HaltsAt, halt_by, FallsOn, JumpsOn, IsExits}
 use Rattle.py_verify.proofs.Comings.{comes_shown, halts_at}
 use Rattle.py_verify.proofs.WorklistLemmas.{listed_split}
 
@@ -26,7 +26,8 @@ arrival_low None t m h l = l
 arrival_low (Some s) t m h l = h s refl
 
 -- the place that a state arrives at is on the work list, or nothing changed
-noted_there : (old new : List (Option KnownState)) (work : List ℕ) (to : ℕ) (c : Change) → Moves c old new → (c ≢ Change.Nothing → IsListed work to) → (state_at new to ≡ state_at old to) ⊎ IsListed work to
+noted_there : (old new : List (Option KnownState)) (work : List ℕ) (to : ℕ) (c : Change) → Moves c old new → (c ≢ Change.Nothing → IsListed work to)
+    → (state_at new to ≡ state_at old to) ⊎ IsListed work to
 noted_there old new work to Change.Nothing m l = inl (ap (λ ks. state_at ks to) m)
 noted_there old new work to Change.Marks m l = inr (l (λ e. absurd (cc)))
 noted_there old new work to Change.Place m l = inr (l (λ e. absurd (cc)))
@@ -62,10 +63,12 @@ module _ (o : Object) (old new : List (Option KnownState)) (from to : ℕ) (t : 
   pub arrives_covered : Arrives old new to t → Covered (state_at new) to t
   arrives_covered a = arrives_covers (code_look o) (unit_count o) old new to t a
 
-pub arrival_halts : (o : Object) (old : List (Option KnownState)) (from to : ℕ) (t : State) (e : Refused) → KnownIn o old → Comes o from to t → (e ≡ Refused.UnevenHeights → IsUneven (state_at old to) t) → (e ≡ Refused.BlockMismatch → Unfit (state_at old to) t) → (e ≢ Refused.NoEnd) × (e ≢ Refused.HeightOutOfRange) → HaltsAt o (halted e to)
+pub arrival_halts : (o : Object) (old : List (Option KnownState)) (from to : ℕ) (t : State) (e : Refused) → KnownIn o old → Comes o from to t
+    → (e ≡ Refused.UnevenHeights → IsUneven (state_at old to) t) → (e ≡ Refused.BlockMismatch → Unfit (state_at old to) t)
+    → (e ≢ Refused.NoEnd) × (e ≢ Refused.HeightOutOfRange) → HaltsAt o (halt_by e to)
 arrival_halts o old from to t e known comes u m n = halts_at o e to n (refused_at (code_look o) (unit_count o) old to t e known.shown (comes_shown o from to t comes) u m n)
 
-both_nothing : (a b : Change) → combined a b ≡ Change.Nothing → (a ≡ Change.Nothing) × (b ≡ Change.Nothing)
+both_nothing : (a b : Change) → combined_change a b ≡ Change.Nothing → (a ≡ Change.Nothing) × (b ≡ Change.Nothing)
 both_nothing Change.Nothing b e = (refl, e)
 both_nothing Change.Marks Change.Nothing e = absurd (cc)
 both_nothing Change.Marks Change.Marks e = absurd (cc)
@@ -81,7 +84,9 @@ module _ (o : Object) where
       (here.0, here.1, record { block = c.block; falls = c.falls; jumps = c.jumps; edges = λ k1 t d. g k1 t (c.edges k1 t d) })
 
   -- a step to these states
-  pub steps_to : (p q : Progress) (new : List (Option KnownState)) (c : Change) → q.states.items ≡ new → KnownIn o new → Grows p.states.items new → Moves c p.states.items new → ((k : ℕ) → (state_at new k ≡ state_at p.states.items k) ⊎ IsListed q.work.items k) → ((k : ℕ) → IsListed p.work.items k → IsListed q.work.items k) → (c ≡ Change.Nothing → q.work.items ≡ p.work.items) → Steps o p q c
+  pub steps_to : (p q : Progress) (new : List (Option KnownState)) (c : Change) → q.states.items ≡ new → KnownIn o new → Grows p.states.items new
+      → Moves c p.states.items new → ((k : ℕ) → (state_at new k ≡ state_at p.states.items k) ⊎ IsListed q.work.items k)
+      → ((k : ℕ) → IsListed p.work.items k → IsListed q.work.items k) → (c ≡ Change.Nothing → q.work.items ≡ p.work.items) → Steps o p q c
   steps_to p q new c e known grows moves noted kept still = record {
     known = subst (KnownIn o) (sym e) known;
     grows = subst (Grows p.states.items) (sym e) grows;
@@ -91,7 +96,7 @@ module _ (o : Object) where
     still = still;
   }
 
-  module _ (p q r : Progress) (a b c : Change) (h : Steps o p q a) (k : Steps o q r b) (e : c ≡ combined a b) where
+  module _ (p q r : Progress) (a b c : Change) (h : Steps o p q a) (k : Steps o q r b) (e : c ≡ combined_change a b) where
     noted_both : (j : ℕ) → (state_at r.states.items j ≡ state_at p.states.items j) ⊎ IsListed r.work.items j
     noted_both j = elim (k.noted j) [
       | inr l ↦ inr l
@@ -115,15 +120,18 @@ module _ (o : Object) where
     }
 
   module _ (old mid new : List (Option KnownState)) (unit : ℕ) (s : State) (e : Exits) (is : IsExits o unit s e) where
-    fall_covered : (st : ℕ → Option State) (fall : Option KnownState) → FallsOn is.sees s e.next fall → is.sees.flow.falls ≡ true → IfSome fall (λ k. Covered st e.next (state_of k)) → Covered st is.sees.next (falls_to is.sees.flow s)
+    fall_covered : (st : ℕ → Option State) (fall : Option KnownState) → FallsOn is.sees s e.next fall → is.sees.flow.falls ≡ true
+        → IfSome fall (λ k. Covered st e.next (state_of k)) → Covered st is.sees.next (falls_to is.sees.flow s)
     fall_covered st None f l c = absurd (let q : false ≡ true = sym f ∙ l in cc)
     fall_covered st (Some k) f l c = subst (λ p. Covered st p (falls_to is.sees.flow s)) f.1 (subst (Covered st e.next) f.2 c)
 
-    jump_covered : (st : ℕ → Option State) (jump : Option KnownState) (q : ℕ) → JumpsOn is.sees s e.target jump → is.sees.target ≡ Some q → IfSome jump (λ k. Covered st e.target (state_of k)) → Covered st q (jumps_to is.sees.flow.branch s)
+    jump_covered : (st : ℕ → Option State) (jump : Option KnownState) (q : ℕ) → JumpsOn is.sees s e.target jump → is.sees.target ≡ Some q
+        → IfSome jump (λ k. Covered st e.target (state_of k)) → Covered st q (jumps_to is.sees.flow.branch s)
     jump_covered st None q j l c = absurd (let z : None ≡ Some q = sym j ∙ l in cc)
     jump_covered st (Some k) q j l c = subst (λ p. Covered st p (jumps_to is.sees.flow.branch s)) (same_Some e.target q (sym j.0 ∙ l)) (subst (Covered st e.target) j.1 c)
 
-    closed_here : IfSome e.fall (λ k. Covered (state_at mid) e.next (state_of k)) → IfSome e.jump (λ k. Covered (state_at new) e.target (state_of k)) → Grows mid new → Closed_at (state_at new) s is.sees
+    closed_here : IfSome e.fall (λ k. Covered (state_at mid) e.next (state_of k)) → IfSome e.jump (λ k. Covered (state_at new) e.target (state_of k))
+        → Grows mid new → Closed_at (state_at new) s is.sees
     closed_here cf cj g = record { block = is.block; falls = is.falls; jumps = is.jumps; edges = go }
       where
         go : (k1 : ℕ) (t1 : State) → Edge is.sees s k1 t1 → Covered (state_at new) k1 t1
@@ -131,21 +139,23 @@ module _ (o : Object) where
         go k1 t1 (Jumps p l) = jump_covered (state_at new) e.jump p is.jump l cj
 
     -- from a unit a walk went on; its state is the same, or it is on the work list
-    pub settled_here : (work : List ℕ) → state_at old unit ≡ Some s → IfSome e.fall (λ k. Covered (state_at mid) e.next (state_of k)) → IfSome e.jump (λ k. Covered (state_at new) e.target (state_of k)) → Grows mid new → (state_at new unit ≡ state_at old unit) ⊎ IsListed work unit → Settled o new unit ⊎ IsListed work unit
+    pub settled_here : (work : List ℕ) → state_at old unit ≡ Some s → IfSome e.fall (λ k. Covered (state_at mid) e.next (state_of k))
+        → IfSome e.jump (λ k. Covered (state_at new) e.target (state_of k)) → Grows mid new → (state_at new unit ≡ state_at old unit) ⊎ IsListed work unit
+        → Settled o new unit ⊎ IsListed work unit
     settled_here work es cf cj g (inr l) = inr l
     settled_here work es cf cj g (inl same) = inl (λ s1 es1. (is.sees, is.sees_is, subst (λ z. Closed_at (state_at new) z is.sees) (same_Some s s1 (sym es ∙ sym same ∙ es1)) (closed_here cf cj g)))
 
   -- a unit was taken from the work list, and a walk went on from there
   module _ (p q r : Progress) (unit : ℕ) (c : Change) (same : q.states.items ≡ p.states.items) (taken : p.work.items ≡ q.work.items ++ unit ∷ []) (w : IsWorking o p) (h : Steps o q r c) (here : Settled o r.states.items unit ⊎ IsListed r.work.items unit) where
-    grown : Grows p.states.items r.states.items
-    grown = subst (λ ks. Grows ks r.states.items) same h.grows
+    settled_unit_grown : Grows p.states.items r.states.items
+    settled_unit_grown = subst (λ ks. Grows ks r.states.items) same h.grows
 
     by_list : (k : ℕ) → IsListed q.work.items k ⊎ (k ≡ unit) → Settled o r.states.items k ⊎ IsListed r.work.items k
     by_list k (inl l) = inr (h.kept k l)
     by_list k (inr e) = subst (λ j. Settled o r.states.items j ⊎ IsListed r.work.items j) (sym e) here
 
     by_state : (k : ℕ) → Settled o p.states.items k → (state_at r.states.items k ≡ state_at q.states.items k) ⊎ IsListed r.work.items k → Settled o r.states.items k ⊎ IsListed r.work.items k
-    by_state k d (inl e) = inl (still_settled p.states.items r.states.items k d (e ∙ ap (λ ks. state_at ks k) same) grown)
+    by_state k d (inl e) = inl (still_settled p.states.items r.states.items k d (e ∙ ap (λ ks. state_at ks k) same) settled_unit_grown)
     by_state k d (inr l) = inr l
 
     each_after : (k : ℕ) → Settled o r.states.items k ⊎ IsListed r.work.items k

@@ -61,23 +61,23 @@ highest (None ∷ ks) = put_none ks (highest ks)
 highest (Some m ∷ ks) = inr (put_known m ks (highest ks))
 
 module _ (o : Object) (ks : List (Option KnownState)) (known : KnownIn o ks) (start : Covered (state_at ks) 0 (state 0 [])) (settled : (k : ℕ) → Settled o ks k) where
-  here : (k : ℕ) (s : State) → state_at ks k ≡ Some s → (x : Seen ℕ) × (code_look o k ≡ Some x) × Closed_at (state_at ks) s x
-  here k s e = settled k s e
+  soundness_here : (k : ℕ) (s : State) → state_at ks k ≡ Some s → (x : Seen ℕ) × (code_look o k ≡ Some x) × Closed_at (state_at ks) s x
+  soundness_here k s e = settled k s e
 
-  closed : Closed (code_look o) (state_at ks)
-  closed = record {
+  soundness_closed : Closed (code_look o) (state_at ks)
+  soundness_closed = record {
     start = start;
-    inside = λ k s e n. (let h = here k s e in absurd (let q : None ≡ Some h.0 = sym n ∙ h.1 in cc));
+    inside = λ k s e n. (let h = soundness_here k s e in absurd (let q : None ≡ Some h.0 = sym n ∙ h.1 in cc));
     whole = known.shown.whole;
-    each = λ k s x e l. (let h = here k s e in subst (λ y. Closed_at (state_at ks) s y) (same_Some h.0 x (sym h.1 ∙ l)) h.2);
+    each = λ k s x e l. (let h = soundness_here k s e in subst (λ y. Closed_at (state_at ks) s y) (same_Some h.0 x (sym h.1 ∙ l)) h.2);
   }
 
   by_highest : Nowhere (state_at ks) ⊎ Highest (state_at ks) → sound o
   by_highest (inl n) = absurd (n 0 start.by start.there)
   by_highest (inr h) =
-      let d : IsDepth (code_look o) 0 h.at.height = holding.depth (code_look o) (state_at ks) closed h.at.height h.above h.place h.at h.there refl (known.shown.shown h.place h.at h.there) in
+      let d : IsDepth (code_look o) 0 h.at.height = holding.depth_law (code_look o) (state_at ks) soundness_closed h.at.height h.above h.place h.at h.there refl (known.shown.shown h.place h.at h.there) in
       let l = known.low h.place h.at h.there in
-      holding.sound (code_look o) (state_at ks) closed h.at.height (suc (head o).max_stackdepth) d (omega (arith, l))
+      holding.depth_sound (code_look o) (state_at ks) soundness_closed h.at.height (suc (head o).max_stackdepth) d (omega (arith, l))
 
   pub settled_sound : sound o
   settled_sound = by_highest (highest ks)

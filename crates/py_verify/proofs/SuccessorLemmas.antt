@@ -24,8 +24,8 @@ use Rattle.py_dataflow.proofs.RefusedStateLemmas.{lacks, falls_outside, jumps_ou
 use Rattle.py_verify.specs.declared.verdict.FlawKind.{FlawKind}
 use Rattle.py_verify.specs.declared.walk.Exits.{Exits}
 use Rattle.py_verify.specs.Flaws.{operand_fits, WalkFlaw}
-use Rattle.py_verify.specs.Stepping.{Comes, Goes, HaltsAt, halted, FallsOn, JumpsOn, IsExits}
-use Rattle.py_verify.proofs.Comings.{outside, lower_limit}
+use Rattle.py_verify.specs.Stepping.{Comes, Goes, HaltsAt, halt_by, FallsOn, JumpsOn, IsExits}
+use Rattle.py_verify.proofs.Comings.{coming_outside, lower_limit}
 use Rattle.py_verify.proofs.UnitViewLemmas.{sees_of, fit}
 
 and_left : (a b : Bool) → (a && b) ≡ true → a ≡ true
@@ -84,9 +84,9 @@ module _ (o : Object) (unit : ℕ) (s : State) (r : UnitRead) (info : Instructio
   }
 
   too_far : (head o).max_stackdepth < 2 ^ 32 → Shown (code_look o) unit s → OutOfRange (code_look o) 0 (2 ^ 32) x s → WalkFlaw o unit FlawKind.HeightOutside
-  too_far m h out = outside (code_look o) (suc (head o).max_stackdepth) unit x s h looks (lower_limit (code_look o) (2 ^ 32) (suc (head o).max_stackdepth) x s (omega (arith, m)) out)
+  too_far m h out = coming_outside (code_look o) (suc (head o).max_stackdepth) unit x s h looks (lower_limit (code_look o) (2 ^ 32) (suc (head o).max_stackdepth) x s (omega (arith, m)) out)
 
-  pub fails : (head o).max_stackdepth < 2 ^ 32 → Shown (code_look o) unit s → (e : Refused) → FailsAs info s e → HaltsAt o (halted e unit)
+  pub fails : (head o).max_stackdepth < 2 ^ 32 → Shown (code_look o) unit s → (e : Refused) → FailsAs info s e → HaltsAt o (halt_by e unit)
   fails m h Refused.NoEnd f = absurd f
   fails m h Refused.UnevenHeights f = absurd f
   fails m h Refused.HeightOutOfRange (inl f) = too_far m h (falls_outside (code_look o) x s (ap (λ g. falls_within g s.height s.shape) (sym flow_is) ∙ f))

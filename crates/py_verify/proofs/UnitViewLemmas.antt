@@ -9,14 +9,14 @@ use Rattle.py_bytecode.specs.Table.{row_of, is_label}
 use Rattle.py_bytecode.specs.Objects.{Object, head}
 use Rattle.py_bytecode.specs.Machine.{Instr}
 use Rattle.py_bytecode.specs.Decode.{tables, instr_of}
-use Rattle.py_bytecode.specs.Units.{is_prefix, Read, read_from, place_in, found, fetched}
+use Rattle.py_bytecode.specs.Units.{is_prefix, Read, read_from, place_in, fetch_of_instr, fetch_of_read}
 use Rattle.py_decode.specs.Reading.{read_at}
 use Rattle.py_dataflow.specs.Flow.{flow_at, target_of}
-use Rattle.py_dataflow.specs.Walks.{Seen, seen}
+use Rattle.py_dataflow.specs.Walks.{Seen, seen_instr}
 use Rattle.py_dataflow.specs.Sound.{code_look}
 use Rattle.py_dataflow.proofs.Rows.{RowIs, row_is}
 use Rattle.py_verify.specs.Flaws.{unit_count, in_range, operand_fits}
-use Rattle.py_verify.proofs.Ranges.{IsThere, decodes}
+use Rattle.py_verify.proofs.Ranges.{IsThere, range_decodes}
 
 -- what is seen of an instruction whose operand is in its range
 abbrev pub sees_of : Read → Seen ℕ
@@ -27,23 +27,23 @@ whole_of u operand at us true r eb go e = go operand (suc at) r e
 whole_of u operand at us false r eb go e = subst (λ (q : Read). is_prefix q.op ≡ false) (same_Some (record { op = u.op; operand = operand; next = suc at }) r e) eb
 
 -- no prefix is read
-whole : (us : List CodeUnit) (high at : ℕ) (r : Read) → read_from high at us ≡ Some r → is_prefix r.op ≡ false
-whole [] high at r e = absurd (cc)
-whole (u ∷ us) high at r e = whole_of u ((high * 256 + u.arg) % 2 ^ 32) at us (is_prefix u.op) r refl (λ h a q f. whole us h a q f) e
+unit_view_whole : (us : List CodeUnit) (high at : ℕ) (r : Read) → read_from high at us ≡ Some r → is_prefix r.op ≡ false
+unit_view_whole [] high at r e = absurd (cc)
+unit_view_whole (u ∷ us) high at r e = whole_of u ((high * 256 + u.arg) % 2 ^ 32) at us (is_prefix u.op) r refl (λ h a q f. unit_view_whole us h a q f) e
 
 module _ (o : Object) (p : ℕ) where
   pub unread : read_at o p ≡ None → code_look o p ≡ None
-  unread e = ap (λ r. seen (fetched (tables o) (unit_count o) r)) e
+  unread e = ap (λ r. seen_instr (fetch_of_read (tables o) (unit_count o) r)) e
 
   module _ (r : Read) (e : read_at o p ≡ Some r) where
-    look_is : code_look o p ≡ seen (found (instr_of (tables o) (place_in (unit_count o) r.operand) r.op r.operand) r.next)
-    look_is = ap (λ r. seen (fetched (tables o) (unit_count o) r)) e
+    unit_view_look_is : code_look o p ≡ seen_instr (fetch_of_instr (instr_of (tables o) (place_in (unit_count o) r.operand) r.op r.operand) r.next)
+    unit_view_look_is = ap (λ r. seen_instr (fetch_of_read (tables o) (unit_count o) r)) e
 
-    there : IsThere (operand_fits o r) (instr_of (tables o) (place_in (unit_count o) r.operand) r.op r.operand)
-    there = decodes (tables o) (unit_count o) r.op r.operand (whole (drop p (head o).instructions) 0 p r e)
+    unit_view_there : IsThere (operand_fits o r) (instr_of (tables o) (place_in (unit_count o) r.operand) r.op r.operand)
+    unit_view_there = range_decodes (tables o) (unit_count o) r.op r.operand (unit_view_whole (drop p (head o).instructions) 0 p r e)
 
     pub unfit : operand_fits o r ≡ false → code_look o p ≡ None
-    unfit f = look_is ∙ ap (λ i. seen (found i r.next)) (subst (λ b. IsThere b (instr_of (tables o) (place_in (unit_count o) r.operand) r.op r.operand)) f there)
+    unfit f = unit_view_look_is ∙ ap (λ i. seen_instr (fetch_of_instr i r.next)) (subst (λ b. IsThere b (instr_of (tables o) (place_in (unit_count o) r.operand) r.op r.operand)) f unit_view_there)
 
     label_in : (k : OperandKind) (n : ℕ) → is_label k ≡ true → in_range (tables o) (unit_count o) k n ≡ true → place_in (unit_count o) n ≡ Some n
     label_in kind.Label n l f = ap (λ b. if b then Some n else None) f
@@ -53,7 +53,8 @@ module _ (o : Object) (p : ℕ) where
     target_is true l f = label_in (row_of r.op).kind r.operand l f
     target_is false l f = refl
 
-    seen_row : (i : Option (Instr Object ℕ)) → instr_of (tables o) (place_in (unit_count o) r.operand) r.op r.operand ≡ i → i ≢ None → operand_fits o r ≡ true → seen (found i r.next) ≡ Some (sees_of r)
+    seen_row : (i : Option (Instr Object ℕ)) → instr_of (tables o) (place_in (unit_count o) r.operand) r.op r.operand ≡ i → i ≢ None → operand_fits o r ≡ true
+        → seen_instr (fetch_of_instr i r.next) ≡ Some (sees_of r)
     seen_row None d h f = absurd (h refl)
     seen_row (Some i) d h f =
         let w : RowIs (place_in (unit_count o) r.operand) r.op r.operand i = row_is ℕ (tables o) (place_in (unit_count o) r.operand) r.op r.operand i d in
@@ -61,7 +62,7 @@ module _ (o : Object) (p : ℕ) where
         ap (λ fl. let x : Seen ℕ = record { flow = fl; next = r.next; target = target_of i } in Some x) w.flow ∙ ap (λ g. let x : Seen ℕ = record { flow = flow_at r.op r.operand; next = r.next; target = g } in Some x) t
 
     pub fit : operand_fits o r ≡ true → code_look o p ≡ Some (sees_of r)
-    fit f = look_is ∙ seen_row (instr_of (tables o) (place_in (unit_count o) r.operand) r.op r.operand) refl (subst (λ b. IsThere b (instr_of (tables o) (place_in (unit_count o) r.operand) r.op r.operand)) f there) f
+    fit f = unit_view_look_is ∙ seen_row (instr_of (tables o) (place_in (unit_count o) r.operand) r.op r.operand) refl (subst (λ b. IsThere b (instr_of (tables o) (place_in (unit_count o) r.operand) r.op r.operand)) f unit_view_there) f
 
 -- why nothing is seen at a unit
 pub unseen : (o : Object) (p : ℕ) → code_look o p ≡ None → (read_at o p ≡ None) ⊎ ((r : Read) × (read_at o p ≡ Some r) × (operand_fits o r ≡ false))

@@ -54,13 +54,13 @@ abbrev pub HaltsAt : Object → Halt → Type 0
 HaltsAt o (Halt.Flawed kind place) = WalkFlaw o place kind
 HaltsAt o Halt.OutOfMemory = Unit {0}
 
--- how py_dataflow tells a flaw at a unit
-abbrev pub halted : Refused → (unit : ℕ) → Halt
-halted Refused.NoEnd unit = Halt.Flawed FlawKind.PlaceOutside unit
-halted Refused.UnevenHeights unit = Halt.Flawed FlawKind.UnevenHeights unit
-halted Refused.HeightOutOfRange unit = Halt.Flawed FlawKind.HeightOutside unit
-halted Refused.BlockMismatch unit = Halt.Flawed FlawKind.BlockMismatch unit
-halted Refused.OutOfMemory unit = Halt.OutOfMemory
+-- how py_dataflow tells a verification error at a unit
+abbrev pub halt_by : Refused → (unit : ℕ) → Halt
+halt_by Refused.NoEnd unit = Halt.Flawed FlawKind.PlaceOutside unit
+halt_by Refused.UnevenHeights unit = Halt.Flawed FlawKind.UnevenHeights unit
+halt_by Refused.HeightOutOfRange unit = Halt.Flawed FlawKind.HeightOutside unit
+halt_by Refused.BlockMismatch unit = Halt.Flawed FlawKind.BlockMismatch unit
+halt_by Refused.OutOfMemory unit = Halt.OutOfMemory
 
 -- what is known of the next unit, if it follows
 abbrev pub FallsOn : Seen ℕ → State → (next : ℕ) → Option KnownState → Type 0

@@ -1,9 +1,9 @@
-//! The search for flaws in a code and in those within it.
+//! The search for verification errors in a code and in those within it.
 
 ghost use Rattle.std.specs.Prelude.{◌≡◌, ◌+◌, ◌∷◌, ◌++◌, ◌^◌, ◌<◌, ℕ, suc, [], length, map, true, IfOk};
 ghost use Rattle.std.specs.Option.{IfNone, IfSome};
 ghost use Rattle.py_bytecode.specs.View.{constant, object};
-ghost use Rattle.py_verify.specs.Nested.{carried};
+ghost use Rattle.py_verify.specs.Nested.{path_place};
 ghost use Rattle.py_verify.specs.Searching.{Clear, ClearAmong, ClearIn, FlawedHere, Found, FoundAmong, FoundIn, Ready, ReadyAmong, ReadyIn, Unflawed};
 
 use crate::verdict::{FlawKind, Spot};
@@ -17,7 +17,7 @@ use std::alloc::{AllocError, Global};
 pub enum Pass {
     /// `TooDeep` and `TooManyUnits`.
     Limits,
-    /// All other flaws.
+    /// All other verification errors.
     Walks,
 }
 
@@ -26,7 +26,7 @@ const DEEPEST: usize = 1 << 11;
 
 // A place among constants as a path names it.
 fn carried(place: usize) -> u32
-    ensures { result ≡ carried place }
+    ensures { result ≡ path_place place }
 {
     match u32::try_from(place) {
         Ok(carried) => carried,
@@ -54,7 +54,7 @@ fn limit_flaw(code: &CodeObject, level: usize) -> Option<Spot>
     None
 }
 
-// The flaw that a pass finds in a code itself, if any.
+// The verification error that a pass finds in a code itself, if any.
 fn check(
     alloc: Global,
     pass: Pass,
@@ -71,7 +71,7 @@ fn check(
     }
 }
 
-/// The first flaw that a pass finds in a code, which stands at the end of `path`, or in those within it. The path then
+/// The first verification error that a pass finds in a code, which stands at the end of `path`, or in those within it. The path then
 /// leads to it, and else is as it was.
 ///
 /// # Errors

@@ -4,7 +4,7 @@ ghost use Rattle.std.specs.Prelude.{◌≡◌};
 
 use py_base::List;
 
-/// What is wrong with a code object. `specs/Flaws.antt` says exactly where each kind is a flaw.
+/// What is wrong with a code object. `specs/Flaws.antt` says exactly where each kind is a verification error.
 #[derive(Clone, Copy, PartialEq, Eq, Debug)]
 pub enum FlawKind {
     /// Codes that stand directly among constants nest 2^11 deep, the outermost counting one.
@@ -23,10 +23,10 @@ pub enum FlawKind {
     BlockMismatch,
 }
 
-/// A flaw, and where it is.
+/// A verification error, and where it is.
 #[derive(PartialEq, Eq, Debug, Drop)]
 pub struct Flaw {
-    /// The places among the constants that lead from the outermost code to the one with the flaw. A place of 2^32 or
+    /// The places among the constants that lead from the outermost code to the one with the verification error. A place of 2^32 or
     /// more is carried as 2^32 - 1.
     pub path: List<u32>,
     /// The place of the unit; 0 where the whole code is at fault.
@@ -41,7 +41,7 @@ pub enum Verdict {
     No(Flaw),
 }
 
-/// A flaw of one code, at a unit.
+/// A verification error of one code, at a unit.
 #[derive(Clone, Copy, PartialEq, Eq, Debug)]
 pub struct Spot {
     pub unit: u32,
@@ -49,7 +49,7 @@ pub struct Spot {
 }
 
 impl Spot {
-    /// The verdict on a code object that has this flaw at the end of a path.
+    /// The verdict on a code object that has this verification error at the end of a path.
     pub fn at(self, path: List<u32>) -> Verdict
         ensures { result ≡ Verdict.No (record { path = path; unit = self.unit; kind = self.kind }) }
     {

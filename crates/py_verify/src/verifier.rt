@@ -10,7 +10,7 @@ use py_base::List;
 use py_bytecode::CodeObject;
 use std::alloc::{AllocError, Global};
 
-/// Whether a code object and those within it have no flaw: Yes exactly where none of them has one. No names a flaw, one
+/// Whether a code object and those within it have no verification error: Yes exactly where none of them has one. No names a verification error, one
 /// of a limit where there is any.
 ///
 /// # Errors

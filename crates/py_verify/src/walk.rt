@@ -9,7 +9,7 @@ ghost use Rattle.py_dataflow.specs.Shown.{Covered, Grows, Shown};
 ghost use Rattle.py_dataflow.specs.Sound.{code_look, sound};
 ghost use Rattle.py_dataflow.specs.Walks.{state};
 ghost use Rattle.py_verify.specs.Flaws.{WalkFlaw, unit_count};
-ghost use Rattle.py_verify.specs.Stepping.{Comes, HaltsAt, IsExits, IsListed, IsWorking, KnownIn, Settled, Steps, halted};
+ghost use Rattle.py_verify.specs.Stepping.{Comes, HaltsAt, IsExits, IsListed, IsWorking, KnownIn, Settled, Steps, halt_by};
 
 use crate::operands::operand_fits;
 use crate::verdict::{FlawKind, Spot};
@@ -25,7 +25,7 @@ use std::alloc::{AllocError, Global};
 /// Why a walk ended early.
 #[derive(Clone, Copy, Debug)]
 pub enum Halt {
-    /// A flaw, and the place of its unit.
+    /// A verification error, and the place of its unit.
     Flawed { kind: FlawKind, unit: usize },
     /// There was no memory for what is known of a unit.
     OutOfMemory,
@@ -55,7 +55,7 @@ pub struct Exits {
 
 /// What a refusal of py_dataflow at a unit is here.
 fn halt_of(refused: Refused, unit: usize) -> Halt
-    ensures { result ≡ halted refused unit }
+    ensures { result ≡ halt_by refused unit }
 {
     let kind = match refused {
         Refused::NoEnd => FlawKind::PlaceOutside,
@@ -328,7 +328,7 @@ fn walk_all(
     Ok(())
 }
 
-/// A flaw that walks over the units have, if there is one.
+/// A verification error that walks over the units have, if there is one.
 ///
 /// # Errors
 /// There is no memory for what is read or known of the units.

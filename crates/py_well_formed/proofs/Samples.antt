@@ -38,8 +38,8 @@ abbrev a : List ℕ
 a = codes "a"
 
 -- g gives the free name a
-abbrev inner : List (List ℕ) → Object
-inner free = obj.object_of (fitting 33 (record { op = op.LoadDeref; arg = 0 } ∷ record { op = op.ReturnValue; arg = 0 } ∷ []) [] [] free) obj.no_consts
+abbrev sample_inner : List (List ℕ) → Object
+sample_inner free = obj.object_of (fitting 33 (record { op = op.LoadDeref; arg = 0 } ∷ record { op = op.ReturnValue; arg = 0 } ∷ []) [] [] free) obj.no_consts
 
 abbrev making : (flags : ℕ) → List CodeUnit
 making flags =
@@ -49,71 +49,71 @@ making flags =
 abbrev outer_head : (flags : ℕ) → Head
 outer_head flags = record (fitting 33 (making flags) (a ∷ []) (a ∷ []) []) { arg_count = 1; cell2arg = Some (pos 0 ∷ []) }
 
-abbrev outer : Head → Const → Object
-outer h made = obj.object_of h (obj.consts_of (made ∷ obj.str (codes "g") ∷ []))
+abbrev sample_outer : Head → Const → Object
+sample_outer h made = obj.object_of h (obj.consts_of (made ∷ obj.str (codes "g") ∷ []))
 
-abbrev told : List ℕ → Option ℕ → FormFaultKind → Option FormFault
-told path unit kind = Some (record { path = path; unit = unit; kind = kind })
+abbrev sample_told : List ℕ → Option ℕ → FormFaultKind → Option FormFault
+sample_told path unit kind = Some (record { path = path; unit = unit; kind = kind })
 
 abbrev good : Const
-good = obj.code (inner (a ∷ []))
+good = obj.code (sample_inner (a ∷ []))
 
-as_compiled : first_fault (outer (outer_head 1) good) ≡ None
+as_compiled : first_fault (sample_outer (outer_head 1) good) ≡ None
 as_compiled = refl
 
-one_local_too_few : first_fault (outer (record (outer_head 1) { varnames = [] }) good) ≡ told [] None fault.FewLocals
+one_local_too_few : first_fault (sample_outer (record (outer_head 1) { varnames = [] }) good) ≡ sample_told [] None fault.FewLocals
 one_local_too_few = refl
 
-further_arguments : first_fault (outer (record (outer_head 1) { flags = 41 }) good) ≡ told [] None fault.FewLocals
+further_arguments : first_fault (sample_outer (record (outer_head 1) { flags = 41 }) good) ≡ sample_told [] None fault.FewLocals
 further_arguments = refl
 
-positional_only : first_fault (outer (record (outer_head 1) { posonlyarg_count = 2 }) good) ≡ told [] None fault.PositionalOnly
+positional_only : first_fault (sample_outer (record (outer_head 1) { posonlyarg_count = 2 }) good) ≡ sample_told [] None fault.PositionalOnly
 positional_only = refl
 
-no_locations : first_fault (outer (record (outer_head 1) { locations = [] }) good) ≡ told [] None fault.Locations
+no_locations : first_fault (sample_outer (record (outer_head 1) { locations = [] }) good) ≡ sample_told [] None fault.Locations
 no_locations = refl
 
-entry_outside : first_fault (outer (record (outer_head 1) { cell2arg = Some (pos 99 ∷ []) }) good) ≡ told [] None fault.CellEntry
+entry_outside : first_fault (sample_outer (record (outer_head 1) { cell2arg = Some (pos 99 ∷ []) }) good) ≡ sample_told [] None fault.CellEntry
 entry_outside = refl
 
-entry_below : first_fault (outer (record (outer_head 1) { cell2arg = Some (negsuc 1 ∷ []) }) good) ≡ told [] None fault.CellEntry
+entry_below : first_fault (sample_outer (record (outer_head 1) { cell2arg = Some (negsuc 1 ∷ []) }) good) ≡ sample_told [] None fault.CellEntry
 entry_below = refl
 
-no_parameter : first_fault (outer (record (outer_head 1) { cell2arg = Some (negsuc 0 ∷ []) }) good) ≡ None
+no_parameter : first_fault (sample_outer (record (outer_head 1) { cell2arg = Some (negsuc 0 ∷ []) }) good) ≡ None
 no_parameter = refl
 
-entries_too_many : first_fault (outer (record (outer_head 1) { cell2arg = Some (pos 0 ∷ pos 0 ∷ []) }) good) ≡ told [] None fault.CellEntries
+entries_too_many : first_fault (sample_outer (record (outer_head 1) { cell2arg = Some (pos 0 ∷ pos 0 ∷ []) }) good) ≡ sample_told [] None fault.CellEntries
 entries_too_many = refl
 
-cell_twice : first_fault (outer (record (outer_head 1) { cellvars = a ∷ a ∷ []; cell2arg = None }) good) ≡ told [] None fault.RepeatedCell
+cell_twice : first_fault (sample_outer (record (outer_head 1) { cellvars = a ∷ a ∷ []; cell2arg = None }) good) ≡ sample_told [] None fault.RepeatedCell
 cell_twice = refl
 
-free_twice : first_fault (outer (outer_head 1) (obj.code (inner (a ∷ a ∷ [])))) ≡ told [] (Some 5) fault.Closure
+free_twice : first_fault (sample_outer (outer_head 1) (obj.code (sample_inner (a ∷ a ∷ [])))) ≡ sample_told [] (Some 5) fault.Closure
 free_twice = refl
 
 -- faults of the inner code alone
-inner_free_twice : first_fault (inner (a ∷ a ∷ [])) ≡ told [] None fault.RepeatedFree
+inner_free_twice : first_fault (sample_inner (a ∷ a ∷ [])) ≡ sample_told [] None fault.RepeatedFree
 inner_free_twice = refl
 
-both : first_fault (outer (record (outer_head 1) { freevars = a ∷ [] }) good) ≡ told [] None fault.CellIsFree
-both = refl
+sample_both : first_fault (sample_outer (record (outer_head 1) { freevars = a ∷ [] }) good) ≡ sample_told [] None fault.CellIsFree
+sample_both = refl
 
-no_quick_locals : first_fault (obj.object_of (fitting 0 (record { op = op.LoadFast; arg = 0 } ∷ []) (a ∷ []) [] []) obj.no_consts) ≡ told [] (Some 0) fault.QuickLocal
+no_quick_locals : first_fault (obj.object_of (fitting 0 (record { op = op.LoadFast; arg = 0 } ∷ []) (a ∷ []) [] []) obj.no_consts) ≡ sample_told [] (Some 0) fault.QuickLocal
 no_quick_locals = refl
 
-no_generator : first_fault (obj.object_of (fitting 33 (record { op = op.LoadFast; arg = 0 } ∷ record { op = op.YieldValue; arg = 0 } ∷ []) (a ∷ []) [] []) obj.no_consts) ≡ told [] (Some 1) fault.Yield
+no_generator : first_fault (obj.object_of (fitting 33 (record { op = op.LoadFast; arg = 0 } ∷ record { op = op.YieldValue; arg = 0 } ∷ []) (a ∷ []) [] []) obj.no_consts) ≡ sample_told [] (Some 1) fault.Yield
 no_generator = refl
 
 -- a generator need not yield
-generator : first_fault (outer (record (outer_head 1) { flags = 35 }) good) ≡ None
-generator = refl
+sample_generator : first_fault (sample_outer (record (outer_head 1) { flags = 35 }) good) ≡ None
+sample_generator = refl
 
-made_of_5 : first_fault (outer (outer_head 1) (obj.integer (pos 5))) ≡ told [] (Some 5) fault.MadeOfNoCode
+made_of_5 : first_fault (sample_outer (outer_head 1) (obj.integer (pos 5))) ≡ sample_told [] (Some 5) fault.MadeOfNoCode
 made_of_5 = refl
 
-no_closure : first_fault (outer (outer_head 0) good) ≡ told [] (Some 5) fault.NoClosure
-no_closure = refl
+sample_no_closure : first_fault (sample_outer (outer_head 0) good) ≡ sample_told [] (Some 5) fault.NoClosure
+sample_no_closure = refl
 
 -- the path leads to the inner code
-within : first_fault (outer (outer_head 1) (obj.code (obj.object_of (record (fitting 33 [] [] [] (a ∷ [])) { arg_count = 1 }) obj.no_consts))) ≡ told (0 ∷ []) None fault.FewLocals
-within = refl
+sample_within : first_fault (sample_outer (outer_head 1) (obj.code (obj.object_of (record (fitting 33 [] [] [] (a ∷ [])) { arg_count = 1 }) obj.no_consts))) ≡ sample_told (0 ∷ []) None fault.FewLocals
+sample_within = refl

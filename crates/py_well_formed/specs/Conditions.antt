@@ -5,7 +5,7 @@ use Rattle.py_bytecode.specs.declared.instruction.Instruction.{Instruction}
 use Rattle.py_bytecode.specs.declared.instruction.Instruction.TheVariants as op
 use Rattle.py_bytecode.specs.Objects as obj
 use Rattle.py_bytecode.specs.Objects.{Const, Head, head}
-use Rattle.py_verify.specs.Nested.{carried}
+use Rattle.py_verify.specs.Nested.{path_place}
 use Rattle.py_well_formed.specs.declared.fault.FormFaultKind.{FormFaultKind}
 use Rattle.py_well_formed.specs.declared.fault.FormFaultKind.TheVariants as fault
 use Rattle.py_well_formed.specs.declared.fault.FormSpot.{FormSpot}
@@ -17,8 +17,8 @@ pub record Condition : Type 0 where
   pub met : Bool
   pub otherwise : FormFaultKind
 
-abbrev pub asked : Bool → FormFaultKind → Condition
-asked met otherwise = record { met = met; otherwise = otherwise }
+abbrev pub condition : Bool → FormFaultKind → Condition
+condition met otherwise = record { met = met; otherwise = otherwise }
 
 abbrev pub first_unmet : List Condition → Option FormFaultKind
 first_unmet [] = None
@@ -31,19 +31,19 @@ first_of (Some x) later = Some x
 -- of parameters and locations
 abbrev pub parameter_conditions : Head → List Condition
 parameter_conditions h =
-    asked (nat_le h.posonlyarg_count h.arg_count) fault.PositionalOnly
-    ∷ asked (nat_le (parameters h) (length h.varnames)) fault.FewLocals
-    ∷ asked (length h.locations == length h.instructions) fault.Locations
+    condition (nat_le h.posonlyarg_count h.arg_count) fault.PositionalOnly
+    ∷ condition (nat_le (parameters h) (length h.varnames)) fault.FewLocals
+    ∷ condition (length h.locations == length h.instructions) fault.Locations
     ∷ []
 
 -- of cells and free names
 abbrev pub cell_conditions : Head → List Condition
 cell_conditions h =
-    asked (has_entries (length h.cellvars) h.cell2arg) fault.CellEntries
-    ∷ asked (are_entries (parameters h) h.cell2arg) fault.CellEntry
-    ∷ asked (not (repeats h.cellvars)) fault.RepeatedCell
-    ∷ asked (not (repeats h.freevars)) fault.RepeatedFree
-    ∷ asked (not (shares h.cellvars h.freevars)) fault.CellIsFree
+    condition (has_entries (length h.cellvars) h.cell2arg) fault.CellEntries
+    ∷ condition (are_entries (parameters h) h.cell2arg) fault.CellEntry
+    ∷ condition (not (repeats h.cellvars)) fault.RepeatedCell
+    ∷ condition (not (repeats h.freevars)) fault.RepeatedFree
+    ∷ condition (not (shares h.cellvars h.freevars)) fault.CellIsFree
     ∷ []
 
 -- of the tables of the code
@@ -80,9 +80,9 @@ abbrev pub loaded_by : List Const → Instruction → (operand : ℕ) → Option
 loaded_by cs op.LoadConst operand = slice_get cs operand
 loaded_by cs _ operand = None
 
-abbrev pub loaded : List Const → Option Line → Option Const
-loaded cs None = None
-loaded cs (Some line) = loaded_by cs line.op line.operand
+abbrev pub loaded_const : List Const → Option Line → Option Const
+loaded_const cs None = None
+loaded_const cs (Some line) = loaded_by cs line.op line.operand
 
 -- an instruction that builds a tuple of so many values
 abbrev pub builds_by : Instruction → (operand count : ℕ) → Bool
@@ -113,30 +113,30 @@ has_closure h lines i count = builds (before lines i 3) count && loads_cells lin
 
 -- of a function that is made with these flags, of a code with so many free names
 abbrev pub closure_conditions : Head → List Line → (i flags : ℕ) → Option ℕ → List Condition
-closure_conditions h lines i flags None = asked false fault.MadeOfNoCode ∷ []
+closure_conditions h lines i flags None = condition false fault.MadeOfNoCode ∷ []
 closure_conditions h lines i flags (Some count) =
-    asked (flags % 2 == 1 || count == 0) fault.NoClosure
-    ∷ asked (flags % 2 == 0 || has_closure h lines i count) fault.Closure
+    condition (flags % 2 == 1 || count == 0) fault.NoClosure
+    ∷ condition (flags % 2 == 0 || has_closure h lines i count) fault.Closure
     ∷ []
 
 -- of an instruction that makes a function: the code and then its name are loaded just before
 abbrev pub function_conditions : Head → List Const → List Line → (i flags : ℕ) → List Condition
 function_conditions h cs lines i flags =
-    asked (is_text (loaded cs (before lines i 1))) fault.MadeOfNoCode
-    ∷ closure_conditions h lines i flags (free_count (loaded cs (before lines i 2)))
+    condition (is_text (loaded_const cs (before lines i 1))) fault.MadeOfNoCode
+    ∷ closure_conditions h lines i flags (free_count (loaded_const cs (before lines i 2)))
 
 -- of the instruction in a line
 abbrev pub line_conditions : Head → List Const → List Line → (i : ℕ) → Line → List Condition
 line_conditions h cs lines i line =
-    asked (not (is_quick line.op) || has_flag h.flags 0x20) fault.QuickLocal
-    ∷ asked (not (is_yield line.op) || has_flag h.flags 0x02) fault.Yield
+    condition (not (is_quick line.op) || has_flag h.flags 0x20) fault.QuickLocal
+    ∷ condition (not (is_yield line.op) || has_flag h.flags 0x02) fault.Yield
     ∷ (if makes_function line.op then function_conditions h cs lines i line.operand else [])
 
 abbrev pub at_whole : FormFaultKind → FormSpot
 at_whole kind = record { unit = None; kind = kind }
 
 abbrev pub at_unit : (unit : ℕ) → FormFaultKind → FormSpot
-at_unit unit kind = record { unit = Some (carried unit); kind = kind }
+at_unit unit kind = record { unit = Some (path_place unit); kind = kind }
 
 -- the first fault in lines, of which so many went before
 abbrev pub line_fault : Head → List Const → List Line → (i : ℕ) → List Line → Option FormSpot

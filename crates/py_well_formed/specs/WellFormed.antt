@@ -2,8 +2,8 @@
 use Rattle.std.specs.Prelude.{◌≡◌, ℕ, suc, List, [], ◌∷◌, ◌++◌, Option, None}
 use Rattle.std.specs.Option.{option_map}
 use Rattle.py_bytecode.specs.Objects as obj
-use Rattle.py_bytecode.specs.Objects.{Const, Consts, Object, constants, head, listed}
-use Rattle.py_verify.specs.Nested.{IsWithin, carried}
+use Rattle.py_bytecode.specs.Objects.{Const, Consts, Object, constants, head, const_list}
+use Rattle.py_verify.specs.Nested.{IsWithin, path_place}
 use Rattle.py_well_formed.specs.declared.fault.FormFault.{FormFault}
 use Rattle.py_well_formed.specs.declared.fault.FormSpot.{FormSpot}
 use Rattle.py_well_formed.specs.Conditions.{first_of, own_fault}
@@ -19,12 +19,12 @@ from path f = record { path = path ++ f.path; unit = f.unit; kind = f.kind }
 abbrev mutual
   -- a code's own faults come first, and then those of the codes among its constants in order
   pub first_fault : Object → Option FormFault
-  first_fault (obj.object_of h cs) = first_of (option_map (at_path []) (own_fault h (listed cs))) (fault_among 0 cs)
+  first_fault (obj.object_of h cs) = first_of (option_map (at_path []) (own_fault h (const_list cs))) (fault_among 0 cs)
 
   -- among constants, of which so many went before
   pub fault_among : (place : ℕ) → Consts → Option FormFault
   fault_among place obj.no_consts = None
-  fault_among place (obj.more_consts c cs) = first_of (option_map (from (carried place ∷ [])) (fault_in c)) (fault_among (suc place) cs)
+  fault_among place (obj.more_consts c cs) = first_of (option_map (from (path_place place ∷ [])) (fault_in c)) (fault_among (suc place) cs)
 
   pub fault_in : Const → Option FormFault
   fault_in (obj.code o) = first_fault o
@@ -40,6 +40,6 @@ abbrev mutual
 abbrev pub HasForm : Object → Type 0
 HasForm o = own_fault (head o) (constants o) ≡ None
 
--- and so does each code within it, at any depth
+-- and so does each code nested in it, at any depth
 abbrev pub WellFormed : Object → Type 0
 WellFormed o = (c : Object) → IsWithin o c → HasForm c

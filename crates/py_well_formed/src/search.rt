@@ -3,7 +3,7 @@
 ghost use Rattle.std.specs.Prelude.{◌≡◌, ◌∷◌, ◌++◌, [], None, map, IfOk};
 ghost use Rattle.std.specs.Option.{option_map};
 ghost use Rattle.py_bytecode.specs.View.{constant, constants_of, head_of, object};
-ghost use Rattle.py_verify.specs.Nested.{carried};
+ghost use Rattle.py_verify.specs.Nested.{path_place};
 ghost use Rattle.py_well_formed.specs.Conditions.{own_fault};
 ghost use Rattle.py_well_formed.specs.WellFormed.{at_path, fault_among, fault_in, first_fault, from};
 

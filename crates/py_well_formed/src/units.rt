@@ -3,8 +3,8 @@
 ghost use Rattle.std.specs.Prelude.{nat_lt, ◌≡◌, ◌+◌, ◌<◌, ◌^◌, ◌++◌, ℕ, None, Some, length, map, drop, slice_get, IfOk};
 ghost use Rattle.py_bytecode.specs.View.{constant, head_of, object};
 ghost use Rattle.py_bytecode.specs.Objects.{head};
-ghost use Rattle.py_verify.specs.Nested.{carried};
-ghost use Rattle.py_well_formed.specs.Conditions.{builds, closure_conditions, first_unmet, free_count, function_conditions, has_closure, is_quick, is_text, is_yield, line_conditions, line_fault, loaded, loads_cell, loads_cells, makes_function, unit_fault};
+ghost use Rattle.py_verify.specs.Nested.{path_place};
+ghost use Rattle.py_well_formed.specs.Conditions.{builds, closure_conditions, first_unmet, free_count, function_conditions, has_closure, is_quick, is_text, is_yield, line_conditions, line_fault, loaded_const, loads_cell, loads_cells, makes_function, unit_fault};
 ghost use Rattle.py_well_formed.specs.Lines.{before};
 
 use crate::fault::{FormFaultKind, FormSpot};
@@ -15,7 +15,7 @@ use std::alloc::{AllocError, Global};
 
 /// A place as a fault names it.
 pub fn carried(place: usize) -> u32
-    ensures { result ≡ carried place }
+    ensures { result ≡ path_place place }
 {
     match u32::try_from(place) {
         Ok(carried) => carried,
@@ -86,7 +86,7 @@ fn free_count_of(item: &ConstantData) -> Option<usize>
 
 // Whether a line loads a text.
 fn is_text(code: &CodeObject, line: Option<Line>) -> bool
-    ensures { result ≡ is_text (loaded (map constant code.now.constants) line) }
+    ensures { result ≡ is_text (loaded_const (map constant code.now.constants) line) }
 {
     let Some(line) = line else {
         return false;
@@ -102,7 +102,7 @@ fn is_text(code: &CodeObject, line: Option<Line>) -> bool
 
 // How many free names the code has that a line loads.
 fn free_count(code: &CodeObject, line: Option<Line>) -> Option<usize>
-    ensures { result ≡ free_count (loaded (map constant code.now.constants) line) }
+    ensures { result ≡ free_count (loaded_const (map constant code.now.constants) line) }
 {
     let Some(line) = line else {
         return None;

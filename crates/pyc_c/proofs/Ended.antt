@@ -6,10 +6,10 @@ use Rattle.py_devices.specs.Memory.{Shelf}
 use Rattle.py_run.specs.declared.report.Status.{Status}
 use Rattle.py_run.specs.declared.report.Status.TheVariants as status
 use Rattle.py_run.specs.declared.report.Report.{Report}
-use Rattle.py_run.specs.Runs.{ErrGets, FitsForm, IsDue, IsOfForm, Line, OutGets, ReadCause, Reports, line_of, side, side_of, text_by, text_of, written, line_for}
-use Rattle.py_run.specs.Statuses.{Due, IsCodeOf, Misuse, answered, due, due_by, due_of}
+use Rattle.py_run.specs.Runs.{ErrGets, FitsForm, IsDue, IsOfForm, Line, OutGets, ReadCause, Reports, line_of, side, side_of, text_by, text_of, written_sides, line_for}
+use Rattle.py_run.specs.Statuses.{Due, IsCodeOf, Misuse, due_answer, due, due_by, due_of}
 use Rattle.py_run.specs.Words.{Command, Compile, Pack, Step, Unpack, Names, Sample, words_form}
-use Rattle.pyc_c.specs.Runs.{AsksForCode, IsRun, Writes, empty_shelf, written_with}
+use Rattle.pyc_c.specs.Runs.{IsOffered, IsRun, Writes, empty_shelf, written_with}
 use Rattle.pyc_c.proofs.Written.{TextRoom, fits_words, long_writes, run_writes}
 
 -- what a run over these rows and these sinks says
@@ -20,10 +20,11 @@ pub record Ran (words : List (List ℕ)) (rows : List ℕ) (r : Report) (old_out
   pub reported : Reports r.status (words_form words) r.code
   pub code : IfSome r.code (λ c. IfSome (due_of words (Some rows)) (λ d. IsCodeOf d c))
   pub kind : IfSome r.code (λ c. IsOfForm (words_form words) (object c))
-  pub out : OutGets (written words (Some rows) r) r.status (text_of words (Some rows) r.code) (Some old_out.held) (Some new_out.held)
-  pub err : ErrGets (written words (Some rows) r) r.status (line_of words (Some rows)) (Some old_err.held) (Some new_err.held)
-  pub room : TextRoom (written words (Some rows) r) r.status (text_of words (Some rows) r.code) old_out.room old_out.faults new_out.faults
-  pub line_room : written words (Some rows) r ≡ Line → IfSome (line_of words (Some rows)) (λ line. length line ≤ old_err.room → (r.status ≢ status.WriteFault) × (new_err.faults ≡ old_err.faults))
+  pub out : OutGets (written_sides words (Some rows) r) r.status (text_of words (Some rows) r.code) (Some old_out.held) (Some new_out.held)
+  pub err : ErrGets (written_sides words (Some rows) r) r.status (line_of words (Some rows)) (Some old_err.held) (Some new_err.held)
+  pub room : TextRoom (written_sides words (Some rows) r) r.status (text_of words (Some rows) r.code) old_out.room old_out.faults new_out.faults
+  pub line_room : written_sides words (Some rows) r ≡ Line
+      → IfSome (line_of words (Some rows)) (λ line. length line ≤ old_err.room → (r.status ≢ status.WriteFault) × (new_err.faults ≡ old_err.faults))
 
 -- something is due for all words over rows
 pub when_due : (P : Due → Type 0) (form : Option Command) (rows : List ℕ) → ((d : Due) → P d) → IfSome (due_by form (Some rows)) P
@@ -33,7 +34,7 @@ when_due P (Some (Pack c)) rows f = f (due (Pack c) rows)
 when_due P (Some Unpack) rows f = f (due Unpack rows)
 when_due P (Some Names) rows f = f (due Names rows)
 when_due P (Some (Step c script)) rows f = f (due (Step c script) rows)
-when_due P (Some (Sample count level)) rows f = f (answered (Sample count level) [])
+when_due P (Some (Sample count level)) rows f = f (due_answer (Sample count level) [])
 
 pub also_due : (P Q : Due → Type 0) (form : Option Command) (rows : List ℕ) → ((d : Due) → P d → Q d) → IfSome (due_by form (Some rows)) P → IfSome (due_by form (Some rows)) Q
 also_due P Q None rows f p = f Misuse p
@@ -42,12 +43,12 @@ also_due P Q (Some (Pack c)) rows f p = f (due (Pack c) rows) p
 also_due P Q (Some Unpack) rows f p = f (due Unpack rows) p
 also_due P Q (Some Names) rows f p = f (due Names rows) p
 also_due P Q (Some (Step c script)) rows f p = f (due (Step c script) rows) p
-also_due P Q (Some (Sample count level)) rows f p = f (answered (Sample count level) []) p
+also_due P Q (Some (Sample count level)) rows f p = f (due_answer (Sample count level) []) p
 
 -- what is written, of a run with this code
 writes_due :
     (s : Status) (room : ℕ) (form : Option Command) (rows : List ℕ) (code : Option CodeObject) (out err : List ℕ) (b n m k : ℕ)
-    → AsksForCode form → FitsForm s form → Reports s form code → ReadCause s 0 0
+    → IsOffered form → FitsForm s form → Reports s form code → ReadCause s 0 0
     → IfSome code (λ c. IfSome (due_by form (Some rows)) (λ d. IsCodeOf d c)) → IfSome code (λ c. IsOfForm form (object c))
     → OutGets (side_of s (side form code (due_by form (Some rows)))) s (text_by form code (due_by form (Some rows))) (Some []) (Some out)
     → ErrGets (side_of s (side form code (due_by form (Some rows)))) s (option_map line_for (due_by form (Some rows))) (Some []) (Some err)
@@ -60,15 +61,17 @@ writes_due s room (Some (Compile c)) rows code out err b n m k asked fit reporte
     run_writes s room (Some (Compile c)) (due (Compile c) rows) code out err b n m k asked fit reported read owed kind gets told text line
 writes_due s room (Some (Pack c)) rows code out err b n m k asked fit reported read owed kind gets told text line =
     run_writes s room (Some (Pack c)) (due (Pack c) rows) code out err b n m k asked fit reported read owed kind gets told text line
-writes_due s room (Some Unpack) rows code out err b n m k asked fit reported read owed kind gets told text line = absurd asked
-writes_due s room (Some Names) rows code out err b n m k asked fit reported read owed kind gets told text line = absurd asked
+writes_due s room (Some Unpack) rows code out err b n m k asked fit reported read owed kind gets told text line =
+    run_writes s room (Some Unpack) (due Unpack rows) code out err b n m k asked fit reported read owed kind gets told text line
+writes_due s room (Some Names) rows code out err b n m k asked fit reported read owed kind gets told text line =
+    run_writes s room (Some Names) (due Names rows) code out err b n m k asked fit reported read owed kind gets told text line
 writes_due s room (Some (Step c script)) rows code out err b n m k asked fit reported read owed kind gets told text line = absurd asked
 writes_due s room (Some (Sample count level)) rows code out err b n m k asked fit reported read owed kind gets told text line = absurd asked
 
 -- a run that began with empty sinks
 from_empty :
     (words : List (List ℕ)) (rows : List ℕ) (r : Report) (room : ℕ) (out err : Shelf)
-    → AsksForCode (words_form words) → Ran words rows r (empty_shelf room) (empty_shelf room) out err
+    → IsOffered (words_form words) → Ran words rows r (empty_shelf room) (empty_shelf room) out err
     → IfSome (due_of words (Some rows)) (λ d. Writes r.status room (words_form words) d (written_with r.status out.held err.held))
 from_empty words rows r room out err asked ran =
     writes_due r.status room (words_form words) rows r.code out.held err.held 0 out.faults 0 err.faults asked ran.form ran.reported ran.read ran.code ran.kind ran.out ran.err ran.room ran.line_room
@@ -85,7 +88,7 @@ emptied words rows source r room old_out old_err out err same begun clean ran =
 -- what a run wrote, as it stands on its sinks
 pub ran_writes :
     (words : List (List ℕ)) (rows source : List ℕ) (r : Report) (room : ℕ) (old_out old_err out err : Shelf) (text : List ℕ)
-    → AsksForCode (words_form words) → source ≡ rows → old_out ≡ empty_shelf room → old_err ≡ empty_shelf room
+    → IsOffered (words_form words) → source ≡ rows → old_out ≡ empty_shelf room → old_err ≡ empty_shelf room
     → Ran words source r old_out old_err out err → text ≡ written_with r.status out.held err.held
     → IfSome (due_of words (Some rows)) (λ d. Writes r.status room (words_form words) d text)
 ran_writes words rows source r room old_out old_err out err text asked same begun clean ran is =

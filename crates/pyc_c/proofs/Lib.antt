@@ -1,3 +1,5 @@
+mod AskedLemmas
 mod Ended
 mod RunWordLemmas
+mod Utf8Lemmas
 mod Written

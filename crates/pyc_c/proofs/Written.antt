@@ -5,10 +5,10 @@ use Rattle.py_bytecode.specs.View.{object}
 use Rattle.py_bytecode.specs.declared.code.CodeObject.{CodeObject}
 use Rattle.py_run.specs.declared.report.Status.{Status}
 use Rattle.py_run.specs.declared.report.Status.TheVariants as status
-use Rattle.py_run.specs.Runs.{ErrGets, FitsForm, IsOfForm, Line, OutGets, ReadCause, Reports, Text, Written, line_for, side, side_of, text_by}
-use Rattle.py_run.specs.Statuses.{Due, IsCodeOf, code_text}
+use Rattle.py_run.specs.Runs.{ErrGets, FitsForm, IsOfForm, Line, OutGets, ReadCause, Reports, Text, Written, line_for, side, side_of, text_by, told_side, told_text}
+use Rattle.py_run.specs.Statuses.{Due, Misuse, Misread, Refused, Compiled, Spelled, Told, IsCodeOf, code_text}
 use Rattle.py_run.specs.Words.{Command, Compile, Pack, Step, Unpack, Names, Sample}
-use Rattle.pyc_c.specs.Runs.{AsksForCode, FitsWords, IsTooLong, Writes, written_with}
+use Rattle.pyc_c.specs.Runs.{IsOffered, FitsWords, IsTooLong, Writes, written_with}
 
 -- a status that fits the form of the words, whether memory ran out or not
 pub fits_words : (s : Status) (form : Option Command) → FitsForm s form → FitsWords s form
@@ -37,10 +37,23 @@ long_text text room before now fits = lt_of_not-le {n = length text} {m = room} 
 long_line : (line : List ℕ) (room before now : ℕ) → (length line ≤ room → (status.WriteFault ≢ status.WriteFault) × (now ≡ before)) → room < length line
 long_line line room before now fits = lt_of_not-le {n = length line} {m = room} (λ l. (fits l).0 refl)
 
+-- so it is of a report on names: its text, or the line where none is due
+long_report :
+    (room : ℕ) (d : Due) (b n m k : ℕ)
+    → TextRoom (told_side (Some d)) status.WriteFault (Some (told_text d)) room b n
+    → LineRoom (told_side (Some d)) status.WriteFault (line_for d) room m k
+    → IsTooLong room (Some Names) d
+long_report room (Told report) b n m k text line = (report, long_text report room b n (text refl), inl refl)
+long_report room Misuse b n m k text line = (line_for Misuse, long_line (line_for Misuse) room m k (line refl), inr refl)
+long_report room (Misread why) b n m k text line = (line_for (Misread why), long_line (line_for (Misread why)) room m k (line refl), inr refl)
+long_report room (Refused f) b n m k text line = (line_for (Refused f), long_line (line_for (Refused f)) room m k (line refl), inr refl)
+long_report room (Compiled c t) b n m k text line = (line_for (Compiled c t), long_line (line_for (Compiled c t)) room m k (line refl), inr refl)
+long_report room (Spelled bytes o) b n m k text line = (line_for (Spelled bytes o), long_line (line_for (Spelled bytes o)) room m k (line refl), inr refl)
+
 -- a run that could not write had no room for what is due
 too_long :
     (room : ℕ) (form : Option Command) (d : Due) (code : Option CodeObject) (b n m k : ℕ)
-    → AsksForCode form
+    → IsOffered form
     → IfSome code (λ c. IsCodeOf d c) → IfSome code (λ c. IsOfForm form (object c))
     → TextRoom (side form code (Some d)) status.WriteFault (text_by form code (Some d)) room b n
     → LineRoom (side form code (Some d)) status.WriteFault (line_for d) room m k
@@ -56,8 +69,12 @@ too_long room (Some (Pack c)) d (Some code) b n m k asked owed kind text line =
     (code_text (Pack c) (object code), long_text (code_text (Pack c) (object code)) room b n (text refl), inl (code, refl, kind, owed))
 too_long room (Some (Pack c)) d None b n m k asked owed kind text line =
     (line_for d, long_line (line_for d) room m k (line refl), inr refl)
-too_long room (Some Unpack) d code b n m k asked owed kind text line = absurd asked
-too_long room (Some Names) d code b n m k asked owed kind text line = absurd asked
+too_long room (Some Unpack) d (Some code) b n m k asked owed kind text line =
+    (code_text Unpack (object code), long_text (code_text Unpack (object code)) room b n (text refl), inl (code, refl, kind, owed))
+too_long room (Some Unpack) d None b n m k asked owed kind text line =
+    (line_for d, long_line (line_for d) room m k (line refl), inr refl)
+too_long room (Some Names) d (Some code) b n m k asked owed kind text line = absurd kind
+too_long room (Some Names) d None b n m k asked owed kind text line = long_report room d b n m k text line
 too_long room (Some (Step c script)) d code b n m k asked owed kind text line = absurd asked
 too_long room (Some (Sample count level)) d code b n m k asked owed kind text line = absurd asked
 
@@ -67,7 +84,7 @@ never_rose rose = let l : 1 ≤ 0 = rose in omega (arith, l)
 -- what the two sinks got is what is written with the status
 pub run_writes :
     (s : Status) (room : ℕ) (form : Option Command) (d : Due) (code : Option CodeObject) (out err : List ℕ) (b n m k : ℕ)
-    → AsksForCode form → FitsForm s form → Reports s form code → ReadCause s 0 0
+    → IsOffered form → FitsForm s form → Reports s form code → ReadCause s 0 0
     → IfSome code (λ c. IsCodeOf d c) → IfSome code (λ c. IsOfForm form (object c))
     → OutGets (side_of s (side form code (Some d))) s (text_by form code (Some d)) (Some []) (Some out)
     → ErrGets (side_of s (side form code (Some d))) s (Some (line_for d)) (Some []) (Some err)
@@ -79,8 +96,10 @@ run_writes status.Done room (Some (Compile c)) d (Some code) out err b n m k ask
 run_writes status.Done room (Some (Compile c)) d None out err b n m k asked fit reported read owed kind gets told text line = absurd (let w : false ≡ true = reported in cc)
 run_writes status.Done room (Some (Pack c)) d (Some code) out err b n m k asked fit reported read owed kind gets told text line = (code, gets, kind, owed)
 run_writes status.Done room (Some (Pack c)) d None out err b n m k asked fit reported read owed kind gets told text line = absurd (let w : false ≡ true = reported in cc)
-run_writes status.Done room (Some Unpack) d code out err b n m k asked fit reported read owed kind gets told text line = absurd asked
-run_writes status.Done room (Some Names) d code out err b n m k asked fit reported read owed kind gets told text line = absurd asked
+run_writes status.Done room (Some Unpack) d (Some code) out err b n m k asked fit reported read owed kind gets told text line = (code, gets, kind, owed)
+run_writes status.Done room (Some Unpack) d None out err b n m k asked fit reported read owed kind gets told text line = absurd (let w : false ≡ true = reported in cc)
+run_writes status.Done room (Some Names) d (Some code) out err b n m k asked fit reported read owed kind gets told text line = absurd kind
+run_writes status.Done room (Some Names) d None out err b n m k asked fit reported read owed kind gets told text line = gets
 run_writes status.Done room (Some (Step c script)) d code out err b n m k asked fit reported read owed kind gets told text line = absurd asked
 run_writes status.Done room (Some (Sample count level)) d code out err b n m k asked fit reported read owed kind gets told text line = absurd asked
 run_writes status.Refused room form d code out err b n m k asked fit reported read owed kind gets told text line = told

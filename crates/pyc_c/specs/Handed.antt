@@ -17,11 +17,14 @@ level_word n =
     (if n == 1 then codes "1" else
     (if n == 2 then codes "2" else []))
 
--- the words of the program, by the number of the output: those of a listing or of a file. Of any other number there are none
+-- the words of the program, by the number of the output: those of a listing, of a file, of the listing of a file, of a
+-- report on names. Of any other number there are none
 abbrev pub asked_words : ℕ → (mode level path : List ℕ) → List (List ℕ)
 asked_words n mode level path =
     if n == 0 then mode ∷ level ∷ path ∷ [] else
-    (if n == 1 then codes "pack" ∷ mode ∷ level ∷ path ∷ [] else [])
+    (if n == 1 then codes "pack" ∷ mode ∷ level ∷ path ∷ [] else
+    (if n == 2 then codes "unpack" ∷ [] else
+    (if n == 3 then codes "names" ∷ path ∷ [] else [])))
 
 -- the words of a run, or none where the path is not UTF-8
 abbrev pub words_of : (output mode level : ℕ) → (path : List ℕ) → List (List ℕ)

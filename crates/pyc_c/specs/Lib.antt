@@ -1,2 +1,4 @@
 pub mod Handed
 pub mod Runs
+pub mod Traces
+pub mod Verdicts

@@ -5,7 +5,7 @@ use Rattle.py_bytecode.specs.declared.code.CodeObject.{CodeObject}
 use Rattle.py_devices.specs.Memory.{Shelf}
 use Rattle.py_run.specs.declared.report.Status.{Status}
 use Rattle.py_run.specs.declared.report.Status.TheVariants as status
-use Rattle.py_run.specs.Runs.{IsDue, TakesTree, line_for}
+use Rattle.py_run.specs.Runs.{IsDue, TakesTree, line_for, told_text}
 use Rattle.py_run.specs.Statuses.{Due, IsCodeOf, IsReported, code_text, due_of}
 use Rattle.py_run.specs.Words.{Command, Compile, Pack, Step, Unpack, Names, Sample, reads_input, words_form}
 
@@ -19,23 +19,25 @@ status_number status.ReadFault = 4
 status_number status.WriteFault = 5
 status_number status.Memory = 6
 
--- the words ask for the code of a tree, if they have a form
-abbrev pub AsksForCode : Option Command → Type 0
-AsksForCode None = Unit {0}
-AsksForCode (Some (Compile c)) = Unit {0}
-AsksForCode (Some (Pack c)) = Unit {0}
-AsksForCode (Some Unpack) = ⊥
-AsksForCode (Some Names) = ⊥
-AsksForCode (Some (Step c script)) = ⊥
-AsksForCode (Some (Sample count level)) = ⊥
+-- C may ask for this: the words have no form, or that of the listing or the file of rows, of the listing of a file, or
+-- of a report on names
+abbrev pub IsOffered : Option Command → Type 0
+IsOffered None = Unit {0}
+IsOffered (Some (Compile c)) = Unit {0}
+IsOffered (Some (Pack c)) = Unit {0}
+IsOffered (Some Unpack) = Unit {0}
+IsOffered (Some Names) = Unit {0}
+IsOffered (Some (Step c script)) = ⊥
+IsOffered (Some (Sample count level)) = ⊥
 
 -- a sink that holds nothing yet
 abbrev pub empty_shelf : (room : ℕ) → Shelf
 empty_shelf room = record { held = []; room = room; faults = 0 }
 
--- the text of the code that is due: its listing, or the file that spells it
+-- the text that is due: the listing of the code, the file that spells it, or the report, which has no code
 abbrev pub IsTextOf : Option Command → Due → (written : List ℕ) → Type 0
 IsTextOf None d written = ⊥
+IsTextOf (Some Names) d written = written ≡ told_text d
 IsTextOf (Some c) d written = (code : CodeObject) × (written ≡ code_text c (object code)) × IsReported c (object code) × IsCodeOf d code
 
 -- the line that is due
@@ -77,12 +79,12 @@ FitsWords status.WriteFault form = Unit {0}
 FitsWords status.Memory form = Unit {0}
 
 -- how a run ended, and what it did to the text: what it writes stands at the front, and the rest is as it was
-pub record IsRun (words : List (List ℕ)) (rows : List ℕ) (s : Status) (count : ℕ) (before after : List ℕ) : Type 0 where
+pub record IsRun (words : List (List ℕ)) (input : List ℕ) (s : Status) (count : ℕ) (before after : List ℕ) : Type 0 where
   pub form : FitsWords s (words_form words)
-  -- the status is what the words and the rows ask for, unless there was no memory or no room
-  pub due : IfSome (due_of words (Some rows)) (IsDue s)
+  -- the status is what the words and the input ask for, unless there was no memory or no room
+  pub due : IfSome (due_of words (Some input)) (IsDue s)
   pub text : List ℕ
-  pub writes : IfSome (due_of words (Some rows)) (λ d. Writes s (length before) (words_form words) d text)
+  pub writes : IfSome (due_of words (Some input)) (λ d. Writes s (length before) (words_form words) d text)
   pub counted : count ≡ length text
   pub put : after ≡ text ++ drop count before
 

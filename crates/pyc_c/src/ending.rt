@@ -1,27 +1,28 @@
 //! A run over bytes in memory.
-ghost use Rattle.std.specs.Prelude.{◌≡◌, ◌≤◌, ◌<◌, ◌++◌, [], IfNone, IfOk, IfSome, drop, length};
+ghost use Rattle.std.specs.Prelude.{◌≡◌, ◌≤◌, IfOk, length};
 ghost use Rattle.py_run.specs.Words.{words_form};
-ghost use Rattle.pyc_c.specs.Runs.{AsksForCode, IsRun, empty_shelf, written_with};
+ghost use Rattle.pyc_c.specs.Runs.{IsOffered, IsRun, empty_shelf, written_with};
 
+use crate::front::put_front;
 use py_base::List;
 use py_devices::{CleanSink, CleanSource};
 use py_run::{Status, Words, run};
 use std::alloc::{AllocError, Global};
 
-/// How a run over the rows ends, which puts what it writes at the front of the text.
+/// How a run over the input ends, which puts what it writes at the front of the text.
 pub fn ended(
     alloc: Global,
     words: &Words,
-    rows: &[u8],
+    input: &[u8],
     text: &mut [u8],
     count: &mut usize,
 ) -> Status
-    requires { AsksForCode (words_form words.now) }
-    ensures run { IsRun words.now rows.now result count.new text.old text.new }
+    requires { IsOffered (words_form words.now) }
+    ensures run { IsRun words.now input.now result count.new text.old text.new }
     ensures within { count.new ≤ length text.old }
 {
     *count = 0;
-    let Ok(devices) = prepare(alloc, rows, text.len()) else {
+    let Ok(devices) = prepare(alloc, input, text.len()) else {
         return Status::Memory;
     };
     let Devices {
@@ -58,15 +59,15 @@ struct Devices {
     err: CleanSink,
 }
 
-/// The rows, and two empty sinks with so much room.
-fn prepare(alloc: Global, rows: &[u8], room: usize) -> Result<Devices, AllocError>
-    ensures source { IfOk result (λ d. d.source ≡ rows.now) }
+/// The input, and two empty sinks with so much room.
+fn prepare(alloc: Global, input: &[u8], room: usize) -> Result<Devices, AllocError>
+    ensures source { IfOk result (λ d. d.source ≡ input.now) }
     ensures out { IfOk result (λ d. d.out ≡ empty_shelf room) }
     ensures err { IfOk result (λ d. d.err ≡ empty_shelf room) }
 {
-    let rows = List::from_vec(Vec::from_slice(alloc, rows)?);
+    let input = List::from_vec(Vec::from_slice(alloc, input)?);
     Ok(Devices {
-        source: CleanSource::new(rows),
+        source: CleanSource::new(input),
         out: empty_sink(alloc, room)?,
         err: empty_sink(alloc, room)?,
     })
@@ -77,19 +78,4 @@ fn empty_sink(alloc: Global, room: usize) -> Result<CleanSink, AllocError>
 {
     let buffer = vec![in alloc; 0u8; room]?;
     Ok(CleanSink::new(List::from_vec(buffer)))
-}
-
-/// Puts the bytes at the front of the text, and tells how many they are. None where they have no room.
-fn put_front(text: &mut [u8], bytes: &[u8]) -> Option<usize>
-    ensures put { IfSome result (λ n. (n ≡ length bytes.now) × (n ≤ length text.old) × (text.new ≡ bytes.now ++ drop n text.old)) }
-    ensures none { IfNone result (text.new ≡ text.old) }
-    ensures long { IfNone result (length text.old < length bytes.now) }
-{
-    let count = bytes.len();
-    if count > text.len() {
-        return None;
-    }
-    let (front, _) = text.split_at_mut(count);
-    front.copy_from_slice(bytes);
-    Some(count)
 }

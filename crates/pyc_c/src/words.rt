@@ -62,6 +62,8 @@ fn asked_words(
     match output {
         0 => listing_words(alloc, mode, level, path),
         1 => pack_words(alloc, mode, level, path),
+        2 => unpack_words(alloc),
+        3 => names_words(alloc, path),
         _ => Ok(List::new(alloc)),
     }
 }
@@ -83,6 +85,23 @@ fn pack_words(alloc: Global, mode: &str, level: &str, path: &str) -> Result<Word
     words.push(text_of(alloc, "pack")?)?;
     words.push(text_of(alloc, mode)?)?;
     words.push(text_of(alloc, level)?)?;
+    words.push(text_of(alloc, path)?)?;
+    Ok(List::from_vec(words))
+}
+
+fn unpack_words(alloc: Global) -> Result<Words, AllocError>
+    ensures { IfOk result (λ words. words ≡ codes "unpack" ∷ []) }
+{
+    let mut words = Vec::new(alloc);
+    words.push(text_of(alloc, "unpack")?)?;
+    Ok(List::from_vec(words))
+}
+
+fn names_words(alloc: Global, path: &str) -> Result<Words, AllocError>
+    ensures { IfOk result (λ words. words ≡ codes "names" ∷ path.now ∷ []) }
+{
+    let mut words = Vec::new(alloc);
+    words.push(text_of(alloc, "names")?)?;
     words.push(text_of(alloc, path)?)?;
     Ok(List::from_vec(words))
 }

@@ -1,15 +1,13 @@
 //! Reads and writes of std that fail at first.
 ghost use Rattle.std.specs.Prelude.{◌≤◌, IfOk};
 
-use py_devices::{ReadAnswer, Sink, Source, StdSink, StdSource, WriteAnswer};
 use std::io::{self, ErrorKind, Read, Write};
-use std::test::Fail;
 
 /// A reader and writer of single bytes, whose first calls fail.
 #[derive(Drop)]
-struct FailsAtFirst {
-    calls: u32,
-    kind: ErrorKind,
+pub struct FailsAtFirst {
+    pub calls: u32,
+    pub kind: ErrorKind,
 }
 
 impl FailsAtFirst {
@@ -38,27 +36,4 @@ impl Write for FailsAtFirst {
     fn flush(&mut self) -> io::Result<()> {
         Ok(())
     }
-}
-
-fn after(calls: u32, kind: ErrorKind) -> FailsAtFirst {
-    FailsAtFirst { calls, kind }
-}
-
-#[test]
-fn reads_again_where_it_was_interrupted(rt: HostRuntime) -> Result<(), Fail> {
-    let mut buf = [0u8; 4];
-    let mut source = StdSource::new(after(3, ErrorKind::Interrupted));
-    assert_eq!(rt; source.read(&mut buf), ReadAnswer::Got(1));
-    let mut source = StdSource::new(after(1, ErrorKind::Other));
-    assert_eq!(rt; source.read(&mut buf), ReadAnswer::Failed);
-    Ok(())
-}
-
-#[test]
-fn writes_again_where_it_was_interrupted(rt: HostRuntime) -> Result<(), Fail> {
-    let mut sink = StdSink::new(after(3, ErrorKind::Interrupted));
-    assert_eq!(rt; sink.write(b"ab"), WriteAnswer::Took(1));
-    let mut sink = StdSink::new(after(1, ErrorKind::Other));
-    assert_eq!(rt; sink.write(b"ab"), WriteAnswer::Failed);
-    Ok(())
 }

@@ -1,4 +1,4 @@
-//! Runs of trees and their codes over scripts. Standard input has a line with the rows of a tree, and behind it a line `run`
+//! Runs of trees and their codes over scripts. Standard input has a line with the rows of a tree, and after it a line `run`
 //! with a mode, a level and a script for each of its runs. On standard output stand each such line, the lines of both runs,
 //! and an empty line.
 #![tactic(auto)]

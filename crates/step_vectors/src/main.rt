@@ -1,5 +1,5 @@
 //! Runs of codes over scripts. Standard input has a run a line: a code file in hexadecimal digits, a space and a script.
-//! On standard output stand the lines of each run, and an empty line behind them.
+//! On standard output stand the lines of each run, and an empty line after them.
 #![tactic(auto)]
 
 mod answers;

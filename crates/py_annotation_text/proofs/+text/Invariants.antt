@@ -2,8 +2,8 @@ use Rattle.std.proofs.Common.{◌≡◌, ◌+◌, ◌*◌, ◌++◌, string_byte
 use denote.Shadow.{shadow}
 use denote.Text.{Utf8}
 use Rattle.py_tree.specs.View.{args, expr_tree, exprs, generators, keywords}
-use Rattle.py_annotation_text.specs.Annotation.{clause_texts, keyword_texts, parameter_texts, shown}
-use Rattle.py_annotation_text.specs.Lists.{comma, separated}
+use Rattle.py_annotation_text.specs.Annotation.{clause_texts, keyword_texts, parameter_texts, expr_texts}
+use Rattle.py_annotation_text.specs.Lists.{comma, separated_text}
 use Rattle.py_annotation_text.proofs.Pairs.{links_of, pairs_of}
 use Rattle.py_annotation_text.proofs.+text.Given as goal
 
@@ -133,14 +133,14 @@ decreases-lambdas::push_default l = 8 * goal.size-lambdas::push_default l + 3
 abbrev pub invariant-expressions::push_exprs-loop-item : goal.invariant-expressions::push_exprs-loop-item
 invariant-expressions::push_exprs-loop-item l =
     shadow (Utf8 l.before)
-    × (string_bytes l.out ++ separated l.before l.between (shown (exprs expr_tree (drop l.item-index l.items)) l.low)
-    ≡ string_bytes l.initial.out ++ separated l.initial.before l.between (shown (exprs expr_tree l.items) l.low))
+    × (string_bytes l.out ++ separated_text l.before l.between (expr_texts (exprs expr_tree (drop l.item-index l.items)) l.low)
+    ≡ string_bytes l.initial.out ++ separated_text l.initial.before l.between (expr_texts (exprs expr_tree l.items) l.low))
 
 abbrev pub invariant-operations::push_keywords-loop-keyword : goal.invariant-operations::push_keywords-loop-keyword
 invariant-operations::push_keywords-loop-keyword l =
     shadow (Utf8 l.before)
-    × (string_bytes l.out ++ separated l.before comma (keyword_texts (keywords expr_tree (drop l.keyword-index l.items)))
-    ≡ string_bytes l.initial.out ++ separated l.initial.before comma (keyword_texts (keywords expr_tree l.items)))
+    × (string_bytes l.out ++ separated_text l.before comma (keyword_texts (keywords expr_tree (drop l.keyword-index l.items)))
+    ≡ string_bytes l.initial.out ++ separated_text l.initial.before comma (keyword_texts (keywords expr_tree l.items)))
 
 abbrev pub invariant-displays::push_clauses-loop-clause : goal.invariant-displays::push_clauses-loop-clause
 invariant-displays::push_clauses-loop-clause l = string_bytes l.out ++ clause_texts (generators expr_tree (drop l.clause-index l.clauses)) ≡ string_bytes l.initial.out ++ clause_texts (generators expr_tree l.clauses)
@@ -148,8 +148,8 @@ invariant-displays::push_clauses-loop-clause l = string_bytes l.out ++ clause_te
 abbrev pub invariant-lambdas::push_defaults-loop-item : goal.invariant-lambdas::push_defaults-loop-item
 invariant-lambdas::push_defaults-loop-item l =
     shadow (Utf8 l.mark)
-    × (string_bytes l.out ++ separated l.mark comma (parameter_texts (args expr_tree (drop l.item-index l.items)))
-    ≡ string_bytes l.initial.out ++ separated l.initial.mark comma (parameter_texts (args expr_tree l.items)))
+    × (string_bytes l.out ++ separated_text l.mark comma (parameter_texts (args expr_tree (drop l.item-index l.items)))
+    ≡ string_bytes l.initial.out ++ separated_text l.initial.mark comma (parameter_texts (args expr_tree l.items)))
 
 abbrev pub invariant-operations::push_links-loop-i : goal.invariant-operations::push_links-loop-i
 invariant-operations::push_links-loop-i l = string_bytes l.out ++ links_of (drop l.i l.ops) (drop l.i l.values) ≡ string_bytes l.initial.out ++ links_of l.ops l.values
@@ -157,5 +157,5 @@ invariant-operations::push_links-loop-i l = string_bytes l.out ++ links_of (drop
 abbrev pub invariant-displays::push_pairs-loop-i : goal.invariant-displays::push_pairs-loop-i
 invariant-displays::push_pairs-loop-i l =
     shadow (Utf8 l.before)
-    × (string_bytes l.out ++ separated l.before comma (pairs_of (drop l.i l.keys) (drop l.i l.values))
-    ≡ string_bytes l.initial.out ++ separated l.initial.before comma (pairs_of l.keys l.values))
+    × (string_bytes l.out ++ separated_text l.before comma (pairs_of (drop l.i l.keys) (drop l.i l.values))
+    ≡ string_bytes l.initial.out ++ separated_text l.initial.before comma (pairs_of l.keys l.values))

@@ -1,4 +1,4 @@
--- Type parameters fit, and the hidden scopes that they stand in: around functions and aliases.
+-- Type parameters fit, and the type-parameter scopes that they stand in: around functions and aliases.
 use Rattle.std.proofs.Common.{refl, ℕ, suc, ◌+◌, ◌*◌, ◌≤◌, List, [], ◌∷◌, ◌++◌, length, Bool, arith}
 use Rattle.py_tree.specs.Tree as tree
 use Rattle.py_tree.specs.PythonName.{python_name}
@@ -15,7 +15,7 @@ use Rattle.py_emission_parts.specs.Children.{DefaultEmissions, emission_of_defau
 use Rattle.py_emission_parts.specs.Context.{head_of, inside, with_path}
 use Rattle.py_emission_parts.specs.Emitting.{Around, Emission, ◌▸◌}
 use Rattle.py_emission_parts.specs.TypeParameters.{hidden, hidden_shape, kept_as, load_handed, no_defaults}
-use Rattle.py_emission_parts.specs.Within.{function_inside, handed, handed_parts, hidden_inside, hidden_name, some_name}
+use Rattle.py_emission_parts.specs.Within.{function_inside, passed_defaults, handed_parts, hidden_inside, hidden_name, some_name}
 use Rattle.std.specs.Prelude.{codes}
 use Rattle.py_emission.specs.Emission.{default_emissions}
 use Rattle.py_emission.specs.EmissionDefs as emitting
@@ -26,28 +26,28 @@ use Rattle.py_meaning.specs.StmtCounts.{hidden_scope, scopes_in_all_notes, scope
 use Rattle.py_meaning.specs.StmtParts as parts_of_stmts
 use Rattle.py_meaning.specs.Table.{default_forms, expr_form}
 use Rattle.py_meaning.specs.TableParams as forms
-use Rattle.py_meaning.specs.TableParams.{alias_form, defined, param_form, param_forms, params_form}
+use Rattle.py_meaning.specs.TableParams.{alias_form, def_form, param_form, param_forms, params_form}
 use Rattle.py_meaning.specs.TableScopes.{Defaults, default_flags}
 use Rattle.py_meaning.specs.TableStmts.{function_body}
-use Rattle.py_emission_outcomes.proofs.Capacity.Fits.{Fits, at_fits, constant_fits, count_fits, fits_as, fits_from, keep_fits, plain_fits, refuse_fits, room, then_fits, varname_fits}
-use Rattle.py_emission_outcomes.proofs.Capacity.Accesses.{AtHand, Ready, made_fits, outside, stored_fits}
+use Rattle.py_emission_outcomes.proofs.Capacity.Fits.{EmissionFits, at_fits, constant_fits, count_fits, fits_as, fits_from, keep_fits, plain_fits, refuse_fits, fit_room, then_fits, varname_fits}
+use Rattle.py_emission_outcomes.proofs.Capacity.Accesses.{AtHand, AccessReady, made_fits, access_outside, stored_fits}
 use Rattle.py_emission_outcomes.proofs.Capacity.FitScopes.{child_fits, hand_as}
 use Rattle.py_emission_outcomes.proofs.Capacity.FitChanges.{value_fits}
 use Rattle.py_emission_outcomes.proofs.Capacity.FitControl.{lands}
 use Rattle.py_emission_outcomes.proofs.Capacity.FitDefs.{RestFits, default_fits, default_flags_small, function_value_fits}
-use Rattle.py_emission_outcomes.proofs.Capacity.AvailableCellLemmas.{Here, apart, free_at_hand, kids_stand, names_at_hand, told}
+use Rattle.py_emission_outcomes.proofs.Capacity.AvailableCellLemmas.{Here, available_cell_apart, free_at_hand, kids_stand, names_at_hand, available_cell_told}
 use Rattle.py_emission_outcomes.proofs.Capacity.StandingForms.{InValue, function_apart, handed_apart, hidden_apart, parts_apart}
 use Rattle.py_emission_outcomes.proofs.Capacity.Turns.{Turns, no_turns, turn_more, turns_as, turns_built}
 
 module _ {c : Around} where
   -- a type parameter is kept, and stored under its name
-  kept_fits : {k : ℕ} → Ready c → (name : List ℕ) → Fits c k k 1 (kept_as name)
-  kept_fits r name = room (omega arith) (then_fits (plain_fits op.Duplicate) (stored_fits r name))
+  kept_fits : {k : ℕ} → AccessReady c → (name : List ℕ) → EmissionFits c k k 1 (kept_as name)
+  kept_fits r name = fit_room (omega arith) (then_fits (plain_fits op.Duplicate) (stored_fits r name))
 
   -- what is handed is loaded in order
-  handed_fits : {k : ℕ} (names : List (List ℕ)) → Fits c k k (length names) (load_handed names)
+  handed_fits : {k : ℕ} (names : List (List ℕ)) → EmissionFits c k k (length names) (load_handed names)
   handed_fits [] = keep_fits
-  handed_fits (x ∷ xs) = room (omega arith) (then_fits (varname_fits op.LoadFast x) (handed_fits xs))
+  handed_fits (x ∷ xs) = fit_room (omega arith) (then_fits (varname_fits op.LoadFast x) (handed_fits xs))
 
 -- two names are handed at most
 some_one : {A : Type 0} (name : List ℕ) (xs : List A) → length (some_name name xs) ≤ 1
@@ -55,150 +55,158 @@ some_one name [] = omega arith
 some_one name (x ∷ xs) = omega arith
 
 -- so two at most are handed on
-pub two_handed : {A B : Type 0} (ps : List A) (ks : List B) → length (handed ps ks) ≤ 2
+pub two_handed : {A B : Type 0} (ps : List A) (ks : List B) → length (passed_defaults ps ks) ≤ 2
 two_handed [] ks = let e = some_one (codes ".kwdefaults") ks in omega (arith, e)
 two_handed (p ∷ ps) ks = let e = some_one (codes ".kwdefaults") ks in omega (arith, e)
 
-module _ (c : Around) (r : Ready c) where
+module _ (c : Around) (r : AccessReady c) where
   -- whether annotations are postponed
   abbrev p : Bool
   p = c.context.postponed
 
-  -- type parameters one behind another; of their kinds, those that take one type alone are compiled
-  params_turn : (k : ℕ) (ts : tree.TypeParams) → AllOf (InValue (Here c)) (param_forms (told c) k ts) → Turns c k (k + scopes_in_params p ts) (64 * type_params_size ts) (param_emissions ts)
+  -- type parameters one after another; of their kinds, those that take one type alone are compiled
+  params_turn : (k : ℕ) (ts : tree.TypeParams) → AllOf (InValue (Here c)) (param_forms (available_cell_told c) k ts)
+      → Turns c k (k + scopes_in_params p ts) (64 * type_params_size ts) (param_emissions ts)
   params_turn k tree.no_type_params h = no_turns (omega arith)
   params_turn k (tree.more_type_params (tree.TypeVar at name tree.no_expr) ts) h =
       turns_as (omega arith) (omega arith) (turn_more (lands (k + 0) (omega arith) (then_fits (constant_fits op.LoadConst (const.str name) tt) (then_fits (plain_fits op.TypeVar) (kept_fits r name)))) (params_turn (k + 0) ts h.1))
   params_turn k (tree.more_type_params (tree.TypeVar at name (tree.some_expr e)) ts) h =
-      let f = expr_form (told c) k e in
-      let x = apart (Here c) (kids_v f ++ []) [] h.0 in
-      let y = apart (Here c) (kids_v f) [] x.0 in
+      let f = expr_form (available_cell_told c) k e in
+      let x = available_cell_apart (Here c) (kids_v f ++ []) [] h.0 in
+      let y = available_cell_apart (Here c) (kids_v f) [] x.0 in
       turns_as (omega arith) (omega arith)
       (turn_more (then_fits (value_fits c r k e y.0) (then_fits (constant_fits op.LoadConst (const.str name) tt) (then_fits (plain_fits op.TypeVarWithBound) (kept_fits r name)))) (params_turn (k + scopes_in p e) ts h.1))
   params_turn k (tree.more_type_params (tree.ParamSpec at name) ts) h = turns_as (omega arith) (omega arith) (turn_more {v = 0} (at_fits at (refuse_fits error.NotImplementedYet tt)) (params_turn (k + 0) ts h.1))
   params_turn k (tree.more_type_params (tree.TypeVarTuple at name) ts) h = turns_as (omega arith) (omega arith) (turn_more {v = 0} (at_fits at (refuse_fits error.NotImplementedYet tt)) (params_turn (k + 0) ts h.1))
 
   -- the tuple of them
-  pub params_fits : (k : ℕ) (ts : tree.TypeParams) → InValue (Here c) (params_form (told c) k ts) → Fits c k (k + scopes_in_params p ts) (64 * type_params_size ts) (emission_of_params ts)
-  params_fits k ts h = turns_built op.BuildTuple (params_turn k ts (parts_apart (Here c) (param_forms (told c) k ts) h))
+  pub params_fits : (k : ℕ) (ts : tree.TypeParams) → InValue (Here c) (params_form (available_cell_told c) k ts)
+      → EmissionFits c k (k + scopes_in_params p ts) (64 * type_params_size ts) (emission_of_params ts)
+  params_fits k ts h = turns_built op.BuildTuple (params_turn k ts (parts_apart (Here c) (param_forms (available_cell_told c) k ts) h))
 
--- a hidden scope, which returns a value and is called with defaults
-module _ (c : Around) (r : Ready c) (k : ℕ) where
+-- a type-parameter scope, which returns a value and is called with defaults
+module _ (c : Around) (r : AccessReady c) (k : ℕ) where
   -- what stands around in it
-  abbrev pub within : Around
-  within = outside (hidden_inside c.context k)
+  abbrev pub fit_generic_within : Around
+  fit_generic_within = access_outside (hidden_inside c.context k)
 
   -- the cells are those of its scope
-  pub within_ready : Ready within
+  pub within_ready : AccessReady fit_generic_within
   unfolding inside
   within_ready = record { cells = refl; frees = refl; few = r.few }
 
-  -- a hidden scope of this form
+  -- a type-parameter scope of this form
   abbrev pub hidden_of : VForm → Scope
-  hidden_of f = MkScope (head_of (hidden_inside (told c) k)) (SReturn f)
+  hidden_of f = MkScope (head_of (hidden_inside (available_cell_told c) k)) (SReturn f)
 
   -- what is so of it is so of what it returns
-  pub hidden_stands : (f : VForm) → Here c (hidden_of f) → InValue (Here within) f
+  pub hidden_stands : (f : VForm) → Here c (hidden_of f) → InValue (Here fit_generic_within) f
   unfolding inside
-  hidden_stands f h = kids_stand c.context.scopes c.context.here (head_of (hidden_inside (told c) k)) (SReturn f) h
+  hidden_stands f h = kids_stand c.context.scopes c.context.here (head_of (hidden_inside (available_cell_told c) k)) (SReturn f) h
 
   -- the names that it has from outside are at hand
-  reach : (f : VForm) → Here c (hidden_of f) → AtHand c (hidden_inside c.context k).frees
+  fit_generic_reach : (f : VForm) → Here c (hidden_of f) → AtHand c (hidden_inside c.context k).frees
   unfolding inside
-  reach f h = free_at_hand r k (names_at_hand c.context.scopes c.context.here (head_of (hidden_inside (told c) k)) (SReturn f) h)
+  fit_generic_reach f h = free_at_hand r k (names_at_hand c.context.scopes c.context.here (head_of (hidden_inside (available_cell_told c) k)) (SReturn f) h)
 
-  -- the hidden scope, and its call with the defaults
-  pub hidden_fits : {l m v w : ℕ} {value : Emission} (name : List ℕ) (d : DefaultEmissions) (f : VForm) → Here c (hidden_of f) → Fits within (suc k) l v value → Fits c l m w (emission_of_defaults d) → Fits c k m (v + w + 3) (hidden name d value)
+  -- the type-parameter scope, and its call with the defaults
+  pub hidden_fits : {l m v w : ℕ} {value : Emission} (name : List ℕ) (d : DefaultEmissions) (f : VForm) → Here c (hidden_of f)
+      → EmissionFits fit_generic_within (suc k) l v value → EmissionFits c l m w (emission_of_defaults d) → EmissionFits c k m (v + w + 3) (hidden name d value)
   hidden_fits name d f h x y =
-      let count = length (handed d.positional d.keyword) in
+      let count = length (passed_defaults d.positional d.keyword) in
       let two = two_handed d.positional d.keyword in
-      room (omega arith)
-      (then_fits (child_fits hidden_inside (hidden_shape count name) within_ready (then_fits x (plain_fits op.ReturnValue)) (λ i. record { positional = omega (arith, two); arguments = omega (arith, two); keywords = omega arith }) (λ o e short. made_fits r 0 (hidden_name name) o (omega arith) (hand_as e (reach f h)) short))
+      fit_room (omega arith)
+      (then_fits (child_fits hidden_inside (hidden_shape count name) within_ready (then_fits x (plain_fits op.ReturnValue)) (λ i. record { positional = omega (arith, two); arguments = omega (arith, two); keywords = omega arith }) (λ o e short. made_fits r 0 (hidden_name name) o (omega arith) (hand_as e (fit_generic_reach f h)) short))
       (then_fits y (count_fits op.CallFunctionPositional count (omega (arith, two)))))
 
--- nothing is handed to the hidden scope of a class or an alias
-pub none_handed : {c : Around} {k : ℕ} → Fits c k k 0 (emission_of_defaults no_defaults)
-none_handed = room (omega arith) (then_fits keep_fits keep_fits)
+-- nothing is handed to the type-parameter scope of a class or an alias
+pub fit_generic_none_handed : {c : Around} {k : ℕ} → EmissionFits c k k 0 (emission_of_defaults no_defaults)
+fit_generic_none_handed = fit_room (omega arith) (then_fits keep_fits keep_fits)
 
--- a function with type parameters, whose defaults come behind the hidden scope
-module _ (c : Around) (r : Ready c) (k : ℕ) (name : List ℕ) (params : tree.Arguments) (body : tree.Stmts) (returns : tree.OptExpr) (x : tree.TypeParam) (xs : tree.TypeParams) (rest : RestFits body) where
+-- a function with type parameters, whose defaults come after the type-parameter scope
+module _ (c : Around) (r : AccessReady c) (k : ℕ) (name : List ℕ) (params : tree.Arguments) (body : tree.Stmts) (returns : tree.OptExpr) (x : tree.TypeParam) (xs : tree.TypeParams) (rest : RestFits body) where
   -- the type parameters
-  abbrev generic : tree.TypeParams
-  generic = tree.more_type_params x xs
+  abbrev generic_fits_well : tree.TypeParams
+  generic_fits_well = tree.more_type_params x xs
 
-  -- the number of the function's own scope, and the one behind all but the defaults
-  abbrev own_here : ℕ
-  own_here = suc k + scopes_in_params c.context.postponed generic
+  -- the number of the function's own scope, and the one after all but the defaults
+  abbrev fit_generic_own_here : ℕ
+  fit_generic_own_here = suc k + scopes_in_params c.context.postponed generic_fits_well
 
-  -- the number behind all but the defaults
-  abbrev behind : ℕ
-  behind = suc own_here + (scopes_in_stmts c.context.postponed body + (scopes_in_returns c.context.postponed returns + scopes_in_all_notes c.context.postponed params))
+  -- the number after all but the defaults
+  abbrev fit_generic_behind : ℕ
+  fit_generic_behind = suc fit_generic_own_here + (scopes_in_stmts c.context.postponed body + (scopes_in_returns c.context.postponed returns + scopes_in_all_notes c.context.postponed params))
 
   -- its defaults, its parts and the function
-  abbrev defaults : Defaults
-  defaults = default_forms (told c) behind params
+  abbrev fit_generic_defaults : Defaults
+  fit_generic_defaults = default_forms (available_cell_told c) fit_generic_behind params
 
   -- the tuple of the type parameters
   abbrev tuple : VForm
-  tuple = params_form (told (within c r k)) (suc k) generic
+  tuple = params_form (available_cell_told (fit_generic_within c r k)) (suc k) generic_fits_well
 
   -- what the function is made of
-  abbrev parts : VForms
-  parts = handed_parts (handed defaults.positional defaults.keyword) (VMore tuple VNone)
+  abbrev fit_generic_parts : VForms
+  fit_generic_parts = handed_parts (passed_defaults fit_generic_defaults.positional fit_generic_defaults.keyword) (VMore tuple VNone)
 
   -- the statements of the function
-  abbrev statements : SForm
-  statements = function_body (function_inside name (told (within c r k)) own_here) (suc own_here) body
+  abbrev fit_generic_statements : SForm
+  fit_generic_statements = function_body (function_inside name (available_cell_told (fit_generic_within c r k)) fit_generic_own_here) (suc fit_generic_own_here) body
 
   -- the function
-  abbrev form : VForm
-  form = parts_of_stmts.function_value (told (within c r k)) own_here (0x10 + default_flags defaults) parts name params body returns statements
+  abbrev fit_generic_form : VForm
+  fit_generic_form = parts_of_stmts.function_value (available_cell_told (fit_generic_within c r k)) fit_generic_own_here (0x10 + default_flags fit_generic_defaults) fit_generic_parts name params body returns fit_generic_statements
 
-  -- the hidden scope with the function in it
-  pub generic_def_fits : InValue (Here c) (defined (told c) k name params body returns generic (function_body (function_inside name (hidden_inside (told c) k) own_here) (suc own_here) body)) → Fits c k (k + (suc (scopes_in_params c.context.postponed generic + suc (scopes_in_stmts c.context.postponed body + (scopes_in_returns c.context.postponed returns + scopes_in_all_notes c.context.postponed params))) + scopes_in_defaults c.context.postponed params)) (129 * arguments_size params + 64 * opt_expr_size returns + 64 * type_params_size generic + 192 * stmts_size body + 16) (emission_of_generic_def name params body returns generic (emission_of_rest body ▸ emission_of_end (after_doc body)))
+  -- the type-parameter scope with the function in it
+  pub generic_def_fits : InValue (Here c) (def_form (available_cell_told c) k name params body returns generic_fits_well (function_body (function_inside name (hidden_inside (available_cell_told c) k) fit_generic_own_here) (suc fit_generic_own_here) body))
+      → EmissionFits c k (k + (suc (scopes_in_params c.context.postponed generic_fits_well + suc (scopes_in_stmts c.context.postponed body + (scopes_in_returns c.context.postponed returns + scopes_in_all_notes c.context.postponed params))) + scopes_in_defaults c.context.postponed params)) (129 * arguments_size params + 64 * opt_expr_size returns + 64 * type_params_size generic_fits_well + 192 * stmts_size body + 16) (emission_of_generic_def name params body returns generic_fits_well (emission_of_rest body ▸ emission_of_end (after_doc body)))
   unfolding emission_of_generic_def inside with_path
   generic_def_fits h =
       let d = default_emissions params in
-      let names = handed d.positional d.keyword in
+      let names = passed_defaults d.positional d.keyword in
       let two = two_handed d.positional d.keyword in
       let small = default_flags_small d in
-      let w = within c r k in
+      let w = fit_generic_within c r k in
       let ready = within_ready c r k in
-      let y = hidden_apart (Here c) (hidden_of c r k form) name defaults h in
-      let z = function_apart (Here w) (told w) own_here (0x10 + default_flags defaults) parts name params body returns statements (hidden_stands c r k form y.0) in
-      let t = handed_apart (Here w) (handed defaults.positional defaults.keyword) (VMore tuple VNone) z.parts_so in
-      let u = apart (Here w) (kids_v tuple) [] t in
+      let y = hidden_apart (Here c) (hidden_of c r k fit_generic_form) name fit_generic_defaults h in
+      let z = function_apart (Here w) (available_cell_told w) fit_generic_own_here (0x10 + default_flags fit_generic_defaults) fit_generic_parts name params body returns fit_generic_statements (hidden_stands c r k fit_generic_form y.0) in
+      let t = handed_apart (Here w) (passed_defaults fit_generic_defaults.positional fit_generic_defaults.keyword) (VMore tuple VNone) z.parts_so in
+      let u = available_cell_apart (Here w) (kids_v tuple) [] t in
       fits_as (omega arith) (omega (arith, two))
-      (hidden_fits c r k name d form y.0
-      (then_fits (handed_fits names) (then_fits (params_fits w ready (suc k) generic u.0) (function_value_fits w ready own_here name params body returns rest (0x10 + flags_of_defaults d) parts (omega (arith, small)) z)))
-      (fits_from (omega arith) (default_fits c r behind params y.1)))
+      (hidden_fits c r k name d fit_generic_form y.0
+      (then_fits (handed_fits names) (then_fits (params_fits w ready (suc k) generic_fits_well u.0) (function_value_fits w ready fit_generic_own_here name params body returns rest (0x10 + flags_of_defaults d) fit_generic_parts (omega (arith, small)) z)))
+      (fits_from (omega arith) (default_fits c r fit_generic_behind params y.1)))
 
 -- an alias, with type parameters or without
-module _ (c : Around) (r : Ready c) where
+module _ (c : Around) (r : AccessReady c) where
   -- the value of an alias
-  alias_value_fits : (k : ℕ) (name : List ℕ) (generic : tree.TypeParams) (e : tree.Expr) → InValue (Here c) (forms.alias_value (told c) k name generic e) → Fits c k (k + (hidden_scope generic + (scopes_in_params c.context.postponed generic + scopes_in c.context.postponed e))) (64 * type_params_size generic + 64 * expr_size e + 8) (emitting.alias_value name generic e)
+  alias_value_fits : (k : ℕ) (name : List ℕ) (generic : tree.TypeParams) (e : tree.Expr)
+      → InValue (Here c) (forms.alias_value (available_cell_told c) k name generic e)
+      → EmissionFits c k (k + (hidden_scope generic + (scopes_in_params c.context.postponed generic + scopes_in c.context.postponed e))) (64 * type_params_size generic + 64 * expr_size e + 8) (emitting.alias_value name generic e)
   unfolding inside
   alias_value_fits k name tree.no_type_params e h =
-      let x = apart (Here c) (kids_v (expr_form (told c) k e)) [] h in
+      let x = available_cell_apart (Here c) (kids_v (expr_form (available_cell_told c) k e)) [] h in
       fits_as (omega arith) (omega arith) (then_fits (value_fits c r k e x.0) (then_fits (count_fits op.BuildTuple 0 (omega arith)) (then_fits (constant_fits op.LoadConst (const.str name) tt) (plain_fits op.TypeAlias))))
   alias_value_fits k name (tree.more_type_params t ts) e h =
       let generic = tree.more_type_params t ts in
-      let w = within c r k in
+      let w = fit_generic_within c r k in
       let ready = within_ready c r k in
       let j = suc k + scopes_in_params c.context.postponed generic in
-      let tuple = params_form (told w) (suc k) generic in
-      let form = VSwap (operation op.TypeAlias Bare) tuple (expr_form (told w) j e) (VMore (VConst (const.str name)) VNone) in
+      let tuple = params_form (available_cell_told w) (suc k) generic in
+      let form = VSwap (operation op.TypeAlias Bare) tuple (expr_form (available_cell_told w) j e) (VMore (VConst (const.str name)) VNone) in
       let y = hidden_apart (Here c) (hidden_of c r k form) name forms.no_defaults h in
-      let z = apart (Here w) (kids_v tuple) (kids_v (expr_form (told w) j e) ++ []) (hidden_stands c r k form y.0) in
-      let u = apart (Here w) (kids_v (expr_form (told w) j e)) [] z.1 in
+      let z = available_cell_apart (Here w) (kids_v tuple) (kids_v (expr_form (available_cell_told w) j e) ++ []) (hidden_stands c r k form y.0) in
+      let u = available_cell_apart (Here w) (kids_v (expr_form (available_cell_told w) j e)) [] z.1 in
       fits_as (omega arith) (omega arith)
       (hidden_fits c r k name no_defaults form y.0
       (then_fits (params_fits w ready (suc k) generic z.0) (then_fits (value_fits w ready j e u.0) (then_fits (plain_fits op.Rotate2) (then_fits (constant_fits op.LoadConst (const.str name) tt) (plain_fits op.TypeAlias)))))
-      none_handed)
+      fit_generic_none_handed)
 
   -- only a name is an alias
-  pub alias_fits : (k : ℕ) (target : tree.Expr) (generic : tree.TypeParams) (e : tree.Expr) → AllOf (Here c) (kids (alias_form (told c) k target generic e)) → Fits c k (k + (hidden_scope generic + (scopes_in_params c.context.postponed generic + (scopes_in c.context.postponed e + scopes_in c.context.postponed target)))) (64 * type_params_size generic + 64 * expr_size e + 9) (emission_of_alias target generic e)
+  pub alias_fits : (k : ℕ) (target : tree.Expr) (generic : tree.TypeParams) (e : tree.Expr)
+      → AllOf (Here c) (kids (alias_form (available_cell_told c) k target generic e))
+      → EmissionFits c k (k + (hidden_scope generic + (scopes_in_params c.context.postponed generic + (scopes_in c.context.postponed e + scopes_in c.context.postponed target)))) (64 * type_params_size generic + 64 * expr_size e + 9) (emission_of_alias target generic e)
   alias_fits k (tree.Name at id) generic e h =
-      let x = apart (Here c) (kids_v (forms.alias_value (told c) k id generic e)) [] h in
+      let x = available_cell_apart (Here c) (kids_v (forms.alias_value (available_cell_told c) k id generic e)) [] h in
       fits_as (omega arith) (omega arith) (then_fits (alias_value_fits k id generic e x.0) (stored_fits r id))
   alias_fits k other generic e h = refuse_fits (error.Assign (python_name other)) tt

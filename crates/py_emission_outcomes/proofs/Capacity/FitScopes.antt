@@ -9,50 +9,57 @@ use Rattle.py_bytecode.specs.declared.instruction.Instruction.TheVariants as op
 use Rattle.py_bytecode.specs.Objects as const
 use Rattle.py_bytecode.specs.Objects.{Object}
 use Rattle.py_scope.specs.declared.table_type.SymbolTableType.TheVariants as kind
-use Rattle.py_emission_parts.specs.Children.{DefaultEmissions, behind_child, child, code_head, emission_of_defaults, enter_parameters, flags_of_defaults, free_names, function_scope, on_sealed, some_emitted}
-use Rattle.py_emission_parts.specs.Comprehensions.{ClauseEmissions, as_element, called_at_once, clause, clauses, comprehension, comprehension_shape, conditions, further_clauses, gathered, generated, retold_in}
+use Rattle.py_emission_parts.specs.Children.{DefaultEmissions, child, emission_of_defaults, enter_parameters, flags_of_defaults, free_names, function_scope, some_emitted}
+use Rattle.py_emission_parts.specs.Running.{behind_child, code_head, on_sealed, retold_in, run}
+use Rattle.py_emission_parts.specs.Comprehensions.{ClauseEmissions, as_element, called_at_once, clause, clauses, comprehension, comprehension_shape, conditions, further_clauses, collection_scope, generator_body}
 use Rattle.py_emission_parts.specs.Context.{Context}
-use Rattle.py_emission_parts.specs.Emitting.{Around, Emission, Outcome, State, Done, TooWide, Refused, begun}
-use Rattle.py_emission_parts.specs.EmissionParts.{Emissions, built, map_of}
+use Rattle.py_emission_parts.specs.Emitting.{Around, Emission, Outcome, State, Done, TooWide, Refused, initial_state}
+use Rattle.py_emission_parts.specs.EmissionParts.{Emissions, counted_build, map_of}
 use Rattle.py_emission_parts.specs.Everywhere.{Everywhere}
 use Rattle.py_emission_parts.specs.Refused.{no_assignment, retold}
-use Rattle.py_emission_parts.specs.Sealed.{Head, sealed}
+use Rattle.py_emission_parts.specs.Sealed.{Head, assembled_object}
 use Rattle.py_emission_parts.specs.Within.{Shape, comprehension_inside, some_flag}
 use Rattle.py_emission_outcomes.specs.Fitting.{HasShortTables}
 use Rattle.py_emission_outcomes.proofs.Capacity.ShortTables.{FewParameters, HasFew, sealed_short}
-use Rattle.py_emission_outcomes.proofs.Capacity.Fits.{Fits, FitsIn, Stands, begin_fits, constant_added, constant_fits, count_fits, emit_fits, few_so, fits_as, fits_from, generating_fits, if_fits, jump_fits, keep_fits, more, new_fits, plain_fits, refuse_fits, room, taken, then_fits, unless_debug_fits, varname_added, varname_fits, IsOfTree}
-use Rattle.py_emission_outcomes.proofs.Capacity.Accesses.{AtHand, Ready, cells_few, made_fits, outside, ready_inside}
+use Rattle.py_emission_outcomes.proofs.Capacity.Fits.{EmissionFits, FitsIn, FitStands, constant_added, constant_fits, count_fits, emit_fits, few_so, fits_as, fits_from, generating_fits, if_fits, jump_fits, keep_fits, fit_more, plain_fits, refuse_fits, fit_room, fit_taken, then_fits, two_blocks_fit, unless_debug_fits, fit_varname_added, varname_fits, IsOfTree}
+use Rattle.py_emission_outcomes.proofs.Capacity.Accesses.{AtHand, AccessReady, cells_few, made_fits, access_outside, ready_inside}
 use Rattle.py_emission_outcomes.proofs.Capacity.FitParts.{FitsWell, NamedFits, Takes, built_fits, map_fits}
 use Rattle.py_emission_outcomes.proofs.Capacity.Threads.{Thread, thread_few}
 
--- a code object has the names from outside that its head says
-sealed_frees : (level : ℕ) (h : Head) (t : State) → free_names (sealed level h t) ≡ h.freevars
-unfolding sealed
+-- a code object has the free variables that its head says
+sealed_frees : (level : ℕ) (h : Head) (t : State) → free_names (assembled_object level h t) ≡ h.freevars
+unfolding assembled_object
 sealed_frees level h t = refl
 
--- what a scope within comes to is sealed, its tables are short, and what follows goes on
-seals : {c : Around} {k m w d : ℕ} {follow : Object → Emission} (inner : Around) (l b level : ℕ) (h : Head) (s : State) (o : Outcome) → Stands c k s → FitsIn inner l b o → b < 2 ^ 30 → length h.cellvars + length h.freevars < 2 ^ 30 → FewParameters h.posonlyarg_count h.arg_count h.kwonlyarg_count → taken s + w ≤ d → d < 2 ^ 30 → ((x : Object) → free_names x ≡ h.freevars → Everywhere HasShortTables x → Fits c l m w (follow x)) → FitsIn c m d (on_sealed level h s o follow)
-unfolding taken
+-- what a nested scope comes to is sealed, its tables are short, and what follows goes on
+seals : {c : Around} {k m w d : ℕ} {follow : Object → Emission} (inner : Around) (l b level : ℕ) (h : Head) (s : State) (o : Outcome) → FitStands c k s
+    → FitsIn inner l b o → b < 2 ^ 30 → length h.cellvars + length h.freevars < 2 ^ 30 → FewParameters h.posonlyarg_count h.arg_count h.kwonlyarg_count
+    → fit_taken s + w ≤ d → d < 2 ^ 30 → ((x : Object) → free_names x ≡ h.freevars → Everywhere HasShortTables x → EmissionFits c l m w (follow x))
+    → FitsIn c m d (on_sealed level h s o (λ x. run (follow x)))
+unfolding fit_taken
 seals {c} {k} {m} {w} {d} {follow} inner l b level h s (Done t) st g small cells few i r y =
     let e = g.1 in
     let short = sealed_short level h t g.0.short (omega (arith, e, small)) cells few in
-    more c m (taken (behind_child s t) + w) d (follow (sealed level h t) (behind_child s t)) i ((y (sealed level h t) (sealed_frees level h t) short).fits (behind_child s t) (record { around = st.around; next = g.0.next; short = st.short }) (omega (arith, i, r)))
+    fit_more c m (fit_taken (behind_child s t) + w) d (run (follow (assembled_object level h t)) (behind_child s t)) i ((y (assembled_object level h t) (sealed_frees level h t) short).fits (behind_child s t) (record { around = st.around; next = g.0.next; short = st.short }) (omega (arith, i, r)))
 seals inner l b level h s TooWide st g small cells few i r y = g
 seals inner l b level h s (Refused z at) st g small cells few i r y = g
 
--- a scope within that has few parameters where there is room for its body, and what follows of its code object, whose tables are short
-pub child_fits : {c : Around} {k l m v w : ℕ} {body : Emission} {follow : Object → Emission} (within : Context → ℕ → Context) (h : Shape) → Ready (outside (within c.context k)) → Fits (outside (within c.context k)) (suc k) l v body → (v < 2 ^ 30 → HasFew h) → ((o : Object) → free_names o ≡ (within c.context k).frees → Everywhere HasShortTables o → Fits c l m w (follow o)) → Fits c k m (v + w + 1) (child within h body follow)
-unfolding child taken
+-- a nested scope that has few parameters where there is room for its body, and what follows of its code object, whose tables are short
+pub child_fits : {c : Around} {k l m v w : ℕ} {body : Emission} {follow : Object → Emission} (within : Context → ℕ → Context) (h : Shape)
+    → AccessReady (access_outside (within c.context k)) → EmissionFits (access_outside (within c.context k)) (suc k) l v body → (v < 2 ^ 30 → HasFew h)
+    → ((o : Object) → free_names o ≡ (within c.context k).frees → Everywhere HasShortTables o → EmissionFits c l m w (follow o))
+    → EmissionFits c k m (v + w + 1) (child within h body follow)
+unfolding child fit_taken
 child_fits {c} {k} {l} {m} {v} {w} {body} {follow} within h q x few y = record {
   fits = λ s st r.
       let d = within s.around.context s.next in
       let same : d ≡ within c.context k = λ j. within (st.around j).context (st.next j) in
-      let cells = subst (λ (z : Context). length z.cells + length z.frees < 2 ^ 30) (sym same) (cells_few (outside (within c.context k)) q) in
-      let x1 = subst (λ (a : Around). Fits (outside (within a.context k)) (suc k) l v body) (sym st.around) x in
-      let x2 = subst (λ n. Fits (outside (within s.around.context n)) (suc n) l v body) (sym st.next) x1 in
-      let own = x2.fits (begun d s.location (suc s.next)) (record { around = refl; next = refl; short = tt }) (omega (arith, r)) in
+      let cells = subst (λ (z : Context). length z.cells + length z.frees < 2 ^ 30) (sym same) (cells_few (access_outside (within c.context k)) q) in
+      let x1 = subst (λ (a : Around). EmissionFits (access_outside (within a.context k)) (suc k) l v body) (sym st.around) x in
+      let x2 = subst (λ n. EmissionFits (access_outside (within s.around.context n)) (suc n) l v body) (sym st.next) x1 in
+      let own = x2.fits (initial_state d s.location (suc s.next)) (record { around = refl; next = refl; short = tt }) (omega (arith, r)) in
       let parameters = few (omega (arith, r)) in
-      seals (outside d) l (taken (begun d s.location (suc s.next)) + v) d.level (code_head d h s.location) s (body (begun d s.location (suc s.next))) st own (omega (arith, r)) cells parameters (omega arith) r (λ o e short. y o (e ∙ ap (λ (z : Context). z.frees) same) short);
+      seals (access_outside d) l (fit_taken (initial_state d s.location (suc s.next)) + v) d.level (code_head d h s.location) s (run body (initial_state d s.location (suc s.next))) st own (omega (arith, r)) cells parameters (omega arith) r (λ o e short. y o (e ∙ ap (λ (z : Context). z.frees) same) short);
 }
 
 -- the same names in other words
@@ -71,9 +78,9 @@ done_element c l b TooWide h = h
 done_element c l b (Refused e at) h = told_so e h
 
 -- an element of a comprehension
-pub element_fits : {c : Around} {k l w : ℕ} {a : Emission} → Fits c k l w a → Fits c k l w (as_element a)
+pub element_fits : {c : Around} {k l w : ℕ} {a : Emission} → EmissionFits c k l w a → EmissionFits c k l w (as_element a)
 unfolding as_element
-element_fits {c} {k} {l} {w} {a} x = record { fits = λ s h r. done_element c l (taken s + w) (a s) (x.fits s h r) }
+element_fits {c} {k} {l} {w} {a} x = record { fits = λ s h r. done_element c l (fit_taken s + w) (run a s) (x.fits s h r) }
 
 -- the flags of defaults are few
 pub default_flags_few : (d : DefaultEmissions) → flags_of_defaults d < 2 ^ 31
@@ -87,12 +94,12 @@ default_flags_few d = go d.positional d.keyword
 
 module _ (c : Around) where
   -- what is built of values, where there are any
-  pub some_built_fits : (i : Instruction) (k l w : ℕ) (vs : List Emission) → Thread (Takes c) k l w vs → Fits c k l w (some_emitted (built i) vs)
+  pub some_built_fits : (i : Instruction) (k l w : ℕ) (vs : List Emission) → Thread (Takes c) k l w vs → EmissionFits c k l w (some_emitted (counted_build i) vs)
   some_built_fits i k l w [] h = fits_as h (omega arith) keep_fits
   some_built_fits i k l w (v ∷ vs) h = built_fits c i k l w (v ∷ vs) h
 
   -- a map, where there is anything
-  pub some_map_fits : (k l w : ℕ) (ps : List (List ℕ × Emission)) → Thread (NamedFits c) k l w ps → Fits c k l w (some_emitted map_of ps)
+  pub some_map_fits : (k l w : ℕ) (ps : List (List ℕ × Emission)) → Thread (NamedFits c) k l w ps → EmissionFits c k l w (some_emitted map_of ps)
   some_map_fits k l w [] h = fits_as h (omega arith) keep_fits
   some_map_fits k l w (p ∷ ps) h = map_fits c k l w (p ∷ ps) h
 
@@ -106,26 +113,26 @@ module _ (c : Around) where
     pub together : first + second ≤ w
 
   -- what makes them a tuple and a map
-  pub defaults_fit : (k l w : ℕ) (d : DefaultEmissions) → DefaultsFit k l w d → Fits c k l w (emission_of_defaults d)
+  pub defaults_fit : (k l w : ℕ) (d : DefaultEmissions) → DefaultsFit k l w d → EmissionFits c k l w (emission_of_defaults d)
   defaults_fit k l w d x =
       let t = x.together in
-      room (omega (arith, t)) (then_fits (some_built_fits op.BuildTuple k x.between x.first d.positional x.positional) (some_map_fits x.between l x.second d.keyword x.keyword))
+      fit_room (omega (arith, t)) (then_fits (some_built_fits op.BuildTuple k x.between x.first d.positional x.positional) (some_map_fits x.between l x.second d.keyword x.keyword))
 
   -- a function's scope
-  parameters_fit : {k : ℕ} (xs : List (List ℕ)) → Fits c k k (length xs) (enter_parameters xs)
+  parameters_fit : {k : ℕ} (xs : List (List ℕ)) → EmissionFits c k k (length xs) (enter_parameters xs)
   parameters_fit [] = keep_fits
-  parameters_fit (x ∷ xs) = room (omega arith) (then_fits (unless_debug_fits no_assignment x (varname_added x)) (parameters_fit xs))
+  parameters_fit (x ∷ xs) = fit_room (omega arith) (then_fits (unless_debug_fits no_assignment x (fit_varname_added x)) (parameters_fit xs))
 
   -- and what follows its parameters
-  pub scope_fits : {k l w : ℕ} {body : Emission} (xs : List (List ℕ)) → Fits c k l w body → Fits c k l (length xs + w + 1) (function_scope xs body)
-  scope_fits xs x = room (omega arith) (then_fits (parameters_fit xs) (then_fits (constant_added const.none tt) x))
+  pub scope_fits : {k l w : ℕ} {body : Emission} (xs : List (List ℕ)) → EmissionFits c k l w body → EmissionFits c k l (length xs + w + 1) (function_scope xs body)
+  scope_fits xs x = fit_room (omega arith) (then_fits (parameters_fit xs) (then_fits (constant_added const.none tt) x))
 
   -- what a clause stores its elements to, and its conditions
   pub record RestFits (k l w : ℕ) (x : ClauseEmissions) : Type 0 where
     pub between : ℕ
     pub first : ℕ
     pub second : ℕ
-    pub target : Fits c k between first x.target
+    pub target : EmissionFits c k between first x.target
     pub conditions : Thread (FitsWell c) between l second x.conditions
     pub together : first + second + 3 ≤ w
 
@@ -134,7 +141,7 @@ module _ (c : Around) where
     pub between : ℕ
     pub first : ℕ
     pub second : ℕ
-    pub iterable : Fits c k between first x.iterable
+    pub iterable : EmissionFits c k between first x.iterable
     pub rest : RestFits between l second x
     pub together : first + second ≤ w
 
@@ -144,30 +151,30 @@ module _ (c : Around) where
   ClausesFit k l w (x ∷ xs) = (m : ℕ) × (u : ℕ) × (v : ℕ) × RestFits k m u x × Thread FurtherFits m l v xs × (u + v + 1 ≤ w)
 
   -- the conditions of a clause
-  conditions_fit : (k l w : ℕ) (es : List Emissions) (start : ℕ) → Thread (FitsWell c) k l w es → Fits c k l w (conditions es start)
+  conditions_fit : (k l w : ℕ) (es : List Emissions) (start : ℕ) → Thread (FitsWell c) k l w es → EmissionFits c k l w (conditions es start)
   conditions_fit k l w [] start h = fits_as h (omega arith) keep_fits
-  conditions_fit k l w (e ∷ es) start h = let i = h.6 in room (omega (arith, i)) (then_fits (h.3.test false start) (conditions_fit h.0 l h.2 es start h.4))
+  conditions_fit k l w (e ∷ es) start h = let i = h.6 in fit_room (omega (arith, i)) (then_fits (h.3.test false start) (conditions_fit h.0 l h.2 es start h.4))
 
   -- a clause around what is within
-  clause_fits : {k j m l u v w : ℕ} {iterator within : Emission} (x : ClauseEmissions) → Fits c k j u iterator → RestFits j m v x → Fits c m l w within → Fits c k l (u + v + w) (clause iterator x within)
+  clause_fits : {k j m l u v w : ℕ} {iterator within : Emission} (x : ClauseEmissions) → EmissionFits c k j u iterator → RestFits j m v x
+      → EmissionFits c m l w within → EmissionFits c k l (u + v + w) (clause iterator x within)
   clause_fits {j = j} {m = m} x i r z =
       let t = r.together in
-      room (omega (arith, t))
-      (new_fits (λ start. new_fits (λ end.
-      then_fits i (then_fits (begin_fits start) (then_fits (jump_fits op.ForIter end) (then_fits r.target (then_fits (conditions_fit r.between m r.second x.conditions start r.conditions) (then_fits z (then_fits (jump_fits op.Jump start) (begin_fits end))))))))))
+      fit_room (omega (arith, t))
+      (two_blocks_fit (λ start end. i) (λ start end. then_fits (jump_fits op.ForIter end) (then_fits r.target (then_fits (conditions_fit r.between m r.second x.conditions start r.conditions) (then_fits z (jump_fits op.Jump start))))) (λ start end. keep_fits))
 
   -- clauses that have iterables of their own
-  further_fit : {within : Emission} (k m l v w : ℕ) (xs : List ClauseEmissions) → Thread FurtherFits k m v xs → Fits c m l w within → Fits c k l (v + w) (further_clauses xs within)
-  further_fit k m l v w [] h y = fits_from (sym h) (room (omega arith) y)
+  further_fit : {within : Emission} (k m l v w : ℕ) (xs : List ClauseEmissions) → Thread FurtherFits k m v xs → EmissionFits c m l w within → EmissionFits c k l (v + w) (further_clauses xs within)
+  further_fit k m l v w [] h y = fits_from (sym h) (fit_room (omega arith) y)
   further_fit k m l v w (x ∷ xs) h y =
       let t = h.3.together in
       let i = h.6 in
-      room (omega (arith, t, i)) (clause_fits x (then_fits h.3.iterable (plain_fits op.GetIter)) h.3.rest (further_fit h.0 m l h.2 w xs h.4 y))
+      fit_room (omega (arith, t, i)) (clause_fits x (then_fits h.3.iterable (plain_fits op.GetIter)) h.3.rest (further_fit h.0 m l h.2 w xs h.4 y))
 
   -- all clauses
-  clauses_fit : {within : Emission} (k m l v w : ℕ) (xs : List ClauseEmissions) → ClausesFit k m v xs → Fits c m l w within → Fits c k l (v + w) (clauses xs within)
-  clauses_fit k m l v w [] h y = fits_from (sym h) (room (omega arith) y)
-  clauses_fit k m l v w (x ∷ xs) h y = let i = h.5 in room (omega (arith, i)) (clause_fits x (varname_fits op.LoadFast (codes ".0")) h.3 (further_fit h.0 m l h.2 w xs h.4 y))
+  clauses_fit : {within : Emission} (k m l v w : ℕ) (xs : List ClauseEmissions) → ClausesFit k m v xs → EmissionFits c m l w within → EmissionFits c k l (v + w) (clauses xs within)
+  clauses_fit k m l v w [] h y = fits_from (sym h) (fit_room (omega arith) y)
+  clauses_fit k m l v w (x ∷ xs) h y = let i = h.5 in fit_room (omega (arith, i)) (clause_fits x (varname_fits op.LoadFast (codes ".0")) h.3 (further_fit h.0 m l h.2 w xs h.4 y))
 
   -- they are no more than there is room for
   clauses_few : (k l w : ℕ) (xs : List ClauseEmissions) → ClausesFit k l w xs → length xs ≤ w
@@ -178,31 +185,37 @@ module _ (c : Around) where
       omega (arith, g, i)
 
   -- the scopes of comprehensions
-  pub gathered_fits : {element : Emission} (build append : Instruction) (k m l v w : ℕ) (xs : List ClauseEmissions) → ClausesFit k m v xs → Fits c m l w element → Fits c k l (v + w) (gathered build append xs element)
+  pub gathered_fits : {element : Emission} (build append : Instruction) (k m l v w : ℕ) (xs : List ClauseEmissions) → ClausesFit k m v xs
+      → EmissionFits c m l w element → EmissionFits c k l (v + w) (collection_scope build append xs element)
   gathered_fits build append k m l v w xs h y =
       few_so (length xs) (let g = clauses_few k m v xs h in omega (arith, g))
-      (λ n. room (omega arith) (then_fits (plain_fits build) (then_fits (clauses_fit k m l v w xs h (room (omega arith) (then_fits y (emit_fits append (length xs) (omega (arith, n)))))) (plain_fits op.ReturnValue))))
+      (λ n. fit_room (omega arith) (then_fits (plain_fits build) (then_fits (clauses_fit k m l v w xs h (fit_room (omega arith) (then_fits y (emit_fits append (length xs) (omega (arith, n)))))) (plain_fits op.ReturnValue))))
 
   -- that of a generator
-  pub generated_fits : {element : Emission} (k m l v w : ℕ) (xs : List ClauseEmissions) → ClausesFit k m v xs → Fits c m l w element → Fits c k l (v + w + 1) (generated xs element)
+  pub generated_fits : {element : Emission} (k m l v w : ℕ) (xs : List ClauseEmissions) → ClausesFit k m v xs → EmissionFits c m l w element
+      → EmissionFits c k l (v + w + 1) (generator_body xs element)
   generated_fits k m l v w xs h y =
-      room (omega arith)
-      (then_fits (clauses_fit k m l v w xs h (room (omega arith) (then_fits y (then_fits generating_fits (then_fits (plain_fits op.YieldValue) (plain_fits op.Pop)))))) (constant_fits op.ReturnConst const.none tt))
+      fit_room (omega arith)
+      (then_fits (clauses_fit k m l v w xs h (fit_room (omega arith) (then_fits y (then_fits generating_fits (then_fits (plain_fits op.YieldValue) (plain_fits op.Pop)))))) (constant_fits op.ReturnConst const.none tt))
 
   -- and what is made of them
-  called_fits : {k m l v w : ℕ} {scope iterable : Emission} → Ready c → (name : List ℕ) → AtHand c (comprehension_inside c.context k).frees → Fits (outside (comprehension_inside c.context k)) (suc k) m v scope → Fits c m l w iterable → Fits c k l (v + w + 3) (called_at_once name scope iterable)
+  called_fits : {k m l v w : ℕ} {scope iterable : Emission} → AccessReady c → (name : List ℕ) → AtHand c (comprehension_inside c.context k).frees
+      → EmissionFits (access_outside (comprehension_inside c.context k)) (suc k) m v scope → EmissionFits c m l w iterable
+      → EmissionFits c k l (v + w + 3) (called_at_once name scope iterable)
   unfolding called_at_once
   called_fits {k} r name hand x y =
-      room (omega arith)
+      fit_room (omega arith)
       (then_fits (child_fits comprehension_inside (comprehension_shape name) (ready_inside c kind.Comprehension k r) x (λ i. record { positional = omega arith; arguments = omega arith; keywords = omega arith }) (λ o e short. made_fits r 0 name o (omega arith) (hand_as e hand) short))
       (then_fits y (then_fits (plain_fits op.GetIter) (count_fits op.CallFunctionPositional 1 (omega arith)))))
 
   -- the first iterable, where there is one
   abbrev pub FirstFits : (k l w : ℕ) → List ClauseEmissions → Type 0
   FirstFits k l w [] = Unit {0}
-  FirstFits k l w (x ∷ xs) = Fits c k l w x.iterable
+  FirstFits k l w (x ∷ xs) = EmissionFits c k l w x.iterable
 
   -- a comprehension
-  pub comprehension_fits : {scope : Emission} (k m l v w : ℕ) (awaited : Bool) (name : List ℕ) (xs : List ClauseEmissions) → Ready c → AtHand c (comprehension_inside c.context k).frees → Fits (outside (comprehension_inside c.context k)) (suc k) m v scope → FirstFits m l w xs → Fits c k l (v + w + 3) (comprehension awaited name xs scope)
+  pub comprehension_fits : {scope : Emission} (k m l v w : ℕ) (awaited : Bool) (name : List ℕ) (xs : List ClauseEmissions) → AccessReady c
+      → AtHand c (comprehension_inside c.context k).frees → EmissionFits (access_outside (comprehension_inside c.context k)) (suc k) m v scope
+      → FirstFits m l w xs → EmissionFits c k l (v + w + 3) (comprehension awaited name xs scope)
   comprehension_fits k m l v w awaited name [] r hand x y = refuse_fits (error.MalformedTree shape.NoGenerator) tt
   comprehension_fits k m l v w awaited name (z ∷ zs) r hand x y = if_fits awaited (refuse_fits error.NotImplementedYet tt) (called_fits r name hand x y)

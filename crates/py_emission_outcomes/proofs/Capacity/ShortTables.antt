@@ -4,13 +4,13 @@ use Rattle.std.specs.Prelude.{if◌then◌else◌}
 use Rattle.std.specs.List.{list_any}
 use Rattle.py_base.specs.Literal as literal
 use Rattle.py_base.specs.Literal.{Literal}
-use Rattle.py_bytecode.specs.Equality.{const_eq, entered}
+use Rattle.py_bytecode.specs.Equality.{const_eq, insert_if_new}
 use Rattle.py_bytecode.specs.Objects as const
-use Rattle.py_bytecode.specs.Objects.{Const, codes_in, consts_of, listed}
+use Rattle.py_bytecode.specs.Objects.{Const, codes_in, consts_of, const_list}
 use Rattle.py_control.specs.Agree.{AllOf}
 use Rattle.py_emission_parts.specs.Emitting.{State}
 use Rattle.py_emission_parts.specs.Everywhere.{Everywhere, UpTo}
-use Rattle.py_emission_parts.specs.Sealed.{Head, sealed}
+use Rattle.py_emission_parts.specs.Sealed.{Head, assembled_object}
 use Rattle.py_emission_parts.specs.TableParts.{constant_of}
 use Rattle.py_emission_parts.specs.Within.{Shape, doc_const}
 use Rattle.py_emission_outcomes.specs.Fitting.{HasShortTables}
@@ -41,13 +41,13 @@ pub doc_short : (doc : Option (List ℕ)) → IsShort (doc_const doc)
 doc_short None = tt
 doc_short (Some text) = tt
 
--- so it is of all with one more behind them
+-- so it is of all with one more after them
 one_behind : (cs : List Const) (c : Const) → AllOf IsShort cs → IsShort c → AllOf IsShort (cs ++ c ∷ [])
 one_behind [] c h x = (x, tt)
 one_behind (d ∷ ds) c h x = (h.0, one_behind ds c h.1 x)
 
 -- and of all after one more is entered
-pub entered_short : (cs : List Const) (c : Const) → AllOf IsShort cs → IsShort c → AllOf IsShort (entered const_eq cs c)
+pub entered_short : (cs : List Const) (c : Const) → AllOf IsShort cs → IsShort c → AllOf IsShort (insert_if_new const_eq cs c)
 entered_short cs c h x = by (list_any (const_eq c) cs)
   where
     by : (b : Bool) → AllOf IsShort (if b then cs else cs ++ c ∷ [])
@@ -67,7 +67,7 @@ codes_short n (const.ellipsis ∷ cs) h = codes_short n cs h.1
 codes_short n (const.code o ∷ cs) h = (h.0 n, codes_short n cs h.1)
 
 -- the constants of a code object are those that it is made of
-listed_are : (cs : List Const) → listed (consts_of cs) ≡ cs
+listed_are : (cs : List Const) → const_list (consts_of cs) ≡ cs
 listed_are [] = refl
 listed_are (c ∷ cs) = ap (λ ds. c ∷ ds) (listed_are cs)
 
@@ -82,8 +82,10 @@ abbrev pub HasFew : Shape → Type 0
 HasFew h = FewParameters h.posonlyarg_count h.arg_count h.kwonlyarg_count
 
 -- what is sealed over such constants has short tables, as has each code object within, where its own tables are short and its cells, free names and parameters few
-pub sealed_short : (level : ℕ) (h : Head) (s : State) → AllOf IsShort s.constants → length s.names + length s.varnames + length s.constants < 2 ^ 30 → length h.cellvars + length h.freevars < 2 ^ 30 → FewParameters h.posonlyarg_count h.arg_count h.kwonlyarg_count → Everywhere HasShortTables (sealed level h s)
-unfolding sealed
+pub sealed_short : (level : ℕ) (h : Head) (s : State) → AllOf IsShort s.constants → length s.names + length s.varnames + length s.constants < 2 ^ 30
+    → length h.cellvars + length h.freevars < 2 ^ 30 → FewParameters h.posonlyarg_count h.arg_count h.kwonlyarg_count
+    → Everywhere HasShortTables (assembled_object level h s)
+unfolding assembled_object
 sealed_short level h s short few cells parameters zero = tt
 sealed_short level h s short few cells parameters (suc n) =
     let e = ap length (listed_are s.constants) in (

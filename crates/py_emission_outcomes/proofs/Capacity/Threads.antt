@@ -1,6 +1,6 @@
--- Things one behind another: each goes on from the number of the next scope that those before it come to, and takes one at least of the room for all.
+-- Things one after another: each goes on from the number of the next scope that those before it come to, and takes one at least of the room for all.
 use Rattle.std.proofs.Common.{◌≡◌, refl, sym, subst, ℕ, ◌+◌, ◌≤◌, List, [], ◌∷◌, ◌++◌, length, arith}
-use Rattle.py_emission_parts.specs.Elements.{Element, Single, Spread, bare, behind, front, grouped, groups}
+use Rattle.py_emission_parts.specs.Elements.{Element, Single, Spread, bare, behind, front, run_tuple, groups}
 
 module _ {A : Type 0} (P : (k l w : ℕ) → A → Type 0) where
   -- from the number k to the number l, with this room
@@ -46,7 +46,7 @@ OneOf P Q k l w (Spread v) = Q k l w v
 
 module _ {B A : Type 0} (P : (k l w : ℕ) → B → Type 0) (Q : (k l w : ℕ) → A → Type 0) where
   -- the plain elements at the front, and what follows them
-  pub record Parted (k l w : ℕ) (es : List (Element B A)) : Type 0 where
+  pub record ThreadParted (k l w : ℕ) (es : List (Element B A)) : Type 0 where
     pub between : ℕ
     pub first : ℕ
     pub rest : ℕ
@@ -55,34 +55,34 @@ module _ {B A : Type 0} (P : (k l w : ℕ) → B → Type 0) (Q : (k l w : ℕ) 
     pub together : first + rest ≤ w
 
   -- each list comes apart so
-  pub parted : (k l w : ℕ) (es : List (Element B A)) → Thread (OneOf P Q) k l w es → Parted k l w es
-  parted k l w [] h = record { between = k; first = 0; rest = w; fronts = refl; behinds = h; together = omega arith }
-  parted k l w (Single x ∷ es) h =
-      let p = parted h.0 l h.2 es h.4 in
+  pub thread_parted : (k l w : ℕ) (es : List (Element B A)) → Thread (OneOf P Q) k l w es → ThreadParted k l w es
+  thread_parted k l w [] h = record { between = k; first = 0; rest = w; fronts = refl; behinds = h; together = omega arith }
+  thread_parted k l w (Single x ∷ es) h =
+      let p = thread_parted h.0 l h.2 es h.4 in
       let t = p.together in
       let e = h.6 in
       record { between = p.between; first = h.1 + p.first; rest = p.rest; fronts = (h.0, h.1, p.first, h.3, p.fronts, h.5, omega arith); behinds = p.behinds; together = omega (arith, t, e) }
-  parted k l w (Spread v ∷ es) h = record { between = k; first = 0; rest = w; fronts = refl; behinds = h; together = omega arith }
+  thread_parted k l w (Spread v ∷ es) h = record { between = k; first = 0; rest = w; fronts = refl; behinds = h; together = omega arith }
 
   -- runs of plain elements
   module _ (tuple : List B → A) (makes : (k l w : ℕ) (run : List B) → Thread P k l w run → Q k l w (tuple run)) where
     -- one run
-    grouped_so : (k l w : ℕ) (run : List B) → Thread P k l w run → Thread Q k l w (grouped tuple run)
+    grouped_so : (k l w : ℕ) (run : List B) → Thread P k l w run → Thread Q k l w (run_tuple tuple run)
     grouped_so k l w [] h = h
     grouped_so k l w (x ∷ xs) h =
         let i = h.5 in
         let e = h.6 in
         (l, w, 0, makes k l w (x ∷ xs) h, refl, omega (arith, i, e), omega arith)
 
-    -- a run, and the runs of what is behind it
+    -- a run, and the runs of what is after it
     pub groups_so : (k m l v w : ℕ) (run : List B) (es : List (Element B A)) → Thread P k m v run → Thread (OneOf P Q) m l w es → Thread Q k l (v + w) (groups tuple run es)
-    groups_so k m l v w run [] g h = thread_to Q k m l (v + w) (grouped tuple run) h (thread_as Q k m v (v + w) (grouped tuple run) (omega arith) (grouped_so k m v run g))
+    groups_so k m l v w run [] g h = thread_to Q k m l (v + w) (run_tuple tuple run) h (thread_as Q k m v (v + w) (run_tuple tuple run) (omega arith) (grouped_so k m v run g))
     groups_so k m l v w run (Single x ∷ es) g h =
         let e = h.6 in
         thread_as Q k l (v + h.1 + h.2) (v + w) (groups tuple (run ++ x ∷ []) es) (omega (arith, e))
         (groups_so k h.0 l (v + h.1) h.2 (run ++ x ∷ []) es (thread_join P k m h.0 v h.1 run (x ∷ []) g (thread_one P m h.0 h.1 x h.5 h.3)) h.4)
     groups_so k m l v w run (Spread y ∷ es) g h =
-        thread_join Q k m l v w (grouped tuple run) (y ∷ groups tuple [] es) (grouped_so k m v run g)
+        thread_join Q k m l v w (run_tuple tuple run) (y ∷ groups tuple [] es) (grouped_so k m v run g)
         (h.0, h.1, h.2, h.3, thread_as Q h.0 l (0 + h.2) h.2 (groups tuple [] es) (omega arith) (groups_so h.0 h.0 l 0 h.2 [] es refl h.4), h.5, h.6)
 
     -- from the first on

@@ -10,46 +10,51 @@ use Rattle.py_control.specs.Agree.{AllOf, form_of, kids}
 use Rattle.py_emission_parts.specs.Context.{Context, inside, outermost}
 use Rattle.py_emission_parts.specs.Emitting.{Around, Done, Outcome, Refused, State, TooWide, nothing}
 use Rattle.py_emission_parts.specs.Everywhere.{Everywhere}
-use Rattle.py_emission_parts.specs.Sealed.{sealed}
+use Rattle.py_emission_parts.specs.Sealed.{assembled_object}
 use Rattle.py_emit.specs.States.{module_head}
-use Rattle.py_emission.specs.EmissionMods.{emission_of_mod, emitted}
+use Rattle.py_emission.specs.EmissionMods.{emission_of_mod, emission_outcome}
 use Rattle.py_meaning.specs.ExprFaults.{Fault}
 use Rattle.py_meaning.specs.Faults.{compile_faults}
 use Rattle.py_meaning.specs.Meaning.{body, mod_form}
 use Rattle.py_meaning.specs.Scanned.{scopes_of}
-use Rattle.py_scope_tree.proofs.EnteringPrograms.{parts_none}
+use Rattle.py_scope_proof.proofs.NodeScopes.EnteringPrograms.{parts_none}
 use Rattle.py_emission_outcomes.proofs.Faults.FaultOutcomeLemmas.{refusal_heads}
-use Rattle.py_cell_loads.specs.Uses.{UsesAreFew}
+use Rattle.py_scope_proof.specs.CellLoads.{UsesAreFew}
 use Rattle.py_emission_outcomes.specs.Fitting.{HasShortTables, IsSmall, TreesFit}
 use Rattle.py_emission_outcomes.proofs.Capacity.ShortTables.{sealed_short}
-use Rattle.py_emission_outcomes.proofs.Capacity.Fits.{Fits, FitsIn, IsOfTree, taken}
-use Rattle.py_emission_outcomes.proofs.Capacity.Accesses.{Ready, cells_few, outside, ready_outermost}
+use Rattle.py_emission_outcomes.proofs.Capacity.Fits.{EmissionFits, FitsIn, IsOfTree, fit_taken}
+use Rattle.py_emission_outcomes.proofs.Capacity.Accesses.{AccessReady, cells_few, access_outside, ready_outermost}
 use Rattle.py_emission_outcomes.proofs.Capacity.FitMods.{mod_fits}
 use Rattle.py_emission_outcomes.proofs.Capacity.Premises.{few_everywhere, small_tree}
-use Rattle.py_emission_outcomes.proofs.Capacity.AvailableCellLemmas.{AllStand, Here, told, tree_stands}
+use Rattle.py_emission_outcomes.proofs.Capacity.AvailableCellLemmas.{AvailableCellAllStand, Here, available_cell_told, tree_stands}
 
 -- what stands around the outermost scope finds the cells that the form of the tree wants
-pub stands_there : (t : tree.Mod) (m : Mode) (level : ℕ) (path : List ℕ) (scopes : List ScopeEntry) → AllStand scopes 0 (kids (form_of (body scopes t m level))) → AllOf (Here (outside (outermost level path scopes))) (kids (mod_form (told (outside (outermost level path scopes))) t m))
+pub stands_there : (t : tree.Mod) (m : Mode) (level : ℕ) (path : List ℕ) (scopes : List ScopeEntry)
+    → AvailableCellAllStand scopes 0 (kids (form_of (body scopes t m level)))
+    → AllOf (Here (access_outside (outermost level path scopes))) (kids (mod_form (available_cell_told (access_outside (outermost level path scopes))) t m))
 unfolding inside
 stands_there t m level path scopes h = h
 
 -- before anything one block is made, and the first scope within has the number 1
-pub begins : (t : tree.Mod) (m : Mode) (level : ℕ) (path : List ℕ) (scopes : List ScopeEntry) (l w : ℕ) → Fits (outside (outermost level path scopes)) 1 l w (emission_of_mod t m) → 1 + w < 2 ^ 30 → FitsIn (outside (outermost level path scopes)) l (1 + w) (emitted t m (outermost level path scopes))
-unfolding taken
-begins t m level path scopes l w x i = x.fits (nothing (outermost level path scopes)) (record { around = refl; next = refl; short = tt }) i
+pub whole_begins : (t : tree.Mod) (m : Mode) (level : ℕ) (path : List ℕ) (scopes : List ScopeEntry) (l w : ℕ)
+    → EmissionFits (access_outside (outermost level path scopes)) 1 l w (emission_of_mod t m) → 1 + w < 2 ^ 30
+    → FitsIn (access_outside (outermost level path scopes)) l (1 + w) (emission_outcome t m (outermost level path scopes))
+unfolding fit_taken
+whole_begins t m level path scopes l w x i = x.fits (nothing (outermost level path scopes)) (record { around = refl; next = refl; short = tt }) i
 
 -- what takes so little and passes so few scopes is small
 small_tables : (c : Around) (l b : ℕ) (s : State) → FitsIn c l b (Done s) → l ≤ b → b < 2 ^ 30 → IsSmall s
-unfolding taken
+unfolding fit_taken
 small_tables c l b s f n i =
     let e = f.0.next in
     let t = f.1 in
     record { names = omega (arith, t, i); varnames = omega (arith, t, i); constants = omega (arith, t, i); blocks = omega (arith, t, i); next = omega (arith, e, n, i) }
 
 -- its code object has short tables, as has each within
-short_tables : (c : Context) (level l b : ℕ) (s : State) → Ready (outside c) → FitsIn (outside c) l b (Done s) → b < 2 ^ 30 → Everywhere HasShortTables (sealed level (module_head c) s)
-unfolding taken
-short_tables c level l b s r f i = let t = f.1 in sealed_short level (module_head c) s f.0.short (omega (arith, t, i)) (cells_few (outside c) r) (record { positional = omega arith; arguments = omega arith; keywords = omega arith })
+short_tables : (c : Context) (level l b : ℕ) (s : State) → AccessReady (access_outside c) → FitsIn (access_outside c) l b (Done s) → b < 2 ^ 30
+    → Everywhere HasShortTables (assembled_object level (module_head c) s)
+unfolding fit_taken
+short_tables c level l b s r f i = let t = f.1 in sealed_short level (module_head c) s f.0.short (omega (arith, t, i)) (cells_few (access_outside c) r) (record { positional = omega arith; arguments = omega arith; keywords = omega arith })
 
 -- an error that does not say that a cell is not there is another one
 pub another : (e : CodegenErrorType) → IsOfTree e → e ≢ error.MissingCell
@@ -65,12 +70,14 @@ trees_fit uses t m level path h =
     let scopes = scopes_of t in
     let small = small_tree t m level h in
     let ready = ready_outermost level path scopes (few_everywhere uses t m level h) in
-    let x = mod_fits t m (outside (outermost level path scopes)) ready (stands_there t m level path scopes (tree_stands t m level h)) in
+    let x = mod_fits t m (access_outside (outermost level path scopes)) ready (stands_there t m level path scopes (tree_stands t m level h)) in
     let i : 1 + 192 * size_of t < 2 ^ 30 = omega (arith, small) in
-    go (emitted t m (outermost level path scopes)) refl x.next (1 + 192 * size_of t) x.few i (begins t m level path scopes x.next (192 * size_of t) x.fits i)
+    go (emission_outcome t m (outermost level path scopes)) refl x.next (1 + 192 * size_of t) x.few i (whole_begins t m level path scopes x.next (192 * size_of t) x.fits i)
   where
-    go : (o : Outcome) → emitted t m (outermost level path (scopes_of t)) ≡ o → (l b : ℕ) → l ≤ b → b < 2 ^ 30 → FitsIn (outside (outermost level path (scopes_of t))) l b o → (s : State) × (emitted t m (outermost level path (scopes_of t)) ≡ Done s) × IsSmall s × Everywhere HasShortTables (sealed level (module_head (outermost level path (scopes_of t))) s)
-    go (Done s) e l b n i f = (s, e, small_tables (outside (outermost level path (scopes_of t))) l b s f n i, short_tables (outermost level path (scopes_of t)) level l b s (ready_outermost level path (scopes_of t) (few_everywhere uses t m level h)) f i)
+    go : (o : Outcome) → emission_outcome t m (outermost level path (scopes_of t)) ≡ o → (l b : ℕ) → l ≤ b → b < 2 ^ 30
+        → FitsIn (access_outside (outermost level path (scopes_of t))) l b o
+        → (s : State) × (emission_outcome t m (outermost level path (scopes_of t)) ≡ Done s) × IsSmall s × Everywhere HasShortTables (assembled_object level (module_head (outermost level path (scopes_of t))) s)
+    go (Done s) e l b n i f = (s, e, small_tables (access_outside (outermost level path (scopes_of t))) l b s f n i, short_tables (outermost level path (scopes_of t)) level l b s (ready_outermost level path (scopes_of t) (few_everywhere uses t m level h)) f i)
     go TooWide e l b n i f = absurd f
     go (Refused r at) e l b n i f =
         let z = parts_none t m level h in

@@ -1,5 +1,5 @@
--- Where no name has a symbol, no scope has a name from outside, and no cell is missing in what is emitted of a tree, whatever is wrong with it.
-use Rattle.std.proofs.Common.{◌≡◌, ◌≢◌, refl, sym, ap, ◌∙◌, subst, ℕ, zero, suc, ◌+◌, ◌*◌, ◌<◌, ◌^◌, true, List, [], Option, arith}
+-- Where no name has a symbol, no scope has a free variable, and no cell is missing in what is emitted of a tree, whatever is wrong with it.
+use Rattle.std.proofs.Common.{◌≡◌, ◌≢◌, sym, ap, ◌∙◌, subst, ℕ, zero, suc, ◌+◌, ◌*◌, ◌<◌, ◌^◌, true, List, [], Option, arith}
 use Rattle.py_base.specs.declared.errors.CodegenErrorType.{CodegenErrorType}
 use Rattle.py_base.specs.declared.errors.CodegenErrorType.TheVariants as error
 use Rattle.py_base.specs.declared.location.SourceLocation.{SourceLocation}
@@ -9,43 +9,44 @@ use Rattle.py_limits.specs.Size.{size_of}
 use Rattle.py_control.specs.Agree.{AllOf, form_of, head_of, kids}
 use Rattle.py_control.specs.Form.{Scope}
 use Rattle.py_emission_parts.specs.Context.{outermost}
-use Rattle.py_emission_parts.specs.Emitting.{Outcome, Done, Refused, TooWide}
-use Rattle.py_emission.specs.EmissionMods.{emitted}
+use Rattle.py_emission_parts.specs.Emitting.{Refused}
+use Rattle.py_emission.specs.EmissionMods.{emission_outcome}
 use Rattle.py_meaning.specs.Meaning.{body}
-use Rattle.py_scope_tree.specs.Cells.{StandUpTo, at_hand, is_one_of, wanted_at}
-use Rattle.py_scope_tree.specs.Own.{IsOwn, OwnUpTo, number_of}
-use Rattle.py_scope_tree.specs.StmtOwners.{owners_of}
-use Rattle.py_scope_tree.proofs.CellsOfScopes.{free_told}
-use Rattle.py_scope_tree.proofs.EachOwn.{each_is_its_own}
-use Rattle.py_scope_tree.proofs.OwnScopes.{all_as}
+use Rattle.py_scope_proof.specs.Cells.{StandUpTo, at_hand, is_one_of, wanted_at}
+use Rattle.py_scope_proof.specs.Own.{IsOwn, OwnUpTo, number_of}
+use Rattle.py_scope_proof.specs.StmtOwners.{owners_of}
+use Rattle.py_scope_proof.proofs.NodeScopes.CellsOfScopes.{free_told}
+use Rattle.py_scope_proof.proofs.NodeScopes.EachOwn.{each_is_its_own}
+use Rattle.py_scope_proof.proofs.NodeScopes.OwnScopes.{all_as}
 use Rattle.py_emission_outcomes.proofs.Capacity.Fits.{FitsIn}
-use Rattle.py_emission_outcomes.proofs.Capacity.Accesses.{outside, ready_outermost}
+use Rattle.py_emission_outcomes.proofs.Capacity.Accesses.{access_outside, ready_outermost}
 use Rattle.py_emission_outcomes.proofs.Capacity.FitMods.{mod_fits}
-use Rattle.py_emission_outcomes.proofs.Capacity.AvailableCellLemmas.{AllStand, deep_all}
-use Rattle.py_emission_outcomes.proofs.Capacity.Whole.{another, begins, stands_there}
+use Rattle.py_emission_outcomes.proofs.Capacity.AvailableCellLemmas.{AvailableCellAllStand, deep_all}
+use Rattle.py_emission_outcomes.proofs.Capacity.Whole.{another, whole_begins, stands_there}
 
 module _ (t : tree.Mod) (m : Mode) where
-  -- a scope that is its node's own has no name from outside
+  -- a scope that is its node's own has no free variable
   own_stands : (here : ℕ) (x : Scope) → IsOwn [] (owners_of t m) here x → AllOf (λ y. is_one_of y (at_hand [] here) ≡ true) (head_of x).free
   own_stands here x own =
       let k = number_of x in
       subst (AllOf (λ y. is_one_of y (at_hand [] here) ≡ true)) (sym (free_told own.around own.owner x own.is ∙ ap (λ scopes. wanted_at scopes k) own.told)) tt
 
   -- nor has one within it
-  down : (n here : ℕ) (x : Scope) → OwnUpTo [] (owners_of t m) here n x → StandUpTo [] here n x
-  down zero here x own = tt
-  down (suc n) here x own =
-      let k = number_of x in (own_stands here x own.0, all_as (OwnUpTo [] (owners_of t m) k n) (StandUpTo [] k n) (λ y o. down n k y o) (kids (form_of x)) own.1)
+  without_scope_down : (n here : ℕ) (x : Scope) → OwnUpTo [] (owners_of t m) here n x → StandUpTo [] here n x
+  without_scope_down zero here x own = tt
+  without_scope_down (suc n) here x own =
+      let k = number_of x in (own_stands here x own.0, all_as (OwnUpTo [] (owners_of t m) k n) (StandUpTo [] k n) (λ y o. without_scope_down n k y o) (kids (form_of x)) own.1)
 
   -- so each scope of the tree finds its cells
-  all_stand : (level : ℕ) → AllStand [] 0 (kids (form_of (body [] t m level)))
+  all_stand : (level : ℕ) → AvailableCellAllStand [] 0 (kids (form_of (body [] t m level)))
   all_stand level =
       deep_all (λ n s. StandUpTo [] 0 n s) (kids (form_of (body [] t m level)))
-      (λ n. all_as (OwnUpTo [] (owners_of t m) 0 n) (StandUpTo [] 0 n) (λ s own. down n 0 s own) (kids (form_of (body [] t m level))) (each_is_its_own [] t m level n))
+      (λ n. all_as (OwnUpTo [] (owners_of t m) 0 n) (StandUpTo [] 0 n) (λ s own. without_scope_down n 0 s own) (kids (form_of (body [] t m level))) (each_is_its_own [] t m level n))
 
   -- and a refusal says something else
-  pub refused_without_scopes : (level : ℕ) (path : List ℕ) (e : CodegenErrorType) (at : Option SourceLocation) → size_of t < 2 ^ 22 → emitted t m (outermost level path []) ≡ Refused e at → e ≢ error.MissingCell
+  pub refused_without_scopes : (level : ℕ) (path : List ℕ) (e : CodegenErrorType) (at : Option SourceLocation) → size_of t < 2 ^ 22
+      → emission_outcome t m (outermost level path []) ≡ Refused e at → e ≢ error.MissingCell
   refused_without_scopes level path e at small r =
-      let x = mod_fits t m (outside (outermost level path [])) (ready_outermost level path [] (λ n. omega arith)) (stands_there t m level path [] (all_stand level)) in
+      let x = mod_fits t m (access_outside (outermost level path [])) (ready_outermost level path [] (λ n. omega arith)) (stands_there t m level path [] (all_stand level)) in
       let i : 1 + 192 * size_of t < 2 ^ 30 = omega (arith, small) in
-      another e (subst (FitsIn (outside (outermost level path [])) x.next (1 + 192 * size_of t)) r (begins t m level path [] x.next (192 * size_of t) x.fits i))
+      another e (subst (FitsIn (access_outside (outermost level path [])) x.next (1 + 192 * size_of t)) r (whole_begins t m level path [] x.next (192 * size_of t) x.fits i))

@@ -8,23 +8,23 @@ use Rattle.py_bytecode.specs.declared.instruction.Instruction.TheVariants as op
 use Rattle.py_bytecode.specs.Objects as const
 use Rattle.py_emission.specs.EmissionDefs.{class_call, class_function, class_scope, emission_of_class, emission_of_setup}
 use Rattle.py_meaning.specs.Ends.{ends_of, keyword_ends, last_of}
-use Rattle.py_emission.specs.Predicates.{annotated}
+use Rattle.py_emission.specs.Predicates.{any_annotates}
 use Rattle.py_meaning.specs.ExprFaults.{Fault, all_faults, in_order, keyword_faults, keyword_values}
 use Rattle.py_meaning.specs.ExprFaults as fault
 use Rattle.py_meaning.specs.Faults.{base_faults, class_faults}
 use Rattle.py_emission.specs.Emission.{all_emissions}
 use Rattle.py_emission.specs.Texts.{after_doc, doc_of}
-use Rattle.py_emission_parts.specs.Children.{made}
+use Rattle.py_emission_parts.specs.Children.{made_function}
 use Rattle.py_emission_parts.specs.Classes.{cell_returned, class_end, class_names, class_shape}
 use Rattle.py_emission_parts.specs.Within.{behind_name, class_inside, class_path, class_within, doc_const}
 use Rattle.py_emission_parts.specs.Context.{class_cells}
-use Rattle.py_emission_parts.specs.Elements.{Function, Single, Spread, starred}
+use Rattle.py_emission_parts.specs.Elements.{Function, Single, Spread, has_starred}
 use Rattle.py_emission_parts.specs.Emitting.{Around, Emission, emit, emit_constant}
-use Rattle.py_emission_parts.specs.EmissionParts.{built, elements}
-use Rattle.py_emission_outcomes.proofs.Faults.RefusalLemmas.{EndsAs, Passes, cell_passes, child_ends, constant_passes, context_ends, count_passes, emit_passes, ends_so, in_function, last_ends, level_ends, name_passes, nothing_passes, outside, own_context_ends, then_ends}
+use Rattle.py_emission_parts.specs.EmissionParts.{counted_build, elements}
+use Rattle.py_emission_outcomes.proofs.Faults.RefusalLemmas.{RefusalEndsAs, Passes, cell_passes, child_ends, constant_passes, context_ends, count_passes, emit_passes, ends_so, refusal_in_function, last_ends, level_ends, name_passes, nothing_passes, refusal_outside, own_context_ends, then_ends}
 use Rattle.py_emission_outcomes.proofs.Faults.RefusingCalls.{ArgsEnd, any_call_ends}
 use Rattle.py_emission_outcomes.proofs.Faults.RefusingDefaults.{made_passes}
-use Rattle.py_emission_outcomes.proofs.Faults.RefusingDisplays.{bare_ends, groups_end, tuples_end}
+use Rattle.py_emission_outcomes.proofs.Faults.RefusingDisplays.{bare_ends, refusing_display_groups_end, tuples_end}
 use Rattle.py_emission_outcomes.proofs.Faults.RefusingExprs.{exprs_end, keywords_end}
 use Rattle.py_emission_outcomes.proofs.Faults.RefusingTests.{AllEnding}
 
@@ -50,41 +50,51 @@ end_passes : {c : Around} {p : SourceLocation} → Passes c class_end p
 end_passes = context_ends (λ k. cell_returned (class_cells k)) (λ k. cell_returned_passes (class_cells k))
 
 -- the scope of a class ends as its statements do
-class_scope_ends : {c : Around} {body : Emission} {p q : SourceLocation} {fs : List Fault} (stmts : tree.Stmts) → EndsAs c body p q fs → EndsAs c (class_scope stmts body) p q fs
+class_scope_ends : {c : Around} {body : Emission} {p q : SourceLocation} {fs : List Fault} (stmts : tree.Stmts) → RefusalEndsAs c body p q fs → RefusalEndsAs c (class_scope stmts body) p q fs
 class_scope_ends stmts x =
-    then_ends (level_ends (λ l. class_names (doc_of l stmts)) (λ l. names_pass (doc_of l stmts))) (then_ends (setup_passes (annotated (after_doc stmts))) (last_ends x end_passes))
+    then_ends (level_ends (λ l. class_names (doc_of l stmts)) (λ l. names_pass (doc_of l stmts))) (then_ends (setup_passes (any_annotates (after_doc stmts))) (last_ends x end_passes))
 
 module _ (c : Around) where
   -- the function and the name come before the bases, or make a tuple of their own before them
-  before_ends : {f x : Emission} {p q : SourceLocation} {fs : List Fault} (b : Bool) (es : tree.Exprs) → EndsAs c f p q fs → Passes c x q → AllEnding c es → ArgsEnd c (if b then Spread (built op.BuildTuple (f ∷ x ∷ [])) ∷ elements (all_emissions es) else Single f ∷ Single x ∷ elements (all_emissions es)) p (last_of q (ends_of es)) (fs ++ in_order (fault.elements (all_faults (in_function c) es)))
+  before_ends : {f x : Emission} {p q : SourceLocation} {fs : List Fault} (b : Bool) (es : tree.Exprs) → RefusalEndsAs c f p q fs → Passes c x q
+      → AllEnding c es
+      → ArgsEnd c (if b then Spread (counted_build op.BuildTuple (f ∷ x ∷ [])) ∷ elements (all_emissions es) else Single f ∷ Single x ∷ elements (all_emissions es)) p (last_of q (ends_of es)) (fs ++ in_order (fault.elements (all_faults (refusal_in_function c) es)))
   before_ends {q = q} true es y z all =
       let tuple = last_ends (last_ends y (then_ends z nothing_passes)) (count_passes op.BuildTuple 2) in
       record { places = then_ends tuple (bare_ends c q es all); packs = then_ends tuple (tuples_end c q es all) }
   before_ends {f = f} {x = x} {p = p} {q = q} {fs = fs} false es y z all =
-      record { places = then_ends y (then_ends z (bare_ends c q es all)); packs = groups_end c p q fs (f ∷ x ∷ []) es (last_ends y (then_ends z nothing_passes)) all }
+      record { places = then_ends y (then_ends z (bare_ends c q es all)); packs = refusing_display_groups_end c p q fs (f ∷ x ∷ []) es (last_ends y (then_ends z nothing_passes)) all }
 
   -- by whether a base is starred
-  behind_ends : {f x : Emission} {p q : SourceLocation} {fs : List Fault} (es : tree.Exprs) → EndsAs c f p q fs → Passes c x q → AllEnding c es → ArgsEnd c (behind_name (built op.BuildTuple) f x (elements (all_emissions es))) p (last_of q (ends_of es)) (fs ++ in_order (fault.elements (all_faults (in_function c) es)))
-  behind_ends es y z all = before_ends (starred (elements (all_emissions es))) es y z all
+  behind_ends : {f x : Emission} {p q : SourceLocation} {fs : List Fault} (es : tree.Exprs) → RefusalEndsAs c f p q fs → Passes c x q → AllEnding c es
+      → ArgsEnd c (behind_name (counted_build op.BuildTuple) f x (elements (all_emissions es))) p (last_of q (ends_of es)) (fs ++ in_order (fault.elements (all_faults (refusal_in_function c) es)))
+  behind_ends es y z all = before_ends (has_starred (elements (all_emissions es))) es y z all
 
   -- the function of a class ends as its statements do
-  pub class_function_ends : {body : Emission} {p q : SourceLocation} {fs : List Fault} (path : List ℕ) (flags : ℕ) (name : List ℕ) (stmts : tree.Stmts) → ((n : ℕ) → EndsAs (outside (class_within path name c.context n)) body p q fs) → EndsAs c (class_function path flags name stmts body) p q fs
+  pub class_function_ends : {body : Emission} {p q : SourceLocation} {fs : List Fault} (path : List ℕ) (flags : ℕ) (name : List ℕ) (stmts : tree.Stmts)
+      → ((n : ℕ) → RefusalEndsAs (refusal_outside (class_within path name c.context n)) body p q fs)
+      → RefusalEndsAs c (class_function path flags name stmts body) p q fs
   class_function_ends {body = body} {fs = fs} path flags name stmts x =
-      ends_so (append-nil fs) (child_ends (class_within path name) (class_shape name) (class_scope stmts body) (made flags name) (λ n. class_scope_ends stmts (x n)) (λ o. made_passes flags name o))
+      ends_so (append-nil fs) (child_ends (class_within path name) (class_shape name) (class_scope stmts body) (made_function flags name) (λ n. class_scope_ends stmts (x n)) (λ o. made_passes flags name o))
 
 module _ (class : Option (List ℕ)) (c : Around) where
   -- a class whose function ends so
-  pub class_call_ends : {f : Emission} {p q : SourceLocation} {fs : List Fault} (name : List ℕ) (bases : tree.Exprs) (keywords : tree.Keywords) → exprs_shapes class bases ≡ [] → keywords_shapes class keywords ≡ [] → EndsAs c f p q fs → EndsAs c (class_call name f bases keywords) p (last_of (last_of q (ends_of bases)) (keyword_ends keywords)) (fs ++ base_faults (in_function c) q bases keywords)
+  pub class_call_ends : {f : Emission} {p q : SourceLocation} {fs : List Fault} (name : List ℕ) (bases : tree.Exprs) (keywords : tree.Keywords)
+      → exprs_shapes class bases ≡ [] → keywords_shapes class keywords ≡ [] → RefusalEndsAs c f p q fs
+      → RefusalEndsAs c (class_call name f bases keywords) p (last_of (last_of q (ends_of bases)) (keyword_ends keywords)) (fs ++ base_faults (refusal_in_function c) q bases keywords)
   class_call_ends {q = q} {fs = fs} name bases keywords h g x =
-      let es = in_order (fault.elements (all_faults (in_function c) bases)) in
+      let es = in_order (fault.elements (all_faults (refusal_in_function c) bases)) in
       let ks = keyword_faults (last_of q (ends_of bases)) keywords in
-      let vs = in_order (keyword_values (in_function c) keywords) in
+      let vs = in_order (keyword_values (refusal_in_function c) keywords) in
       let args = behind_ends c bases x (constant_passes op.LoadConst (const.str name)) (exprs_end class c bases h) in
       ends_so (append_assoc (fs ++ es) ks vs ∙ append_assoc fs es (ks ++ vs))
       (any_call_ends c (Function (emit op.LoadBuildClass 0)) [] _ keywords (emit_passes op.LoadBuildClass 0) args (keywords_end class c keywords g))
 
   -- one without type parameters, whose statements end so in any scope of theirs
-  pub class_ends : {body : Emission} {q : SourceLocation} {fs : List Fault} (p : SourceLocation) (name : List ℕ) (bases : tree.Exprs) (keywords : tree.Keywords) (stmts : tree.Stmts) → exprs_shapes class bases ≡ [] → keywords_shapes class keywords ≡ [] → ((n : ℕ) → EndsAs (outside (class_inside name c.context n)) body p q fs) → EndsAs c (emission_of_class name bases keywords stmts body) p (last_of (last_of q (ends_of bases)) (keyword_ends keywords)) (class_faults (in_function c) p q bases keywords tree.no_type_params fs)
+  pub class_ends : {body : Emission} {q : SourceLocation} {fs : List Fault} (p : SourceLocation) (name : List ℕ) (bases : tree.Exprs) (keywords : tree.Keywords) (stmts : tree.Stmts)
+      → exprs_shapes class bases ≡ [] → keywords_shapes class keywords ≡ []
+      → ((n : ℕ) → RefusalEndsAs (refusal_outside (class_inside name c.context n)) body p q fs)
+      → RefusalEndsAs c (emission_of_class name bases keywords stmts body) p (last_of (last_of q (ends_of bases)) (keyword_ends keywords)) (class_faults (refusal_in_function c) p q bases keywords tree.no_type_params fs)
   unfolding emission_of_class
   class_ends {body = body} p name bases keywords stmts h g x =
       own_context_ends (λ k. class_call name (class_function (class_path k name) 0 name stmts body) bases keywords)

@@ -1,4 +1,4 @@
--- Loops, handlers, last parts, `with` items and assertions end as the faults of their parts say.
+-- Loops, handlers, finally blocks, `with` items and assertions end as the faults of their parts say.
 use Rattle.std.proofs.Common.{◌≡◌, ℕ, ◌+◌, List, [], ◌++◌, Bool, true, false, Option, Some, None, codes, refl, sym, append-nil, append_assoc}
 use Rattle.std.specs.Prelude.{nat_eq, not, ◌&&◌, if◌then◌else◌}
 use Rattle.py_tree.specs.Tree as tree
@@ -14,57 +14,49 @@ use Rattle.py_meaning.specs.ExprFaults.{Fault, expr_faults, opt_expr_faults}
 use Rattle.py_meaning.specs.StmtEnds.{assert_end, setting_of}
 use Rattle.py_emission.specs.Predicates.{message_count}
 use Rattle.py_meaning.specs.Faults.{assert_faults, item_faults, items_faults, match_faults, name_faults, raise_faults}
-use Rattle.py_emission_parts.specs.Emitting.{Around, Emission, LoopBlocks, ◌▸◌, begin, by_level, emit, emit_count, emit_name, in_loop, jump, move, new_block}
+use Rattle.py_emission_parts.specs.Emitting.{Around, Emission, LoopBlocks, ◌▸◌, by_level}
 use Rattle.py_emission_parts.specs.Refused.{no_assignment}
 use Rattle.py_emission.specs.Emission.{emission}
-use Rattle.py_emission.specs.ControlEmissions.{asserted, before_last, caught, finally_do, for_each, handler, managed, named_body, to_last, try_body, typed_match}
+use Rattle.py_emission.specs.ControlEmissions.{assertion_of, before_last, caught_name, finally_do, for_each, handler, managed_body, named_body, to_last, try_body, typed_match}
 use Rattle.py_emission.specs.EmissionStmts.{emission_of_assert, emission_of_item, emission_of_items, emission_of_message, emission_of_raise}
-use Rattle.py_emission_outcomes.proofs.Faults.RefusalLemmas.{EndsAs, Passes, in_function, looping, own_level_ends, scopes_passed, accessed_passes, alone_ends, begin_passes, constant_passes, count_passes, emit_passes, ends_so, jump_passes, last_ends, loop_ends, moved_ends, name_passes, new_ends, nothing_passes, then_ends, three_end, unless_debug_last}
+use Rattle.py_emission_proof.proofs.Additions.Shapes.{while_loop}
+use Rattle.py_emission_proof.proofs.Additions.EmissionSequenceLemmas.{emission_sequence_looping}
+use Rattle.py_emission_outcomes.proofs.Faults.RefusalLemmas.{RefusalEndsAs, Passes, refusal_in_function, own_level_ends, scopes_passed, accessed_passes, alone_ends, constant_passes, count_passes, emit_passes, ends_so, jump_passes, last_ends, loop_ends, moved_ends, name_passes, nothing_passes, one_block_ends, then_ends, three_blocks_end, unless_debug_last}
 use Rattle.py_emission_outcomes.proofs.Faults.RefusingTests.{TestEnds}
-use Rattle.py_emission_outcomes.proofs.Faults.RefusingExprs.{both_none, expr_ends, store_ends}
+use Rattle.py_emission_outcomes.proofs.Faults.RefusingExprs.{refusing_expr_both_none, expr_ends, store_ends}
 use Rattle.py_bytecode.specs.Values.{Store, Delete}
 
 -- and then what has no fault, wherever it leaves off
-closed_ends : {c : Around} {a b : Emission} {p m q : SourceLocation} {fs : List Fault} → EndsAs c a p m fs → EndsAs c b m q [] → EndsAs c (a ▸ b) p q fs
+closed_ends : {c : Around} {a b : Emission} {p m q : SourceLocation} {fs : List Fault} → RefusalEndsAs c a p m fs → RefusalEndsAs c b m q [] → RefusalEndsAs c (a ▸ b) p q fs
 closed_ends {fs = fs} x y = ends_so (append-nil fs) (then_ends x y)
 
-four_joined : (fs gs hs is : List Fault) → fs ++ (gs ++ (hs ++ is)) ≡ fs ++ gs ++ hs ++ is
-four_joined fs gs hs is = sym (simp append_assoc refl)
-
-pub for_ends : {c : Around} {iter store body orelse : Emission} {p m n k q : SourceLocation} {fs gs hs is : List Fault} → EndsAs c iter p m fs → EndsAs c store m n gs → ((x : LoopBlocks) → EndsAs (looping x c) body n k hs) → EndsAs c orelse k q is → EndsAs c (for_each iter store body orelse) p q (fs ++ gs ++ hs ++ is)
-for_ends {iter = iter} {store = store} {body = body} {orelse = orelse} {fs = fs} {gs = gs} {hs = hs} {is = is} x t y z =
-    let all : ℕ → ℕ → ℕ → Emission = λ start other end. emit op.SetupLoop 0 ▸ iter ▸ emit op.GetIter 0 ▸ begin start ▸ jump op.ForIter other ▸ store ▸ in_loop (record { on_break = end; on_continue = start }) body ▸ jump op.Jump start ▸ begin other ▸ emit op.PopBlock 0 ▸ orelse ▸ begin end in
-    ends_so (four_joined fs gs hs is) (new_ends (λ start. new_block (λ other. new_block (λ end. all start other end))) (λ start. new_ends (λ other. new_block (λ end. all start other end)) (λ other. new_ends (λ end. all start other end) (λ end.
-    let own : LoopBlocks = record { on_break = end; on_continue = start } in
-    let after = then_ends (jump_passes op.Jump start) (then_ends (begin_passes other) (then_ends (emit_passes op.PopBlock 0) (last_ends z (begin_passes end)))) in
-    let turn = then_ends t (then_ends (loop_ends own (y own)) after) in
-    then_ends (emit_passes op.SetupLoop 0) (then_ends x (then_ends (emit_passes op.GetIter 0) (then_ends (begin_passes start) (then_ends (jump_passes op.ForIter other) turn))))))))
+pub for_ends : {c : Around} {iter store body orelse : Emission} {p m n k q : SourceLocation} {fs gs hs is : List Fault} → RefusalEndsAs c iter p m fs
+    → RefusalEndsAs c store m n gs → ((x : LoopBlocks) → RefusalEndsAs (emission_sequence_looping x c) body n k hs) → RefusalEndsAs c orelse k q is
+    → RefusalEndsAs c (for_each iter store body orelse) p q (fs ++ gs ++ hs ++ is)
+for_ends x t y z =
+    let own : ℕ → ℕ → LoopBlocks = λ start end. record { on_break = end; on_continue = start } in
+    ends_so (simp (append_assoc, append-nil)) (three_blocks_end (λ start other end. then_ends (emit_passes op.SetupLoop 0) (last_ends x (emit_passes op.GetIter 0)))
+    (λ start other end. then_ends (jump_passes op.ForIter other) (then_ends t (last_ends (loop_ends (own start end) (y (own start end))) (jump_passes op.Jump start))))
+    (λ start other end. then_ends (emit_passes op.PopBlock 0) z) (λ start other end. nothing_passes))
 
 -- a loop over a test
-abbrev while_loop : (test : Bool → ℕ → Emission) → (body orelse : Emission) → Emission
-while_loop test body orelse =
-    new_block (λ start. new_block (λ other. new_block (λ end.
-    emit op.SetupLoop 0 ▸ begin start ▸ test false other ▸ in_loop (record { on_break = end; on_continue = start }) body ▸ jump op.Jump start
-    ▸ begin other ▸ emit op.PopBlock 0 ▸ orelse ▸ begin end)))
-
-pub while_ends : {c : Around} {test : Bool → ℕ → Emission} {body orelse : Emission} {p m n q : SourceLocation} {fs gs hs : List Fault} → TestEnds c test p m fs → ((x : LoopBlocks) → EndsAs (looping x c) body m n gs) → EndsAs c orelse n q hs → EndsAs c (while_loop test body orelse) p q (fs ++ gs ++ hs)
-while_ends {test = test} {body = body} {orelse = orelse} t x y =
-    let all : ℕ → ℕ → ℕ → Emission = λ start other end. emit op.SetupLoop 0 ▸ begin start ▸ test false other ▸ in_loop (record { on_break = end; on_continue = start }) body ▸ jump op.Jump start ▸ begin other ▸ emit op.PopBlock 0 ▸ orelse ▸ begin end in
-    new_ends (λ start. new_block (λ other. new_block (λ end. all start other end))) (λ start.
-    new_ends (λ other. new_block (λ end. all start other end)) (λ other.
-    new_ends (λ end. all start other end) (λ end.
-    let own : LoopBlocks = record { on_break = end; on_continue = start } in
-    let after = then_ends (jump_passes op.Jump start) (then_ends (begin_passes other) (then_ends (emit_passes op.PopBlock 0) (last_ends y (begin_passes end)))) in
-    then_ends (emit_passes op.SetupLoop 0) (then_ends (begin_passes start) (three_end (t false other) (loop_ends own (x own)) after)))))
+pub while_ends : {c : Around} {test : Bool → ℕ → Emission} {body orelse : Emission} {p m n q : SourceLocation} {fs gs hs : List Fault} → TestEnds c test p m fs
+    → ((x : LoopBlocks) → RefusalEndsAs (emission_sequence_looping x c) body m n gs) → RefusalEndsAs c orelse n q hs
+    → RefusalEndsAs c (while_loop test body orelse) p q (fs ++ gs ++ hs)
+while_ends t x y =
+    let own : ℕ → ℕ → LoopBlocks = λ start end. record { on_break = end; on_continue = start } in
+    ends_so (simp append-nil) (three_blocks_end (λ start other end. emit_passes op.SetupLoop 0) (λ start other end. then_ends (t false other) (last_ends (loop_ends (own start end) (x (own start end))) (jump_passes op.Jump start)))
+    (λ start other end. then_ends (emit_passes op.PopBlock 0) y) (λ start other end. nothing_passes))
 
 -- what a `with` manages leaves off where the statement stands
-managed_ends : {c : Around} {item store body : Emission} {p m n k : SourceLocation} {fs gs hs : List Fault} (at : SourceLocation) → EndsAs c item p m fs → EndsAs c store at n gs → EndsAs c body n k hs → EndsAs c (managed at item store body) p at (fs ++ gs ++ hs)
-managed_ends {item = item} {store = store} {body = body} {fs = fs} {gs = gs} {hs = hs} at x t y =
-    new_ends (λ end. item ▸ move at ▸ jump op.SetupWith end ▸ store ▸ body ▸ move at ▸ emit op.PopBlock 0 ▸ emit op.EnterFinally 0 ▸ begin end ▸ emit op.WithCleanupStart 0 ▸ emit op.WithCleanupFinish 0) (λ end.
-    let exit = then_ends (emit_passes op.PopBlock 0) (then_ends (emit_passes op.EnterFinally 0) (then_ends (begin_passes end) (then_ends (emit_passes op.WithCleanupStart 0) (emit_passes op.WithCleanupFinish 0)))) in
-    ends_so (sym (append_assoc fs gs hs)) (then_ends x (moved_ends at (then_ends (jump_passes op.SetupWith end) (then_ends t (closed_ends y (moved_ends at exit)))))))
+managed_ends : {c : Around} {item store body : Emission} {p m n k : SourceLocation} {fs gs hs : List Fault} (at : SourceLocation) → RefusalEndsAs c item p m fs
+    → RefusalEndsAs c store at n gs → RefusalEndsAs c body n k hs → RefusalEndsAs c (managed_body at item store body) p at (fs ++ gs ++ hs)
+managed_ends at x t y =
+    ends_so (simp (append_assoc, append-nil)) (one_block_ends
+    (λ end. then_ends x (moved_ends at (then_ends (jump_passes op.SetupWith end) (then_ends t (closed_ends y (moved_ends at (then_ends (emit_passes op.PopBlock 0) (emit_passes op.EnterFinally 0))))))))
+    (λ end. then_ends (emit_passes op.WithCleanupStart 0) (emit_passes op.WithCleanupFinish 0)))
 
--- last parts
+-- finally blocks
 before_last_passes : {c : Around} {p : SourceLocation} (final : Bool) (end : ℕ) → Passes c (before_last final end) p
 before_last_passes false end = nothing_passes
 before_last_passes true end = jump_passes op.SetupFinally end
@@ -73,82 +65,90 @@ to_last_passes : {c : Around} {p : SourceLocation} (final : Bool) → Passes c (
 to_last_passes false = nothing_passes
 to_last_passes true = then_ends (emit_passes op.PopBlock 0) (emit_passes op.EnterFinally 0)
 
-pub finally_ends : {c : Around} {body last : Emission} {p q : SourceLocation} {fs : List Fault} → EndsAs c body p q fs → Passes c last q → EndsAs c (finally_do body last) p q fs
-finally_ends {body = body} {last = last} x y =
-    new_ends (λ end. jump op.SetupFinally end ▸ body ▸ to_last true ▸ begin end ▸ last ▸ emit op.EndFinally 0) (λ end.
-    then_ends (jump_passes op.SetupFinally end) (last_ends x (then_ends (to_last_passes true) (then_ends (begin_passes end) (then_ends y (emit_passes op.EndFinally 0))))))
+pub finally_ends : {c : Around} {body last : Emission} {p q : SourceLocation} {fs : List Fault} → RefusalEndsAs c body p q fs → Passes c last q → RefusalEndsAs c (finally_do body last) p q fs
+finally_ends x y = ends_so (simp append-nil) (one_block_ends (λ end. then_ends (jump_passes op.SetupFinally end) (last_ends x (to_last_passes true))) (λ end. then_ends y (emit_passes op.EndFinally 0)))
 
-pub try_ends : {c : Around} {body orelse last : Emission} {handlers : ℕ → Emission} {p m n k q : SourceLocation} {fs gs hs is : List Fault} (final : Bool) → EndsAs c body p m fs → ((end : ℕ) → EndsAs c (handlers end) m n gs) → EndsAs c orelse n k hs → EndsAs c last k q is → EndsAs c (try_body final body handlers orelse last) p q (fs ++ gs ++ hs ++ is)
-try_ends {body = body} {orelse = orelse} {last = last} {handlers = handlers} {fs = fs} {gs = gs} {hs = hs} {is = is} final x y z w =
-    let all : ℕ → ℕ → ℕ → Emission = λ on_raise other end. before_last final end ▸ jump op.SetupExcept on_raise ▸ body ▸ emit op.PopBlock 0 ▸ jump op.Jump other ▸ begin on_raise ▸ handlers end ▸ begin other ▸ orelse ▸ to_last final ▸ begin end ▸ last in
-    ends_so (four_joined fs gs hs is) (new_ends (λ on_raise. new_block (λ other. new_block (λ end. all on_raise other end))) (λ on_raise. new_ends (λ other. new_block (λ end. all on_raise other end)) (λ other. new_ends (λ end. all on_raise other end) (λ end.
-    let rest = then_ends z (then_ends (to_last_passes final) (then_ends (begin_passes end) w)) in
-    let caught = then_ends (y end) (then_ends (begin_passes other) rest) in
-    then_ends (before_last_passes final end) (then_ends (jump_passes op.SetupExcept on_raise) (then_ends x (then_ends (emit_passes op.PopBlock 0) (then_ends (jump_passes op.Jump other) (then_ends (begin_passes on_raise) caught)))))))))
+pub try_ends : {c : Around} {body orelse last : Emission} {handlers : ℕ → Emission} {p m n k q : SourceLocation} {fs gs hs is : List Fault} (final : Bool)
+    → RefusalEndsAs c body p m fs → ((end : ℕ) → RefusalEndsAs c (handlers end) m n gs) → RefusalEndsAs c orelse n k hs → RefusalEndsAs c last k q is
+    → RefusalEndsAs c (try_body final body handlers orelse last) p q (fs ++ gs ++ hs ++ is)
+try_ends final x y z w =
+    ends_so (simp append_assoc) (three_blocks_end
+    (λ on_raise other end. then_ends (before_last_passes final end) (then_ends (jump_passes op.SetupExcept on_raise) (last_ends x (then_ends (emit_passes op.PopBlock 0) (jump_passes op.Jump other)))))
+    (λ on_raise other end. y end) (λ on_raise other end. last_ends z (to_last_passes final)) (λ on_raise other end. w))
 
 -- handlers
-pub handler_ends : {c : Around} {matches : ℕ → Emission} {body others : Emission} {p m n q : SourceLocation} {fs gs hs : List Fault} (final : Bool) (end : ℕ) → ((next : ℕ) → EndsAs c (matches next) p m fs) → EndsAs c body m n gs → EndsAs c others n q hs → EndsAs c (handler final end matches body others) p q (fs ++ gs ++ hs)
-handler_ends {matches = matches} {body = body} {others = others} final end x y z =
-    new_ends (λ next. matches next ▸ body ▸ emit op.PopException 0 ▸ to_last final ▸ jump op.Jump end ▸ begin next ▸ others) (λ next.
-    three_end (x next) y (then_ends (emit_passes op.PopException 0) (then_ends (to_last_passes final) (then_ends (jump_passes op.Jump end) (then_ends (begin_passes next) z)))))
+pub handler_ends : {c : Around} {matches : ℕ → Emission} {body others : Emission} {p m n q : SourceLocation} {fs gs hs : List Fault} (final : Bool) (end : ℕ)
+    → ((next : ℕ) → RefusalEndsAs c (matches next) p m fs) → RefusalEndsAs c body m n gs → RefusalEndsAs c others n q hs
+    → RefusalEndsAs c (handler final end matches body others) p q (fs ++ gs ++ hs)
+handler_ends final end x y z =
+    one_block_ends (λ next. then_ends (x next) (last_ends y (then_ends (emit_passes op.PopException 0) (then_ends (to_last_passes final) (jump_passes op.Jump end))))) (λ next. z)
 
-caught_ends : {c : Around} {p : SourceLocation} (name : Option (List ℕ)) → EndsAs c (caught name) p p (name_faults p name)
+caught_ends : {c : Around} {p : SourceLocation} (name : Option (List ℕ)) → RefusalEndsAs c (caught_name name) p p (name_faults p name)
 caught_ends None = emit_passes op.Pop 0
 caught_ends (Some x) = unless_debug_last no_assignment x (accessed_passes Store x)
 
-typed_ends : {c : Around} {type : Emission} {p q : SourceLocation} {fs : List Fault} (name : Option (List ℕ)) (next : ℕ) → EndsAs c type p q fs → EndsAs c (typed_match type (caught name) next) p q (fs ++ name_faults q name)
+typed_ends : {c : Around} {type : Emission} {p q : SourceLocation} {fs : List Fault} (name : Option (List ℕ)) (next : ℕ) → RefusalEndsAs c type p q fs
+    → RefusalEndsAs c (typed_match type (caught_name name) next) p q (fs ++ name_faults q name)
 typed_ends name next x = then_ends (emit_passes op.Duplicate 0) (then_ends x (then_ends (emit_passes op.TestOperation 4) (then_ends (jump_passes op.JumpIfFalse next) (caught_ends name))))
 
-pub named_body_ends : {c : Around} {body : Emission} {p q : SourceLocation} {fs : List Fault} (name : Option (List ℕ)) → EndsAs c body p q fs → EndsAs c (named_body name body) p q fs
+pub named_body_ends : {c : Around} {body : Emission} {p q : SourceLocation} {fs : List Fault} (name : Option (List ℕ)) → RefusalEndsAs c body p q fs → RefusalEndsAs c (named_body name body) p q fs
 named_body_ends None x = x
 named_body_ends (Some y) x = finally_ends x (then_ends (constant_passes op.LoadConst const.none) (then_ends (accessed_passes Store y) (accessed_passes Delete y)))
 
-asserted_ends : {c : Around} {test : Bool → ℕ → Emission} {message : Emission} {p m q : SourceLocation} {fs gs : List Fault} (count : ℕ) → TestEnds c test p m fs → EndsAs c message m q gs → EndsAs c (asserted test message count) p q (fs ++ gs)
-asserted_ends {test = test} {message = message} count t x =
-    new_ends (λ end. test true end ▸ emit_name op.LoadGlobal (codes "AssertionError") ▸ message ▸ emit_count op.CallFunctionPositional count ▸ emit op.Raise 0 ▸ begin end) (λ end.
-    then_ends (t true end) (then_ends (name_passes op.LoadGlobal (codes "AssertionError")) (last_ends x (then_ends (count_passes op.CallFunctionPositional count) (then_ends (emit_passes op.Raise 0) (begin_passes end))))))
+asserted_ends : {c : Around} {test : Bool → ℕ → Emission} {message : Emission} {p m q : SourceLocation} {fs gs : List Fault} (count : ℕ)
+    → TestEnds c test p m fs → RefusalEndsAs c message m q gs → RefusalEndsAs c (assertion_of test message count) p q (fs ++ gs)
+asserted_ends count t x =
+    ends_so (simp append-nil) (one_block_ends (λ end. then_ends (t true end) (then_ends (name_passes op.LoadGlobal (codes "AssertionError")) (last_ends x (then_ends (count_passes op.CallFunctionPositional count) (emit_passes op.Raise 0))))) (λ end. nothing_passes))
 
 -- above level 0 nothing is asserted
-asserted_or : {c : Around} {v w : Emission} {p q : SourceLocation} {fs : List Fault} (b : Bool) → EndsAs c v p q fs → Passes c w p → EndsAs c (if b then v else w) p (if b then q else p) (if b then fs else [])
+asserted_or : {c : Around} {v w : Emission} {p q : SourceLocation} {fs : List Fault} (b : Bool) → RefusalEndsAs c v p q fs → Passes c w p
+    → RefusalEndsAs c (if b then v else w) p (if b then q else p) (if b then fs else [])
 asserted_or true x y = x
 asserted_or false x y = y
 
 module _ (class : Option (List ℕ)) (c : Around) where
-  value_ends : (p : SourceLocation) (e : tree.Expr) → expr_shapes class e ≡ [] → EndsAs c (emission e) p (expr_end e) (expr_faults (in_function c) e)
-  value_ends p e h = (expr_ends class c e h).value p
+  control_end_value_ends : (p : SourceLocation) (e : tree.Expr) → expr_shapes class e ≡ [] → RefusalEndsAs c (emission e) p (expr_end e) (expr_faults (refusal_in_function c) e)
+  control_end_value_ends p e h = (expr_ends class c e h).value p
 
   -- a type that an exception matches, and its name
-  pub match_ends : (p : SourceLocation) (e : tree.Expr) (name : Option (List ℕ)) (next : ℕ) → expr_shapes class e ≡ [] → EndsAs c (typed_match (emission e) (caught name) next) p (expr_end e) (match_faults (in_function c) (tree.some_expr e) name)
-  match_ends p e name next h = typed_ends name next (value_ends p e h)
+  pub match_ends : (p : SourceLocation) (e : tree.Expr) (name : Option (List ℕ)) (next : ℕ) → expr_shapes class e ≡ []
+      → RefusalEndsAs c (typed_match (emission e) (caught_name name) next) p (expr_end e) (match_faults (refusal_in_function c) (tree.some_expr e) name)
+  match_ends p e name next h = typed_ends name next (control_end_value_ends p e h)
 
-  message_ends : (p : SourceLocation) (msg : tree.OptExpr) → opt_expr_shapes class msg ≡ [] → EndsAs c (emission_of_message msg) p (last_of p (some_of (opt_end msg))) (opt_expr_faults (in_function c) msg)
+  message_ends : (p : SourceLocation) (msg : tree.OptExpr) → opt_expr_shapes class msg ≡ []
+      → RefusalEndsAs c (emission_of_message msg) p (last_of p (some_of (opt_end msg))) (opt_expr_faults (refusal_in_function c) msg)
   message_ends p tree.no_expr h = nothing_passes
-  message_ends p (tree.some_expr e) h = value_ends p e h
+  message_ends p (tree.some_expr e) h = control_end_value_ends p e h
 
-  item_ends : (at : SourceLocation) (t : tree.OptExpr) → opt_expr_shapes class t ≡ [] → EndsAs c (emission_of_item t) at (item_end at t) (item_faults (in_function c) t)
+  item_ends : (at : SourceLocation) (t : tree.OptExpr) → opt_expr_shapes class t ≡ [] → RefusalEndsAs c (emission_of_item t) at (item_end at t) (item_faults (refusal_in_function c) t)
   item_ends at tree.no_expr h = emit_passes op.Pop 0
   item_ends at (tree.some_expr t) h = moved_ends (tree.expr_location t) (store_ends class c (tree.expr_location t) t h).alone
 
   -- items, the last of which leaves off where the body begins
-  pub items_end_so : {v : Emission} {k : SourceLocation} {gs : List Fault} (at p : SourceLocation) (e : tree.Expr) (t : tree.OptExpr) (items : tree.WithItems) → with_items_shapes class (tree.more_items e t items) ≡ [] → EndsAs c v (items_end at (tree.more_items e t items)) k gs → EndsAs c (emission_of_items at (tree.more_items e t items) v) p at (items_faults (in_function c) (tree.more_items e t items) ++ gs)
+  pub items_end_so : {v : Emission} {k : SourceLocation} {gs : List Fault} (at p : SourceLocation) (e : tree.Expr) (t : tree.OptExpr) (items : tree.WithItems)
+      → with_items_shapes class (tree.more_items e t items) ≡ [] → RefusalEndsAs c v (items_end at (tree.more_items e t items)) k gs
+      → RefusalEndsAs c (emission_of_items at (tree.more_items e t items) v) p at (items_faults (refusal_in_function c) (tree.more_items e t items) ++ gs)
   items_end_so {gs = gs} at p e t tree.no_items h x =
-      let s = both_none (expr_shapes class e ++ opt_expr_shapes class t) [] h in
-      let q = both_none (expr_shapes class e) (opt_expr_shapes class t) s.0 in
-      ends_so (simp append-nil refl) (managed_ends at (value_ends p e q.0) (item_ends at t q.1) x)
+      let s = refusing_expr_both_none (expr_shapes class e ++ opt_expr_shapes class t) [] h in
+      let q = refusing_expr_both_none (expr_shapes class e) (opt_expr_shapes class t) s.0 in
+      ends_so (simp append-nil refl) (managed_ends at (control_end_value_ends p e q.0) (item_ends at t q.1) x)
   items_end_so {gs = gs} at p e t (tree.more_items f u rest) h x =
-      let s = both_none (expr_shapes class e ++ opt_expr_shapes class t) (with_items_shapes class (tree.more_items f u rest)) h in
-      let q = both_none (expr_shapes class e) (opt_expr_shapes class t) s.0 in
-      ends_so (sym (append_assoc (expr_faults (in_function c) e ++ item_faults (in_function c) t) (items_faults (in_function c) (tree.more_items f u rest)) gs)) (managed_ends at (value_ends p e q.0) (item_ends at t q.1) (items_end_so at (item_end at t) f u rest s.1 x))
+      let s = refusing_expr_both_none (expr_shapes class e ++ opt_expr_shapes class t) (with_items_shapes class (tree.more_items f u rest)) h in
+      let q = refusing_expr_both_none (expr_shapes class e) (opt_expr_shapes class t) s.0 in
+      ends_so (sym (append_assoc (expr_faults (refusal_in_function c) e ++ item_faults (refusal_in_function c) t) (items_faults (refusal_in_function c) (tree.more_items f u rest)) gs)) (managed_ends at (control_end_value_ends p e q.0) (item_ends at t q.1) (items_end_so at (item_end at t) f u rest s.1 x))
 
   -- an assertion, at its own level
-  pub assert_ends : (p : SourceLocation) (t : tree.Expr) (msg : tree.OptExpr) → expr_shapes class t ≡ [] → opt_expr_shapes class msg ≡ [] → EndsAs c (by_level (emission_of_assert t msg)) p (assert_end c.context.level p t msg) (assert_faults (setting_of c.context) t msg)
+  pub assert_ends : (p : SourceLocation) (t : tree.Expr) (msg : tree.OptExpr) → expr_shapes class t ≡ [] → opt_expr_shapes class msg ≡ []
+      → RefusalEndsAs c (by_level (emission_of_assert t msg)) p (assert_end c.context.level p t msg) (assert_faults (setting_of c.context) t msg)
   assert_ends p t msg h g =
       own_level_ends (emission_of_assert t msg)
       (asserted_or (nat_eq c.context.level 0) (asserted_ends (message_count msg) ((expr_ends class c t h).test p) (message_ends (expr_end t) msg g)) (scopes_passed (λ postponed. scopes_in postponed t + scopes_in_opt postponed msg)))
 
   -- no cause stands alone
-  pub raise_ends : (p : SourceLocation) (exc cause : tree.OptExpr) → when (is_given cause && not (is_given exc)) shape.CauseAlone ≡ [] → opt_expr_shapes class exc ≡ [] → opt_expr_shapes class cause ≡ [] → EndsAs c (emission_of_raise exc cause) p (last_of p (some_of (opt_end exc) ++ some_of (opt_end cause))) (raise_faults (in_function c) exc cause)
+  pub raise_ends : (p : SourceLocation) (exc cause : tree.OptExpr) → when (is_given cause && not (is_given exc)) shape.CauseAlone ≡ []
+      → opt_expr_shapes class exc ≡ [] → opt_expr_shapes class cause ≡ []
+      → RefusalEndsAs c (emission_of_raise exc cause) p (last_of p (some_of (opt_end exc) ++ some_of (opt_end cause))) (raise_faults (refusal_in_function c) exc cause)
   raise_ends p tree.no_expr tree.no_expr a h g = emit_passes op.Raise 2
   raise_ends p tree.no_expr (tree.some_expr cause) a h g = absurd cc
-  raise_ends p (tree.some_expr e) tree.no_expr a h g = alone_ends (last_ends (value_ends p e h) (emit_passes op.Raise 0))
-  raise_ends p (tree.some_expr e) (tree.some_expr cause) a h g = then_ends (value_ends p e h) (last_ends (value_ends (expr_end e) cause g) (emit_passes op.Raise 1))
+  raise_ends p (tree.some_expr e) tree.no_expr a h g = alone_ends (last_ends (control_end_value_ends p e h) (emit_passes op.Raise 0))
+  raise_ends p (tree.some_expr e) (tree.some_expr cause) a h g = then_ends (control_end_value_ends p e h) (last_ends (control_end_value_ends (expr_end e) cause g) (emit_passes op.Raise 1))

@@ -10,7 +10,7 @@ use Rattle.py_bytecode.specs.Nesting.{const_nesting, consts_nesting}
 use Rattle.py_bytecode.specs.Objects as const
 use Rattle.py_bytecode.specs.Values.{Load}
 use Rattle.py_emission.specs.Awaits.{awaits, some_async}
-use Rattle.py_emission.specs.Emission.{all_emissions, all_stores, clause_emissions, default_emissions, emission, emission_of_delete, emission_of_deletes, emissions, joined_return, keyword_emissions, keyword_only_emissions, name_return, opt_emission, opt_emissions, positional_emissions, stores, unsupported}
+use Rattle.py_emission.specs.Emission.{all_emissions, all_stores, clause_emissions, default_emissions, emission, emission_of_delete, emission_of_deletes, emissions, joined_return, keyword_emissions, keyword_only_emissions, name_return, opt_emission, opt_emissions, positional_emissions, stores, unsupported_node}
 use Rattle.py_emission.specs.Predicates.{deletion_name}
 use Rattle.py_emission.specs.Texts.{texts_of}
 use Rattle.py_base.specs.declared.errors.CodegenErrorType.TheVariants as error
@@ -21,7 +21,7 @@ use Rattle.py_emission_parts.specs.TableParts.{binary_case, constant_of, constan
 use Rattle.py_emission_outcomes.proofs.Nesting.Nests.{Nests, accessed_nests, at_nests, constant_nests, debug_nests, deleted_nests, emit_nests, in_function_nests, generating_nests, if_nests, keep_nests, load_nests, mangled_nests, none_nests, refuse_nests, stored_nests, text_nests, then_nests, unless_debug_nests}
 use Rattle.py_emission_outcomes.proofs.Nesting.NestingParts.{ElementNests, Every, KeywordNests, NamedNests, NestsWell, SomeNests, StoresNest, built_nests, call_nests, dict_nests, display_nests, elements_nest, join_every, joined_nests, plain_nests, slice_nests, unpack_nests, value_or_nests, values_nest}
 use Rattle.py_emission_outcomes.proofs.Nesting.NestingScopes.{ClauseNests, DefaultsNest, comprehension_nests, element_nests, gathered_nests, generated_nests, lambda_nests}
-use Rattle.py_emission_outcomes.proofs.Nesting.NestingTests.{bool_nests, by_return, choice_nests, compare_nests, truth_nests, unary_nests, value_returned, whole_nests}
+use Rattle.py_emission_outcomes.proofs.Nesting.NestingTests.{bool_nests, nesting_test_by_return, choice_nests, compare_nests, truth_nests, unary_nests, nesting_test_value_returned, whole_nests}
 
 -- a constant nests no deeper than its node does
 mutual
@@ -40,11 +40,11 @@ joined_returned : (k : ℕ) (text : Option (List ℕ)) (vs : List Emission) → 
 joined_returned k (Some text) vs x = text_nests op.ReturnConst text
 joined_returned k None vs x = then_nests (built_nests k op.BuildString vs x) (emit_nests op.ReturnValue 0)
 
-name_returned : {k : ℕ} (x : List ℕ) → Nests k (name_return x)
-name_returned x = if_nests (is_debug x) (debug_nests op.ReturnConst) (value_returned (accessed_nests Load x))
+nesting_expr_name_returned : {k : ℕ} (x : List ℕ) → Nests k (name_return x)
+nesting_expr_name_returned x = if_nests (is_debug x) (debug_nests op.ReturnConst) (nesting_test_value_returned (accessed_nests Load x))
 
 -- a node that is not compiled yet
-pub unsupported_nests : {k : ℕ} (at : SourceLocation) → Nests k (unsupported at)
+pub unsupported_nests : {k : ℕ} (at : SourceLocation) → Nests k (unsupported_node at)
 unsupported_nests at = at_nests at (refuse_nests error.NotImplementedYet)
 
 mutual
@@ -94,20 +94,20 @@ mutual
   expr_nests k (tree.JoinedStr at parts) h =
       let vs = values (all_emissions parts) in
       let x = values_nest k (all_emissions parts) (exprs_nest k parts (omega (arith, h))) in
-      by_return (at_nests at (joined_nests k (texts_of parts) vs x)) (at_nests at (joined_returned k (texts_of parts) vs x))
+      nesting_test_by_return (at_nests at (joined_nests k (texts_of parts) vs x)) (at_nests at (joined_returned k (texts_of parts) vs x))
   expr_nests k (tree.Constant at v) h =
       let l = literal_nests v in
-      by_return (at_nests at (constant_nests op.LoadConst (constant_of v) (omega (arith, h, l)))) (at_nests at (constant_nests op.ReturnConst (constant_of v) (omega (arith, h, l))))
+      nesting_test_by_return (at_nests at (constant_nests op.LoadConst (constant_of v) (omega (arith, h, l)))) (at_nests at (constant_nests op.ReturnConst (constant_of v) (omega (arith, h, l))))
   expr_nests k (tree.Attribute at value attr) h =
       let x = (expr_nests k value (omega (arith, h))).value in
       let y : Nests k (move at ▸ emission value ▸ emit_mangled op.LoadAttr attr) = at_nests at (then_nests x (mangled_nests op.LoadAttr attr)) in
-      record { value = y; test = truth_nests y; element = y; callee = x; returned = value_returned y }
+      record { value = y; test = truth_nests y; element = y; callee = x; returned = nesting_test_value_returned y }
   expr_nests k (tree.Subscript at value slice) h =
       whole_nests at (then_nests (expr_nests k value (omega (arith, h))).value (then_nests (expr_nests k slice (omega (arith, h))).value (emit_nests op.Subscript 0)))
   expr_nests k (tree.Starred at value) h =
       let y = at_nests at (refuse_nests error.InvalidStarExpr) in
-      record { value = y; test = truth_nests y; element = (expr_nests k value (omega (arith, h))).value; callee = y; returned = value_returned y }
-  expr_nests k (tree.Name at x) h = by_return (at_nests at (load_nests x)) (at_nests at (name_returned x))
+      record { value = y; test = truth_nests y; element = (expr_nests k value (omega (arith, h))).value; callee = y; returned = nesting_test_value_returned y }
+  expr_nests k (tree.Name at x) h = nesting_test_by_return (at_nests at (load_nests x)) (at_nests at (nesting_expr_name_returned x))
   expr_nests k (tree.List at elts) h = whole_nests at (display_nests k op.BuildList op.BuildListUnpack (elements (all_emissions elts)) (elements_nest k (all_emissions elts) (exprs_nest k elts (omega (arith, h)))))
   expr_nests k (tree.Tuple at elts) h = whole_nests at (display_nests k op.BuildTuple op.BuildTupleUnpack (elements (all_emissions elts)) (elements_nest k (all_emissions elts) (exprs_nest k elts (omega (arith, h)))))
   expr_nests k (tree.Slice at lower upper step) h =

@@ -6,11 +6,11 @@ use Rattle.py_bytecode.specs.Nesting.{const_nesting, consts_nesting}
 use Rattle.py_bytecode.specs.Objects as const
 use Rattle.py_bytecode.specs.Objects.{Const, consts_of}
 use Rattle.py_base.specs.declared.errors.CodegenErrorType.TheVariants as error
-use Rattle.py_emission.specs.EmissionFutures.{check_features, emission_of_future, following}
+use Rattle.py_emission.specs.EmissionFutures.{check_features, emission_of_future, after_future_import}
 use Rattle.py_emission.specs.EmissionImports.{emission_of_alias, emission_of_attributes, emission_of_from, emission_of_import, emission_of_imported, emission_of_module, emission_of_names, emission_of_star, import_step}
 use Rattle.py_emission.specs.EmissionStmts.{emission_of_import_from}
 use Rattle.py_emission.specs.Futures.{Future, is_feature, postpones}
-use Rattle.py_emission.specs.Imports.{asked, asked_all, from_future, further_segments, import_name, taken_name, takes_all}
+use Rattle.py_emission.specs.Imports.{asked_tuple, asked_all, from_future, further_segments, import_name, taken_name, takes_all}
 use Rattle.py_emission_parts.specs.Context.{is_function}
 use Rattle.py_emission_parts.specs.Emitting.{Emission, ◌▸◌}
 use Rattle.py_emission_outcomes.proofs.Nesting.Nests.{Nests, at_nests, constant_nests, context_nests, emit_nests, if_nests, keep_nests, mangled_nests, postponing_nests, refuse_nests, stored_nests, then_nests}
@@ -52,7 +52,7 @@ star_nests path level some = context_nests (λ c. if_nests (is_function c.typ) (
 from_nests : {k : ℕ} (path : Option (List ℕ)) (names : List Alias) (level : ℕ) → 1 ≤ k → Nests k (emission_of_from path names level)
 from_nests path names level some =
     let flat = names_flat names in
-    if_nests (takes_all names) (star_nests path level some) (then_nests (module_nests path level (asked names) (omega (arith, flat, some))) (names_nest names))
+    if_nests (takes_all names) (star_nests path level some) (then_nests (module_nests path level (asked_tuple names) (omega (arith, flat, some))) (names_nest names))
 
 pub import_from_nests : {k : ℕ} (path : Option (List ℕ)) (names : List Alias) (level : ℕ) → 1 ≤ k → Nests k (emission_of_import_from path names level)
 import_from_nests path names level some = if_nests (from_future path) (refuse_nests error.InvalidFuturePlacement) (from_nests path names level some)
@@ -62,5 +62,5 @@ features_nest : {k : ℕ} (names : List Alias) → Nests k (check_features names
 features_nest [] = keep_nests
 features_nest (a ∷ rest) = if_nests (is_feature a.name) (features_nest rest) (refuse_nests (error.InvalidFutureFeature a.name))
 
-pub future_nests : {k : ℕ} {a : Emission} (f : Future) → 1 ≤ k → Nests k a → Nests k (emission_of_future f ▸ following f a)
+pub future_nests : {k : ℕ} {a : Emission} (f : Future) → 1 ≤ k → Nests k a → Nests k (emission_of_future f ▸ after_future_import f a)
 future_nests f some x = then_nests (at_nests f.at (then_nests (features_nest f.names) (from_nests f.path f.names f.level some))) (if_nests (postpones f) (postponing_nests x) x)

@@ -8,14 +8,14 @@ use Rattle.py_bytecode.specs.declared.instruction.Instruction.TheVariants as op
 use Rattle.py_bytecode.specs.Nesting.{consts_nesting}
 use Rattle.py_bytecode.specs.Objects.{consts_of}
 use Rattle.py_emission.specs.Texts.{after_doc, doc_of, first_text, unless_text}
-use Rattle.py_emission.specs.EmissionFutures.{emission_behind, emission_of_future, following}
-use Rattle.py_emission.specs.EmissionMods.{emission_of_block, emission_of_doc, emission_of_interactive, emission_of_mod, emission_of_printed, emission_of_program, emission_of_prompt, emission_of_single, emission_of_value, emitted, stored_and_returned}
+use Rattle.py_emission.specs.EmissionFutures.{emission_behind, emission_of_future, after_future_import}
+use Rattle.py_emission.specs.EmissionMods.{emission_of_block, emission_of_doc, emission_of_interactive, emission_of_mod, emission_of_printed, emission_of_program, emission_of_prompt, emission_of_single, emission_of_value, emission_outcome, stored_and_returned}
 use Rattle.py_emission.specs.EmissionStmts.{emission_of_stmts}
 use Rattle.py_emission.specs.Futures.{Future, future_of}
-use Rattle.py_emission.specs.Predicates.{annotated, none}
+use Rattle.py_emission.specs.Predicates.{any_annotates, none}
 use Rattle.py_emission_parts.specs.Context.{Context}
 use Rattle.py_emission_parts.specs.Emitting.{Emission, State, Done, ◌▸◌, nothing}
-use Rattle.py_emission_outcomes.proofs.Nesting.Nests.{DoneNests, Nests, at_nests, deepest, emit_nests, keep_nests, level_nests, name_nests, none_nests, stored_nests, text_nests, then_nests}
+use Rattle.py_emission_outcomes.proofs.Nesting.Nests.{nests_run, DoneNests, Nests, at_nests, deepest, emit_nests, keep_nests, level_nests, name_nests, none_nests, stored_nests, text_nests, then_nests}
 use Rattle.py_emission_outcomes.proofs.Nesting.NestingExprs.{expr_nests}
 use Rattle.py_emission_outcomes.proofs.Nesting.NestingDefs.{setup_nests}
 use Rattle.py_emission_outcomes.proofs.Nesting.NestingImports.{future_nests}
@@ -36,18 +36,19 @@ module _ (k : ℕ) (some : 1 ≤ k) where
   abbrev StmtsNest : (tree.Stmts → Emission) → Type 0
   StmtsNest a = (ss : tree.Stmts) → 2 * stmts_nesting ss ≤ k → Nests k (a ss)
 
-  behind_nests : (a : tree.Stmts → Emission) → StmtsNest a → StmtsNest (emission_behind a)
-  behind_nests a x tree.no_stmts h = x tree.no_stmts h
-  behind_nests a x (tree.more_stmts s ss) h = go (future_of s) (x (tree.more_stmts s ss) h) (behind_nests a x ss (omega (arith, h)))
+  nesting_mod_behind_nests : (a : tree.Stmts → Emission) → StmtsNest a → StmtsNest (emission_behind a)
+  nesting_mod_behind_nests a x tree.no_stmts h = x tree.no_stmts h
+  nesting_mod_behind_nests a x (tree.more_stmts s ss) h = go (future_of s) (x (tree.more_stmts s ss) h) (nesting_mod_behind_nests a x ss (omega (arith, h)))
     where
-      go : (o : Option Future) → Nests k (a (tree.more_stmts s ss)) → Nests k (emission_behind a ss) → Nests k (elim o [ None ↦ a (tree.more_stmts s ss) | Some f ↦ emission_of_future f ▸ following f (emission_behind a ss) ])
+      go : (o : Option Future) → Nests k (a (tree.more_stmts s ss)) → Nests k (emission_behind a ss)
+          → Nests k (elim o [ None ↦ a (tree.more_stmts s ss) | Some f ↦ emission_of_future f ▸ after_future_import f (emission_behind a ss) ])
       go None y z = y
       go (Some f) y z = future_nests f some z
 
   program_nests : (ss : tree.Stmts) → 2 * stmts_nesting ss ≤ k → Nests k (emission_of_program ss)
   program_nests ss h =
       let l = left_nesting (first_text ss) ss in
-      then_nests (level_nests (λ l. doc_nests (doc_of l ss))) (then_nests (setup_nests k (annotated (after_doc ss))) (then_nests (behind_nests emission_of_stmts (stmts_nest k) (after_doc ss) (omega (arith, h, l))) (none_nests op.ReturnConst)))
+      then_nests (level_nests (λ l. doc_nests (doc_of l ss))) (then_nests (setup_nests k (any_annotates (after_doc ss))) (then_nests (nesting_mod_behind_nests emission_of_stmts (stmts_nest k) (after_doc ss) (omega (arith, h, l))) (none_nests op.ReturnConst)))
 
   -- what is entered at a prompt
   printed_nests : {value rest : Emission} (last : Bool) → Nests k value → Nests k rest → Nests k (emission_of_printed last value rest)
@@ -59,14 +60,16 @@ module _ (k : ℕ) (some : 1 ≤ k) where
   single_nests (tree.more_stmts (tree.StmtExpr at value) ss) h = printed_nests (none ss) (expr_nests k value (omega (arith, h))).value (single_nests ss (omega (arith, h)))
   single_nests (tree.more_stmts s ss) h = then_nests (stmt_nests k s (omega (arith, h))) (single_nests ss (omega (arith, h)))
 
-  statement_or : (s : tree.Stmt) (ss : tree.Stmts) (o : Option Future) → Nests k (emission_of_single (tree.more_stmts s ss)) → Nests k (emission_of_prompt ss) → Nests k (elim o [ None ↦ emission_of_single (tree.more_stmts s ss) | Some f ↦ emission_of_future f ▸ following f (emission_of_prompt ss) ])
-  statement_or s ss None x y = x
-  statement_or s ss (Some f) x y = future_nests f some y
+  nesting_mod_statement_or : (s : tree.Stmt) (ss : tree.Stmts) (o : Option Future) → Nests k (emission_of_single (tree.more_stmts s ss))
+      → Nests k (emission_of_prompt ss)
+      → Nests k (elim o [ None ↦ emission_of_single (tree.more_stmts s ss) | Some f ↦ emission_of_future f ▸ after_future_import f (emission_of_prompt ss) ])
+  nesting_mod_statement_or s ss None x y = x
+  nesting_mod_statement_or s ss (Some f) x y = future_nests f some y
 
   prompt_nests : StmtsNest emission_of_prompt
   prompt_nests tree.no_stmts h = none_nests op.ReturnConst
   prompt_nests (tree.more_stmts (tree.StmtExpr at value) ss) h = printed_nests (none ss) (expr_nests k value (omega (arith, h))).value (prompt_nests ss (omega (arith, h)))
-  prompt_nests (tree.more_stmts s ss) h = statement_or s ss (future_of s) (single_nests (tree.more_stmts s ss) h) (prompt_nests ss (omega (arith, h)))
+  prompt_nests (tree.more_stmts s ss) h = nesting_mod_statement_or s ss (future_of s) (single_nests (tree.more_stmts s ss) h) (prompt_nests ss (omega (arith, h)))
 
   -- a block whose last value is given
   kept_nests : (name : List ℕ) → Nests k (stored_and_returned name)
@@ -87,18 +90,18 @@ module _ (k : ℕ) (some : 1 ≤ k) where
 
   interactive_nests : (m : Mode) → StmtsNest (emission_of_interactive m)
   interactive_nests mode.Single ss h = prompt_nests ss h
-  interactive_nests other ss h = behind_nests emission_of_block block_nests ss h
+  interactive_nests other ss h = nesting_mod_behind_nests emission_of_block block_nests ss h
 
 mod_nests : (t : tree.Mod) (m : Mode) → Nests (2 * nesting t) (emission_of_mod t m)
 mod_nests (tree.Module body) m = program_nests (2 * nesting (tree.Module body)) (omega arith) body (omega arith)
 mod_nests (tree.Interactive body) m = interactive_nests (2 * nesting (tree.Interactive body)) (omega arith) m body (omega arith)
 mod_nests (tree.Expression body) m = (expr_nests (2 * nesting (tree.Expression body)) body (omega arith)).returned
-mod_nests other m = record { nests = λ s h. tt }
+mod_nests other m = record { nests = tt }
 
 -- a code of the constants that are emitted of a tree nests below 2^11, where the tree nests below 2^10
-pub emitted_nests : (t : tree.Mod) (m : Mode) (c : Context) (s : State) → nesting t < 2 ^ 10 → emitted t m c ≡ Done s → consts_nesting (consts_of s.constants) + 1 < 2 ^ 11
+pub emitted_nests : (t : tree.Mod) (m : Mode) (c : Context) (s : State) → nesting t < 2 ^ 10 → emission_outcome t m c ≡ Done s → consts_nesting (consts_of s.constants) + 1 < 2 ^ 11
 emitted_nests t m c s h e =
     let k = 2 * nesting t in
-    let d : DoneNests k (Done s) = subst (DoneNests k) e ((mod_nests t m).nests (nothing c) tt) in
+    let d : DoneNests k (Done s) = subst (DoneNests k) e (nests_run (mod_nests t m) (nothing c) tt) in
     let l = deepest k s.constants d in
     omega (arith, h, l)

@@ -9,9 +9,9 @@ use Rattle.py_bytecode.specs.Nesting.{const_nesting, consts_nesting}
 use Rattle.py_bytecode.specs.Objects as const
 use Rattle.py_bytecode.specs.Objects.{Const}
 use Rattle.py_base.specs.declared.errors.CodegenErrorType.TheVariants as error
-use Rattle.py_emission_parts.specs.Elements.{Element, Single, Spread, Callee, Function, Method, after_star, bare, before_star, behind, front, grouped, groups, pairs, sides, starred, stars}
+use Rattle.py_emission_parts.specs.Elements.{Element, Single, Spread, Callee, Function, Method, after_star, bare, before_star, behind, front, run_tuple, groups, pairs, sides, has_starred, stars}
 use Rattle.py_emission_parts.specs.Emitting.{Emission}
-use Rattle.py_emission_parts.specs.EmissionParts.{Emissions, Keywords, Stores, built, call_by, checked, dict_value, display, elements, emission_of_call, emission_of_dict, in_turn, joined_map, joined_value, map_of, map_of_pairs, name_values, names_in, packed, packed_tuple, placed, plain_store, slice_step, slice_value, unpack, unpacking, unpack_starred, updates, value_or, values, values_in}
+use Rattle.py_emission_parts.specs.EmissionParts.{Emissions, Keywords, Stores, counted_build, call_by, keyword_checks, dict_value, display, elements, emission_of_call, emission_of_dict, in_turn, joined_map, joined_value, map_of, map_of_pairs, name_values, names_in, packed_arguments, packed_tuple, positional_call, plain_store, slice_step, slice_value, unpack, unpack_emission, unpack_starred, updates, value_or, values, values_in}
 use Rattle.py_emission_parts.specs.Refused.{few_aside, no_assignment}
 use Rattle.py_emission_parts.specs.TableParts.{any}
 use Rattle.py_emission_outcomes.proofs.Nesting.Nests.{Nests, at_nests, constant_nests, count_nests, emit_nests, if_nests, keep_nests, mangled_nests, refuse_nests, text_nests, then_nests, unless_debug_nests}
@@ -74,7 +74,7 @@ module _ (k : ℕ) where
   turn_nests [] x = keep_nests
   turn_nests (v ∷ vs) x = then_nests x.0 (turn_nests vs x.1)
 
-  pub built_nests : (i : Instruction) (vs : List Emission) → Every (Nests k) vs → Nests k (built i vs)
+  pub built_nests : (i : Instruction) (vs : List Emission) → Every (Nests k) vs → Nests k (counted_build i vs)
   built_nests i vs x = then_nests (turn_nests vs x) (count_nests i (length vs))
 
   pub values_nest : (es : List Emissions) → Every (NestsWell k) es → Every (Nests k) (values es)
@@ -92,20 +92,20 @@ module _ (k : ℕ) where
 
   -- runs of elements
   module _ {B : Type 0} (P : B → Type 0) (tuple : List B → Emission) (makes : (run : List B) → Every P run → Nests k (tuple run)) where
-    grouped_nest : (run : List B) → Every P run → Every (Nests k) (grouped tuple run)
+    grouped_nest : (run : List B) → Every P run → Every (Nests k) (run_tuple tuple run)
     grouped_nest [] x = tt
     grouped_nest (b ∷ bs) x = (makes (b ∷ bs) x, tt)
 
     groups_nest : (run : List B) (es : List (Element B Emission)) → Every P run → Every (OneNests P k) es → Every (Nests k) (groups tuple run es)
     groups_nest run [] x y = grouped_nest run x
     groups_nest run (Single b ∷ es) x y = groups_nest (run ++ b ∷ []) es (join_every P run (b ∷ []) x (y.0, tt)) y.1
-    groups_nest run (Spread v ∷ es) x y = join_every (Nests k) (grouped tuple run) (v ∷ groups tuple [] es) (grouped_nest run x) (y.0, groups_nest [] es tt y.1)
+    groups_nest run (Spread v ∷ es) x y = join_every (Nests k) (run_tuple tuple run) (v ∷ groups tuple [] es) (grouped_nest run x) (y.0, groups_nest [] es tt y.1)
 
-  tuples_nest : (es : List (Element Emission Emission)) → Every (ElementNests k) es → Every (Nests k) (groups (built op.BuildTuple) [] es)
-  tuples_nest es x = groups_nest (Nests k) (built op.BuildTuple) (built_nests op.BuildTuple) [] es tt x
+  tuples_nest : (es : List (Element Emission Emission)) → Every (ElementNests k) es → Every (Nests k) (groups (counted_build op.BuildTuple) [] es)
+  tuples_nest es x = groups_nest (Nests k) (counted_build op.BuildTuple) (built_nests op.BuildTuple) [] es tt x
 
   pub display_nests : (build unpack : Instruction) (es : List (Element Emission Emission)) → Every (ElementNests k) es → Nests k (display build unpack es)
-  display_nests build unpack es x = if_nests (starred es) (built_nests unpack (groups (built op.BuildTuple) [] es) (tuples_nest es x)) (built_nests build (bare es) (bare_nest es x))
+  display_nests build unpack es x = if_nests (has_starred es) (built_nests unpack (groups (counted_build op.BuildTuple) [] es) (tuples_nest es x)) (built_nests build (bare es) (bare_nest es x))
 
   -- named values, and maps of them
   name_values_nest : (ps : List (List ℕ × Emission)) → Every (NamedNests k) ps → Every (Nests k) (name_values ps)
@@ -121,7 +121,7 @@ module _ (k : ℕ) where
   joined_map_nests (v ∷ w ∷ ws) x = built_nests op.BuildMapForCall (v ∷ w ∷ ws) x
 
   -- keywords
-  checked_nests : (ks : Keywords) → Nests k (checked ks)
+  checked_nests : (ks : Keywords) → Nests k (keyword_checks ks)
   checked_nests [] = keep_nests
   checked_nests (Single p ∷ ks) = then_nests (unless_debug_nests no_assignment p.0 keep_nests) (checked_nests ks)
   checked_nests (Spread v ∷ ks) = checked_nests ks
@@ -139,18 +139,18 @@ module _ (k : ℕ) where
 
   packed_tuple_nests : (es : List (Element Emission Emission)) (ks : Keywords) → Every (ElementNests k) es → Nests k (packed_tuple es ks)
   packed_tuple_nests es ks x =
-      if_nests (starred es)
-      (then_nests (turn_nests (groups (built op.BuildTuple) [] es) (tuples_nest es x)) (then_nests (checked_nests ks) (count_nests op.BuildTupleUnpack (length (groups (built op.BuildTuple) [] es)))))
+      if_nests (has_starred es)
+      (then_nests (turn_nests (groups (counted_build op.BuildTuple) [] es) (tuples_nest es x)) (then_nests (checked_nests ks) (count_nests op.BuildTupleUnpack (length (groups (counted_build op.BuildTuple) [] es)))))
       (then_nests (turn_nests (bare es) (bare_nest es x)) (then_nests (checked_nests ks) (count_nests op.BuildTuple (length es))))
 
-  packed_nests : (es : List (Element Emission Emission)) (ks : Keywords) → Every (ElementNests k) es → Every (KeywordNests k) ks → Nests k (packed es ks)
+  packed_nests : (es : List (Element Emission Emission)) (ks : Keywords) → Every (ElementNests k) es → Every (KeywordNests k) ks → Nests k (packed_arguments es ks)
   packed_nests es ks x y = then_nests (packed_tuple_nests es ks x) (joined_map_nests (groups map_of [] ks) (groups_nest (NamedNests k) map_of map_nests [] ks tt y))
 
   called_nests : {args : Emission} (c : Callee Emission) (function method : Instruction) (n : ℕ) → CalleeNests k c → Nests k args → Nests k (call_by c function method args n)
   called_nests (Function v) function method n x y = then_nests x (then_nests y (count_nests function n))
   called_nests (Method name v) function method n x y = then_nests x (then_nests (mangled_nests op.LoadMethod name) (then_nests y (count_nests method n)))
 
-  placed_nests : 1 ≤ k → (c : Callee Emission) (vs : List Emission) (ks : Keywords) → CalleeNests k c → Every (Nests k) vs → Every (KeywordNests k) ks → Nests k (placed c vs ks)
+  placed_nests : 1 ≤ k → (c : Callee Emission) (vs : List Emission) (ks : Keywords) → CalleeNests k c → Every (Nests k) vs → Every (KeywordNests k) ks → Nests k (positional_call c vs ks)
   placed_nests some c vs [] x y z = called_nests c op.CallFunctionPositional op.CallMethodPositional (length vs) x (turn_nests vs y)
   placed_nests some c vs (p ∷ ps) x y z =
       let flat = names_flat (p ∷ ps) in
@@ -158,9 +158,10 @@ module _ (k : ℕ) where
       let args = then_nests (turn_nests vs y) (then_nests (checked_nests (p ∷ ps)) (then_nests (turn_nests (values_in (p ∷ ps)) (values_in_nest (p ∷ ps) z)) names)) in
       called_nests c op.CallFunctionKeyword op.CallMethodKeyword (length vs + length (p ∷ ps)) x args
 
-  pub call_nests : 1 ≤ k → (c : Callee Emission) (es : List (Element Emission Emission)) (ks : Keywords) → CalleeNests k c → Every (ElementNests k) es → Every (KeywordNests k) ks → Nests k (emission_of_call c es ks)
+  pub call_nests : 1 ≤ k → (c : Callee Emission) (es : List (Element Emission Emission)) (ks : Keywords) → CalleeNests k c → Every (ElementNests k) es
+      → Every (KeywordNests k) ks → Nests k (emission_of_call c es ks)
   call_nests some c es ks x y z =
-      if_nests (starred es || starred ks) (called_nests c op.CallFunctionEx op.CallMethodEx (any ks) x (packed_nests es ks y z)) (placed_nests some c (bare es) ks x (bare_nest es y) z)
+      if_nests (has_starred es || has_starred ks) (called_nests c op.CallFunctionEx op.CallMethodEx (any ks) x (packed_nests es ks y z)) (placed_nests some c (bare es) ks x (bare_nest es y) z)
 
   -- dict displays
   updates_nest : (vs : List Emission) → Every (Nests k) vs → Nests k (updates vs)
@@ -179,10 +180,10 @@ module _ (k : ℕ) where
   front_nests (Single p ∷ es) x = (x.0, front_nests es x.1)
   front_nests (Spread v ∷ es) x = tt
 
-  behind_nests : (es : List (Element (Emission × Emission) Emission)) → Every (OneNests (PairNests k) k) es → Every (OneNests (PairNests k) k) (behind es)
-  behind_nests [] x = tt
-  behind_nests (Single p ∷ es) x = behind_nests es x.1
-  behind_nests (Spread v ∷ es) x = x
+  nesting_part_behind_nests : (es : List (Element (Emission × Emission) Emission)) → Every (OneNests (PairNests k) k) es → Every (OneNests (PairNests k) k) (behind es)
+  nesting_part_behind_nests [] x = tt
+  nesting_part_behind_nests (Single p ∷ es) x = nesting_part_behind_nests es x.1
+  nesting_part_behind_nests (Spread v ∷ es) x = x
 
   pairs_nest : (ks : List (Option Emission)) (vs : List Emission) → Every (SomeNests k) ks → Every (Nests k) vs → Every (OneNests (PairNests k) k) (pairs ks vs)
   pairs_nest [] vs x y = tt
@@ -192,7 +193,7 @@ module _ (k : ℕ) where
 
   dict_value_nests : (es : List (Element (Emission × Emission) Emission)) → Every (OneNests (PairNests k) k) es → Nests k (dict_value es)
   dict_value_nests es x =
-      then_nests (pairs_map_nests (front es) (front_nests es x)) (updates_nest (groups map_of_pairs [] (behind es)) (groups_nest (PairNests k) map_of_pairs pairs_map_nests [] (behind es) tt (behind_nests es x)))
+      then_nests (pairs_map_nests (front es) (front_nests es x)) (updates_nest (groups map_of_pairs [] (behind es)) (groups_nest (PairNests k) map_of_pairs pairs_map_nests [] (behind es) tt (nesting_part_behind_nests es x)))
 
   pub dict_nests : (ks : List (Option Emission)) (vs : List Emission) → Every (SomeNests k) ks → Every (Nests k) vs → Nests k (emission_of_dict ks vs)
   dict_nests ks vs x y = if_nests (nat_eq (length ks) (length vs)) (dict_value_nests (pairs ks vs) (pairs_nest ks vs x y)) (refuse_nests (error.MalformedTree shape.UnevenLists))
@@ -220,7 +221,7 @@ module _ (k : ℕ) where
       (if_nests (nat_eq (stars es) 1) (emit_nests op.UnpackEx (before_star es + 256 * after_star es)) (refuse_nests error.MultipleStarArgs))
       (at_nests at (refuse_nests error.TooManyStarUnpack))
 
-  unpacking_nests : (at : SourceLocation) (es : List (Element Emission Emission)) → Nests k (unpacking at es)
+  unpacking_nests : (at : SourceLocation) (es : List (Element Emission Emission)) → Nests k (unpack_emission at es)
   unpacking_nests at es = if_nests (nat_eq (stars es) 0) (count_nests op.UnpackSequence (length es)) (starred_nests at es)
 
   pub unpack_nests : (at : SourceLocation) (es : List (Element Emission Emission)) → Every (ElementNests k) es → Nests k (unpack at es)

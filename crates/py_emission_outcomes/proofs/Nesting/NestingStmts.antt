@@ -17,13 +17,13 @@ use Rattle.py_base.specs.declared.errors.CodegenErrorType.TheVariants as error
 use Rattle.py_emission.specs.EmissionDefs.{emission_of_built, emission_of_end, emission_of_function}
 use Rattle.py_emission.specs.EmissionStmts.{emission_of_annotated, emission_of_annotation, emission_of_assert, emission_of_assign, emission_of_augment, emission_of_declared, emission_of_handlers, emission_of_item, emission_of_items, emission_of_last, emission_of_message, emission_of_operand, emission_of_raise, emission_of_rest, emission_of_returned, emission_of_stmt, emission_of_stmts, leave_loop}
 use Rattle.py_emission.specs.Predicates.{but_doc, itemless, message_count, none}
-use Rattle.py_emission_parts.specs.Children.{decorated}
-use Rattle.py_emission_parts.specs.Context.{is_function, mangled}
+use Rattle.py_emission_parts.specs.Children.{decorated_value}
+use Rattle.py_emission_parts.specs.Context.{is_function, mangled_by}
 use Rattle.py_emission_parts.specs.Emitting.{Emission, LoopBlocks, ◌▸◌}
 use Rattle.py_emission_parts.specs.EmissionParts.{values}
 use Rattle.py_emission_parts.specs.Refused.{no_assignment}
 use Rattle.py_emission_parts.specs.TableParts.{binary_case}
-use Rattle.py_emission_outcomes.proofs.Nesting.Nests.{Nests, at_nests, begin_nests, context_nests, emit_nests, if_nests, in_function_nests, jump_nests, keep_nests, level_nests, load_nests, loop_nests, loops_nest, mangled_nests, move_nests, name_nests, new_nests, none_nests, refuse_nests, scopes_nest, stored_nests, text_nests, then_nests, unless_debug_nests}
+use Rattle.py_emission_outcomes.proofs.Nesting.Nests.{Nests, three_nest, at_nests, context_nests, emit_nests, if_nests, in_function_nests, jump_nests, keep_nests, level_nests, load_nests, loop_nests, loops_nest, mangled_nests, move_nests, name_nests, none_nests, refuse_nests, scopes_nest, stored_nests, text_nests, then_nests, unless_debug_nests}
 use Rattle.py_emission_outcomes.proofs.Nesting.NestingParts.{values_nest}
 use Rattle.py_emission_outcomes.proofs.Nesting.NestingTests.{choice_nests, only_nests}
 use Rattle.py_emission_outcomes.proofs.Nesting.NestingScopes.{decorated_nests}
@@ -58,7 +58,7 @@ module _ (k : ℕ) where
   declared_nests target (tree.some_expr e) h g = then_nests (expr_nests k e g).value (stores_nest k target h).alone
 
   annotation_nests : (target : tree.Expr) → Nests k (emission_of_annotation target)
-  annotation_nests (tree.Name at id) = then_nests (name_nests op.LoadNameAny (codes "__annotations__")) (then_nests (context_nests (λ c. text_nests op.LoadConst (mangled c id))) (emit_nests op.StoreSubscript 0))
+  annotation_nests (tree.Name at id) = then_nests (name_nests op.LoadNameAny (codes "__annotations__")) (then_nests (context_nests (λ c. text_nests op.LoadConst (mangled_by c id))) (emit_nests op.StoreSubscript 0))
   annotation_nests other = emit_nests op.Pop 0
 
   annotated_nests : (target note : tree.Expr) → 2 * expr_nesting note ≤ k → Nests k (emission_of_annotated target note)
@@ -104,13 +104,17 @@ module _ (k : ℕ) where
   but_doc_nests (Some text) x y = x
 
   -- a function and a class with their decorators, before they are stored
-  pub def_value_nests : (name : List ℕ) (params : tree.Arguments) (body : tree.Stmts) (decorators : tree.Exprs) (returns : tree.OptExpr) (generic : tree.TypeParams) → 2 * (max (head_nesting params decorators returns generic) (stmts_nesting body) + 1) ≤ k → Nests (2 * stmts_nesting body) (emission_of_rest body) → Nests k (decorated (values (all_emissions decorators)) (emission_of_function name params body returns generic (emission_of_rest body ▸ emission_of_end (after_doc body))))
+  pub def_value_nests : (name : List ℕ) (params : tree.Arguments) (body : tree.Stmts) (decorators : tree.Exprs) (returns : tree.OptExpr) (generic : tree.TypeParams)
+      → 2 * (max (head_nesting params decorators returns generic) (stmts_nesting body) + 1) ≤ k → Nests (2 * stmts_nesting body) (emission_of_rest body)
+      → Nests k (decorated_value (values (all_emissions decorators)) (emission_of_function name params body returns generic (emission_of_rest body ▸ emission_of_end (after_doc body))))
   def_value_nests name params body decorators returns generic h x =
       let j = 2 * stmts_nesting body in
       decorated_nests k (values (all_emissions decorators)) (values_nest k (all_emissions decorators) (exprs_nest k decorators (omega (arith, h))))
       (function_nests k j name params body returns generic (omega (arith, h)) (omega (arith, h)) (omega (arith, h)) (omega (arith, h)) (then_nests x (end_nests j (after_doc body))))
 
-  pub class_value_nests : (name : List ℕ) (bases : tree.Exprs) (keywords : tree.Keywords) (body : tree.Stmts) (decorators : tree.Exprs) (generic : tree.TypeParams) → 2 * (max (class_head_nesting bases keywords decorators generic) (stmts_nesting body) + 1) ≤ k → Nests (2 * stmts_nesting body) (emission_of_rest body) → Nests k (decorated (values (all_emissions decorators)) (emission_of_built name bases keywords body generic (emission_of_rest body)))
+  pub class_value_nests : (name : List ℕ) (bases : tree.Exprs) (keywords : tree.Keywords) (body : tree.Stmts) (decorators : tree.Exprs) (generic : tree.TypeParams)
+      → 2 * (max (class_head_nesting bases keywords decorators generic) (stmts_nesting body) + 1) ≤ k → Nests (2 * stmts_nesting body) (emission_of_rest body)
+      → Nests k (decorated_value (values (all_emissions decorators)) (emission_of_built name bases keywords body generic (emission_of_rest body)))
   class_value_nests name bases keywords body decorators generic h x =
       decorated_nests k (values (all_emissions decorators)) (values_nest k (all_emissions decorators) (exprs_nest k decorators (omega (arith, h))))
       (built_class_nests k (2 * stmts_nesting body) name bases keywords body generic (omega (arith, h)) (omega (arith, h)) (omega (arith, h)) (omega (arith, h)) x)
@@ -132,10 +136,9 @@ mutual
       let y = stmts_nest k body (omega (arith, h)) in
       at_nests at (if_nests (none orelse) (only_nests x y) (choice_nests x y (stmts_nest k orelse (omega (arith, h)))))
   stmt_nests k (tree.While at t body orelse) h =
-      at_nests at (new_nests (λ start. new_nests (λ other. new_nests (λ end.
-      then_nests (emit_nests op.SetupLoop 0) (then_nests (begin_nests start) (then_nests ((expr_nests k t (omega (arith, h))).test false other)
-      (then_nests (loop_nests (record { on_break = end; on_continue = start }) (stmts_nest k body (omega (arith, h)))) (then_nests (jump_nests op.Jump start)
-      (then_nests (begin_nests other) (then_nests (emit_nests op.PopBlock 0) (then_nests (stmts_nest k orelse (omega (arith, h))) (begin_nests end))))))))))))
+      at_nests at (three_nest (λ start other end. emit_nests op.SetupLoop 0)
+      (λ start other end. then_nests ((expr_nests k t (omega (arith, h))).test false other) (then_nests (loop_nests (record { on_break = end; on_continue = start }) (stmts_nest k body (omega (arith, h)))) (jump_nests op.Jump start)))
+      (λ start other end. then_nests (emit_nests op.PopBlock 0) (stmts_nest k orelse (omega (arith, h)))) (λ start other end. keep_nests))
   stmt_nests k (tree.For at target iter body orelse) h =
       at_nests at (for_nests (expr_nests k iter (omega (arith, h))).value (stores_nest k target (omega (arith, h))).alone (stmts_nest k body (omega (arith, h))) (stmts_nest k orelse (omega (arith, h))))
   stmt_nests k (tree.With at items body) h =

@@ -11,9 +11,9 @@ use Rattle.py_bytecode.specs.declared.instruction.Instruction.TheVariants as op
 use Rattle.py_bytecode.specs.Values.{flip}
 use Rattle.py_base.specs.declared.errors.CodegenErrorType.TheVariants as error
 use Rattle.py_emission_parts.specs.Emitting.{Emission, ◌▸◌, emit, move}
-use Rattle.py_emission_parts.specs.EmissionParts.{Emissions, bool_emissions, bool_test, bool_value, chain, choice, comparisons, emission_of_compare, first_comparison, keeping_jump, links, only, ordinary, past_tests, shorts, some_test, some_values, tested, testing_jump, tests, truth_of, unary_emissions, unary_value, values}
-use Rattle.py_emission_parts.specs.TableParts.{deciding, unary_case}
-use Rattle.py_emission_outcomes.proofs.Nesting.Nests.{Nests, at_nests, begin_nests, comparison_nests, emit_nests, if_nests, jump_nests, keep_nests, link_nests, new_nests, refuse_nests, then_nests}
+use Rattle.py_emission_parts.specs.EmissionParts.{Emissions, bool_emissions, bool_test, bool_value, chain, choice, comparisons, emission_of_compare, first_comparison, keeping_jump, links, only, ordinary, past_tests, shorts, some_test, some_values, tested_value, testing_jump, tests, truth_of, unary_emissions, unary_value, values}
+use Rattle.py_emission_parts.specs.TableParts.{deciding_truth, unary_case}
+use Rattle.py_emission_outcomes.proofs.Nesting.Nests.{Nests, at_nests, comparison_nests, emit_nests, if_nests, jump_nests, keep_nests, link_nests, one_nests, refuse_nests, then_nests, two_nest}
 use Rattle.py_emission_outcomes.proofs.Nesting.NestingParts.{Every, NestsWell, turn_nests, values_nest}
 
 -- a test, at whatever truth it jumps
@@ -24,39 +24,39 @@ pub truth_nests : {k : ℕ} {v : Emission} → Nests k v → TestNests k (truth_
 truth_nests x c to = then_nests x (jump_nests (testing_jump c) to)
 
 -- a value and its return
-pub value_returned : {k : ℕ} {v : Emission} → Nests k v → Nests k (v ▸ emit op.ReturnValue 0)
-value_returned x = then_nests x (emit_nests op.ReturnValue 0)
+pub nesting_test_value_returned : {k : ℕ} {v : Emission} → Nests k v → Nests k (v ▸ emit op.ReturnValue 0)
+nesting_test_value_returned x = then_nests x (emit_nests op.ReturnValue 0)
 
 pub ordinary_nests : {k : ℕ} {v : Emission} {t : Bool → ℕ → Emission} → Nests k v → TestNests k t → NestsWell k (ordinary v t)
-ordinary_nests x y = record { value = x; test = y; element = x; callee = x; returned = value_returned x }
+ordinary_nests x y = record { value = x; test = y; element = x; callee = x; returned = nesting_test_value_returned x }
 
-pub tested_nests : {k : ℕ} {v : Emission} → Nests k v → NestsWell k (tested v)
+pub tested_nests : {k : ℕ} {v : Emission} → Nests k v → NestsWell k (tested_value v)
 tested_nests x = ordinary_nests x (truth_nests x)
 
 -- from the place of the expression on
-pub whole_nests : {k : ℕ} {v : Emission} (at : SourceLocation) → Nests k v → NestsWell k (tested (move at ▸ v))
+pub whole_nests : {k : ℕ} {v : Emission} (at : SourceLocation) → Nests k v → NestsWell k (tested_value (move at ▸ v))
 whole_nests at x = tested_nests (at_nests at x)
 
 -- the same, but returned in another way
-pub by_return : {k : ℕ} {v w : Emission} → Nests k v → Nests k w → NestsWell k (record (tested v) { returned = w })
-by_return x y = record { value = x; test = truth_nests x; element = x; callee = x; returned = y }
+pub nesting_test_by_return : {k : ℕ} {v w : Emission} → Nests k v → Nests k w → NestsWell k (record (tested_value v) { returned = w })
+nesting_test_by_return x y = record { value = x; test = truth_nests x; element = x; callee = x; returned = y }
 
 -- one body, where the test holds, and one of two
 pub only_nests : {k : ℕ} {test : Bool → ℕ → Emission} {body : Emission} → TestNests k test → Nests k body → Nests k (only test body)
-only_nests t x = new_nests (λ end. then_nests (t false end) (then_nests x (begin_nests end)))
+only_nests t x = one_nests (λ end. then_nests (t false end) x) (λ end. keep_nests)
 
 pub choice_nests : {k : ℕ} {test : Bool → ℕ → Emission} {body orelse : Emission} → TestNests k test → Nests k body → Nests k orelse → Nests k (choice test body orelse)
-choice_nests t x y = new_nests (λ other. new_nests (λ end. then_nests (t false other) (then_nests x (then_nests (jump_nests op.Jump end) (then_nests (begin_nests other) (then_nests y (begin_nests end)))))))
+choice_nests t x y = two_nest (λ other end. then_nests (t false other) (then_nests x (jump_nests op.Jump end))) (λ other end. y) (λ other end. keep_nests)
 
 module _ (k : ℕ) where
   -- `and` and `or`
   shorts_nest : (o : BoolOp) (end : ℕ) (es : List Emissions) → Every (NestsWell k) es → Nests k (shorts o end es)
   shorts_nest o end [] x = keep_nests
   shorts_nest o end (e ∷ []) x = x.0.value
-  shorts_nest o end (e ∷ f ∷ fs) x = then_nests x.0.value (then_nests (jump_nests (keeping_jump (deciding o)) end) (shorts_nest o end (f ∷ fs) x.1))
+  shorts_nest o end (e ∷ f ∷ fs) x = then_nests x.0.value (then_nests (jump_nests (keeping_jump (deciding_truth o)) end) (shorts_nest o end (f ∷ fs) x.1))
 
   some_values_nest : (o : BoolOp) (es : List Emissions) → Every (NestsWell k) es → Nests k (some_values o es)
-  some_values_nest o es x = new_nests (λ end. then_nests (shorts_nest o end es x) (begin_nests end))
+  some_values_nest o es x = one_nests (λ end. shorts_nest o end es x) (λ end. keep_nests)
 
   bool_value_nests : (o : BoolOp) (es : List Emissions) → Every (NestsWell k) es → Nests k (bool_value o es)
   bool_value_nests o es x = if_nests (nat_eq (length es) 0) (refuse_nests (error.MalformedTree shape.NoOperand)) (some_values_nest o es x)
@@ -67,7 +67,7 @@ module _ (k : ℕ) where
   tests_nest stop out c to (e ∷ f ∷ fs) x = then_nests (x.0.test stop out) (tests_nest stop out c to (f ∷ fs) x.1)
 
   past_nests : (stop c : Bool) (es : List Emissions) (to : ℕ) → Every (NestsWell k) es → Nests k (past_tests stop c es to)
-  past_nests stop c es to x = new_nests (λ end. then_nests (tests_nest stop end c to es x) (begin_nests end))
+  past_nests stop c es to x = one_nests (λ end. tests_nest stop end c to es x) (λ end. keep_nests)
 
   some_test_nests : (stop c : Bool) (es : List Emissions) (to : ℕ) → Every (NestsWell k) es → Nests k (some_test stop c es to)
   some_test_nests false false es to x = tests_nest false to false to es x
@@ -76,7 +76,7 @@ module _ (k : ℕ) where
   some_test_nests true false es to x = past_nests true false es to x
 
   bool_test_nests : (o : BoolOp) (es : List Emissions) (c : Bool) (to : ℕ) → Every (NestsWell k) es → Nests k (bool_test o es c to)
-  bool_test_nests o es c to x = if_nests (nat_eq (length es) 0) (refuse_nests (error.MalformedTree shape.NoOperand)) (some_test_nests (deciding o) c es to x)
+  bool_test_nests o es c to x = if_nests (nat_eq (length es) 0) (refuse_nests (error.MalformedTree shape.NoOperand)) (some_test_nests (deciding_truth o) c es to x)
 
   pub bool_nests : (at : SourceLocation) (o : BoolOp) (es : List Emissions) → Every (NestsWell k) es → NestsWell k (bool_emissions at o es)
   bool_nests at o es x = ordinary_nests (at_nests at (bool_value_nests o es x)) (λ c to. bool_test_nests o es c to x)
@@ -103,8 +103,7 @@ module _ (k : ℕ) where
 
   chain_nests : {left : Emission} (ops : List CmpOp) (es : List Emissions) → Nests k left → Every (NestsWell k) es → Nests k (chain left ops es)
   chain_nests ops es x y =
-      new_nests (λ out. new_nests (λ end.
-      then_nests x (then_nests (links_nest out ops es y) (then_nests (jump_nests op.Jump end) (then_nests (begin_nests out) (then_nests (emit_nests op.Rotate2 0) (then_nests (emit_nests op.Pop 0) (begin_nests end))))))))
+      two_nest (λ out end. then_nests x (then_nests (links_nest out ops es y) (jump_nests op.Jump end))) (λ out end. then_nests (emit_nests op.Rotate2 0) (emit_nests op.Pop 0)) (λ out end. keep_nests)
 
   comparisons_nest : {left : Emission} (ops : List CmpOp) (es : List Emissions) → Nests k left → Every (NestsWell k) es → Nests k (comparisons left ops es)
   comparisons_nest ops es x y = if_nests (nat_lt 1 (length ops)) (chain_nests ops es x y) (then_nests x (then_nests (turn_nests k (values es) (values_nest k es y)) (first_nests ops)))

@@ -1,13 +1,13 @@
 -- Emissions after which constants nest so deep at most, where those before them do.
-use Rattle.std.proofs.Common.{ℕ, ◌+◌, ◌≤◌, ◌^◌, List, [], ◌∷◌, ◌++◌, Bool, true, false, Option, Some, None, arith}
-use Rattle.std.specs.Prelude.{suc, nat_lt, if◌then◌else◌}
+use Rattle.std.proofs.Common.{ℕ, ◌+◌, ◌≤◌, List, [], ◌∷◌, ◌++◌, Bool, true, false, Option, arith}
+use Rattle.std.specs.Prelude.{if◌then◌else◌}
 use Rattle.std.specs.List.{list_any}
 use Rattle.py_base.specs.declared.location.SourceLocation.{SourceLocation}
 use Rattle.py_base.specs.declared.operators.CmpOp.{CmpOp}
 use Rattle.py_base.specs.declared.operators.CmpOp.TheVariants as comparison
 use Rattle.py_bytecode.specs.declared.instruction.Instruction.{Instruction}
 use Rattle.py_bytecode.specs.declared.instruction.Instruction.TheVariants as op
-use Rattle.py_bytecode.specs.Equality.{const_eq, text_eq, entered}
+use Rattle.py_bytecode.specs.Equality.{text_eq}
 use Rattle.py_bytecode.specs.Nesting.{const_nesting, consts_nesting, nesting}
 use Rattle.py_bytecode.specs.Objects as const
 use Rattle.py_bytecode.specs.Objects.{Const, Object, consts_of}
@@ -15,31 +15,22 @@ use Rattle.py_bytecode.specs.Values.{Usage, Load, Store, Delete, Kind, Unsaid, F
 use Rattle.py_control.specs.Form.{Resolved}
 use Rattle.py_base.specs.declared.errors.CodegenErrorType.{CodegenErrorType}
 use Rattle.py_base.specs.declared.errors.CodegenErrorType.TheVariants as error
-use Rattle.py_emission_parts.specs.Accesses.{access_by, accessed, emission_of_deleted, emission_of_name, emission_of_stored}
-use Rattle.py_emission_parts.specs.Children.{behind_child, child, code_head, load_cell, on_sealed}
+use Rattle.py_emission_parts.specs.Accesses.{access_by, name_access, emission_of_deleted, emission_of_name, emission_of_stored}
+use Rattle.py_emission_parts.specs.Children.{child, load_cell}
+use Rattle.py_emission_parts.specs.Running.{run}
+use Rattle.py_emission_parts.proofs.EmissionLawLemmas.{EmissionLawHolds}
+use Rattle.py_emission_parts.proofs.ConstantLawLemmas.{All, Asks, stays_good}
 use Rattle.py_emission_parts.specs.Within.{Shape}
-use Rattle.py_emission_parts.specs.Context.{Context, access_kind, cell_place, is_function, mangled}
-use Rattle.py_emission_parts.specs.Emitting.{State, Outcome, Done, TooWide, Refused, Emission, LoopBlocks, ◌▸◌, add_constant, add_varname, begin, begun, by_context, by_level, by_loops, emit, emit_constant, emit_count, emit_mangled, emit_name, emit_varname, generating, go_on, in_loop, jump, keep, located, move, new_block, pass_over, place_in, postponing, Put, refuse, with_block, with_constant, with_loops, with_name, with_postponed, with_step, with_varname}
+use Rattle.py_emission_parts.specs.Context.{Context, access_kind, cell_place, is_function, mangled_by}
+use Rattle.py_emission_parts.specs.Emitting.{State, Outcome, Emission, LoopBlocks, ◌▸◌, add_constant, add_varname, by_context, by_level, by_loops, emit, emit_constant, emit_count, emit_mangled, emit_name, emit_varname, generator_mark, in_loop, jump, keep, move, one_block, pass_over, postponed_part, refuse, three_blocks, two_blocks}
 use Rattle.py_emission_parts.specs.EmissionParts.{emission_of_comparison, emission_of_link, only_in_function, pass_scopes, unless_debug}
 use Rattle.py_emission_parts.specs.Refused.{no_assignment, no_deletion}
-use Rattle.py_emission_parts.specs.Sealed.{Head, sealed}
+use Rattle.py_emission_parts.specs.Sealed.{Head, assembled_object}
 use Rattle.py_emission_parts.specs.TableParts.{debug_constant, is_debug}
 
 -- each of them nests so deep at most
 abbrev pub AllNest : ℕ → List Const → Type 0
-AllNest k [] = Unit {0}
-AllNest k (c ∷ cs) = (const_nesting c ≤ k) × AllNest k cs
-
-one_more : (k : ℕ) (cs : List Const) (c : Const) → AllNest k cs → const_nesting c ≤ k → AllNest k (cs ++ c ∷ [])
-one_more k [] c h l = (l, tt)
-one_more k (d ∷ ds) c h l = (h.0, one_more k ds c h.1 l)
-
-one_of_two : (k : ℕ) (b : Bool) (cs ds : List Const) → AllNest k cs → AllNest k ds → AllNest k (if b then cs else ds)
-one_of_two k true cs ds x y = x
-one_of_two k false cs ds x y = y
-
-entered_nest : (k : ℕ) (cs : List Const) (c : Const) → AllNest k cs → const_nesting c ≤ k → AllNest k (entered const_eq cs c)
-entered_nest k cs c h l = one_of_two k (list_any (const_eq c) cs) cs (cs ++ c ∷ []) h (one_more k cs c h l)
+AllNest k = All (λ c. const_nesting c ≤ k)
 
 -- so does the deepest
 pub deepest : (k : ℕ) (cs : List Const) → AllNest k cs → consts_nesting (consts_of cs) ≤ k
@@ -51,73 +42,55 @@ deepest k (c ∷ cs) h =
 
 -- nothing is asked where nothing is done
 abbrev pub DoneNests : ℕ → Outcome → Type 0
-DoneNests k (Done s) = AllNest k s.constants
-DoneNests k TooWide = Unit {0}
-DoneNests k (Refused e at) = Unit {0}
+DoneNests k = EmissionLawHolds (λ s. AllNest k s.constants)
 
--- from any state whose constants nest so deep at most, it comes to one whose constants do
+-- the constants that it names nest so deep at most, and its code objects as those of scopes whose constants do
 pub record Nests (k : ℕ) (a : Emission) : Type 0 where
-  pub nests : (s : State) → AllNest k s.constants → DoneNests k (a s)
-
-goes_on : (k : ℕ) (o : Outcome) (b : Emission) → DoneNests k o → Nests k b → DoneNests k (go_on o b)
-goes_on k (Done s) b h x = x.nests s h
-goes_on k TooWide b h x = tt
-goes_on k (Refused e at) b h x = tt
+  pub nests : Asks (λ n c. const_nesting c ≤ n) (λ n o. nesting o ≤ n + 1) a k
 
 pub then_nests : {k : ℕ} {a b : Emission} → Nests k a → Nests k b → Nests k (a ▸ b)
-then_nests {k = k} {a = a} {b = b} x y = record { nests = λ s h. goes_on k (a s) b (x.nests s h) y }
+then_nests x y = record { nests = (x.nests, y.nests) }
 
 pub keep_nests : {k : ℕ} → Nests k keep
-keep_nests = record { nests = λ s h. h }
+keep_nests = record { nests = tt }
 
 pub refuse_nests : {k : ℕ} (e : CodegenErrorType) → Nests k (refuse e)
 unfolding refuse
-refuse_nests e = record { nests = λ s h. tt }
+refuse_nests e = record { nests = tt }
 
 -- one of two
 pub if_nests : {k : ℕ} {v w : Emission} (b : Bool) → Nests k v → Nests k w → Nests k (if b then v else w)
 if_nests true x y = x
 if_nests false x y = y
 
-done_or_wide : (k : ℕ) (b : Bool) (o : Outcome) → DoneNests k o → DoneNests k (if b then o else TooWide)
-done_or_wide k true o h = h
-done_or_wide k false o h = tt
-
-emits : (k : ℕ) (i : Instruction) (n : ℕ) (s : State) → AllNest k s.constants → DoneNests k (emit i n s)
-unfolding emit with_step
-emits k i n s h = done_or_wide k (nat_lt n (2 ^ 32)) (Done (with_step (Put i n None s.location) s)) h
-
 pub emit_nests : {k : ℕ} (i : Instruction) (n : ℕ) → Nests k (emit i n)
-emit_nests {k = k} i n = record { nests = λ s h. emits k i n s h }
+unfolding emit
+emit_nests i n = record { nests = tt }
 
 pub jump_nests : {k : ℕ} (i : Instruction) (b : ℕ) → Nests k (jump i b)
-unfolding jump with_step
-jump_nests i b = record { nests = λ s h. h }
-
-pub begin_nests : {k : ℕ} (b : ℕ) → Nests k (begin b)
-unfolding begin with_step
-begin_nests b = record { nests = λ s h. h }
+unfolding jump
+jump_nests i b = record { nests = tt }
 
 pub count_nests : {k : ℕ} (i : Instruction) (n : ℕ) → Nests k (emit_count i n)
 unfolding emit_count
-count_nests {k = k} i n = record { nests = λ s h. done_or_wide k (nat_lt n (2 ^ 30)) (emit i n s) (emits k i n s h) }
+count_nests i n = record { nests = tt }
 
 pub name_nests : {k : ℕ} (i : Instruction) (x : List ℕ) → Nests k (emit_name i x)
-unfolding emit_name with_name
-name_nests {k = k} i x = record { nests = λ s h. emits k i (place_in text_eq s.names x) (with_name x s) h }
+unfolding emit_name
+name_nests i x = record { nests = tt }
 
 pub varname_nests : {k : ℕ} (i : Instruction) (x : List ℕ) → Nests k (emit_varname i x)
-unfolding emit_varname with_varname
-varname_nests {k = k} i x = record { nests = λ s h. emits k i (place_in text_eq s.varnames x) (with_varname x s) h }
+unfolding emit_varname
+varname_nests i x = record { nests = tt }
 
 pub mangled_nests : {k : ℕ} (i : Instruction) (x : List ℕ) → Nests k (emit_mangled i x)
-unfolding emit_mangled
-mangled_nests i x = record { nests = λ s h. (name_nests i (mangled s.around.context x)).nests s h }
+unfolding emit_mangled emit_name
+mangled_nests i x = record { nests = λ c. tt }
 
 -- a constant that nests so deep at most; a text and None do not nest
 pub constant_nests : {k : ℕ} (i : Instruction) (c : Const) → const_nesting c ≤ k → Nests k (emit_constant i c)
-unfolding emit_constant with_constant
-constant_nests {k = k} i c l = record { nests = λ s h. emits k i (place_in const_eq s.constants c) (with_constant c s) (entered_nest k s.constants c h l) }
+unfolding emit_constant
+constant_nests i c l = record { nests = l }
 
 pub text_nests : {k : ℕ} (i : Instruction) (x : List ℕ) → Nests k (emit_constant i (const.str x))
 text_nests i x = constant_nests i (const.str x) (omega arith)
@@ -125,54 +98,64 @@ text_nests i x = constant_nests i (const.str x) (omega arith)
 pub none_nests : {k : ℕ} (i : Instruction) → Nests k (emit_constant i const.none)
 none_nests i = constant_nests i const.none (omega arith)
 
-pub varname_added : {k : ℕ} (x : List ℕ) → Nests k (add_varname x)
-unfolding add_varname with_varname
-varname_added x = record { nests = λ s h. h }
+pub nest_varname_added : {k : ℕ} (x : List ℕ) → Nests k (add_varname x)
+unfolding add_varname
+nest_varname_added x = record { nests = tt }
 
 pub none_added : {k : ℕ} → Nests k (add_constant const.none)
-unfolding add_constant with_constant
-none_added {k = k} = record { nests = λ s h. entered_nest k s.constants const.none h (omega arith) }
+unfolding add_constant
+none_added = record { nests = omega arith }
 
-pub generating_nests : {k : ℕ} → Nests k generating
-unfolding generating
-generating_nests = record { nests = λ s h. h }
+pub generating_nests : {k : ℕ} → Nests k generator_mark
+unfolding generator_mark
+generating_nests = record { nests = tt }
 
 pub move_nests : {k : ℕ} (at : SourceLocation) → Nests k (move at)
-unfolding move located
-move_nests at = record { nests = λ s h. h }
+unfolding move
+move_nests at = record { nests = tt }
 
 -- from a place on
 pub at_nests : {k : ℕ} {a : Emission} (at : SourceLocation) → Nests k a → Nests k (move at ▸ a)
 at_nests at x = then_nests (move_nests at) x
 
--- what goes on with a block, with the context, with the level or with the loops
-pub new_nests : {k : ℕ} {a : ℕ → Emission} → ((b : ℕ) → Nests k (a b)) → Nests k (new_block a)
-unfolding new_block with_block
-new_nests x = record { nests = λ s h. (x s.blocks).nests (with_block s) h }
+-- one, two and three blocks
+pub one_nests : {k : ℕ} {f g : ℕ → Emission} → ((b : ℕ) → Nests k (f b)) → ((b : ℕ) → Nests k (g b)) → Nests k (one_block f g)
+unfolding one_block
+one_nests x y = record { nests = (λ n. (x n).nests, λ n. (y n).nests) }
 
+pub two_nest : {k : ℕ} {f g h : ℕ → ℕ → Emission} → ((b c : ℕ) → Nests k (f b c)) → ((b c : ℕ) → Nests k (g b c)) → ((b c : ℕ) → Nests k (h b c)) → Nests k (two_blocks f g h)
+unfolding two_blocks
+two_nest x y z = record { nests = (λ n m. (x n m).nests, λ n m. (y n m).nests, λ n m. (z n m).nests) }
+
+pub three_nest : {k : ℕ} {f g h i : ℕ → ℕ → ℕ → Emission} → ((b c d : ℕ) → Nests k (f b c d)) → ((b c d : ℕ) → Nests k (g b c d))
+    → ((b c d : ℕ) → Nests k (h b c d)) → ((b c d : ℕ) → Nests k (i b c d)) → Nests k (three_blocks f g h i)
+unfolding three_blocks
+three_nest x y z w = record { nests = (λ n m l. (x n m l).nests, λ n m l. (y n m l).nests, λ n m l. (z n m l).nests, λ n m l. (w n m l).nests) }
+
+-- what goes on with the context, with the level or with the loops
 pub context_nests : {k : ℕ} {a : Context → Emission} → ((c : Context) → Nests k (a c)) → Nests k (by_context a)
 unfolding by_context
-context_nests x = record { nests = λ s h. (x s.around.context).nests s h }
+context_nests x = record { nests = λ c. (x c).nests }
 
 pub level_nests : {k : ℕ} {a : ℕ → Emission} → ((l : ℕ) → Nests k (a l)) → Nests k (by_level a)
 unfolding by_level
-level_nests x = record { nests = λ s h. (x s.around.context.level).nests s h }
+level_nests x = record { nests = λ c. (x c.level).nests }
 
 pub loops_nest : {k : ℕ} {a : Option LoopBlocks → Emission} → ((o : Option LoopBlocks) → Nests k (a o)) → Nests k (by_loops a)
 unfolding by_loops
-loops_nest x = record { nests = λ s h. (x s.around.loops).nests s h }
+loops_nest x = record { nests = λ o. (x o).nests }
 
 pub loop_nests : {k : ℕ} {a : Emission} (x : LoopBlocks) → Nests k a → Nests k (in_loop x a)
-unfolding in_loop with_loops
-loop_nests {k = k} {a = a} x y = record { nests = λ s h. goes_on k (a (with_loops (Some x) s)) (λ t. Done (with_loops s.around.loops t)) (y.nests (with_loops (Some x) s) h) (record { nests = λ t g. g }) }
+unfolding in_loop
+loop_nests x y = record { nests = y.nests }
 
-pub postponing_nests : {k : ℕ} {a : Emission} → Nests k a → Nests k (postponing a)
-unfolding postponing with_postponed
-postponing_nests {k = k} {a = a} y = record { nests = λ s h. goes_on k (a (with_postponed true s)) (λ t. Done (with_postponed s.around.context.postponed t)) (y.nests (with_postponed true s) h) (record { nests = λ t g. g }) }
+pub postponing_nests : {k : ℕ} {a : Emission} → Nests k a → Nests k (postponed_part a)
+unfolding postponed_part
+postponing_nests y = record { nests = y.nests }
 
 pub scopes_nest : {k : ℕ} (count : (postponed : Bool) → ℕ) → Nests k (pass_scopes count)
 unfolding pass_over by_context
-scopes_nest count = record { nests = λ s h. h }
+scopes_nest count = record { nests = λ c. tt }
 
 pub in_function_nests : {k : ℕ} {v : Emission} (e : CodegenErrorType) → Nests k v → Nests k (only_in_function e v)
 in_function_nests e x = context_nests (λ c. if_nests (is_function c.typ) x (refuse_nests e))
@@ -201,14 +184,9 @@ access_nests Delete Global x n = name_nests op.DeleteGlobal x
 access_nests Delete Deref x n = emit_nests op.DeleteDeref n
 access_nests Delete ClassDeref x n = emit_nests op.DeleteDeref n
 
-pub accessed_nests : {k : ℕ} (u : Usage) (x : List ℕ) → Nests k (accessed u x)
-unfolding accessed
-accessed_nests u x = record {
-  nests = λ s h.
-      let c = s.around.context in
-      let y = mangled c x in
-      (access_nests u (access_kind c u Resolved y) y (cell_place c y)).nests s h;
-}
+pub accessed_nests : {k : ℕ} (u : Usage) (x : List ℕ) → Nests k (name_access u x)
+unfolding name_access
+accessed_nests u x = context_nests (λ c. let y = mangled_by c x in access_nests u (access_kind c u Resolved y) y (cell_place c y))
 
 pub stored_nests : {k : ℕ} (x : List ℕ) → Nests k (emission_of_stored x)
 stored_nests x = unless_debug_nests no_assignment x (accessed_nests Store x)
@@ -240,28 +218,22 @@ link_nests o out = then_nests (emit_nests op.Duplicate 0) (then_nests (emit_nest
 
 -- a cell, which the scope has, or that is refused
 pub cell_nests : {k : ℕ} (x : List ℕ) → Nests k (load_cell x)
-unfolding load_cell refuse
-cell_nests {k = k} x = record { nests = λ s h. go (list_any (text_eq x) (s.around.context.cells ++ s.around.context.frees)) s (emits k op.LoadClosure (cell_place s.around.context x) s h) }
-  where
-    go : (b : Bool) (s : State) → DoneNests k (emit op.LoadClosure (cell_place s.around.context x) s) → DoneNests k (if b then emit op.LoadClosure (cell_place s.around.context x) s else Refused error.MissingCell (Some s.location))
-    go true s h = h
-    go false s h = tt
+unfolding load_cell
+cell_nests x = context_nests (λ c. if_nests (list_any (text_eq x) (c.cells ++ c.frees)) (emit_nests op.LoadClosure (cell_place c x)) (refuse_nests error.MissingCell))
 
 -- a code object nests one deeper than its constants
-sealed_nests : (j level : ℕ) (h : Head) (s : State) → AllNest j s.constants → nesting (sealed level h s) ≤ j + 1
-unfolding sealed
+sealed_nests : (j level : ℕ) (h : Head) (s : State) → AllNest j s.constants → nesting (assembled_object level h s) ≤ j + 1
+unfolding assembled_object
 sealed_nests j level h s x = let d = deepest j s.constants x in omega (arith, d)
 
-on_sealed_nests : (k j level : ℕ) (h : Head) (s : State) (o : Outcome) (follow : Object → Emission) → AllNest k s.constants → DoneNests j o → ((x : Object) → nesting x ≤ j + 1 → Nests k (follow x)) → DoneNests k (on_sealed level h s o follow)
-on_sealed_nests k j level h s (Done t) follow g x y = (y (sealed level h t) (sealed_nests j level h t x)).nests (behind_child s t) g
-on_sealed_nests k j level h s TooWide follow g x y = tt
-on_sealed_nests k j level h s (Refused e at) follow g x y = tt
-
--- a scope within, whose constants nest so deep at most
-pub child_nests : {k : ℕ} {body : Emission} {follow : Object → Emission} (j : ℕ) (within : Context → ℕ → Context) (h : Shape) → Nests j body → ((o : Object) → nesting o ≤ j + 1 → Nests k (follow o)) → Nests k (child within h body follow)
+-- a nested scope, whose constants nest so deep at most
+pub child_nests : {k : ℕ} {body : Emission} {follow : Object → Emission} (j : ℕ) (within : Context → ℕ → Context) (h : Shape) → Nests j body
+    → ((o : Object) → nesting o ≤ j + 1 → Nests k (follow o)) → Nests k (child within h body follow)
 unfolding child
-child_nests {k = k} {body = body} {follow = follow} j within h x y = record {
-  nests = λ s g.
-      let c = within s.around.context s.next in
-      on_sealed_nests k j c.level (code_head c h s.location) s (body (begun c s.location (suc s.next))) follow g (x.nests (begun c s.location (suc s.next)) tt) y;
+child_nests j within h x y = record {
+  nests = (j, x.nests, λ o l. (y o l).nests);
 }
+
+-- from a state whose constants nest so deep at most, it comes to one whose constants do
+pub nests_run : {k : ℕ} {a : Emission} → Nests k a → (s : State) → AllNest k s.constants → DoneNests k (run a s)
+nests_run {k = k} {a = a} x s h = stays_good (λ n c. const_nesting c ≤ n) (λ n o. nesting o ≤ n + 1) sealed_nests a k s x.nests h

@@ -17,7 +17,7 @@ use Rattle.py_emission_parts.specs.Context.{Context}
 use Rattle.py_emission_proof.specs.Distinct.{AreDistinct}
 use Rattle.py_emission_proof.specs.Loads.{loads}
 use Rattle.py_emission_proof.proofs.Additions.Burden.{cells_in, cells-append}
-use Rattle.py_emission_proof.proofs.Additions.Codes.{Codes, Counted, Ground, Numbered, by_number, codes_then, counted_join, counted_none, no_codes, none_between, numbered_back, numbered_front, loads_join, scopes}
+use Rattle.py_emission_proof.proofs.Additions.Codes.{Codes, Counted, Ground, Numbered, by_number, codes_then, counted_join, counted_none, no_codes, none_between, numbered_back, numbered_front, loads_join, code_scopes}
 
 -- cells come first, and then free names
 abbrev pub cells_of : Around → List (List ℕ)
@@ -34,13 +34,13 @@ pub record Begins (s : State) (t : Tables) : Type 0 where
   pub constants_are : t.constants ≡ s.constants ++ constants
 
 -- an instruction with its operand or its target reads as one of a form's code
-pub record Reads (t : Tables) (o : Instruction) (n : ℕ) (to : Option ℕ) (i : Instr Object ℕ) : Type 0 where
+pub record AddedCodeReads (t : Tables) (o : Instruction) (n : ℕ) (to : Option ℕ) (i : Instr Object ℕ) : Type 0 where
   pub fits : n < 2 ^ 32
   pub is : instr_of t to o n ≡ Some i
   pub aims : is_jump o ≡ false → to ≡ None
 
 abbrev pub StepReads : Tables → Step → Item Object → Type 0
-StepReads t (Put o n to at) (Do i) = Reads t o n to i
+StepReads t (Put o n to at) (Do i) = AddedCodeReads t o n to i
 StepReads t (Put o n to at) (Label l) = ⊥
 StepReads t (Begin b) (Do i) = ⊥
 StepReads t (Begin b) (Label l) = b ≡ l
@@ -118,21 +118,21 @@ pub record Added (s s1 : State) (is : List (Item Scope)) (m : ℕ) (made : List 
   pub distinct : AreDistinct s.names → AreDistinct s1.names
   pub own_distinct : AreDistinct s.varnames → AreDistinct s1.varnames
 
--- the children have the numbers of l scopes, and no more cells are loaded than those of the children have names from outside
+-- the children have the numbers of l scopes, and no more cells are loaded than those of the children have free variables
 pub record Adds (s s1 : State) (is : List (Item Scope)) (m l : ℕ) : Type 0 where
   pub made : List (Object × Scope)
   pub added : Added s s1 is m made
   pub next_is : s1.next ≡ s.next + l
   pub counted : Counted s.next s1.next made
-  pub cells : cells_in is ≤ loads (scopes_in s) (scopes made)
+  pub cells : cells_in is ≤ loads (scopes_in s) (code_scopes made)
 
--- a whole scope may load one cell more than the scopes within it pay for
+-- a whole scope may load one cell more than the scopes nested in it pay for
 pub record Completes (s s1 : State) (is : List (Item Scope)) (m l : ℕ) : Type 0 where
   pub made : List (Object × Scope)
   pub added : Added s s1 is m made
   pub next_is : s1.next ≡ s.next + l
   pub counted : Counted s.next s1.next made
-  pub cells : cells_in is ≤ suc (loads (scopes_in s) (scopes made))
+  pub cells : cells_in is ≤ suc (loads (scopes_in s) (code_scopes made))
 
 pub completed : (s s1 : State) (is : List (Item Scope)) (m l : ℕ) → Adds s s1 is m l → Completes s s1 is m l
 completed s s1 is m l a = record { made = a.made; added = a.added; next_is = a.next_is; counted = a.counted; cells = let c = a.cells in omega (arith, c) }
@@ -178,7 +178,7 @@ adds_join s s1 s2 is js m n l k a b = record {
   counted = counted_join s.next s1.next s2.next a.made b.made a.counted b.counted;
   cells =
       let p = a.cells in
-      let q = subst (λ (x : Around). cells_in js ≤ loads x.context.scopes (scopes b.made)) a.added.around_are b.cells in
+      let q = subst (λ (x : Around). cells_in js ≤ loads x.context.scopes (code_scopes b.made)) a.added.around_are b.cells in
       let e = cells-append is js in
       let f = loads_join (scopes_in s) a.made b.made in
       omega (arith, p, q, e, f);
@@ -226,7 +226,9 @@ abbrev pub IsPlain : Item Scope → Type 0
 IsPlain i = (children (i ∷ []) ≡ []) × (cells_in (i ∷ []) ≡ 0)
 
 -- one step, which loads these children
-pub added_step : (x : Step) (s : State) (i : Item Scope) (ps : List (Object × Scope)) → Codes (ground_in s) ps [] s.constants (i ∷ []) → ((d : ℕ → Object) → Numbered d ps → (t : Tables) → Begins s t → AllRead t (x ∷ []) (read_as d (i ∷ []))) → Inside s.blocks x → Added s (with_step x s) (i ∷ []) 0 ps
+pub added_step : (x : Step) (s : State) (i : Item Scope) (ps : List (Object × Scope)) → Codes (ground_in s) ps [] s.constants (i ∷ [])
+    → ((d : ℕ → Object) → Numbered d ps → (t : Tables) → Begins s t → AllRead t (x ∷ []) (read_as d (i ∷ []))) → Inside s.blocks x
+    → Added s (with_step x s) (i ∷ []) 0 ps
 unfolding with_step
 added_step x s i ps c r n = record {
   names = [];
@@ -246,7 +248,8 @@ added_step x s i ps c r n = record {
   own_distinct = λ h. h;
 }
 
-pub adds_step : (x : Step) (s : State) (i : Item Scope) → IsPlain i → ((d : ℕ → Object) (t : Tables) → Begins s t → AllRead t (x ∷ []) (read_as d (i ∷ []))) → Inside s.blocks x → Adds s (with_step x s) (i ∷ []) 0 0
+pub adds_step : (x : Step) (s : State) (i : Item Scope) → IsPlain i → ((d : ℕ → Object) (t : Tables) → Begins s t → AllRead t (x ∷ []) (read_as d (i ∷ [])))
+    → Inside s.blocks x → Adds s (with_step x s) (i ∷ []) 0 0
 unfolding with_step
 adds_step x s i p r n = adds_plain s (with_step x s) (i ∷ []) 0 0 p.1 (omega arith) (added_step x s i [] (no_codes [] s.constants (i ∷ []) refl p.0) (λ d z t b. r d t b) n)
 

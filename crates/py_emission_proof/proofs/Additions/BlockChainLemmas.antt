@@ -11,10 +11,11 @@ use Rattle.py_dataflow.specs.declared.info.InstructionInfo.{InstructionInfo}
 use Rattle.py_ir.specs.Chain.{Blk, blk, cut, body}
 use Rattle.py_control.specs.Code.{Item, Do, Label}
 use Rattle.py_emission_parts.specs.Emitting.{Step, Put, Begin}
+use Rattle.py_emission_parts.specs.Listed.{Begun}
 use Rattle.py_control_proof.proofs.Assembly.{occurs}
-use Rattle.py_emit.specs.Steps.{step_of, onwards, steps_from, Begun}
-use Rattle.py_emission_proof.proofs.Additions.AddedCodeLemmas.{Reads, AllRead, Below, AllInside}
-use Rattle.py_emit.proofs.Chains.{Leads}
+use Rattle.py_emit.specs.Steps.{step_of, onwards, steps_from}
+use Rattle.py_emission_proof.proofs.Additions.AddedCodeLemmas.{AddedCodeReads, AllRead, Below, AllInside}
+use Rattle.py_emit.proofs.Chains.{ChainLeads}
 
 -- a number is one of these
 abbrev pub In : ℕ → List ℕ → Type 0
@@ -36,7 +37,7 @@ contains b (c ∷ cs) (inr h) = let r = contains b cs h in (suc r.0, (let l = r.
 
 -- an instruction that reads as one of a code, in so many blocks
 abbrev pub Fine : Tables → ℕ → Step → Type 0
-Fine t n (Put o m to at) = (i : Instr Object ℕ) × Reads t o m to i × Below to n
+Fine t n (Put o m to at) = (i : Instr Object ℕ) × AddedCodeReads t o m to i × Below to n
 Fine t n (Begin b) = Unit {0}
 
 abbrev pub AllFine : Tables → ℕ → List Step → Type 0
@@ -64,7 +65,8 @@ module _ (t : Tables) (n : ℕ) where
   fine_next c (Some d) go e h = let same : d ≡ c = cc in subst (λ b. AllFine t n (go b)) same h.1
 
   -- the instructions of each block of a chain
-  pub fine_block : (bs : List Blk) (k c : ℕ) (cs : List ℕ) → Leads bs (c ∷ cs) → length (c ∷ cs) ≤ k → AllFine t n (steps_from bs k c) → (b : ℕ) → In b (c ∷ cs) → AllFine t n (map step_of (blk bs b).items)
+  pub fine_block : (bs : List Blk) (k c : ℕ) (cs : List ℕ) → ChainLeads bs (c ∷ cs) → length (c ∷ cs) ≤ k → AllFine t n (steps_from bs k c) → (b : ℕ)
+      → In b (c ∷ cs) → AllFine t n (map step_of (blk bs b).items)
   fine_block bs zero c cs leads enough h b w = absurd (omega (arith, enough))
   fine_block bs (suc k) c cs leads enough h b (inl e) = subst (λ a. AllFine t n (map step_of (blk bs a).items)) (sym e) (fine_front (map step_of (blk bs c).items) (onwards (blk bs c).next (steps_from bs k)) h)
   fine_block bs (suc k) c [] leads enough h b (inr w) = absurd w
@@ -77,19 +79,21 @@ module _ (t : Tables) (n : ℕ) where
   fine_at (y ∷ xs) (suc k) x e h = fine_at xs k x e h.1
 
 -- what is left of a block stands in it
-cut_if : (b : Bool) (y : InstructionInfo) (xs : List InstructionInfo) (k : ℕ) (x : InstructionInfo) → ((j : ℕ) → slice_get (cut xs) j ≡ Some x → slice_get xs j ≡ Some x) → slice_get (if b then y ∷ [] else (y ∷ cut xs)) k ≡ Some x → slice_get (y ∷ xs) k ≡ Some x
+cut_if : (b : Bool) (y : InstructionInfo) (xs : List InstructionInfo) (k : ℕ) (x : InstructionInfo)
+    → ((j : ℕ) → slice_get (cut xs) j ≡ Some x → slice_get xs j ≡ Some x) → slice_get (if b then y ∷ [] else (y ∷ cut xs)) k ≡ Some x
+    → slice_get (y ∷ xs) k ≡ Some x
 cut_if true y xs zero x h e = e
 cut_if true y xs (suc k) x h e = absurd cc
 cut_if false y xs zero x h e = e
 cut_if false y xs (suc k) x h e = h k e
 
-cut_at : (xs : List InstructionInfo) (k : ℕ) (x : InstructionInfo) → slice_get (cut xs) k ≡ Some x → slice_get xs k ≡ Some x
-cut_at [] k x e = e
-cut_at (y ∷ xs) k x e = cut_if (row_of y.instr).leaves y xs k x (λ j g. cut_at xs j x g) e
+block_chain_cut_at : (xs : List InstructionInfo) (k : ℕ) (x : InstructionInfo) → slice_get (cut xs) k ≡ Some x → slice_get xs k ≡ Some x
+block_chain_cut_at [] k x e = e
+block_chain_cut_at (y ∷ xs) k x e = cut_if (row_of y.instr).leaves y xs k x (λ j g. block_chain_cut_at xs j x g) e
 
 pub body_at : (level : ℕ) (xs : List InstructionInfo) (k : ℕ) (x : InstructionInfo) → slice_get (body level xs) k ≡ Some x → slice_get xs k ≡ Some x
 body_at zero xs k x e = e
-body_at (suc level) xs k x e = cut_at xs k x e
+body_at (suc level) xs k x e = block_chain_cut_at xs k x e
 
 -- a label that is placed begins a block
 placed_if : (b : Bool) (l k : ℕ) (rest : ℕ) → nat_eq l k ≡ b → ◌≤◌ 1 ((if b then 1 else 0) + rest) → (k ≡ l) ⊎ (1 ≤ rest)
@@ -122,7 +126,7 @@ begun_next b c (Some d) go e (inl h) = inl (let same : d ≡ c = cc in h ∙ sam
 begun_next b c (Some d) go e (inr h) = inr (let same : d ≡ c = cc in subst (λ a. Begun b (go a)) same h)
 
 -- a block that begins in the steps of a chain is one of it
-pub begun_in : (bs : List Blk) (k c : ℕ) (cs : List ℕ) → Leads bs (c ∷ cs) → (b : ℕ) → Begun b (steps_from bs k c) → In b (c ∷ cs)
+pub begun_in : (bs : List Blk) (k c : ℕ) (cs : List ℕ) → ChainLeads bs (c ∷ cs) → (b : ℕ) → Begun b (steps_from bs k c) → In b (c ∷ cs)
 begun_in bs zero c cs leads b h = absurd h
 begun_in bs (suc k) c [] leads b h = absurd (begun_none b (blk bs c).next (steps_from bs k) leads (begun_back b (blk bs c).items (onwards (blk bs c).next (steps_from bs k)) h))
 begun_in bs (suc k) c (d ∷ cs) leads b h = elim (begun_next b d (blk bs c).next (steps_from bs k) leads.0 (begun_back b (blk bs c).items (onwards (blk bs c).next (steps_from bs k)) h)) [

@@ -49,18 +49,19 @@ module _ (t : Tables) where
       let here = h c in
       AllPairs-cons (λ a b. a ≢ b) c (begun_in xs) (begun_apart c xs items r.1 (omega (arith, one, here))) (begun_once xs items r.1 (λ k. let g = h k in omega (arith, g)))
 
-  named : (count : ℕ) (xs : List Step) → count ≤ 0xffff_ffff → AllInside count xs → AllNamed xs
-  named count [] le h = tt
-  named count (Put o n None at ∷ xs) le h = (λ e. absurd cc, named count xs le h.1)
-  named count (Put o n (Some b) at ∷ xs) le h = ((λ e. let f : b ≡ 0xffff_ffff = cc in let lt = h.0 in omega (arith, f, lt, le)), named count xs le h.1)
-  named count (Begin b ∷ xs) le h = named count xs le h.1
+  block_placement_named : (count : ℕ) (xs : List Step) → count ≤ 0xffff_ffff → AllInside count xs → AllNamed xs
+  block_placement_named count [] le h = tt
+  block_placement_named count (Put o n None at ∷ xs) le h = (λ e. absurd cc, block_placement_named count xs le h.1)
+  block_placement_named count (Put o n (Some b) at ∷ xs) le h = ((λ e. let f : b ≡ 0xffff_ffff = cc in let lt = h.0 in omega (arith, f, lt, le)), block_placement_named count xs le h.1)
+  block_placement_named count (Begin b ∷ xs) le h = block_placement_named count xs le h.1
 
   -- the blocks of a body are placed
-  pub placing : (count : ℕ) (xs : List Step) (items : List (Item Object)) → 1 ≤ count → count ≤ 0xffff_ffff → AllRead t xs items → AllInside count xs → ((k : ℕ) → occurs k items ≤ 1) → occurs 0 items ≡ 0 → IsPlaced count xs
+  pub placing : (count : ℕ) (xs : List Step) (items : List (Item Object)) → 1 ≤ count → count ≤ 0xffff_ffff → AllRead t xs items → AllInside count xs
+      → ((k : ℕ) → occurs k items ≤ 1) → occurs 0 items ≡ 0 → IsPlaced count xs
   placing count xs items some few r h once never = record {
     made = All-cons (λ b. b < count) 0 (begun_in xs) (omega (arith, some)) (begun_inside count xs h);
     once = AllPairs-cons (λ b c. b ≢ c) 0 (begun_in xs) (begun_apart 0 xs items r never) (begun_once xs items r once);
-    named = named count xs few h;
+    named = block_placement_named count xs few h;
   }
 
   -- operands are in range
@@ -93,14 +94,14 @@ module _ (t : Tables) where
   in_range (suc level) xs items r = fit_range (cut_steps true xs) (cut_fit true xs (all_fit xs items r))
 
   -- there are no more instructions than those of the code
-  as_many : (xs : List Step) (items : List (Item Object)) → AllRead t xs items → length (items_in xs) ≡ size items
-  as_many [] [] r = refl
-  as_many [] (i ∷ items) r = absurd r
-  as_many (x ∷ xs) [] r = absurd r
-  as_many (Put o n to at ∷ xs) (Do i ∷ items) r = ap suc (as_many xs items r.1)
-  as_many (Put o n to at ∷ xs) (Label l ∷ items) r = absurd r.0
-  as_many (Begin c ∷ xs) (Do i ∷ items) r = absurd r.0
-  as_many (Begin c ∷ xs) (Label l ∷ items) r = as_many xs items r.1
+  block_placement_as_many : (xs : List Step) (items : List (Item Object)) → AllRead t xs items → length (items_in xs) ≡ size items
+  block_placement_as_many [] [] r = refl
+  block_placement_as_many [] (i ∷ items) r = absurd r
+  block_placement_as_many (x ∷ xs) [] r = absurd r
+  block_placement_as_many (Put o n to at ∷ xs) (Do i ∷ items) r = ap suc (block_placement_as_many xs items r.1)
+  block_placement_as_many (Put o n to at ∷ xs) (Label l ∷ items) r = absurd r.0
+  block_placement_as_many (Begin c ∷ xs) (Do i ∷ items) r = absurd r.0
+  block_placement_as_many (Begin c ∷ xs) (Label l ∷ items) r = block_placement_as_many xs items r.1
 
   cut_few : (goes_on : Bool) (xs : List Step) → length (items_in (cut_steps goes_on xs)) ≤ length (items_in xs)
   cut_few b [] = omega arith
@@ -110,5 +111,5 @@ module _ (t : Tables) where
   cut_few false (Begin b ∷ xs) = cut_few true xs
 
   pub few_left : (level : ℕ) (xs : List Step) (items : List (Item Object)) → AllRead t xs items → length (items_in (steps_at level xs)) ≤ size items
-  few_left zero xs items r = let e = as_many xs items r in omega (arith, e)
-  few_left (suc level) xs items r = let e = as_many xs items r in let f = cut_few true xs in omega (arith, e, f)
+  few_left zero xs items r = let e = block_placement_as_many xs items r in omega (arith, e)
+  few_left (suc level) xs items r = let e = block_placement_as_many xs items r in let f = cut_few true xs in omega (arith, e, f)

@@ -15,14 +15,15 @@ use Rattle.py_emission_parts.specs.Children.{load_cell}
 use Rattle.py_emission_parts.specs.Classes.{cell_returned, class_end, class_names}
 use Rattle.py_emission_parts.specs.Within.{behind_name, doc_const}
 use Rattle.py_emission_parts.specs.Context.{cell_place, class_cells}
-use Rattle.py_emission_parts.specs.Elements.{Element, Single, Spread, starred}
+use Rattle.py_emission_parts.specs.Elements.{Element, Single, Spread, has_starred}
 use Rattle.py_emission_parts.specs.EmissionParts as emitting
 use Rattle.py_emission_parts.specs.TableParts as table
 use Rattle.py_emission_parts.specs.Emitting.{Around, Emission, State, Done, ◌▸◌, by_context, emit, emit_constant, emit_name}
+use Rattle.py_emission_parts.specs.Running.{run}
 use Rattle.py_emission_proof.proofs.Additions.AddedCodeLemmas.{Adds, settled_adds}
 use Rattle.py_emission_proof.proofs.Additions.Cells.{Quietly, load_adds, quietly_then}
 use Rattle.py_emission_proof.proofs.Additions.ControlInstructions.{global_adds}
-use Rattle.py_emission_proof.proofs.Additions.EmissionSequenceLemmas.{Stands, Yields, after_these, both, context_gives, still}
+use Rattle.py_emission_proof.proofs.Additions.EmissionSequenceLemmas.{EmissionSequenceStands, Yields, after_these, emission_sequence_both, context_gives, still}
 use Rattle.py_emission_proof.proofs.Additions.DisplayAdds.{built_adds}
 use Rattle.py_emission_proof.proofs.Additions.FormAdds.{AllElementsAdd, ValueAdds}
 use Rattle.py_emission_proof.proofs.Additions.Instructions.{constant_adds, duplicate_adds, local_adds, return_adds, return_value_adds, tuple_builds}
@@ -52,35 +53,39 @@ quiet s r is a = record { added = settled_adds s r is 0 a; next_is = let n = a.n
 
 module _ (c : Around) where
   -- a cell is kept and returned
-  cell_end : (x : List ℕ) (s r : State) → Stands c s → cell_returned (x ∷ []) s ≡ Done r → Quietly s r (class_code (cells_of (cell_place c.context) (x ∷ [])))
+  cell_end : (x : List ℕ) (s r : State) → EmissionSequenceStands c s → run (cell_returned (x ∷ [])) s ≡ Done r → Quietly s r (class_code (cells_of (cell_place c.context) (x ∷ [])))
   cell_end x s r z e =
       let keeping : Emission = emit op.Duplicate 0 ▸ emit_name op.StoreLocal (codes "__classcell__") ▸ emit op.ReturnValue 0 in
-      let h = both (load_cell x) keeping s r e in
+      let h = emission_sequence_both (load_cell x) keeping s r e in
       let a = load_adds c x s h.0 z h.1 in
       let b = after_these (duplicate_adds c h.0.blocks h.0.next) (after_these (local_adds (codes "__classcell__") c h.0.blocks h.0.next) (return_value_adds c h.0.blocks h.0.next)) in
       quietly_then s h.0 r (cell_codes (cells_of (cell_place c.context) (x ∷ []))) (Do Duplicate ∷ Do (Access ByName Store classcell 0) ∷ Do ReturnValue ∷ []) a
-      (quiet h.0 r _ (b.run h.0 r refl refl (still z a.added.around_are) h.2).0)
+      (quiet h.0 r _ (b.does h.0 r refl refl (still z a.added.around_are) h.2).0)
 
   -- or None is returned
-  none_end : (s r : State) → Stands c s → cell_returned [] s ≡ Done r → Quietly s r (class_code [])
-  none_end s r z e = quiet s r _ ((return_adds const.none refl c s.blocks s.next).run s r refl refl z e).0
+  none_end : (s r : State) → EmissionSequenceStands c s → run (cell_returned []) s ≡ Done r → Quietly s r (class_code [])
+  none_end s r z e = quiet s r _ ((return_adds const.none refl c s.blocks s.next).does s r refl refl z e).0
 
-  end_if : (b : Bool) (x : List ℕ) (s r : State) → Stands c s → cell_returned (if b then x ∷ [] else []) s ≡ Done r → Quietly s r (class_code (cells_of (cell_place c.context) (if b then x ∷ [] else [])))
+  end_if : (b : Bool) (x : List ℕ) (s r : State) → EmissionSequenceStands c s → run (cell_returned (if b then x ∷ [] else [])) s ≡ Done r
+      → Quietly s r (class_code (cells_of (cell_place c.context) (if b then x ∷ [] else [])))
   end_if true x s r z e = cell_end x s r z e
   end_if false x s r z e = none_end s r z e
 
   -- the end of a class
-  pub end_adds : (s r : State) → Stands c s → class_end s ≡ Done r → Quietly s r (class_code (cells_of (cell_place c.context) (class_cells c.context)))
+  pub end_adds : (s r : State) → EmissionSequenceStands c s → run class_end s ≡ Done r → Quietly s r (class_code (cells_of (cell_place c.context) (class_cells c.context)))
   unfolding by_context
   end_adds s r z e =
-      end_if (list_any (text_eq (codes "__class__")) c.context.cells) (codes "__class__") s r z (subst (λ (u : Around). cell_returned (class_cells u.context) s ≡ Done r) (sym z.around) e)
+      end_if (list_any (text_eq (codes "__class__")) c.context.cells) (codes "__class__") s r z (subst (λ (u : Around). run (cell_returned (class_cells u.context)) s ≡ Done r) (sym z.around) e)
 
 -- two values before the elements, which make a tuple of their own where one of these is starred
 module _ (i : Interp Scope) (c : Around) where
-  pub behind_adds : (k a y : ℕ) (v w : Emission) (f g : VForm) (es : List (Element Emission Emission)) (fs : List (Element VForm VForm)) → ValueAdds i c k a v f → ValueAdds i c (k + a) 0 w g → AllElementsAdd i c (k + a) y es fs → AllElementsAdd i c k (a + y) (behind_name (emitting.built op.BuildTuple) v w es) (behind_name (table.built op.BuildTuple) f g fs)
-  behind_adds k a y v w f g es fs h e rest = go (starred es) (starred fs) (same_starred (ValueAdds i c) (ValueAdds i c) (k + a) y es fs rest)
+  pub behind_adds : (k a y : ℕ) (v w : Emission) (f g : VForm) (es : List (Element Emission Emission)) (fs : List (Element VForm VForm)) → ValueAdds i c k a v f
+      → ValueAdds i c (k + a) 0 w g → AllElementsAdd i c (k + a) y es fs
+      → AllElementsAdd i c k (a + y) (behind_name (emitting.counted_build op.BuildTuple) v w es) (behind_name (table.built_form op.BuildTuple) f g fs)
+  behind_adds k a y v w f g es fs h e rest = go (has_starred es) (has_starred fs) (same_starred (ValueAdds i c) (ValueAdds i c) (k + a) y es fs rest)
     where
-      go : (b d : Bool) → b ≡ d → AllElementsAdd i c k (a + y) (if b then Spread (emitting.built op.BuildTuple (v ∷ w ∷ [])) ∷ es else Single v ∷ Single w ∷ es) (if d then Spread (table.built op.BuildTuple (f ∷ g ∷ [])) ∷ fs else Single f ∷ Single g ∷ fs)
+      go : (b d : Bool) → b ≡ d
+          → AllElementsAdd i c k (a + y) (if b then Spread (emitting.counted_build op.BuildTuple (v ∷ w ∷ [])) ∷ es else Single v ∷ Single w ∷ es) (if d then Spread (table.built_form op.BuildTuple (f ∷ g ∷ [])) ∷ fs else Single f ∷ Single g ∷ fs)
       go true true same = (a, y, refl, built_adds i c op.BuildTuple tuple_builds k a (v ∷ w ∷ []) (f ∷ g ∷ []) (a, 0, omega arith, h, (0, 0, refl, e, refl)), rest)
       go true false same = absurd cc
       go false true same = absurd cc

@@ -1,10 +1,9 @@
--- The instructions of iterations, handlers, last parts, `with` items and raises that an emission adds.
-use Rattle.std.proofs.Common.{ℕ, List, [], true, Some, None, refl}
+-- The instructions of iterations, handlers, finally blocks, `with` items and raises that an emission adds.
+use Rattle.std.proofs.Common.{ℕ, List, Some, None, refl}
 use Rattle.py_bytecode.specs.declared.instruction.Instruction.TheVariants as op
 use Rattle.py_bytecode.specs.Values.{Global, Load, operation, Bare, Number, match_exception}
 use Rattle.py_bytecode.specs.Machine.{Access, Operate, ForIter, SetupExcept, SetupFinally, SetupWith, PopException, EnterFinally, EndFinally, WithCleanupStart, WithCleanupFinish, Reraise}
-use Rattle.py_emission_parts.specs.Emitting.{Around, emit, emit_name, generating, jump}
-use Rattle.py_emission_proof.proofs.Additions.EmissionSequenceLemmas.{Yields, elsewhere_yields}
+use Rattle.py_emission_parts.specs.Emitting.{emit, emit_name, jump}
 use Rattle.py_emission_proof.proofs.Additions.Steps.{StepAdds, emit_adds, jump_adds}
 use Rattle.py_emission_proof.proofs.Additions.Instructions.{JumpAdds, named_adds}
 
@@ -15,7 +14,7 @@ iterator_adds = emit_adds op.GetIter 0 (Operate (operation op.GetIter Bare) 1 (S
 pub for_iter_adds : JumpAdds (jump op.ForIter) ForIter
 for_iter_adds b = jump_adds op.ForIter b (ForIter b) (refl, refl) refl (λ d t. refl)
 
--- what enters and leaves a body that has handlers or a last part
+-- what enters and leaves a body that has handlers or a finally block
 pub setup_except_adds : JumpAdds (jump op.SetupExcept) SetupExcept
 setup_except_adds b = jump_adds op.SetupExcept b (SetupExcept b) (refl, refl) refl (λ d t. refl)
 
@@ -64,8 +63,3 @@ yield_adds = emit_adds op.YieldValue 0 (Operate (operation op.YieldValue Bare) 1
 
 pub yield_from_adds : StepAdds (emit op.YieldFrom 0) (Operate (operation op.YieldFrom Bare) 2 (Some 1))
 yield_from_adds = emit_adds op.YieldFrom 0 (Operate (operation op.YieldFrom Bare) 2 (Some 1)) (refl, refl) (λ d t. refl)
-
--- the scope's code is a generator, which adds nothing
-pub generating_yields : {c : Around} {n k : ℕ} → Yields c n k generating [] 0 0
-unfolding generating
-generating_yields = elsewhere_yields (λ s. record s { generator = true }) (λ s. refl) (λ s. refl) (λ s. refl) (λ s. refl) (λ s. refl) (λ s. refl) (λ s. refl)

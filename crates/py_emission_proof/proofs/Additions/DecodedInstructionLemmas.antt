@@ -37,48 +37,48 @@ some_so None k h = tt
 some_so (Some x) k h = h x refl
 
 -- an entry of a table
-listed : {A : Type 0} (xs : List A) (n : ℕ) (k : A → Instr Object ℕ) → So (nat_lt n (length xs)) (for_some (slice_get xs n) k)
-listed xs n k = some_so (slice_get xs n) k (λ x e. less n (length xs) (within_list xs n x e))
+decoded_instruction_listed : {A : Type 0} (xs : List A) (n : ℕ) (k : A → Instr Object ℕ) → So (nat_lt n (length xs)) (for_some (slice_get xs n) k)
+decoded_instruction_listed xs n k = some_so (slice_get xs n) k (λ x e. less n (length xs) (within_list xs n x e))
 
-if_so : (c : Bool) (i : Instr Object ℕ) → So c (if c then Some i else None)
-if_so true i = refl
-if_so false i = tt
+decoded_instruction_if_so : (c : Bool) (i : Instr Object ℕ) → So c (if c then Some i else None)
+decoded_instruction_if_so true i = refl
+decoded_instruction_if_so false i = tt
 
 below_so : (m : Option ℕ) (n : ℕ) (i : Instr Object ℕ) → So (checks.below m n) (below m n i)
 below_so None n i = refl
-below_so (Some m) n i = if_so (nat_lt n m) i
+below_so (Some m) n i = decoded_instruction_if_so (nat_lt n m) i
 
 within_so : (k : OperandKind) (n : ℕ) (i : Instr Object ℕ) → So (checks.below (range_of k) n) (within k n i)
 within_so k n i = below_so (range_of k) n i
 
 fits_so : (t : Tables) (to : Option ℕ) (o : Instruction) (n : ℕ) → So (in_kind (lens_of t) (row_of o).kind n) (instr_of t to o n)
-fits_so t to op.ImportName n = listed t.names n _
+fits_so t to op.ImportName n = decoded_instruction_listed t.names n _
 fits_so t to op.ImportNameless n = within_so kind.None n _
 fits_so t to op.ImportStar n = within_so kind.None n _
-fits_so t to op.ImportFrom n = listed t.names n _
-fits_so t to op.LoadFast n = listed t.varnames n _
-fits_so t to op.LoadNameAny n = listed t.names n _
-fits_so t to op.LoadGlobal n = listed t.names n _
-fits_so t to op.LoadDeref n = listed t.cells n _
-fits_so t to op.LoadClassDeref n = listed t.cells n _
-fits_so t to op.LoadClosure n = listed t.cells n _
-fits_so t to op.StoreFast n = listed t.varnames n _
-fits_so t to op.StoreLocal n = listed t.names n _
-fits_so t to op.StoreGlobal n = listed t.names n _
-fits_so t to op.StoreDeref n = listed t.cells n _
-fits_so t to op.DeleteFast n = listed t.varnames n _
-fits_so t to op.DeleteLocal n = listed t.names n _
-fits_so t to op.DeleteGlobal n = listed t.names n _
-fits_so t to op.DeleteDeref n = listed t.cells n _
+fits_so t to op.ImportFrom n = decoded_instruction_listed t.names n _
+fits_so t to op.LoadFast n = decoded_instruction_listed t.varnames n _
+fits_so t to op.LoadNameAny n = decoded_instruction_listed t.names n _
+fits_so t to op.LoadGlobal n = decoded_instruction_listed t.names n _
+fits_so t to op.LoadDeref n = decoded_instruction_listed t.cells n _
+fits_so t to op.LoadClassDeref n = decoded_instruction_listed t.cells n _
+fits_so t to op.LoadClosure n = decoded_instruction_listed t.cells n _
+fits_so t to op.StoreFast n = decoded_instruction_listed t.varnames n _
+fits_so t to op.StoreLocal n = decoded_instruction_listed t.names n _
+fits_so t to op.StoreGlobal n = decoded_instruction_listed t.names n _
+fits_so t to op.StoreDeref n = decoded_instruction_listed t.cells n _
+fits_so t to op.DeleteFast n = decoded_instruction_listed t.varnames n _
+fits_so t to op.DeleteLocal n = decoded_instruction_listed t.names n _
+fits_so t to op.DeleteGlobal n = decoded_instruction_listed t.names n _
+fits_so t to op.DeleteDeref n = decoded_instruction_listed t.cells n _
 fits_so t to op.Subscript n = within_so kind.None n _
 fits_so t to op.StoreSubscript n = within_so kind.None n _
 fits_so t to op.DeleteSubscript n = within_so kind.None n _
-fits_so t to op.LoadAttr n = listed t.names n _
-fits_so t to op.StoreAttr n = listed t.names n _
-fits_so t to op.DeleteAttr n = listed t.names n _
-fits_so t to op.LoadMethod n = listed t.names n _
-fits_so t to op.LoadConst n = listed t.constants n _
-fits_so t to op.ReturnConst n = listed t.constants n _
+fits_so t to op.LoadAttr n = decoded_instruction_listed t.names n _
+fits_so t to op.StoreAttr n = decoded_instruction_listed t.names n _
+fits_so t to op.DeleteAttr n = decoded_instruction_listed t.names n _
+fits_so t to op.LoadMethod n = decoded_instruction_listed t.names n _
+fits_so t to op.LoadConst n = decoded_instruction_listed t.constants n _
+fits_so t to op.ReturnConst n = decoded_instruction_listed t.constants n _
 fits_so t to op.UnaryOperation n = within_so kind.Unary n _
 fits_so t to op.BinaryOperation n = within_so kind.Binary n _
 fits_so t to op.BinaryOperationInplace n = within_so kind.Binary n _

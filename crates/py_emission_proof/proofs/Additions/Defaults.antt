@@ -27,14 +27,17 @@ same_flag R flag k l (x ∷ xs) (y ∷ ys) a = refl
 
 module _ (i : Interp Scope) (c : Around) where
   -- a tuple of the positional ones
-  pub tuple_adds : (k l m : ℕ) (vs : List Emission) (fs : List VForm) (p : Emission) (rest : VForms) → AllValuesAdd i c k l vs fs → PartsAdd i c (k + l) m p rest → PartsAdd i c k (l + m) (some_emitted (emitting.built op.BuildTuple) vs ▸ p) (some_built (table.built op.BuildTuple) fs rest)
+  pub tuple_adds : (k l m : ℕ) (vs : List Emission) (fs : List VForm) (p : Emission) (rest : VForms) → AllValuesAdd i c k l vs fs
+      → PartsAdd i c (k + l) m p rest
+      → PartsAdd i c k (l + m) (some_emitted (emitting.counted_build op.BuildTuple) vs ▸ p) (some_built (table.built_form op.BuildTuple) fs rest)
   tuple_adds k l m [] [] p rest a h n = scopes_as (let e : m ≡ l + m = omega (arith, a) in e) (after_these keep_yields (next_as (let e : k + l ≡ k = omega (arith, a) in e) (h n)))
   tuple_adds k l m [] (f ∷ fs) p rest a h n = absurd a
   tuple_adds k l m (v ∷ vs) [] p rest a h n = absurd a
-  tuple_adds k l m (v ∷ vs) (f ∷ fs) p rest a h n = more_parts i c k l m (emitting.built op.BuildTuple (v ∷ vs)) p (table.built op.BuildTuple (f ∷ fs)) rest (built_adds i c op.BuildTuple tuple_builds k l (v ∷ vs) (f ∷ fs) a) h n
+  tuple_adds k l m (v ∷ vs) (f ∷ fs) p rest a h n = more_parts i c k l m (emitting.counted_build op.BuildTuple (v ∷ vs)) p (table.built_form op.BuildTuple (f ∷ fs)) rest (built_adds i c op.BuildTuple tuple_builds k l (v ∷ vs) (f ∷ fs) a) h n
 
   -- a map by names
-  pub map_adds : (k l : ℕ) (ps : List (List ℕ × Emission)) (qs : List (List ℕ × VForm)) → Threaded (NamedAdds i c) k l ps qs → PartsAdd i c k l (some_emitted map_of ps) (some_built table.map_of qs VNone)
+  pub map_adds : (k l : ℕ) (ps : List (List ℕ × Emission)) (qs : List (List ℕ × VForm)) → Threaded (NamedAdds i c) k l ps qs
+      → PartsAdd i c k l (some_emitted map_of ps) (some_built table.map_of qs VNone)
   map_adds k l [] [] a n = scopes_as (sym a) (no_parts i c k n)
   map_adds k l [] (q ∷ qs) a n = absurd a
   map_adds k l (p ∷ ps) [] a n = absurd a

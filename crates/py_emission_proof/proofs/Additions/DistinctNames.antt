@@ -1,13 +1,13 @@
 -- A table into which names are entered has none twice, and neither have the cells and the free names of a scope whose symbols are apart.
 use Rattle.std.proofs.Common.{◌≡◌, ℕ, List, [], ◌∷◌, ◌++◌, Bool, true, false, ◌||◌, if◌then◌else◌, refl, sym, ap, ◌∙◌}
 use Rattle.std.specs.List.{list_any}
-use Rattle.py_bytecode.specs.Equality.{entered, text_eq}
+use Rattle.py_bytecode.specs.Equality.{insert_if_new, text_eq}
 use Rattle.py_bytecode.proofs.Heads.{text_full, text_sound}
 use Rattle.py_emission_proof.specs.Distinct.{AreDistinct}
 
 -- equality of texts goes both ways
-pub turned : (x y : List ℕ) → text_eq x y ≡ false → text_eq y x ≡ false
-turned x y h = by (text_eq y x) refl
+pub distinct_name_turned : (x y : List ℕ) → text_eq x y ≡ false → text_eq y x ≡ false
+distinct_name_turned x y h = by (text_eq y x) refl
   where
     by : (b : Bool) → text_eq y x ≡ b → text_eq y x ≡ false
     by false e = e
@@ -34,9 +34,9 @@ any_last y x (z ∷ zs) h n = either_false (text_eq y z) _ (first_false (text_eq
 last_distinct : (xs : List (List ℕ)) (x : List ℕ) → AreDistinct xs → list_any (text_eq x) xs ≡ false → AreDistinct (xs ++ x ∷ [])
 last_distinct [] x d h = (refl, tt)
 last_distinct (y ∷ ys) x d h =
-    (any_last y x ys d.0 (turned x y (first_false (text_eq x y) _ h)), last_distinct ys x d.1 (rest_false (text_eq x y) _ h))
+    (any_last y x ys d.0 (distinct_name_turned x y (first_false (text_eq x y) _ h)), last_distinct ys x d.1 (rest_false (text_eq x y) _ h))
 
-pub entered_distinct : (xs : List (List ℕ)) (x : List ℕ) → AreDistinct xs → AreDistinct (entered text_eq xs x)
+pub entered_distinct : (xs : List (List ℕ)) (x : List ℕ) → AreDistinct xs → AreDistinct (insert_if_new text_eq xs x)
 entered_distinct xs x d = by (list_any (text_eq x) xs) refl
   where
     by : (b : Bool) → list_any (text_eq x) xs ≡ b → AreDistinct (if b then xs else xs ++ x ∷ [])

@@ -1,54 +1,56 @@
 -- What emissions add, one after another: each adds items and so many blocks where it is done, and then a fact holds.
-use Rattle.std.proofs.Common.{◌≡◌, ℕ, ◌+◌, List, [], ◌++◌, true, Option, Some, refl, sym, ap, ◌∙◌, subst, arith, append-nil}
+use Rattle.std.proofs.Common.{◌≡◌, ℕ, ◌+◌, ◌<◌, List, [], ◌∷◌, ◌++◌, true, Option, Some, refl, sym, ap, ◌∙◌, subst, arith, append-nil}
 use Rattle.py_base.specs.declared.location.SourceLocation.{SourceLocation}
 use Rattle.py_control.specs.Form.{Scope}
-use Rattle.py_control.specs.Code.{Item}
+use Rattle.py_control.specs.Code.{Item, Label}
 use Rattle.py_base.specs.declared.errors.CodegenErrorType.{CodegenErrorType}
-use Rattle.py_emission_parts.specs.Emitting.{Around, State, Outcome, Done, TooWide, Refused, LoopBlocks, Emission, ◌▸◌, go_on, keep, with_block, with_loops, with_postponed, located, by_context, by_level, by_loops, in_loop, new_block, move, nothing, pass_over, postponing, refuse}
+use Rattle.py_emission_parts.specs.Emitting.{Around, State, Outcome, Done, TooWide, Refused, LoopBlocks, Emission, ◌▸◌, Begin, keep, with_block, with_loops, with_postponed, with_location, by_context, by_level, by_loops, generator_mark, in_loop, move, nothing, one_block, pass_over, postponed_part, refuse, three_blocks, two_blocks}
+use Rattle.py_emission_parts.specs.Running.{Action, ◌▹◌, begin, begins, on_done, run}
 use Rattle.py_emission_parts.specs.Context.{Context}
 use Rattle.py_emission_proof.proofs.Additions.Settled.{Settled}
 use Rattle.py_emission_proof.specs.Distinct.{AreDistinct}
-use Rattle.py_emission_proof.proofs.Additions.AddedCodeLemmas.{Added, Adds, adds_as, adds_join, adds_nothing, adds_plain}
+use Rattle.py_emission_proof.proofs.Additions.AddedCodeLemmas.{Added, Adds, adds_as, adds_join, adds_nothing, adds_plain, adds_step}
 use Rattle.py_emission_proof.proofs.Additions.Codes.{no_codes}
 
 -- the state between two emissions
-went_on : (o : Outcome) (b : Emission) (r : State) → go_on o b ≡ Done r → (m : State) × (o ≡ Done m) × (b m ≡ Done r)
+went_on : (o : Outcome) (b : Action) (r : State) → on_done o b ≡ Done r → (m : State) × (o ≡ Done m) × (b m ≡ Done r)
 went_on (Done m) b r e = (m, refl, e)
 went_on TooWide b r e = absurd cc
 went_on (Refused d at) b r e = absurd cc
 
-pub both : (a b : Emission) (s r : State) → (a ▸ b) s ≡ Done r → (m : State) × (a s ≡ Done m) × (b m ≡ Done r)
-both a b s r e = went_on (a s) b r e
+pub emission_sequence_both : (a b : Emission) (s r : State) → run (a ▸ b) s ≡ Done r → (m : State) × (run a s ≡ Done m) × (run b m ≡ Done r)
+emission_sequence_both a b s r e = went_on (run a s) (run b) r e
 
 pub done_is : (s r : State) → ◌≡◌ {A = Outcome} (Done s) (Done r) → s ≡ r
 done_is s r e = cc
 
 -- this is what stands around, and its cells and free names are those of its scope
-pub record Stands (c : Around) (s : State) : Type 0 where
+pub record EmissionSequenceStands (c : Around) (s : State) : Type 0 where
   pub around : c ≡ s.around
   pub settled : Settled c.context
 
 -- where it is done from n blocks, with this around it and k as the number of the next scope, it has added these items, m blocks and l scopes,
 -- and this holds
 pub record Gives (c : Around) (n k : ℕ) (v : Emission) (items : List (Item Scope)) (m l : ℕ) (P : Type 0) : Type 0 where
-  pub run : (s r : State) → n ≡ s.blocks → k ≡ s.next → Stands c s → v s ≡ Done r → Adds s r items m l × P
+  pub does : (s r : State) → n ≡ s.blocks → k ≡ s.next → EmissionSequenceStands c s → run v s ≡ Done r → Adds s r items m l × P
 
 -- and nothing else holds
 abbrev pub Yields : Around → (blocks next : ℕ) → Emission → List (Item Scope) → (blocks scopes : ℕ) → Type 0
 Yields c n k v items m l = Gives c n k v items m l (Unit {0})
 
-pub yields : {c : Around} {n k : ℕ} {v : Emission} {p : List (Item Scope)} {m l : ℕ} → ((s r : State) → n ≡ s.blocks → k ≡ s.next → Stands c s → v s ≡ Done r → Adds s r p m l) → Yields c n k v p m l
-yields f = record { run = λ s r b g z e. (f s r b g z e, tt) }
+pub emission_sequence_yields : {c : Around} {n k : ℕ} {v : Emission} {p : List (Item Scope)} {m l : ℕ}
+    → ((s r : State) → n ≡ s.blocks → k ≡ s.next → EmissionSequenceStands c s → run v s ≡ Done r → Adds s r p m l) → Yields c n k v p m l
+emission_sequence_yields f = record { does = λ s r b g z e. (f s r b g z e, tt) }
 
 pub so : {c : Around} {n k : ℕ} {v : Emission} {p : List (Item Scope)} {m l : ℕ} {P Q : Type 0} → (P → Q) → Gives c n k v p m l P → Gives c n k v p m l Q
-so f a = record { run = λ s r b g z e. let d = a.run s r b g z e in (d.0, f d.1) }
+so f a = record { does = λ s r b g z e. let d = a.does s r b g z e in (d.0, f d.1) }
 
 pub gives_as : {c : Around} {n k : ℕ} {v : Emission} {p q : List (Item Scope)} {m j l h : ℕ} {P : Type 0} → p ≡ q → m ≡ j → l ≡ h → Gives c n k v p m l P → Gives c n k v q j h P
-gives_as {p = p} {q = q} {m = m} {j = j} {l = l} {h = h} e f x a = record { run = λ s r b g z y. let d = a.run s r b g z y in (adds_as s r p q m j l h e f x d.0, d.1) }
+gives_as {p = p} {q = q} {m = m} {j = j} {l = l} {h = h} e f x a = record { does = λ s r b g z y. let d = a.does s r b g z y in (adds_as s r p q m j l h e f x d.0, d.1) }
 
 -- what holds says what the items are
 pub items_so : {c : Around} {n k : ℕ} {v : Emission} {p q : List (Item Scope)} {m l : ℕ} {P : Type 0} → (P → p ≡ q) → Gives c n k v p m l P → Yields c n k v q m l
-items_so {p = p} {q = q} {m = m} {l = l} f a = record { run = λ s r b g z h. let d = a.run s r b g z h in (adds_as s r p q m m l l (f d.1) refl refl d.0, tt) }
+items_so {p = p} {q = q} {m = m} {l = l} f a = record { does = λ s r b g z h. let d = a.does s r b g z h in (adds_as s r p q m m l l (f d.1) refl refl d.0, tt) }
 
 pub counts_as : {c : Around} {n k : ℕ} {v : Emission} {p : List (Item Scope)} {m j l : ℕ} {P : Type 0} → m ≡ j → Gives c n k v p m l P → Gives c n k v p j l P
 counts_as e a = gives_as refl e refl a
@@ -57,71 +59,92 @@ pub scopes_as : {c : Around} {n k : ℕ} {v : Emission} {p : List (Item Scope)} 
 scopes_as e a = gives_as refl refl e a
 
 pub from_as : {c : Around} {n j k : ℕ} {v : Emission} {p : List (Item Scope)} {m l : ℕ} {P : Type 0} → n ≡ j → Gives c n k v p m l P → Gives c j k v p m l P
-from_as e a = record { run = λ s r b g z h. a.run s r (e ∙ b) g z h }
+from_as e a = record { does = λ s r b g z h. a.does s r (e ∙ b) g z h }
 
 pub next_as : {c : Around} {n j k : ℕ} {v : Emission} {p : List (Item Scope)} {m l : ℕ} {P : Type 0} → k ≡ j → Gives c n k v p m l P → Gives c n j v p m l P
-next_as e a = record { run = λ s r b g z h. a.run s r b (e ∙ g) z h }
+next_as e a = record { does = λ s r b g z h. a.does s r b (e ∙ g) z h }
 
 -- what adds something leaves it so
-pub still : {c : Around} {s r : State} → Stands c s → r.around ≡ s.around → Stands c r
+pub still : {c : Around} {s r : State} → EmissionSequenceStands c s → r.around ≡ s.around → EmissionSequenceStands c r
 still z e = record { around = z.around ∙ sym e; settled = z.settled }
 
--- one emission after another
-pub then_gives : {c : Around} {n k : ℕ} {v w : Emission} {p q : List (Item Scope)} {m j l h : ℕ} {P Q : Type 0} → Gives c n k v p m l P → Gives c (n + m) (k + l) w q j h Q → Gives c n k (v ▸ w) (p ++ q) (m + j) (l + h) (P × Q)
-then_gives {n = n} {k = k} {v = v} {w = w} {p = p} {q = q} {m = m} {j = j} {l = l} {h = h} a b = record {
-  run = λ s r f g z e.
-      let i = both v w s r e in
-      let x = a.run s i.0 f g z i.1 in
+-- the same of an action
+record Acts (c : Around) (n k : ℕ) (v : Action) (items : List (Item Scope)) (m l : ℕ) (P : Type 0) : Type 0 where
+  acts : (s r : State) → n ≡ s.blocks → k ≡ s.next → EmissionSequenceStands c s → v s ≡ Done r → Adds s r items m l × P
+
+act_of : {c : Around} {n k : ℕ} {v : Emission} {p : List (Item Scope)} {m l : ℕ} {P : Type 0} → Gives c n k v p m l P → Acts c n k (run v) p m l P
+act_of a = record { acts = a.does }
+
+-- one action after another
+one_after : {c : Around} {n k : ℕ} {v w : Action} {p q : List (Item Scope)} {m j l h : ℕ} {P Q : Type 0} → Acts c n k v p m l P
+    → Acts c (n + m) (k + l) w q j h Q → Acts c n k (v ▹ w) (p ++ q) (m + j) (l + h) (P × Q)
+one_after {n = n} {k = k} {v = v} {w = w} {p = p} {q = q} {m = m} {j = j} {l = l} {h = h} a b = record {
+  acts = λ s r f g z e.
+      let i = went_on (v s) w r e in
+      let x = a.acts s i.0 f g z i.1 in
       let d = x.0.added.blocks_are in
       let u = x.0.next_is in
-      let y = b.run i.0 r (omega (arith, f, d)) (omega (arith, g, u)) (still z x.0.added.around_are) i.2 in
+      let y = b.acts i.0 r (omega (arith, f, d)) (omega (arith, g, u)) (still z x.0.added.around_are) i.2 in
       (adds_join s i.0 r p q m j l h x.0 y.0, (x.1, y.1));
 }
 
-pub then_yields : {c : Around} {n k : ℕ} {v w : Emission} {p q : List (Item Scope)} {m j l h : ℕ} {Q : Type 0} → Yields c n k v p m l → Gives c (n + m) (k + l) w q j h Q → Gives c n k (v ▸ w) (p ++ q) (m + j) (l + h) Q
+-- one emission after another
+pub then_gives : {c : Around} {n k : ℕ} {v w : Emission} {p q : List (Item Scope)} {m j l h : ℕ} {P Q : Type 0} → Gives c n k v p m l P
+    → Gives c (n + m) (k + l) w q j h Q → Gives c n k (v ▸ w) (p ++ q) (m + j) (l + h) (P × Q)
+then_gives a b = record { does = (one_after (act_of a) (act_of b)).acts }
+
+pub then_yields : {c : Around} {n k : ℕ} {v w : Emission} {p q : List (Item Scope)} {m j l h : ℕ} {Q : Type 0} → Yields c n k v p m l
+    → Gives c (n + m) (k + l) w q j h Q → Gives c n k (v ▸ w) (p ++ q) (m + j) (l + h) Q
 then_yields a b = so (λ h. h.1) (then_gives a b)
 
-pub and_yields : {c : Around} {n k : ℕ} {v w : Emission} {p q : List (Item Scope)} {m j l h : ℕ} {P : Type 0} → Gives c n k v p m l P → Yields c (n + m) (k + l) w q j h → Gives c n k (v ▸ w) (p ++ q) (m + j) (l + h) P
+pub and_yields : {c : Around} {n k : ℕ} {v w : Emission} {p q : List (Item Scope)} {m j l h : ℕ} {P : Type 0} → Gives c n k v p m l P
+    → Yields c (n + m) (k + l) w q j h → Gives c n k (v ▸ w) (p ++ q) (m + j) (l + h) P
 and_yields a b = so (λ h. h.0) (then_gives a b)
 
 -- and then nothing
-pub kept_on : (o : Outcome) → go_on o keep ≡ o
+pub kept_on : (o : Outcome) → on_done o (run keep) ≡ o
 kept_on (Done s) = refl
 kept_on TooWide = refl
 kept_on (Refused e at) = refl
 
+-- one after the first two
+pub emission_sequence_grouped : (o : Outcome) (w u : Emission) → on_done o (run (w ▸ u)) ≡ on_done (on_done o (run w)) (run u)
+emission_sequence_grouped (Done s) w u = refl
+emission_sequence_grouped TooWide w u = refl
+emission_sequence_grouped (Refused e at) w u = refl
+
+-- what follows runs alike
+pub on_each : (o : Outcome) (v w : Emission) → ((m : State) → run v m ≡ run w m) → on_done o (run v) ≡ on_done o (run w)
+on_each (Done s) v w same = same s
+on_each TooWide v w same = refl
+on_each (Refused e at) v w same = refl
+
+-- what runs alike adds the same
+pub alike_gives : {c : Around} {n k : ℕ} {v w : Emission} {p : List (Item Scope)} {m l : ℕ} {P : Type 0} → ((s : State) → run v s ≡ run w s) → Gives c n k w p m l P → Gives c n k v p m l P
+alike_gives same a = record { does = λ s r b g z e. a.does s r b g z (sym (same s) ∙ e) }
+
 pub then_keep : {c : Around} {n k : ℕ} {v : Emission} {p : List (Item Scope)} {m l : ℕ} {P : Type 0} → Gives c n k v p m l P → Gives c n k (v ▸ keep) p m l P
-then_keep {v = v} a = record { run = λ s r b g z e. a.run s r b g z (sym (kept_on (v s)) ∙ e) }
-
--- one after the first two, or after the second
-pub grouped : (o : Outcome) (w u : Emission) → go_on o (w ▸ u) ≡ go_on (go_on o w) u
-grouped (Done s) w u = refl
-grouped TooWide w u = refl
-grouped (Refused e at) w u = refl
-
-grouped_late : (o : Outcome) (w u x : Emission) → go_on o (w ▸ u ▸ x) ≡ go_on o ((w ▸ u) ▸ x)
-grouped_late (Done s) w u x = grouped (w s) u x
-grouped_late TooWide w u x = refl
-grouped_late (Refused e at) w u x = refl
+then_keep {v = v} a = alike_gives (λ s. kept_on (run v s)) a
 
 pub regroup : {c : Around} {n k : ℕ} {p : List (Item Scope)} {m l : ℕ} {P : Type 0} (v w u : Emission) → Gives c n k ((v ▸ w) ▸ u) p m l P → Gives c n k (v ▸ w ▸ u) p m l P
-regroup v w u a = record { run = λ s r b g z e. a.run s r b g z (sym (grouped (v s) w u) ∙ e) }
+regroup v w u a = alike_gives (λ s. emission_sequence_grouped (run v s) w u) a
 
 pub ungroup : {c : Around} {n k : ℕ} {p : List (Item Scope)} {m l : ℕ} {P : Type 0} (v w u : Emission) → Gives c n k (v ▸ w ▸ u) p m l P → Gives c n k ((v ▸ w) ▸ u) p m l P
-ungroup v w u a = record { run = λ s r b g z e. a.run s r b g z (grouped (v s) w u ∙ e) }
+ungroup v w u a = alike_gives (λ s. sym (emission_sequence_grouped (run v s) w u)) a
 
 pub regroup_late : {c : Around} {n k : ℕ} {p : List (Item Scope)} {m l : ℕ} {P : Type 0} (v w u x : Emission) → Gives c n k ((v ▸ w ▸ u) ▸ x) p m l P → Gives c n k (v ▸ w ▸ u ▸ x) p m l P
-regroup_late v w u x a = record { run = λ s r b g z e. a.run s r b g z (sym (grouped (v s) (w ▸ u) x) ∙ sym (grouped_late (v s) w u x) ∙ e) }
+regroup_late v w u x a = alike_gives (λ s. on_each (run v s) (w ▸ u ▸ x) ((w ▸ u) ▸ x) (λ t. emission_sequence_grouped (run w t) u x) ∙ emission_sequence_grouped (run v s) (w ▸ u) x) a
 
 -- after or before items that make no block and no scope
 pub after_these : {c : Around} {n k : ℕ} {v w : Emission} {is q : List (Item Scope)} {j h : ℕ} {Q : Type 0} → Yields c n k v is 0 0 → Gives c n k w q j h Q → Gives c n k (v ▸ w) (is ++ q) j h Q
 after_these {n = n} {k = k} a b = gives_as refl (omega arith) (omega arith) (then_yields a (from_as (let e : n ≡ n + 0 = omega arith in e) (next_as (let e : k ≡ k + 0 = omega arith in e) b)))
 
-pub then_these : {c : Around} {n k : ℕ} {v w : Emission} {p is : List (Item Scope)} {m l : ℕ} {P : Type 0} → Gives c n k v p m l P → Yields c (n + m) (k + l) w is 0 0 → Gives c n k (v ▸ w) (p ++ is) m l P
+pub then_these : {c : Around} {n k : ℕ} {v w : Emission} {p is : List (Item Scope)} {m l : ℕ} {P : Type 0} → Gives c n k v p m l P
+    → Yields c (n + m) (k + l) w is 0 0 → Gives c n k (v ▸ w) (p ++ is) m l P
 then_these a b = gives_as refl (omega arith) (omega arith) (and_yields a b)
 
 pub keep_yields : {c : Around} {n k : ℕ} → Yields c n k keep [] 0 0
-keep_yields = yields (λ s r b g z e. subst (λ t. Adds s t [] 0 0) (done_is s r e) (adds_nothing s))
+keep_yields = emission_sequence_yields (λ s r b g z e. subst (λ t. Adds s t [] 0 0) (done_is s r e) (adds_nothing s))
 
 -- another location, or another number of the next scope
 pub elsewhere : (s r : State) → r.names ≡ s.names → r.varnames ≡ s.varnames → r.constants ≡ s.constants → r.blocks ≡ s.blocks → r.steps ≡ s.steps → r.around ≡ s.around → Added s r [] 0 []
@@ -143,14 +166,10 @@ elsewhere s r a b c d e f = record {
   own_distinct = λ h. subst AreDistinct (sym b) h;
 }
 
--- what changes none of these adds nothing
-pub elsewhere_yields : {c : Around} {n k : ℕ} (f : State → State) → ((s : State) → (f s).names ≡ s.names) → ((s : State) → (f s).varnames ≡ s.varnames) → ((s : State) → (f s).constants ≡ s.constants) → ((s : State) → (f s).blocks ≡ s.blocks) → ((s : State) → (f s).steps ≡ s.steps) → ((s : State) → (f s).around ≡ s.around) → ((s : State) → (f s).next ≡ s.next) → Yields c n k (λ s. Done (f s)) [] 0 0
-elsewhere_yields f a b d e g h j = yields (λ s r x y z w. subst (λ t. Adds s t [] 0 0) (done_is (f s) r w) (adds_plain s (f s) [] 0 0 refl (let q = j s in omega (arith, q)) (elsewhere s (f s) (a s) (b s) (d s) (e s) (g s) (h s))))
-
 -- what follows stands elsewhere in the source
 pub move_yields : {c : Around} {n k : ℕ} (at : SourceLocation) → Yields c n k (move at) [] 0 0
-unfolding move located
-move_yields at = yields (λ s r b g z e. subst (λ t. Adds s t [] 0 0) (done_is (located at s) r e) (adds_plain s (located at s) [] 0 0 refl (omega arith) (elsewhere s (located at s) refl refl refl refl refl refl)))
+unfolding move with_location
+move_yields at = emission_sequence_yields (λ s r b g z e. subst (λ t. Adds s t [] 0 0) (done_is (with_location at s) r e) (adds_plain s (with_location at s) [] 0 0 refl (omega arith) (elsewhere s (with_location at s) refl refl refl refl refl refl)))
 
 pub moved_gives : {c : Around} {n k : ℕ} {v : Emission} {p : List (Item Scope)} {m l : ℕ} {P : Type 0} (at : SourceLocation) → Gives c n k v p m l P → Gives c n k (move at ▸ v) p m l P
 moved_gives at a = after_these (move_yields at) a
@@ -158,21 +177,24 @@ moved_gives at a = after_these (move_yields at) a
 -- a refusal is not done
 pub refused_gives : {c : Around} {n k : ℕ} {p : List (Item Scope)} {m l : ℕ} {P : Type 0} (e : CodegenErrorType) → Gives c n k (refuse e) p m l P
 unfolding refuse
-refused_gives e = record { run = λ s r b g z h. absurd cc }
+refused_gives e = record { does = λ s r b g z h. absurd cc }
 
 -- nor what follows it
 pub never_on : {c : Around} {n k : ℕ} {v : Emission} {p : List (Item Scope)} {m l : ℕ} {P : Type 0} (w : Emission) → Gives c n k v [] 0 0 ⊥ → Gives c n k (v ▸ w) p m l P
-never_on {v = v} w a = record { run = λ s r b g z e. let h = both v w s r e in absurd (a.run s h.0 b g z h.1).1 }
+never_on {v = v} w a = record { does = λ s r b g z e. let h = emission_sequence_both v w s r e in absurd (a.does s h.0 b g z h.1).1 }
 
 pub moved_refused : {c : Around} {n k : ℕ} {p : List (Item Scope)} {m l : ℕ} {P : Type 0} (at : SourceLocation) (e : CodegenErrorType) → Gives c n k (move at ▸ refuse e) p m l P
 moved_refused at e = moved_gives at (refused_gives e)
 
--- a block is made first, whose number is that of those before it
-pub block_gives : {c : Around} {n k : ℕ} {p : List (Item Scope)} {m l : ℕ} {P : Type 0} (a : ℕ → Emission) → Gives c (1 + n) k (a n) p m l P → Gives c n k (new_block a) p (1 + m) l P
-unfolding new_block with_block
-block_gives {c = c} {n = n} {p = p} {m = m} {P = P} a h = record {
-  run = λ s r b g z e.
-      let d = h.run (with_block s) r (omega (arith, b)) g (record { around = z.around; settled = z.settled }) (subst (λ x. a x (with_block s) ≡ Done r) (sym b) e) in
+-- a block is made, whose number is that of those before it
+abbrev pub new_block : (ℕ → Action) → Action
+new_block a s = a s.blocks (with_block s)
+
+made_first : {c : Around} {n i k : ℕ} {p : List (Item Scope)} {m l : ℕ} {P : Type 0} → 1 + n ≡ i → (a : ℕ → Action) → Acts c i k (a n) p m l P → Acts c n k (new_block a) p (1 + m) l P
+unfolding with_block
+made_first up a h = record {
+  acts = λ s r b g z e.
+      let d = h.acts (with_block s) r (omega (arith, b, up)) g (record { around = z.around; settled = z.settled }) (subst (λ x. a x (with_block s) ≡ Done r) (sym b) e) in
       let x = d.0.added in (
         record {
           made = d.0.made;
@@ -185,43 +207,75 @@ block_gives {c = c} {n = n} {p = p} {m = m} {P = P} a h = record {
       );
 }
 
-pub two_blocks_give : {c : Around} {n k : ℕ} {p : List (Item Scope)} {m l : ℕ} {P : Type 0} (a : ℕ → ℕ → Emission) → Gives c (2 + n) k (a n (1 + n)) p m l P → Gives c n k (new_block (λ x. new_block (λ y. a x y))) p (2 + m) l P
-two_blocks_give {n = n} a h = counts_as (omega arith) (block_gives (λ x. new_block (λ y. a x y)) (block_gives (λ y. a n y) (from_as (let e : 2 + n ≡ 1 + (1 + n) = omega arith in e) h)))
+-- where it begins its label stands
+begun_at : (b : ℕ) {c : Around} {n k : ℕ} {v : Action} {p : List (Item Scope)} {m l : ℕ} {P : Type 0} → b < n → Acts c n k v p m l P → Acts c n k (begin b ▹ v) (Label b ∷ p) m l P
+begun_at b {p = p} {m = m} {l = l} lt h = record {
+  acts = λ s r f g z e.
+      let a = adds_step (Begin b) s (Label b) (refl, refl) (λ d u w. (refl, tt)) (omega (arith, f, lt)) in
+      let d = a.added.blocks_are in
+      let u = a.next_is in
+      let x = h.acts (begins b s) r (omega (arith, f, d)) (omega (arith, g, u)) (still z a.added.around_are) e in
+      (adds_as s r (Label b ∷ p) (Label b ∷ p) (0 + m) m (0 + l) l refl (omega arith) (omega arith) (adds_join s (begins b s) r (Label b ∷ []) p 0 m 0 l a x.0), x.1);
+}
 
-pub three_blocks_give : {c : Around} {n k : ℕ} {p : List (Item Scope)} {m l : ℕ} {P : Type 0} (a : ℕ → ℕ → ℕ → Emission) → Gives c (3 + n) k (a n (1 + n) (2 + n)) p m l P → Gives c n k (new_block (λ x. new_block (λ y. new_block (λ z. a x y z)))) p (3 + m) l P
-three_blocks_give {c = c} {n = n} {k = k} {p = p} {m = m} {l = l} {P = P} a h =
-    let f : 2 + n ≡ 1 + (1 + n) = omega arith in
-    let g : 3 + n ≡ 2 + (1 + n) = omega arith in
-    counts_as (omega arith) (block_gives (λ x. new_block (λ y. new_block (λ z. a x y z))) (two_blocks_give (a n) (subst (λ i. Gives c (2 + (1 + n)) k (a n (1 + n) i) p m l P) f (from_as g h))))
+-- one block, which begins between these; two, and three, which begin in the order in which they are made
+pub one_gives : {c : Around} {n k : ℕ} {p q : List (Item Scope)} {m j l h : ℕ} {P Q : Type 0} (f g : ℕ → Emission) → Gives c (1 + n) k (f n) p m l P
+    → Gives c (1 + n + m) (k + l) (g n) q j h Q → Gives c n k (one_block f g) (p ++ Label n ∷ q) (1 + (m + j)) (l + h) (P × Q)
+unfolding one_block
+one_gives {n = n} f g x y = record { does = (made_first refl (λ a. run (f a) ▹ begin a ▹ run (g a)) (one_after (act_of x) (begun_at n (omega arith) (act_of y)))).acts }
+
+pub two_give : {c : Around} {n k : ℕ} {p q r : List (Item Scope)} {m j i l h a : ℕ} {P Q R : Type 0} (f g u : ℕ → ℕ → Emission)
+    → Gives c (2 + n) k (f n (1 + n)) p m l P → Gives c (2 + n + m) (k + l) (g n (1 + n)) q j h Q → Gives c (2 + n + m + j) (k + l + h) (u n (1 + n)) r i a R
+    → Gives c n k (two_blocks f g u) (p ++ Label n ∷ (q ++ Label (1 + n) ∷ r)) (1 + (1 + (m + (j + i)))) (l + (h + a)) (P × (Q × R))
+unfolding two_blocks with_block
+two_give {n = n} f g u x y w =
+    let all : ℕ → ℕ → Action = λ a b. run (f a b) ▹ begin a ▹ run (g a b) ▹ begin b ▹ run (u a b) in
+    record { does = (made_first refl (λ a. new_block (all a)) (made_first (omega arith) (all n) (one_after (act_of x) (begun_at n (omega arith) (one_after (act_of y) (begun_at (1 + n) (omega arith) (act_of w))))))).acts }
+
+pub three_give : {c : Around} {n k : ℕ} {p q r t : List (Item Scope)} {m j i o l h a d : ℕ} {P Q R T : Type 0} (f g u v : ℕ → ℕ → ℕ → Emission)
+    → Gives c (3 + n) k (f n (1 + n) (2 + n)) p m l P → Gives c (3 + n + m) (k + l) (g n (1 + n) (2 + n)) q j h Q
+    → Gives c (3 + n + m + j) (k + l + h) (u n (1 + n) (2 + n)) r i a R → Gives c (3 + n + m + j + i) (k + l + h + a) (v n (1 + n) (2 + n)) t o d T
+    → Gives c n k (three_blocks f g u v) (p ++ Label n ∷ (q ++ Label (1 + n) ∷ (r ++ Label (2 + n) ∷ t))) (1 + (1 + (1 + (m + (j + (i + o)))))) (l + (h + (a + d))) (P × (Q × (R × T)))
+unfolding three_blocks with_block
+three_give {n = n} f g u v x y w z =
+    let all : ℕ → ℕ → ℕ → Action = λ a b e. run (f a b e) ▹ begin a ▹ run (g a b e) ▹ begin b ▹ run (u a b e) ▹ begin e ▹ run (v a b e) in
+    let parts = one_after (act_of x) (begun_at n (omega arith) (one_after (act_of y) (begun_at (1 + n) (omega arith) (one_after (act_of w) (begun_at (2 + n) (omega arith) (act_of z)))))) in
+    record { does = (made_first refl (λ a. new_block (λ b. new_block (all a b))) (made_first (omega arith) (λ b. new_block (all n b)) (made_first (omega arith) (all n (1 + n)) parts))).acts }
+
+-- one where nothing stands after it
+pub one_ends : {c : Around} {n k : ℕ} {p : List (Item Scope)} {m l : ℕ} {P : Type 0} (f : ℕ → Emission) → Gives c (1 + n) k (f n) p m l P
+    → Gives c n k (one_block f (λ a. keep)) (p ++ Label n ∷ []) (1 + m) l P
+one_ends f x = gives_as refl (omega arith) (omega arith) (so (λ h. h.0) (one_gives f (λ a. keep) x keep_yields))
 
 -- what the context, the level and the loops decide
 pub context_gives : {c : Around} {n k : ℕ} {p : List (Item Scope)} {m l : ℕ} {P : Type 0} (a : Context → Emission) → Gives c n k (a c.context) p m l P → Gives c n k (by_context a) p m l P
 unfolding by_context
-context_gives a h = record { run = λ s r b g z e. h.run s r b g z (subst (λ (x : Around). a x.context s ≡ Done r) (sym z.around) e) }
+context_gives a h = record { does = λ s r b g z e. h.does s r b g z (subst (λ (x : Around). run (a x.context) s ≡ Done r) (sym z.around) e) }
 
 pub level_gives : {c : Around} {n k : ℕ} {p : List (Item Scope)} {m l : ℕ} {P : Type 0} (a : ℕ → Emission) → Gives c n k (a c.context.level) p m l P → Gives c n k (by_level a) p m l P
 unfolding by_level
-level_gives a h = record { run = λ s r b g z e. h.run s r b g z (subst (λ (x : Around). a x.context.level s ≡ Done r) (sym z.around) e) }
+level_gives a h = record { does = λ s r b g z e. h.does s r b g z (subst (λ (x : Around). run (a x.context.level) s ≡ Done r) (sym z.around) e) }
 
 pub loops_give : {c : Around} {n k : ℕ} {p : List (Item Scope)} {m l : ℕ} {P : Type 0} (a : Option LoopBlocks → Emission) → Gives c n k (a c.loops) p m l P → Gives c n k (by_loops a) p m l P
 unfolding by_loops
-loops_give a h = record { run = λ s r b g z e. h.run s r b g z (subst (λ (x : Around). a x.loops s ≡ Done r) (sym z.around) e) }
+loops_give a h = record { does = λ s r b g z e. h.does s r b g z (subst (λ (x : Around). run (a x.loops) s ≡ Done r) (sym z.around) e) }
 
 -- what stands around a whole scope
-abbrev pub outside : Context → Around
-outside c = (nothing c).around
+abbrev pub emission_sequence_outside : Context → Around
+emission_sequence_outside c = (nothing c).around
 
 -- the same, in another loop
-abbrev pub looping : LoopBlocks → Around → Around
-looping x c = record c { loops = Some x }
+abbrev pub emission_sequence_looping : LoopBlocks → Around → Around
+emission_sequence_looping x c = record c { loops = Some x }
 
-pub loop_gives : {c : Around} {n k : ℕ} {v : Emission} {p : List (Item Scope)} {m l : ℕ} {P : Type 0} (x : LoopBlocks) → Gives (looping x c) n k v p m l P → Gives c n k (in_loop x v) p m l P
+pub loop_gives : {c : Around} {n k : ℕ} {v : Emission} {p : List (Item Scope)} {m l : ℕ} {P : Type 0} (x : LoopBlocks)
+    → Gives (emission_sequence_looping x c) n k v p m l P → Gives c n k (in_loop x v) p m l P
 unfolding in_loop with_loops
 loop_gives {c = c} {v = v} {p = p} {m = m} {l = l} x h = record {
-  run = λ s r b f z e.
+  does = λ s r b f z e.
       let inner : State = with_loops (Some x) s in
-      let g = went_on (v inner) (λ t. Done (with_loops s.around.loops t)) r e in
-      let d = h.run inner g.0 b f (record { around = ap (looping x) z.around; settled = z.settled }) g.1 in
+      let g = went_on (run v inner) (λ t. Done (with_loops s.around.loops t)) r e in
+      let d = h.does inner g.0 b f (record { around = ap (emission_sequence_looping x) z.around; settled = z.settled }) g.1 in
       let y = d.0.added in
       let back : with_loops s.around.loops g.0 ≡ r = done_is (with_loops s.around.loops g.0) r g.2 in (
         subst (λ t. Adds s t p m l) back (record {
@@ -236,17 +290,18 @@ loop_gives {c = c} {v = v} {p = p} {m = m} {l = l} x h = record {
 }
 
 -- the same, where annotations are postponed
-abbrev pub postponed_around : Around → Around
-postponed_around c = record c { context = record c.context { postponed = true } }
+abbrev pub emission_sequence_postponed_around : Around → Around
+emission_sequence_postponed_around c = record c { context = record c.context { postponed = true } }
 
-pub postponed_gives : {c : Around} {n k : ℕ} {v : Emission} {p : List (Item Scope)} {m l : ℕ} {P : Type 0} → Gives (postponed_around c) n k v p m l P → Gives c n k (postponing v) p m l P
-unfolding postponing with_postponed
+pub postponed_gives : {c : Around} {n k : ℕ} {v : Emission} {p : List (Item Scope)} {m l : ℕ} {P : Type 0}
+    → Gives (emission_sequence_postponed_around c) n k v p m l P → Gives c n k (postponed_part v) p m l P
+unfolding postponed_part with_postponed
 postponed_gives {c = c} {v = v} {p = p} {m = m} {l = l} h = record {
-  run = λ s r b f z e.
+  does = λ s r b f z e.
       let inner : State = with_postponed true s in
       let before = s.around.context.postponed in
-      let g = went_on (v inner) (λ t. Done (with_postponed before t)) r e in
-      let d = h.run inner g.0 b f (record { around = ap postponed_around z.around; settled = record { cells = z.settled.cells; frees = z.settled.frees } }) g.1 in
+      let g = went_on (run v inner) (λ t. Done (with_postponed before t)) r e in
+      let d = h.does inner g.0 b f (record { around = ap emission_sequence_postponed_around z.around; settled = record { cells = z.settled.cells; frees = z.settled.frees } }) g.1 in
       let y = d.0.added in
       let back : with_postponed before g.0 ≡ r = done_is (with_postponed before g.0) r g.2 in (
         subst (λ t. Adds s t p m l) back (record {
@@ -260,7 +315,12 @@ postponed_gives {c = c} {v = v} {p = p} {m = m} {l = l} h = record {
       );
 }
 
+-- the scope is a generator's
+pub generating_yields : {c : Around} {n k : ℕ} → Yields c n k generator_mark [] 0 0
+unfolding generator_mark
+generating_yields = emission_sequence_yields (λ s r b g z e. let t : State = record s { generator = true } in subst (λ x. Adds s x [] 0 0) (done_is t r e) (adds_plain s t [] 0 0 refl (omega arith) (elsewhere s t refl refl refl refl refl refl)))
+
 -- the scopes of parts that are left out are passed over
-pub pass_yields : {c : Around} {n k : ℕ} (more : ℕ) → Yields c n k (pass_over (λ x. x + more)) [] 0 more
+pub pass_yields : {c : Around} {n k : ℕ} (more : ℕ) → Yields c n k (pass_over more) [] 0 more
 unfolding pass_over
-pass_yields more = yields (λ s r b g z e. let t : State = record s { next = s.next + more } in subst (λ x. Adds s x [] 0 more) (done_is t r e) (adds_plain s t [] 0 more refl refl (elsewhere s t refl refl refl refl refl refl)))
+pass_yields more = emission_sequence_yields (λ s r b g z e. let t : State = record s { next = s.next + more } in subst (λ x. Adds s x [] 0 more) (done_is t r e) (adds_plain s t [] 0 more refl refl (elsewhere s t refl refl refl refl refl refl)))

@@ -10,7 +10,7 @@ use Rattle.py_bytecode.specs.Decode.{value_of}
 use Rattle.py_control.specs.Form.{Interp, Scope, VForm, VForms, VOp, VMore, VMethod, VNone, TForm}
 use Rattle.py_control.specs.Code.{Item, Do, count as form_count, labels_v, labels_vs, labels_t, code_v, code_vs, code_t, return_code}
 use Rattle.py_emission_parts.specs.Elements.{Element, Callee, Function, Method}
-use Rattle.py_emission_parts.specs.Context.{mangled}
+use Rattle.py_emission_parts.specs.Context.{mangled_by}
 use Rattle.py_emission_parts.specs.TableParts as table
 use Rattle.py_emission_parts.specs.TableParts.{ExprForms, parts_of, is_debug}
 use Rattle.py_base.specs.declared.errors.CodegenErrorType.TheVariants as error
@@ -24,7 +24,8 @@ use Rattle.py_emission_proof.proofs.Additions.Instructions.{constant_adds, metho
 use Rattle.py_emission_proof.proofs.Additions.AccessAdds.{mangled_adds}
 
 -- a change is refused, or adds what it adds
-pub unless_debug_gives : {c : Around} {n k : ℕ} {v : Emission} {p : List (Item Scope)} {m l : ℕ} {P : Type 0} (text name : List ℕ) → Gives c n k v p m l P → Gives c n k (unless_debug text name v) p m l P
+pub unless_debug_gives : {c : Around} {n k : ℕ} {v : Emission} {p : List (Item Scope)} {m l : ℕ} {P : Type 0} (text name : List ℕ) → Gives c n k v p m l P
+    → Gives c n k (unless_debug text name v) p m l P
 unless_debug_gives {c = c} {n = n} {k = k} {v = v} {p = p} {m = m} {l = l} {P = P} text name h = go (is_debug name)
   where
     go : (b : Bool) → Gives c n k (if b then refuse (error.SyntaxError text) else v) p m l P
@@ -32,9 +33,9 @@ unless_debug_gives {c = c} {n = n} {k = k} {v = v} {p = p} {m = m} {l = l} {P = 
     go false = h
 
 -- as many values as an operation takes
-pub as_many : (fs : List VForm) → form_count (parts_of fs) ≡ length fs
-as_many [] = refl
-as_many (f ∷ fs) = ap suc (as_many fs)
+pub form_add_as_many : (fs : List VForm) → form_count (parts_of fs) ≡ length fs
+form_add_as_many [] = refl
+form_add_as_many (f ∷ fs) = ap suc (form_add_as_many fs)
 
 module _ (i : Interp Scope) (c : Around) where
   -- a value is added
@@ -60,7 +61,7 @@ module _ (i : Interp Scope) (c : Around) where
   CalleeAdds k l (Function v) (Function f) = ValueAdds k l v f
   CalleeAdds k l (Function v) (Method name f) = ⊥
   CalleeAdds k l (Method name v) (Function f) = ⊥
-  CalleeAdds k l (Method name v) (Method same f) = (mangled c.context name ≡ same) × ValueAdds k l v f
+  CalleeAdds k l (Method name v) (Method same f) = (mangled_by c.context name ≡ same) × ValueAdds k l v f
 
   abbrev pub OptionAdds : Relation (Option Emission) (Option VForm)
   OptionAdds k l None None = l ≡ 0
@@ -93,15 +94,16 @@ module _ (i : Interp Scope) (c : Around) where
   pub pushed_adds : (k l : ℕ) (v : Emission) (f : VForm) → IsPushed f → ValueAdds k l v f → ReturnAdds k l (v ▸ emit op.ReturnValue 0) f
   pushed_adds k l v f p h n = gives_as (sym (p n)) refl refl (then_these (h n) (return_value_adds c (n + labels_v f) (k + l)))
 
-  pub ordinary_adds : (k l : ℕ) (v : Emission) (t : Bool → ℕ → Emission) (f : VForm) (u : TForm) → ValueAdds k l v f → TestAdds k l t u → ReturnAdds k l (v ▸ emit op.ReturnValue 0) f → AddsForms k l (emitting.ordinary v t) (table.ordinary f u)
+  pub ordinary_adds : (k l : ℕ) (v : Emission) (t : Bool → ℕ → Emission) (f : VForm) (u : TForm) → ValueAdds k l v f → TestAdds k l t u
+      → ReturnAdds k l (v ▸ emit op.ReturnValue 0) f → AddsForms k l (emitting.ordinary v t) (table.ordinary f u)
   ordinary_adds k l v t f u h g r = record { value = h; test = g; returned = r; element = h; callee = h }
 
   -- a test of a value's truth
-  pub truth_adds : (k l : ℕ) (v : Emission) (f : VForm) → ValueAdds k l v f → TestAdds k l (emitting.truth_of v) (table.tested f).test
+  pub truth_adds : (k l : ℕ) (v : Emission) (f : VForm) → ValueAdds k l v f → TestAdds k l (emitting.truth_of v) (table.tested_form f).test
   truth_adds k l v f h b to n lt = then_these (h n) (testing_adds b to c _ (k + l) (omega (arith, lt)))
 
-  pub tested_adds : (k l : ℕ) (v : Emission) (f : VForm) → IsPushed f → ValueAdds k l v f → AddsForms k l (emitting.tested v) (table.tested f)
-  tested_adds k l v f p h = ordinary_adds k l v (emitting.truth_of v) f (table.tested f).test h (truth_adds k l v f h) (pushed_adds k l v f p h)
+  pub tested_adds : (k l : ℕ) (v : Emission) (f : VForm) → IsPushed f → ValueAdds k l v f → AddsForms k l (emitting.tested_value v) (table.tested_form f)
+  tested_adds k l v f p h = ordinary_adds k l v (emitting.truth_of v) f (table.tested_form f).test h (truth_adds k l v f h) (pushed_adds k l v f p h)
 
   pub moved_adds : (k l : ℕ) (at : SourceLocation) (v : Emission) (f : VForm) → ValueAdds k l v f → ValueAdds k l (move at ▸ v) f
   moved_adds k l at v f h n = moved_gives at (h n)
@@ -129,12 +131,13 @@ module _ (i : Interp Scope) (c : Around) where
   pub one_part : (k l : ℕ) (v : Emission) (f : VForm) → ValueAdds k l v f → PartsAdd k l v (VMore f VNone)
   one_part k l v f h n = gives_as (sym (append-nil (code_v i f n))) (omega arith) refl (h n)
 
-  pub two_parts : (k a b : ℕ) (v w : Emission) (f g : VForm) → ValueAdds k a v f → ValueAdds (k + a) b w g → PartsAdd k (a + b) (v ▸ w) (VMore f (VMore g VNone))
-  two_parts k a b v w f g h j = more_parts k a b v w f (VMore g VNone) h (one_part (k + a) b w g j)
+  pub form_add_two_parts : (k a b : ℕ) (v w : Emission) (f g : VForm) → ValueAdds k a v f → ValueAdds (k + a) b w g → PartsAdd k (a + b) (v ▸ w) (VMore f (VMore g VNone))
+  form_add_two_parts k a b v w f g h j = more_parts k a b v w f (VMore g VNone) h (one_part (k + a) b w g j)
 
   -- a method of a value
-  pub method_parts : (k a b : ℕ) (name : List ℕ) (v p : Emission) (f : VForm) (fs : VForms) → ValueAdds k a v f → PartsAdd (k + a) b p fs → PartsAdd k (a + b) (v ▸ emit_mangled op.LoadMethod name ▸ p) (VMethod (table.named op.LoadMethod (mangled c.context name)) f fs)
-  method_parts k a b name v p f fs h g n = then_yields (h n) (after_these (mangled_adds op.LoadMethod name (λ y. Operate (table.named op.LoadMethod y) 1 (Some 3)) method_adds c (n + labels_v f) (k + a)) (g (n + labels_v f)))
+  pub method_parts : (k a b : ℕ) (name : List ℕ) (v p : Emission) (f : VForm) (fs : VForms) → ValueAdds k a v f → PartsAdd (k + a) b p fs
+      → PartsAdd k (a + b) (v ▸ emit_mangled op.LoadMethod name ▸ p) (VMethod (table.named_operation op.LoadMethod (mangled_by c.context name)) f fs)
+  method_parts k a b name v p f fs h g n = then_yields (h n) (after_these (mangled_adds op.LoadMethod name (λ y. Operate (table.named_operation op.LoadMethod y) 1 (Some 3)) method_adds c (n + labels_v f) (k + a)) (g (n + labels_v f)))
 
   pub values_add : (k l : ℕ) (vs : List Emission) (fs : List VForm) → AllValuesAdd k l vs fs → PartsAdd k l (in_turn vs) (parts_of fs)
   values_add k l [] [] a n = scopes_as (sym a) (no_parts k n)
@@ -149,8 +152,9 @@ module _ (i : Interp Scope) (c : Around) where
   pub one_adds : (k l : ℕ) (x : Operation) (v step : Emission) (f : VForm) → ValueAdds k l v f → StepHere c step (Operate x 1 (Some 1)) → ValueAdds k l (v ▸ step) (VOp x (VMore f VNone))
   one_adds k l x v step f h = operation_adds k l x v step (VMore f VNone) (one_part k l v f h)
 
-  pub two_add : (k a b : ℕ) (x : Operation) (v w step : Emission) (f g : VForm) → ValueAdds k a v f → ValueAdds (k + a) b w g → StepHere c step (Operate x 2 (Some 1)) → ValueAdds k (a + b) (v ▸ w ▸ step) (VOp x (VMore f (VMore g VNone)))
-  two_add k a b x v w step f g h j o n = regroup v w step (operation_adds k (a + b) x (v ▸ w) step (VMore f (VMore g VNone)) (two_parts k a b v w f g h j) o n)
+  pub two_add : (k a b : ℕ) (x : Operation) (v w step : Emission) (f g : VForm) → ValueAdds k a v f → ValueAdds (k + a) b w g
+      → StepHere c step (Operate x 2 (Some 1)) → ValueAdds k (a + b) (v ▸ w ▸ step) (VOp x (VMore f (VMore g VNone)))
+  two_add k a b x v w step f g h j o n = regroup v w step (operation_adds k (a + b) x (v ▸ w) step (VMore f (VMore g VNone)) (form_add_two_parts k a b v w f g h j) o n)
 
   -- the values and the elements of expressions
   pub all_values_add : (k l : ℕ) (es : List Emissions) (fs : List ExprForms) → AllAddForms k l es fs → AllValuesAdd k l (emitting.values es) (table.values fs)

@@ -6,7 +6,7 @@ use Rattle.py_base.specs.declared.location.SourceLocation.{SourceLocation}
 use Rattle.py_bytecode.specs.declared.instruction.Instruction.TheVariants as op
 use Rattle.py_bytecode.specs.Objects as const
 use Rattle.py_bytecode.specs.Objects.{Const, Object, codes_in}
-use Rattle.py_bytecode.specs.Equality.{const_eq, entered}
+use Rattle.py_bytecode.specs.Equality.{const_eq, insert_if_new}
 use Rattle.py_bytecode.specs.Values.{Child, Constant, It}
 use Rattle.py_bytecode.specs.Machine.{MakeFunction, Push}
 use Rattle.py_bytecode.specs.Decode.{Tables, for_some, instr_of, value_of}
@@ -14,35 +14,37 @@ use Rattle.py_bytecode.proofs.Entered.{constant_stands}
 use Rattle.py_control.specs.Form.{Interp, Scope, VForms, VMake, VNone}
 use Rattle.py_control.specs.Code.{Item, Do, closure_code, code_vs, has_cells, labels_vs, make_code}
 use Rattle.py_control.specs.Agree.{AllOf, cells_of}
-use Rattle.py_emission_parts.specs.Context.{Context, cell_place, frees_among, mangled, symbols_in}
-use Rattle.py_emission_parts.specs.Emitting.{Around, Emission, Outcome, Put, State, Done, TooWide, Refused, ◌▸◌, add_constant, add_varname, begun, emit, emit_constant, keep, place_in, with_constant, with_step, with_varname}
-use Rattle.py_emission_parts.specs.Children.{behind_child, child, closure, code_head, enter_parameters, free_names, function_scope, made, on_sealed}
+use Rattle.py_emission_parts.specs.Context.{Context, cell_place, frees_among, mangled_by, symbols_in}
+use Rattle.py_emission_parts.specs.Emitting.{Around, Emission, Outcome, Put, State, Done, TooWide, Refused, ◌▸◌, add_constant, add_varname, initial_state, emit, emit_constant, keep, place_in, with_constant, with_step, with_varname}
+use Rattle.py_emission_parts.specs.Children.{child, closure, enter_parameters, free_names, function_scope, made_function}
+use Rattle.py_emission_parts.specs.Running.{Action, behind_child, code_head, on_sealed, put, run}
 use Rattle.py_emission_parts.specs.Within.{Shape, some_flag}
 use Rattle.py_emission_parts.specs.Refused.{no_assignment}
-use Rattle.py_emission_parts.specs.Sealed.{sealed}
+use Rattle.py_emission_parts.specs.Sealed.{assembled_object}
 use Rattle.py_emission_proof.specs.Loads.{loads}
 use Rattle.py_emission_proof.proofs.Additions.AddedCodeLemmas.{Added, Adds, added_join, adds_nothing, ground_in, ground_of, scopes_in, settled_adds}
 use Rattle.py_emission_proof.proofs.Additions.Burden.{cells_in, cells-append}
 use Rattle.py_emission_proof.proofs.Additions.Cells.{closure_adds, closure_count}
-use Rattle.py_emission_proof.proofs.Additions.Codes.{Counted, Known, MadeWhereFew, codes_join, counted_first, known_back, loads_join, number_of, scopes}
-use Rattle.py_emission_proof.proofs.Additions.EmissionSequenceLemmas.{Gives, Stands, Yields, after_these, both, done_is, elsewhere, gives_as, keep_yields, still, yields}
+use Rattle.py_emission_proof.proofs.Additions.Codes.{Counted, CodeKnown, MadeWhereFew, codes_join, counted_first, known_back, loads_join, code_number_of, code_scopes}
+use Rattle.py_emission_proof.proofs.Additions.EmissionSequenceLemmas.{Gives, EmissionSequenceStands, Yields, after_these, emission_sequence_both, done_is, elsewhere, gives_as, keep_yields, still, emission_sequence_yields}
 use Rattle.py_emission_proof.proofs.Additions.FormAdds.{PartsAdd, ValueAdds, unless_debug_gives}
 use Rattle.py_emission_proof.proofs.Additions.Instructions.{constant_adds}
 use Rattle.py_emission_proof.proofs.Additions.Steps.{adds_constant, adds_own, emit_adds, enters, enters_if, entry_stays, fits_if}
 
 -- a code that stands among constants is one of theirs
-standing : (cs : List Const) (n : ℕ) (o : Object) → slice_get cs n ≡ Some (const.code o) → Known (codes_in cs) o
-standing [] n o e = absurd cc
-standing (c ∷ cs) zero o e = let same : c ≡ const.code o = cc in subst (λ d. Known (codes_in (d ∷ cs)) o) (sym same) (inl refl)
-standing (c ∷ cs) (suc n) o e = subst (λ ks. Known ks o) (sym (codes_join (c ∷ []) cs)) (known_back (codes_in (c ∷ [])) (codes_in cs) o (standing cs n o e))
+function_standing : (cs : List Const) (n : ℕ) (o : Object) → slice_get cs n ≡ Some (const.code o) → CodeKnown (codes_in cs) o
+function_standing [] n o e = absurd cc
+function_standing (c ∷ cs) zero o e = let same : c ≡ const.code o = cc in subst (λ d. CodeKnown (codes_in (d ∷ cs)) o) (sym same) (inl refl)
+function_standing (c ∷ cs) (suc n) o e = subst (λ ks. CodeKnown ks o) (sym (codes_join (c ∷ []) cs)) (known_back (codes_in (c ∷ [])) (codes_in cs) o (function_standing cs n o e))
 
-entered_codes : (b : Bool) (xs : List Const) (o : Object) → AllOf (Known (o ∷ [])) (codes_in (enters_if b xs (const.code o)).0)
+entered_codes : (b : Bool) (xs : List Const) (o : Object) → AllOf (CodeKnown (o ∷ [])) (codes_in (enters_if b xs (const.code o)).0)
 entered_codes true xs o = tt
 entered_codes false xs o = (inl refl, tt)
 
 -- the code object of a scope is loaded
-code_adds : (o : Object) (x : Scope) (s r : State) → MadeWhereFew (ground_in s) (o, x) → emit_constant op.LoadConst (const.code o) s ≡ Done r → Added s r (Do (Push (It (Child x))) ∷ []) 0 ((o, x) ∷ []) × (r.next ≡ s.next)
-unfolding emit_constant with_constant emit with_step
+code_adds : (o : Object) (x : Scope) (s r : State) → MadeWhereFew (ground_in s) (o, x) → run (emit_constant op.LoadConst (const.code o)) s ≡ Done r
+    → Added s r (Do (Push (It (Child x))) ∷ []) 0 ((o, x) ∷ []) × (r.next ≡ s.next)
+unfolding emit_constant with_constant put with_step
 code_adds o x s r made e =
     let c : Const = const.code o in
     let u : State = with_constant c s in
@@ -59,14 +61,14 @@ code_adds o x s r made e =
         varnames_are = sym (append-nil s.varnames);
         constants = more.0;
         constants_are = more.1;
-        codes = record { loads = refl; known = entered_codes (list_any (const_eq c) s.constants) s.constants o; kept = (standing (entered const_eq s.constants c) n o at, tt); from_scopes = (made, tt) };
+        codes = record { loads = refl; known = entered_codes (list_any (const_eq c) s.constants) s.constants o; kept = (function_standing (insert_if_new const_eq s.constants c) n o at, tt); from_scopes = (made, tt) };
         blocks_are = omega arith;
         steps = y ∷ [];
         steps_are = refl;
         reads = λ d z t b. (
           record {
             fits = search (rules, p.0);
-            is = ap (λ w. for_some w (λ v. Push (It (value_of v)))) (entry_stays (entered const_eq s.constants c) b.constants t.constants n c at b.constants_are) ∙ ap (λ w. Some (Push (It (Child w)))) (sym z.0);
+            is = ap (λ w. for_some w (λ v. Push (It (value_of v)))) (entry_stays (insert_if_new const_eq s.constants c) b.constants t.constants n c at b.constants_are) ∙ ap (λ w. Some (Push (It (Child w)))) (sym z.0);
             aims = λ w. refl;
           },
           tt,
@@ -88,43 +90,47 @@ flag_is place [] = refl
 flag_is place (x ∷ xs) = refl
 
 -- what follows a child
-sealed_on : (level : ℕ) (h : Rattle.py_emission_parts.specs.Sealed.Head) (s r : State) (o : Outcome) (next : Object → Emission) → on_sealed level h s o next ≡ Done r → (t : State) × (o ≡ Done t) × (next (sealed level h t) (behind_child s t) ≡ Done r)
+sealed_on : (level : ℕ) (h : Rattle.py_emission_parts.specs.Sealed.Head) (s r : State) (o : Outcome) (next : Object → Action)
+    → on_sealed level h s o next ≡ Done r → (t : State) × (o ≡ Done t) × (next (assembled_object level h t) (behind_child s t) ≡ Done r)
 sealed_on level h s r (Done t) next e = (t, refl, e)
 sealed_on level h s r TooWide next e = absurd cc
 sealed_on level h s r (Refused d at) next e = absurd cc
 
-sealed_frees : (level : ℕ) (h : Rattle.py_emission_parts.specs.Sealed.Head) (t : State) → free_names (sealed level h t) ≡ h.freevars
-unfolding sealed
+sealed_frees : (level : ℕ) (h : Rattle.py_emission_parts.specs.Sealed.Head) (t : State) → free_names (assembled_object level h t) ≡ h.freevars
+unfolding assembled_object
 sealed_frees level h t = refl
 
 added_as : (s r : State) (is : List (Item Scope)) (m n : ℕ) (ps : List (Object × Scope)) → m ≡ n → Added s r is m ps → Added s r is n ps
 added_as s r is m n ps e a = subst (λ z. Added s r is z ps) e a
 
--- the scope within: its code object is made from it, where the codes within load few cells, and it passes so many scopes besides its own
+-- the nested scope: its code object is made from it, where the codes within load few cells, and it passes so many scopes besides its own
 pub record Makes (c : Context) (inner : Context) (h : Shape) (body : Emission) (k l : ℕ) (x : Scope) : Type 0 where
-  pub number : number_of x ≡ k
+  pub number : code_number_of x ≡ k
   pub frees : inner.frees ≡ frees_among (symbols_in c.scopes k)
-  pub run : (at : SourceLocation) (t : State) → body (begun inner at (suc k)) ≡ Done t → MadeWhereFew (ground_of c) (sealed inner.level (code_head inner h at) t, x) × (t.next ≡ suc k + l)
+  pub does : (at : SourceLocation) (t : State) → run body (initial_state inner at (suc k)) ≡ Done t
+      → MadeWhereFew (ground_of c) (assembled_object inner.level (code_head inner h at) t, x) × (t.next ≡ suc k + l)
 
 module _ (i : Interp Scope) (c : Around) where
   -- the function of a code object, where its cells have their places
-  made_adds : (flags others : ℕ) (name : List ℕ) (o : Object) (x : Scope) (xs : List (List ℕ)) (s r : State) → Stands c s → Flagged flags others → free_names o ≡ xs → MadeWhereFew (ground_of c.context) (o, x) → made flags name o s ≡ Done r → Added s r (make_code flags (cells_of (cell_place c.context) xs) others (Child x) name) 0 ((o, x) ∷ []) × (r.next ≡ s.next)
+  made_adds : (flags others : ℕ) (name : List ℕ) (o : Object) (x : Scope) (xs : List (List ℕ)) (s r : State) → EmissionSequenceStands c s → Flagged flags others
+      → free_names o ≡ xs → MadeWhereFew (ground_of c.context) (o, x) → run (made_function flags name o) s ≡ Done r
+      → Added s r (make_code flags (cells_of (cell_place c.context) xs) others (Child x) name) 0 ((o, x) ∷ []) × (r.next ≡ s.next)
   made_adds flags others name o x xs s r z flagged free from e =
       let cells = cells_of (cell_place c.context) xs in
       let make : Emission = emit op.MakeFunction (flags + some_flag 0x01 (free_names o)) in
       let text : Emission = emit_constant op.LoadConst (const.str name) in
       let load : Emission = emit_constant op.LoadConst (const.code o) in
-      let h1 = both (closure (free_names o)) (load ▸ text ▸ make) s r e in
-      let h2 = both load (text ▸ make) h1.0 r h1.2 in
-      let h3 = both text make h2.0 r h2.2 in
-      let a1 = closure_adds c xs s h1.0 z (subst (λ ys. closure ys s ≡ Done h1.0) free h1.1) in
-      let z1 : Stands c h1.0 = still z a1.added.around_are in
+      let h1 = emission_sequence_both (closure (free_names o)) (load ▸ text ▸ make) s r e in
+      let h2 = emission_sequence_both load (text ▸ make) h1.0 r h1.2 in
+      let h3 = emission_sequence_both text make h2.0 r h2.2 in
+      let a1 = closure_adds c xs s h1.0 z (subst (λ ys. run (closure ys) s ≡ Done h1.0) free h1.1) in
+      let z1 : EmissionSequenceStands c h1.0 = still z a1.added.around_are in
       let a2 = code_adds o x h1.0 h2.0 (subst (λ (y : Around). MadeWhereFew (ground_of y.context) (o, x)) z1.around from) h2.1 in
-      let z2 : Stands c h2.0 = still z1 a2.0.around_are in
-      let a3 = ((constant_adds (const.str name) refl c h2.0.blocks h2.0.next).run h2.0 h3.0 refl refl z2 h3.1).0 in
-      let z3 : Stands c h3.0 = still z2 a3.added.around_are in
+      let z2 : EmissionSequenceStands c h2.0 = still z1 a2.0.around_are in
+      let a3 = ((constant_adds (const.str name) refl c h2.0.blocks h2.0.next).does h2.0 h3.0 refl refl z2 h3.1).0 in
+      let z3 : EmissionSequenceStands c h3.0 = still z2 a3.added.around_are in
       let flag : some_flag 0x01 (free_names o) ≡ (if has_cells cells then 1 else 0) = ap (some_flag 0x01) free ∙ flag_is (cell_place c.context) xs in
-      let a4 = ((emit_adds op.MakeFunction (flags + some_flag 0x01 (free_names o)) (MakeFunction flags (has_cells cells) others) (refl, refl) (λ d t. ap (λ n. instr_of t None op.MakeFunction (flags + n)) flag ∙ flagged (has_cells cells) t) c h3.0.blocks h3.0.next).run h3.0 r refl refl z3 h3.2).0 in
+      let a4 = ((emit_adds op.MakeFunction (flags + some_flag 0x01 (free_names o)) (MakeFunction flags (has_cells cells) others) (refl, refl) (λ d t. ap (λ n. instr_of t None op.MakeFunction (flags + n)) flag ∙ flagged (has_cells cells) t) c h3.0.blocks h3.0.next).does h3.0 r refl refl z3 h3.2).0 in
       let last : List (Item Scope) = Do (MakeFunction flags (has_cells cells) others) ∷ [] in
       let named : List (Item Scope) = Do (Push (It (Constant (const.str name)))) ∷ [] in
       let loaded : List (Item Scope) = Do (Push (It (Child x))) ∷ [] in
@@ -146,25 +152,29 @@ module _ (i : Interp Scope) (c : Around) where
       let f = closure_count c xs in
       omega (arith, e, f)
 
-  -- a scope within, further parts, and the function of them
-  pub function_adds : (within : Context → (number : ℕ) → Context) (h : Shape) (body mid : Emission) (flags others : ℕ) (name : Emission → Object → Emission) (text : List ℕ) (b : VForms) (x : Scope) (k l m : ℕ) → Makes c.context (within c.context k) h body k l x → PartsAdd i c (k + suc l) m mid b → Flagged flags others → ((o : Object) (s r : State) → Stands c s → name mid o s ≡ Done r → (mid ▸ made flags text o) s ≡ Done r) → (n : ℕ) → Yields c n k (child within h body (name mid)) (code_vs i b n ++ make_code flags (cells_of (cell_place c.context) (within c.context k).frees) others (Child x) text) (labels_vs b) (suc l + m)
+  -- a nested scope, further parts, and the function of them
+  pub function_adds : (within : Context → (number : ℕ) → Context) (h : Shape) (body mid : Emission) (flags others : ℕ) (name : Emission → Object → Emission) (text : List ℕ) (b : VForms) (x : Scope) (k l m : ℕ)
+      → Makes c.context (within c.context k) h body k l x → PartsAdd i c (k + suc l) m mid b → Flagged flags others
+      → ((o : Object) (s r : State) → EmissionSequenceStands c s → run (name mid o) s ≡ Done r → run (mid ▸ made_function flags text o) s ≡ Done r) → (n : ℕ)
+      → Yields c n k (child within h body (name mid)) (code_vs i b n ++ make_code flags (cells_of (cell_place c.context) (within c.context k).frees) others (Child x) text) (labels_vs b) (suc l + m)
   unfolding child
-  function_adds within h body mid flags others name text b x k l m makes parts flagged goes n = yields (λ s r f g z e.
+  function_adds within h body mid flags others name text b x k l m makes parts flagged goes n = emission_sequence_yields (λ s r f g z e.
       let inner : Context = within c.context k in
       let hd = code_head inner h s.location in
-      let moved : on_sealed inner.level hd s (body (begun inner s.location (suc k))) (name mid) ≡ Done r =
-      subst (λ j. (let d = within c.context j in on_sealed d.level (code_head d h s.location) s (body (begun d s.location (suc j))) (name mid)) ≡ Done r) (sym g)
-      (subst (λ (y : Around). (let d = within y.context s.next in on_sealed d.level (code_head d h s.location) s (body (begun d s.location (suc s.next))) (name mid)) ≡ Done r) (sym z.around) e) in
-      let w = sealed_on inner.level hd s r (body (begun inner s.location (suc k))) (name mid) moved in
+      let last : Object → Action = λ o. run (name mid o) in
+      let moved : on_sealed inner.level hd s (run body (initial_state inner s.location (suc k))) last ≡ Done r =
+      subst (λ j. (let d = within c.context j in on_sealed d.level (code_head d h s.location) s (run body (initial_state d s.location (suc j))) last) ≡ Done r) (sym g)
+      (subst (λ (y : Around). (let d = within y.context s.next in on_sealed d.level (code_head d h s.location) s (run body (initial_state d s.location (suc s.next))) last) ≡ Done r) (sym z.around) e) in
+      let w = sealed_on inner.level hd s r (run body (initial_state inner s.location (suc k))) last moved in
       let t : State = w.0 in
-      let o : Object = sealed inner.level hd t in
+      let o : Object = assembled_object inner.level hd t in
       let b0 : State = behind_child s t in
-      let z0 : Stands c b0 = record { around = z.around; settled = z.settled } in
-      let done = makes.run s.location t w.1 in
+      let z0 : EmissionSequenceStands c b0 = record { around = z.around; settled = z.settled } in
+      let done = makes.does s.location t w.1 in
       let later : k + suc l ≡ b0.next = let y = done.1 in omega (arith, y) in
-      let q = both mid (made flags text o) b0 r (goes o b0 r z0 w.2) in
-      let a1 = ((parts n).run b0 q.0 f later z0 q.1).0 in
-      let z1 : Stands c q.0 = still z0 a1.added.around_are in
+      let q = emission_sequence_both mid (made_function flags text o) b0 r (goes o b0 r z0 w.2) in
+      let a1 = ((parts n).does b0 q.0 f later z0 q.1).0 in
+      let z1 : EmissionSequenceStands c q.0 = still z0 a1.added.around_are in
       let free : free_names o ≡ inner.frees = sealed_frees inner.level hd t in
       let a2 = made_adds flags others text o x inner.frees q.0 r z1 flagged free done.0 q.2 in
       let make : List (Item Scope) = make_code flags (cells_of (cell_place c.context) inner.frees) others (Child x) text in
@@ -182,22 +192,22 @@ module _ (i : Interp Scope) (c : Around) where
             let cc1 = cells-append (code_vs i b n) make in
             let cc2 = make_count flags others text x inner.frees in
             let same : scopes_in s ≡ c.context.scopes = ap (λ (y : Around). y.context.scopes) (sym z.around) in
-            let cc3 : length (frees_among (symbols_in c.context.scopes (number_of x))) ≡ length inner.frees = ap (λ j. length (frees_among (symbols_in c.context.scopes j))) makes.number ∙ ap length (sym makes.frees) in
-            let cc4 : cells_in (code_vs i b n) ≤ loads c.context.scopes (scopes a1.made) = subst (λ es. cells_in (code_vs i b n) ≤ loads es (scopes a1.made)) same a1.cells in
+            let cc3 : length (frees_among (symbols_in c.context.scopes (code_number_of x))) ≡ length inner.frees = ap (λ j. length (frees_among (symbols_in c.context.scopes j))) makes.number ∙ ap length (sym makes.frees) in
+            let cc4 : cells_in (code_vs i b n) ≤ loads c.context.scopes (code_scopes a1.made) = subst (λ es. cells_in (code_vs i b n) ≤ loads es (code_scopes a1.made)) same a1.cells in
             let cc5 = loads_join c.context.scopes a1.made ((o, x) ∷ []) in
-            subst (λ es. cells_in items ≤ loads es (scopes (a1.made ++ (o, x) ∷ []))) (sym same) (omega (arith, cc1, cc2, cc3, cc4, cc5));
+            subst (λ es. cells_in items ≤ loads es (code_scopes (a1.made ++ (o, x) ∷ []))) (sym same) (omega (arith, cc1, cc2, cc3, cc4, cc5));
       })
 
 -- a name of the code object's own, and a constant, which no instruction names yet
 varname_yields : (x : List ℕ) {c : Around} {n k : ℕ} → Yields c n k (add_varname x) [] 0 0
 unfolding add_varname
-varname_yields x {c} = yields (λ s r f g z e.
-    let y : List ℕ = mangled s.around.context x in
+varname_yields x {c} = emission_sequence_yields (λ s r f g z e.
+    let y : List ℕ = mangled_by s.around.context x in
     adds_own y s r [] 0 0 (subst (λ t. Adds (with_varname y s) t [] 0 0) (done_is (with_varname y s) r e) (adds_nothing (with_varname y s))))
 
 constant_yields : (d : Const) → value_of d ≡ Constant d → {c : Around} {n k : ℕ} → Yields c n k (add_constant d) [] 0 0
 unfolding add_constant
-constant_yields d v = yields (λ s r f g z e. adds_constant d v s r [] 0 0 (subst (λ t. Adds (with_constant d s) t [] 0 0) (done_is (with_constant d s) r e) (adds_nothing (with_constant d s))))
+constant_yields d v = emission_sequence_yields (λ s r f g z e. adds_constant d v s r [] 0 0 (subst (λ t. Adds (with_constant d s) t [] 0 0) (done_is (with_constant d s) r e) (adds_nothing (with_constant d s))))
 
 parameters_yield : (xs : List (List ℕ)) {c : Around} {n k : ℕ} → Yields c n k (enter_parameters xs) [] 0 0
 parameters_yield [] = keep_yields
@@ -212,9 +222,11 @@ no_flags : Flagged 0 0
 no_flags true t = refl
 no_flags false t = refl
 
--- a function of a scope within that has no further parts
-pub made_alone_adds : (i : Interp Scope) (c : Around) (within : Context → (number : ℕ) → Context) (h : Shape) (body : Emission) (name : List ℕ) (x : Scope) (k l : ℕ) → Makes c.context (within c.context k) h body k l x → i.child x ≡ x → i.closure x ≡ cells_of (cell_place c.context) (within c.context k).frees → ValueAdds i c k (suc l) (child within h body (made 0 name)) (VMake 0 VNone x name VNone)
+-- a function of a nested scope that has no further parts
+pub made_alone_adds : (i : Interp Scope) (c : Around) (within : Context → (number : ℕ) → Context) (h : Shape) (body : Emission) (name : List ℕ) (x : Scope) (k l : ℕ)
+    → Makes c.context (within c.context k) h body k l x → i.child x ≡ x → i.closure x ≡ cells_of (cell_place c.context) (within c.context k).frees
+    → ValueAdds i c k (suc l) (child within h body (made_function 0 name)) (VMake 0 VNone x name VNone)
 made_alone_adds i c within h body name x k l makes same cells n =
     let none : PartsAdd i c (k + suc l) 0 keep VNone = λ j. keep_yields in
     gives_as (λ j. make_code 0 (sym cells j) 0 (Child (sym same j)) name) refl (omega arith)
-    (function_adds i c within h body keep 0 0 (λ v o. made 0 name o) name VNone x k l 0 makes none no_flags (λ o s r z e. e) n)
+    (function_adds i c within h body keep 0 0 (λ v o. made_function 0 name o) name VNone x k l 0 makes none no_flags (λ o s r z e. e) n)

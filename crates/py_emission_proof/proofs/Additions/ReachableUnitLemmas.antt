@@ -18,8 +18,8 @@ use Rattle.py_emission_parts.specs.Emitting.{Step}
 use Rattle.py_control_proof.proofs.Stays.{stays_row}
 use Rattle.py_emit.specs.Steps.{step_of, onwards, steps_from}
 use Rattle.py_emission_proof.proofs.Additions.AddedCodeLemmas.{AllRead}
-use Rattle.py_emit.proofs.Chains.{Leads}
-use Rattle.py_emission_proof.proofs.Additions.LaidCodeLemmas.{parted}
+use Rattle.py_emit.proofs.Chains.{ChainLeads}
+use Rattle.py_emission_proof.proofs.Additions.LaidCodeLemmas.{laid_code_parted}
 
 -- whether the first can be come to makes no difference where there is none, or a label stands before it
 abbrev Fresh : List (Item Object) → Type 0
@@ -55,11 +55,12 @@ live_none t (x ∷ xs) [] r = absurd r
 live_none t (x ∷ xs) (Label l ∷ items) r = absurd r.0
 live_none t (x ∷ xs) (Do i ∷ items) r = live_none t xs items r.1
 
-one_more : (leaves stay : Bool) (x : InstructionInfo) (xs : List InstructionInfo) (items : List (Item Object)) → stay ≡ flip leaves → live false items ≡ 0 → live true items ≤ length xs → suc (live stay items) ≤ length (if leaves then x ∷ [] else (x ∷ xs))
-one_more true true x xs items e none few = absurd cc
-one_more true false x xs items e none few = omega (arith, none)
-one_more false true x xs items e none few = omega (arith, few)
-one_more false false x xs items e none few = absurd cc
+reachable_unit_one_more : (leaves stay : Bool) (x : InstructionInfo) (xs : List InstructionInfo) (items : List (Item Object)) → stay ≡ flip leaves
+    → live false items ≡ 0 → live true items ≤ length xs → suc (live stay items) ≤ length (if leaves then x ∷ [] else (x ∷ xs))
+reachable_unit_one_more true true x xs items e none few = absurd cc
+reachable_unit_one_more true false x xs items e none few = omega (arith, none)
+reachable_unit_one_more false true x xs items e none few = omega (arith, few)
+reachable_unit_one_more false false x xs items e none few = absurd cc
 
 -- no more than up to the first that never goes on
 live_cut : (t : Tables) (xs : List InstructionInfo) (items : List (Item Object)) → AllRead t (map step_of xs) items → live true items ≤ length (cut xs)
@@ -67,7 +68,7 @@ live_cut t [] [] r = omega arith
 live_cut t [] (i ∷ items) r = absurd r
 live_cut t (x ∷ xs) [] r = absurd r
 live_cut t (x ∷ xs) (Label l ∷ items) r = absurd r.0
-live_cut t (x ∷ xs) (Do i ∷ items) r = one_more (row_of x.instr).leaves (stays i) x (cut xs) items (stays_row t (block_number x.target.0) x.instr x.arg.0 i r.0.is) (live_none t xs items r.1) (live_cut t xs items r.1)
+live_cut t (x ∷ xs) (Do i ∷ items) r = reachable_unit_one_more (row_of x.instr).leaves (stays i) x (cut xs) items (stays_row t (block_number x.target.0) x.instr x.arg.0 i r.0.is) (live_none t xs items r.1) (live_cut t xs items r.1)
 
 live_body : (t : Tables) (level : ℕ) (xs : List InstructionInfo) (items : List (Item Object)) → AllRead t (map step_of xs) items → live true items ≤ length (body level xs)
 live_body t zero xs items r = live_all t true xs items r
@@ -75,7 +76,8 @@ live_body t (suc level) xs items r = live_cut t xs items r
 
 module _ (t : Tables) (level : ℕ) (bs : List Blk) where
   -- a block, and what follows it
-  few_joined : (items front back : List (Item Object)) (xs ys : List InstructionInfo) → items ≡ front ++ back → Fresh back → live true front ≤ length xs → live true back ≤ length ys → live true items ≤ length (xs ++ ys)
+  few_joined : (items front back : List (Item Object)) (xs ys : List InstructionInfo) → items ≡ front ++ back → Fresh back → live true front ≤ length xs
+      → live true back ≤ length ys → live true items ≤ length (xs ++ ys)
   few_joined items front back xs ys e fresh f g = let a = ap (live true) e in let j = live_joined true front back fresh in let l = length-append xs ys in omega (arith, a, j, l, f, g)
 
   few_end : (o : Option ℕ) (go : ℕ → List Step) (items : List (Item Object)) → o ≡ None → AllRead t (onwards o go) items → live true items ≤ 0
@@ -83,22 +85,24 @@ module _ (t : Tables) (level : ℕ) (bs : List Blk) where
   few_end None go (i ∷ items) e r = absurd r
   few_end None go [] e r = omega arith
 
-  few_next : (c m : ℕ) (o : Option ℕ) (go : ℕ → List Step) (items : List (Item Object)) → o ≡ Some c → AllRead t (onwards o go) items → ((js : List (Item Object)) → AllRead t (go c) js → live true js ≤ m) → live true items ≤ m
+  few_next : (c m : ℕ) (o : Option ℕ) (go : ℕ → List Step) (items : List (Item Object)) → o ≡ Some c → AllRead t (onwards o go) items
+      → ((js : List (Item Object)) → AllRead t (go c) js → live true js ≤ m) → live true items ≤ m
   few_next c m None go items e r k = absurd cc
   few_next c m (Some d) go [] e r k = absurd r
   few_next c m (Some d) go (Do i ∷ items) e r k = absurd r.0
   few_next c m (Some d) go (Label l ∷ items) e r k = k items (let same : d ≡ c = cc in subst (λ n. AllRead t (go n) items) same r.1)
 
   -- of a chain from one of its blocks on
-  pub few : (n c : ℕ) (cs : List ℕ) (items : List (Item Object)) → Leads bs (c ∷ cs) → length (c ∷ cs) ≤ n → AllRead t (steps_from bs n c) items → live true items ≤ length (flat level bs (c ∷ cs))
-  few zero c cs items leads enough r = absurd (omega (arith, enough))
-  few (suc n) c [] items leads enough r =
-      let p = parted t (map step_of (blk bs c).items) (onwards (blk bs c).next (steps_from bs n)) items r in
+  pub reachable_unit_few : (n c : ℕ) (cs : List ℕ) (items : List (Item Object)) → ChainLeads bs (c ∷ cs) → length (c ∷ cs) ≤ n
+      → AllRead t (steps_from bs n c) items → live true items ≤ length (flat level bs (c ∷ cs))
+  reachable_unit_few zero c cs items leads enough r = absurd (omega (arith, enough))
+  reachable_unit_few (suc n) c [] items leads enough r =
+      let p = laid_code_parted t (map step_of (blk bs c).items) (onwards (blk bs c).next (steps_from bs n)) items r in
       few_joined items p.front p.back (body level (blk bs c).items) [] p.are (fresh_onwards t (blk bs c).next (steps_from bs n) p.back p.second) (live_body t level (blk bs c).items p.front p.first) (few_end (blk bs c).next (steps_from bs n) p.back leads p.second)
-  few (suc n) c (d ∷ cs) items leads enough r =
-      let p = parted t (map step_of (blk bs c).items) (onwards (blk bs c).next (steps_from bs n)) items r in
+  reachable_unit_few (suc n) c (d ∷ cs) items leads enough r =
+      let p = laid_code_parted t (map step_of (blk bs c).items) (onwards (blk bs c).next (steps_from bs n)) items r in
       few_joined items p.front p.back (body level (blk bs c).items) (flat level bs (d ∷ cs)) p.are (fresh_onwards t (blk bs c).next (steps_from bs n) p.back p.second) (live_body t level (blk bs c).items p.front p.first)
-      (few_next d (length (flat level bs (d ∷ cs))) (blk bs c).next (steps_from bs n) p.back leads.0 p.second (λ js g. few n d cs js leads.1 (omega (arith, enough)) g))
+      (few_next d (length (flat level bs (d ∷ cs))) (blk bs c).next (steps_from bs n) p.back leads.0 p.second (λ js g. reachable_unit_few n d cs js leads.1 (omega (arith, enough)) g))
 
 -- as many units as instructions, or more
 decode_one : (high : ℕ) (us : List CodeUnit) (b : Bool) (u : CodeUnit) → length (decode high us) ≤ length us → length (decode 0 us) ≤ length us → length (if b then decode high us else (record { op = u.op; operand = high } ∷ decode 0 us)) ≤ length (u ∷ us)

@@ -28,59 +28,63 @@ pub outermost_settled : (level : ℕ) (source : List ℕ) (scopes : List ScopeEn
 unfolding inside
 outermost_settled level source scopes = record { cells = refl; frees = refl }
 
-or_true : (b : Bool) → (b || true) ≡ true
-or_true true = refl
-or_true false = refl
+settled_or_true : (b : Bool) → (b || true) ≡ true
+settled_or_true true = refl
+settled_or_true false = refl
 
 module _ (x : List ℕ) where
-  abbrev pub Has : List (List ℕ) → Type 0
-  Has ys = list_any (text_eq x) ys ≡ true
+  abbrev pub SettledHas : List (List ℕ) → Type 0
+  SettledHas ys = list_any (text_eq x) ys ≡ true
 
   -- at the front, or further back
-  here : (b : Bool) (y : List ℕ) (rest : List (List ℕ)) → b ≡ true → text_eq x y ≡ true → Has (if b then y ∷ rest else rest)
-  here true y rest e f = ap (λ z. z || list_any (text_eq x) rest) f
-  here false y rest e f = absurd cc
+  emission_proof_settled_here : (b : Bool) (y : List ℕ) (rest : List (List ℕ)) → b ≡ true → text_eq x y ≡ true → SettledHas (if b then y ∷ rest else rest)
+  emission_proof_settled_here true y rest e f = ap (λ z. z || list_any (text_eq x) rest) f
+  emission_proof_settled_here false y rest e f = absurd cc
 
-  later : (b : Bool) (y : List ℕ) (rest : List (List ℕ)) → Has rest → Has (if b then y ∷ rest else rest)
-  later true y rest h = ap (λ z. text_eq x y || z) h ∙ or_true (text_eq x y)
-  later false y rest h = h
+  settled_later : (b : Bool) (y : List ℕ) (rest : List (List ℕ)) → SettledHas rest → SettledHas (if b then y ∷ rest else rest)
+  settled_later true y rest h = ap (λ z. text_eq x y || z) h ∙ settled_or_true (text_eq x y)
+  settled_later false y rest h = h
 
-  front : (ys zs : List (List ℕ)) → Has ys → Has (ys ++ zs)
+  front : (ys zs : List (List ℕ)) → SettledHas ys → SettledHas (ys ++ zs)
   front ys zs h = list_any-append (text_eq x) ys zs ∙ ap (λ z. z || list_any (text_eq x) zs) h
 
-  back : (ys zs : List (List ℕ)) → Has zs → Has (ys ++ zs)
-  back ys zs h = list_any-append (text_eq x) ys zs ∙ ap (λ z. list_any (text_eq x) ys || z) h ∙ or_true (list_any (text_eq x) ys)
+  settled_back : (ys zs : List (List ℕ)) → SettledHas zs → SettledHas (ys ++ zs)
+  settled_back ys zs h = list_any-append (text_eq x) ys zs ∙ ap (λ z. list_any (text_eq x) ys || z) h ∙ settled_or_true (list_any (text_eq x) ys)
 
   -- a name that is there stands at its place
-  pub stands : (ys : List (List ℕ)) → Has ys → slice_get ys (position_or_len (text_eq x) ys) ≡ Some x
-  stands ys h = ap (λ b. slice_get (if b then ys else ys ++ x ∷ []) (position_or_len (text_eq x) ys)) (sym h) ∙ entered_stands text_eq text_eq_sound ys x
+  pub settled_stands : (ys : List (List ℕ)) → SettledHas ys → slice_get ys (position_or_len (text_eq x) ys) ≡ Some x
+  settled_stands ys h = ap (λ b. slice_get (if b then ys else ys ++ x ∷ []) (position_or_len (text_eq x) ys)) (sym h) ∙ entered_stands text_eq text_eq_sound ys x
 
-  abbrev scope_in : Option Symbol → SymbolScope
-  scope_in o = elim o [ None ↦ scope.Unknown | Some s ↦ s.scope ]
+  abbrev settled_scope_in : Option Symbol → SymbolScope
+  settled_scope_in o = elim o [ None ↦ scope.Unknown | Some s ↦ s.scope ]
 
   -- what these symbols say of it
   abbrev among : List Symbol → SymbolScope
-  among ss = scope_in (find (λ s. same_name x s.name) ss)
+  among ss = settled_scope_in (find (λ s. same_name x s.name) ss)
 
-  cell_if : (b : Bool) (s : Symbol) (ss : List Symbol) → text_eq x s.name ≡ b → scope_in (cond b (Some s) (find (λ s. same_name x s.name) ss)) ≡ scope.Cell → (among ss ≡ scope.Cell → Has (cells_among ss)) → Has (cells_among (s ∷ ss))
-  cell_if true s ss e f ih = here (is_cell s.scope) s.name (cells_among ss) (ap is_cell f) e
-  cell_if false s ss e f ih = later (is_cell s.scope) s.name (cells_among ss) (ih f)
+  cell_if : (b : Bool) (s : Symbol) (ss : List Symbol) → text_eq x s.name ≡ b
+      → settled_scope_in (cond b (Some s) (find (λ s. same_name x s.name) ss)) ≡ scope.Cell → (among ss ≡ scope.Cell → SettledHas (cells_among ss))
+      → SettledHas (cells_among (s ∷ ss))
+  cell_if true s ss e f ih = emission_proof_settled_here (is_cell s.scope) s.name (cells_among ss) (ap is_cell f) e
+  cell_if false s ss e f ih = settled_later (is_cell s.scope) s.name (cells_among ss) (ih f)
 
-  cell_among : (ss : List Symbol) → among ss ≡ scope.Cell → Has (cells_among ss)
+  cell_among : (ss : List Symbol) → among ss ≡ scope.Cell → SettledHas (cells_among ss)
   cell_among [] e = absurd cc
   cell_among (s ∷ ss) e = cell_if (text_eq x s.name) s ss refl e (cell_among ss)
 
-  free_if : (b : Bool) (s : Symbol) (ss : List Symbol) → text_eq x s.name ≡ b → scope_in (cond b (Some s) (find (λ s. same_name x s.name) ss)) ≡ scope.Free → (among ss ≡ scope.Free → Has (frees_among ss)) → Has (frees_among (s ∷ ss))
-  free_if true s ss e f ih = here (is_free s.scope || intersects s.flags.0 0x100) s.name (frees_among ss) (ap (λ z. is_free z || intersects s.flags.0 0x100) f) e
-  free_if false s ss e f ih = later (is_free s.scope || intersects s.flags.0 0x100) s.name (frees_among ss) (ih f)
+  free_if : (b : Bool) (s : Symbol) (ss : List Symbol) → text_eq x s.name ≡ b
+      → settled_scope_in (cond b (Some s) (find (λ s. same_name x s.name) ss)) ≡ scope.Free → (among ss ≡ scope.Free → SettledHas (frees_among ss))
+      → SettledHas (frees_among (s ∷ ss))
+  free_if true s ss e f ih = emission_proof_settled_here (is_free s.scope || intersects s.flags.0 0x100) s.name (frees_among ss) (ap (λ z. is_free z || intersects s.flags.0 0x100) f) e
+  free_if false s ss e f ih = settled_later (is_free s.scope || intersects s.flags.0 0x100) s.name (frees_among ss) (ih f)
 
-  free_among : (ss : List Symbol) → among ss ≡ scope.Free → Has (frees_among ss)
+  free_among : (ss : List Symbol) → among ss ≡ scope.Free → SettledHas (frees_among ss)
   free_among [] e = absurd cc
   free_among (s ∷ ss) e = free_if (text_eq x s.name) s ss refl e (free_among ss)
 
--- a cell of the scope, and a name from outside
+-- a cell of the scope, and a free variable
 pub cell_stands : (c : Context) → Settled c → (x : List ℕ) → scope_of c x ≡ scope.Cell → slice_get (c.cells ++ c.frees) (cell_place c x) ≡ Some x
-cell_stands c h x e = stands x (c.cells ++ c.frees) (front x c.cells c.frees (ap (λ ys. list_any (text_eq x) ys) h.cells ∙ cell_among x (symbols_in c.scopes c.here) e))
+cell_stands c h x e = settled_stands x (c.cells ++ c.frees) (front x c.cells c.frees (ap (λ ys. list_any (text_eq x) ys) h.cells ∙ cell_among x (symbols_in c.scopes c.here) e))
 
 pub free_stands : (c : Context) → Settled c → (x : List ℕ) → scope_of c x ≡ scope.Free → slice_get (c.cells ++ c.frees) (cell_place c x) ≡ Some x
-free_stands c h x e = stands x (c.cells ++ c.frees) (back x c.cells c.frees (ap (λ ys. list_any (text_eq x) ys) h.frees ∙ free_among x (symbols_in c.scopes c.here) e))
+free_stands c h x e = settled_stands x (c.cells ++ c.frees) (settled_back x c.cells c.frees (ap (λ ys. list_any (text_eq x) ys) h.frees ∙ free_among x (symbols_in c.scopes c.here) e))

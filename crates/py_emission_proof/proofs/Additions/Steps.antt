@@ -5,21 +5,22 @@ use Rattle.std.specs.Prelude.{nat_lt, slice_get, if◌then◌else◌}
 use Rattle.py_bytecode.specs.declared.instruction.Instruction.{Instruction}
 use Rattle.py_bytecode.specs.Objects as const
 use Rattle.py_bytecode.specs.Objects.{Const, Object, codes_in}
-use Rattle.py_bytecode.specs.Equality.{const_eq, text_eq, entered}
+use Rattle.py_bytecode.specs.Equality.{const_eq, text_eq, insert_if_new}
 use Rattle.py_bytecode.specs.Values.{Constant}
 use Rattle.py_bytecode.specs.Machine.{Instr}
 use Rattle.py_bytecode.specs.Decode.{Tables, instr_of, value_of}
 use Rattle.py_bytecode.proofs.Tables.{get_left}
 use Rattle.py_dataflow.specs.Flat.{is_jump}
 use Rattle.py_control.specs.Form.{Scope}
-use Rattle.py_control.specs.Code.{Item, Do, Label}
+use Rattle.py_control.specs.Code.{Item, Do}
 use Rattle.py_control.specs.Places.{instr_over}
-use Rattle.py_emission_parts.specs.Emitting.{Put, Begin, State, Outcome, Done, TooWide, Around, Emission, with_step, with_name, with_varname, with_constant, emit, jump, begin}
-use Rattle.py_control.specs.CodeRuns.{loaded}
+use Rattle.py_emission_parts.specs.Emitting.{Put, State, Outcome, Done, TooWide, Around, Emission, with_step, with_name, with_varname, with_constant, emit, jump}
+use Rattle.py_emission_parts.specs.Running.{put, run}
+use Rattle.py_control.specs.CodeRuns.{loaded_children}
 use Rattle.py_emission_proof.proofs.Additions.DistinctNames.{entered_distinct}
 use Rattle.py_emission_proof.proofs.Additions.AddedCodeLemmas.{Added, Begins, Adds, IsPlain, added_step, adds_step}
 use Rattle.py_emission_proof.proofs.Additions.Codes.{by_number, codes_after, no_codes}
-use Rattle.py_emission_proof.proofs.Additions.EmissionSequenceLemmas.{Yields, yields, done_is}
+use Rattle.py_emission_proof.proofs.Additions.EmissionSequenceLemmas.{Yields, emission_sequence_yields, done_is}
 
 -- one instruction is added with this around it
 abbrev pub StepHere : Around → Emission → Instr Scope ℕ → Type 0
@@ -38,8 +39,10 @@ abbrev pub instr_as : (ℕ → Object) → Instr Scope ℕ → Instr Object ℕ
 instr_as d x = instr_over (by_number d) (λ p. p) x
 
 -- an instruction that reads so in all tables that begin with those so far, and loads no child
-pub emit_read : (i : Instruction) (n : ℕ) (x : Instr Scope ℕ) (s r : State) → loaded x ≡ [] → ((d : ℕ → Object) (t : Tables) → Begins s t → instr_of t None i n ≡ Some (instr_as d x)) → emit i n s ≡ Done r → Added s r (Do x ∷ []) 0 [] × (r.next ≡ s.next)
-unfolding emit with_step
+pub emit_read : (i : Instruction) (n : ℕ) (x : Instr Scope ℕ) (s r : State) → loaded_children x ≡ []
+    → ((d : ℕ → Object) (t : Tables) → Begins s t → instr_of t None i n ≡ Some (instr_as d x)) → run (emit i n) s ≡ Done r
+    → Added s r (Do x ∷ []) 0 [] × (r.next ≡ s.next)
+unfolding emit put with_step
 emit_read i n x s r none is e =
     let y = Put i n None s.location in
     let p = fits_if (nat_lt n (2 ^ 32)) (Done (with_step y s)) r e in
@@ -47,25 +50,23 @@ emit_read i n x s r none is e =
     (added_step y s (Do x) [] (no_codes [] s.constants (Do x ∷ []) refl (ap (λ ks. ks ++ []) none)) (λ d z t b. (record { fits = search (rules, p.0); is = is d t b; aims = λ z. refl }, tt)) tt, refl)
 
 -- an instruction that reads so in all tables that begin with those so far
-pub emit_step : (i : Instruction) (n : ℕ) (x : Instr Scope ℕ) (s r : State) → IsPlain (Do x) → ((d : ℕ → Object) (t : Tables) → Begins s t → instr_of t None i n ≡ Some (instr_as d x)) → emit i n s ≡ Done r → Adds s r (Do x ∷ []) 0 0
-unfolding emit
+pub emit_step : (i : Instruction) (n : ℕ) (x : Instr Scope ℕ) (s r : State) → IsPlain (Do x)
+    → ((d : ℕ → Object) (t : Tables) → Begins s t → instr_of t None i n ≡ Some (instr_as d x)) → run (emit i n) s ≡ Done r → Adds s r (Do x ∷ []) 0 0
+unfolding emit put
 emit_step i n x s r plain is e =
     let y = Put i n None s.location in
     let p = fits_if (nat_lt n (2 ^ 32)) (Done (with_step y s)) r e in
     subst (λ z. Adds s z (Do x ∷ []) 0 0) (done_is (with_step y s) r p.1) (adds_step y s (Do x) plain (λ d t b. (record { fits = search (rules, p.0); is = is d t b; aims = λ z. refl }, tt)) tt)
 
 pub emit_adds : (i : Instruction) (n : ℕ) (x : Instr Scope ℕ) → IsPlain (Do x) → ((d : ℕ → Object) (t : Tables) → instr_of t None i n ≡ Some (instr_as d x)) → StepAdds (emit i n) x
-emit_adds i n x plain is c m k = yields (λ s r b g z e. emit_step i n x s r plain (λ d t h. is d t) e)
+emit_adds i n x plain is c m k = emission_sequence_yields (λ s r b g z e. emit_step i n x s r plain (λ d t h. is d t) e)
 
-pub jump_adds : (i : Instruction) (b : ℕ) (x : Instr Scope ℕ) → IsPlain (Do x) → is_jump i ≡ true → ((d : ℕ → Object) (t : Tables) → instr_of t (Some b) i 0 ≡ Some (instr_as d x)) → (c : Around) (n k : ℕ) → b < n → Yields c n k (jump i b) (Do x ∷ []) 0 0
+pub jump_adds : (i : Instruction) (b : ℕ) (x : Instr Scope ℕ) → IsPlain (Do x) → is_jump i ≡ true
+    → ((d : ℕ → Object) (t : Tables) → instr_of t (Some b) i 0 ≡ Some (instr_as d x)) → (c : Around) (n k : ℕ) → b < n → Yields c n k (jump i b) (Do x ∷ []) 0 0
 unfolding jump
-jump_adds i b x plain j is c n k lt = yields (λ s r f g z e.
+jump_adds i b x plain j is c n k lt = emission_sequence_yields (λ s r f g z e.
     let y = Put i 0 (Some b) s.location in
     subst (λ u. Adds s u (Do x ∷ []) 0 0) (done_is (with_step y s) r e) (adds_step y s (Do x) plain (λ d t h. (record { fits = omega arith; is = is d t; aims = λ w. absurd (cc (j, w)) }, tt)) (omega (arith, f, lt))))
-
-pub begin_adds : (b : ℕ) {c : Around} {n k : ℕ} → b < n → Yields c n k (begin b) (Label b ∷ []) 0 0
-unfolding begin
-begin_adds b lt = yields (λ s r f g z e. subst (λ u. Adds s u (Label b ∷ []) 0 0) (done_is (with_step (Begin b) s) r e) (adds_step (Begin b) s (Label b) (refl, refl) (λ d t h. (refl, tt)) (omega (arith, f, lt))))
 
 -- a table's entry stays where more entries follow
 within_list : {A : Type 0} (xs : List A) (n : ℕ) (x : A) → slice_get xs n ≡ Some x → n < length xs
@@ -81,7 +82,7 @@ abbrev pub enters_if : {A : Type 0} (b : Bool) (xs : List A) (x : A) → (more :
 enters_if true xs x = ([], sym (append-nil xs))
 enters_if false xs x = (x ∷ [], refl)
 
-abbrev pub enters : {A : Type 0} (eq : A → A → Bool) (xs : List A) (x : A) → (more : List A) × (entered eq xs x ≡ xs ++ more)
+abbrev pub enters : {A : Type 0} (eq : A → A → Bool) (xs : List A) (x : A) → (more : List A) × (insert_if_new eq xs x ≡ xs ++ more)
 enters eq xs x = enters_if (list_any (eq x) xs) xs x
 
 -- a name that is entered adds nothing else

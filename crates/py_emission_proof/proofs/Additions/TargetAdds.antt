@@ -8,7 +8,7 @@ use Rattle.py_bytecode.specs.Machine.{Operate, Unpack}
 use Rattle.py_control.specs.Form.{Interp, Scope, VForm, VForms, VKeep, Target, GPut, GDrop, targets}
 use Rattle.py_control.specs.Code.{Do, count as form_count, labels_v, labels_vs, labels_g, labels_gs, code_g, code_gs}
 use Rattle.py_emission_parts.specs.Elements.{Element, bare, stars, before_star, after_star}
-use Rattle.py_emission_parts.specs.TableParts.{TargetForms, plain_target, targets_of, unpacking, unpacked_to, counted}
+use Rattle.py_emission_parts.specs.TableParts.{TargetForms, plain_target, targets_of, unpack_operation, unpacked_to, counted_operation}
 use Rattle.py_emission_parts.specs.Emitting.{Around, Emission, ◌▸◌, emit, emit_count, move, refuse}
 use Rattle.py_emission_parts.specs.EmissionParts as emitting
 use Rattle.py_emission_parts.specs.EmissionParts.{Stores, plain_store, in_turn, unpack, unpack_starred, unless_debug}
@@ -16,7 +16,7 @@ use Rattle.py_emission_parts.specs.Refused.{few_aside}
 use Rattle.py_base.specs.declared.errors.CodegenErrorType.{CodegenErrorType}
 use Rattle.py_base.specs.declared.errors.CodegenErrorType.TheVariants as error
 use Rattle.py_emission_proof.proofs.Additions.EmissionSequenceLemmas.{Yields, after_these, keep_yields, moved_refused, refused_gives, scopes_as, then_these, then_yields}
-use Rattle.py_emission_proof.proofs.Additions.Threaded.{Relation, Threaded, Alike, AlikeElement, same_length, same_stars, same_before, same_after, bare_alike, bare_length, around_star}
+use Rattle.py_emission_proof.proofs.Additions.Threaded.{Relation, Threaded, Alike, AlikeElement, threaded_same_length, same_stars, same_before, same_after, bare_alike, bare_length, threaded_around_star}
 use Rattle.py_emission_proof.proofs.Additions.Steps.{StepAdds, StepHere}
 use Rattle.py_emission_proof.proofs.Additions.Instructions.{duplicate_adds, pop_adds, unpack_adds, unpack_star_adds}
 use Rattle.py_emission_proof.proofs.Additions.FormAdds.{ValueAdds, PartsAdd, unless_debug_gives}
@@ -57,7 +57,8 @@ module _ (i : Interp Scope) (c : Around) where
   drop_adds k n = pop_adds c n k
 
   -- parts, and an operation on them and on the value
-  pub put_adds : (k l : ℕ) (x : Operation) (p step : Emission) (fs : VForms) → PartsAdd i c k l p fs → StepHere c step (Operate x (suc (form_count fs)) (Some 0)) → TargetAdds i c k l (p ▸ step) (GPut x fs)
+  pub put_adds : (k l : ℕ) (x : Operation) (p step : Emission) (fs : VForms) → PartsAdd i c k l p fs
+      → StepHere c step (Operate x (suc (form_count fs)) (Some 0)) → TargetAdds i c k l (p ▸ step) (GPut x fs)
   put_adds k l x p step fs a h n = then_these (a n) (h (n + labels_vs fs) (k + l))
 
   -- a value that is stored and kept
@@ -72,39 +73,43 @@ module _ (i : Interp Scope) (c : Around) where
   turn_adds k l (v ∷ vs) (t ∷ ts) a n = scopes_as (sym a.2) (then_yields (a.3 n) (turn_adds (k + a.0) a.1 vs ts a.4 (n + labels_g t)))
 
   -- the instruction that unpacks
-  same_unpacking : (k l : ℕ) (es : List (Element Emission Emission)) (ts : List (Element Target Target)) → StoresAdd i c k l es ts → unpacking es ≡ unpacking ts
+  same_unpacking : (k l : ℕ) (es : List (Element Emission Emission)) (ts : List (Element Target Target)) → StoresAdd i c k l es ts → unpack_operation es ≡ unpack_operation ts
   same_unpacking k l es ts a =
-      let m = same_length (AlikeElement (TargetAdds i c) (TargetAdds i c)) k l es ts a in
+      let m = threaded_same_length (AlikeElement (TargetAdds i c) (TargetAdds i c)) k l es ts a in
       let z = same_stars (TargetAdds i c) k l es ts a in
       let x = same_before (TargetAdds i c) k l es ts a in
       let y = same_after (TargetAdds i c) k l es ts a in
-      λ j. if nat_eq (z j) 0 then counted op.UnpackSequence (m j) else counted op.UnpackEx (x j + 256 * y j)
+      λ j. if nat_eq (z j) 0 then counted_operation op.UnpackSequence (m j) else counted_operation op.UnpackEx (x j + 256 * y j)
 
   -- it takes as many targets as there are
-  star_adds : (at : SourceLocation) (es : List (Element Emission Emission)) → stars es ≢ 0 → StepAdds (unpack_starred at es) (Unpack (counted op.UnpackEx (before_star es + 256 * after_star es)) (length es))
+  star_adds : (at : SourceLocation) (es : List (Element Emission Emission)) → stars es ≢ 0
+      → StepAdds (unpack_starred at es) (Unpack (counted_operation op.UnpackEx (before_star es + 256 * after_star es)) (length es))
   star_adds at es some d k j = go (few_aside es) (nat_eq (stars es) 1) refl
     where
       n : ℕ
       n = before_star es + 256 * after_star es
 
-      go : (b o : Bool) → few_aside es ≡ b → Yields d k j (if b then (if o then emit op.UnpackEx n else refuse error.MultipleStarArgs) else (move at ▸ refuse error.TooManyStarUnpack)) (Do (Unpack (counted op.UnpackEx n) (length es)) ∷ []) 0 0
+      go : (b o : Bool) → few_aside es ≡ b
+          → Yields d k j (if b then (if o then emit op.UnpackEx n else refuse error.MultipleStarArgs) else (move at ▸ refuse error.TooManyStarUnpack)) (Do (Unpack (counted_operation op.UnpackEx n) (length es)) ∷ []) 0 0
       go true true w =
           let f = both_true (nat_lt (before_star es) 256) (nat_lt (after_star es) 256) w in
-          subst (λ z. Yields d k j (emit op.UnpackEx n) (Do (Unpack (counted op.UnpackEx n) z) ∷ []) 0 0) (around_star es some) (unpack_star_adds (before_star es) (after_star es) n refl (search (rules, f.0)) (search (rules, f.1)) d k j)
+          subst (λ z. Yields d k j (emit op.UnpackEx n) (Do (Unpack (counted_operation op.UnpackEx n) z) ∷ []) 0 0) (threaded_around_star es some) (unpack_star_adds (before_star es) (after_star es) n refl (search (rules, f.0)) (search (rules, f.1)) d k j)
       go true false w = refused_gives error.MultipleStarArgs
       go false o w = moved_refused at error.TooManyStarUnpack
 
-  unpacking_adds : (at : SourceLocation) (es : List (Element Emission Emission)) → StepAdds (emitting.unpacking at es) (Unpack (unpacking es) (length es))
+  unpacking_adds : (at : SourceLocation) (es : List (Element Emission Emission)) → StepAdds (emitting.unpack_emission at es) (Unpack (unpack_operation es) (length es))
   unpacking_adds at es d k j = go (nat_eq (stars es) 0) refl
     where
-      go : (b : Bool) → nat_eq (stars es) 0 ≡ b → Yields d k j (if b then emit_count op.UnpackSequence (length es) else unpack_starred at es) (Do (Unpack (if b then counted op.UnpackSequence (length es) else counted op.UnpackEx (before_star es + 256 * after_star es)) (length es)) ∷ []) 0 0
+      go : (b : Bool) → nat_eq (stars es) 0 ≡ b
+          → Yields d k j (if b then emit_count op.UnpackSequence (length es) else unpack_starred at es) (Do (Unpack (if b then counted_operation op.UnpackSequence (length es) else counted_operation op.UnpackEx (before_star es + 256 * after_star es)) (length es)) ∷ []) 0 0
       go true w = unpack_adds (length es) d k j
       go false w = star_adds at es (search (rules, w)) d k j
 
-  pub unpack_to_adds : (k l : ℕ) (at : SourceLocation) (es : List (Element Emission Emission)) (ts : List (Element Target Target)) → StoresAdd i c k l es ts → TargetAdds i c k l (unpack at es) (unpacked_to ts)
+  pub unpack_to_adds : (k l : ℕ) (at : SourceLocation) (es : List (Element Emission Emission)) (ts : List (Element Target Target)) → StoresAdd i c k l es ts
+      → TargetAdds i c k l (unpack at es) (unpacked_to ts)
   unpack_to_adds k l at es ts a n =
       let gs = bare ts in
-      let many : length es ≡ targets (targets_of gs) = same_length (AlikeElement (TargetAdds i c) (TargetAdds i c)) k l es ts a ∙ sym (bare_length ts) ∙ sym (as_many_targets gs) in
-      let first : StepAdds (emitting.unpacking at es) (Unpack (unpacking ts) (targets (targets_of gs))) =
-      subst (λ z. StepAdds (emitting.unpacking at es) (Unpack (unpacking ts) z)) many (subst (λ x. StepAdds (emitting.unpacking at es) (Unpack x (length es))) (same_unpacking k l es ts a) (unpacking_adds at es)) in
+      let many : length es ≡ targets (targets_of gs) = threaded_same_length (AlikeElement (TargetAdds i c) (TargetAdds i c)) k l es ts a ∙ sym (bare_length ts) ∙ sym (as_many_targets gs) in
+      let first : StepAdds (emitting.unpack_emission at es) (Unpack (unpack_operation ts) (targets (targets_of gs))) =
+      subst (λ z. StepAdds (emitting.unpack_emission at es) (Unpack (unpack_operation ts) z)) many (subst (λ x. StepAdds (emitting.unpack_emission at es) (Unpack x (length es))) (same_unpacking k l es ts a) (unpacking_adds at es)) in
       after_these (first c n k) (turn_adds k l (bare es) gs (bare_alike (TargetAdds i c) k l es ts a) n)

@@ -1,7 +1,7 @@
 -- Lists that are related member by member, each member from the number of the next scope on that those before it come to, and elements that
 -- are so too.
 use Rattle.std.proofs.Common.{◌≡◌, ◌≢◌, ℕ, suc, ◌+◌, List, [], ◌∷◌, ◌++◌, length, refl, ap, subst, arith}
-use Rattle.py_emission_parts.specs.Elements.{Element, Single, Spread, starred, bare, stars, before_star, after_star, grouped, groups, front, behind}
+use Rattle.py_emission_parts.specs.Elements.{Element, Single, Spread, has_starred, bare, stars, before_star, after_star, run_tuple, groups, front, behind}
 
 -- two things that are related where k is the number of the next scope, with so many scopes in them
 abbrev pub Relation : (B C : Type 0) → Type 1
@@ -27,16 +27,16 @@ module _ {B C : Type 0} (R : Relation B C) where
       let e = g.2 in
       (g.0, g.1 + b, omega (arith, e), g.3, threaded_join (k + g.0) g.1 b xs zs ys ws g.4 (threaded_as (k + a) (k + g.0 + g.1) b b zs ws (omega (arith, e)) refl h))
 
-  -- one more behind them
+  -- one more after them
   pub threaded_push : (k a b : ℕ) (xs : List B) (x : B) (ys : List C) (y : C) → Threaded k a xs ys → R (k + a) b x y → Threaded k (a + b) (xs ++ x ∷ []) (ys ++ y ∷ [])
   threaded_push k a b xs x ys y g h = threaded_join k a b xs (x ∷ []) ys (y ∷ []) g (b, 0, omega arith, h, refl)
 
   -- one is as long as the other
-  pub same_length : (k l : ℕ) (xs : List B) (ys : List C) → Threaded k l xs ys → length xs ≡ length ys
-  same_length k l [] [] a = refl
-  same_length k l [] (y ∷ ys) a = absurd a
-  same_length k l (x ∷ xs) [] a = absurd a
-  same_length k l (x ∷ xs) (y ∷ ys) a = ap suc (same_length (k + a.0) a.1 xs ys a.4)
+  pub threaded_same_length : (k l : ℕ) (xs : List B) (ys : List C) → Threaded k l xs ys → length xs ≡ length ys
+  threaded_same_length k l [] [] a = refl
+  threaded_same_length k l [] (y ∷ ys) a = absurd a
+  threaded_same_length k l (x ∷ xs) [] a = absurd a
+  threaded_same_length k l (x ∷ xs) (y ∷ ys) a = ap suc (threaded_same_length (k + a.0) a.1 xs ys a.4)
 
 -- both are plain and so related, or both are starred
 abbrev pub AlikeElement : {A B C D : Type 0} → Relation B C → Relation A D → Relation (Element B A) (Element C D)
@@ -50,7 +50,7 @@ module _ {A B C D : Type 0} (R : Relation B C) (Q : Relation A D) where
   Alike = Threaded (AlikeElement R Q)
 
   -- both have a star, or neither
-  pub same_starred : (k l : ℕ) (es : List (Element B A)) (fs : List (Element C D)) → Alike k l es fs → starred es ≡ starred fs
+  pub same_starred : (k l : ℕ) (es : List (Element B A)) (fs : List (Element C D)) → Alike k l es fs → has_starred es ≡ has_starred fs
   same_starred k l [] [] a = refl
   same_starred k l [] (f ∷ fs) a = absurd a
   same_starred k l (e ∷ es) [] a = absurd a
@@ -60,19 +60,19 @@ module _ {A B C D : Type 0} (R : Relation B C) (Q : Relation A D) where
   same_starred k l (Spread v ∷ es) (Spread f ∷ fs) a = refl
 
   -- the plain elements at the front, and what follows them
-  pub record Parted (k l : ℕ) (es : List (Element B A)) (fs : List (Element C D)) : Type 0 where
+  pub record ThreadedParted (k l : ℕ) (es : List (Element B A)) (fs : List (Element C D)) : Type 0 where
     pub first : ℕ
     pub rest : ℕ
     pub together : l ≡ first + rest
     pub fronts : Threaded R k first (front es) (front fs)
     pub behinds : Alike (k + first) rest (behind es) (behind fs)
 
-  pub parted : (k l : ℕ) (es : List (Element B A)) (fs : List (Element C D)) → Alike k l es fs → Parted k l es fs
-  parted k l [] [] a = record { first = 0; rest = l; together = omega arith; fronts = refl; behinds = a }
-  parted k l [] (f ∷ fs) a = absurd a
-  parted k l (e ∷ es) [] a = absurd a
-  parted k l (Single v ∷ es) (Single f ∷ fs) a =
-      let p = parted (k + a.0) a.1 es fs a.4 in
+  pub threaded_parted : (k l : ℕ) (es : List (Element B A)) (fs : List (Element C D)) → Alike k l es fs → ThreadedParted k l es fs
+  threaded_parted k l [] [] a = record { first = 0; rest = l; together = omega arith; fronts = refl; behinds = a }
+  threaded_parted k l [] (f ∷ fs) a = absurd a
+  threaded_parted k l (e ∷ es) [] a = absurd a
+  threaded_parted k l (Single v ∷ es) (Single f ∷ fs) a =
+      let p = threaded_parted (k + a.0) a.1 es fs a.4 in
       let d = a.2 in
       let e = p.together in
       record {
@@ -82,21 +82,22 @@ module _ {A B C D : Type 0} (R : Relation B C) (Q : Relation A D) where
         fronts = (a.0, p.first, refl, a.3, p.fronts);
         behinds = threaded_as (AlikeElement R Q) (k + a.0 + p.first) (k + (a.0 + p.first)) p.rest p.rest (behind es) (behind fs) (omega arith) refl p.behinds;
       }
-  parted k l (Single v ∷ es) (Spread f ∷ fs) a = absurd a.3
-  parted k l (Spread v ∷ es) (Single f ∷ fs) a = absurd a.3
-  parted k l (Spread v ∷ es) (Spread f ∷ fs) a =
+  threaded_parted k l (Single v ∷ es) (Spread f ∷ fs) a = absurd a.3
+  threaded_parted k l (Spread v ∷ es) (Single f ∷ fs) a = absurd a.3
+  threaded_parted k l (Spread v ∷ es) (Spread f ∷ fs) a =
       record { first = 0; rest = l; together = omega arith; fronts = refl; behinds = threaded_as (AlikeElement R Q) k (k + 0) l l (Spread v ∷ es) (Spread f ∷ fs) (omega arith) refl a }
 
   module _ (T : List B → A) (U : List C → D) (makes : (k l : ℕ) (xs : List B) (ys : List C) → Threaded R k l xs ys → Q k l (T xs) (U ys)) where
-    grouped_alike : (k l : ℕ) (xs : List B) (ys : List C) → Threaded R k l xs ys → Threaded Q k l (grouped T xs) (grouped U ys)
+    grouped_alike : (k l : ℕ) (xs : List B) (ys : List C) → Threaded R k l xs ys → Threaded Q k l (run_tuple T xs) (run_tuple U ys)
     grouped_alike k l [] [] a = a
     grouped_alike k l [] (y ∷ ys) a = absurd a
     grouped_alike k l (x ∷ xs) [] a = absurd a
     grouped_alike k l (x ∷ xs) (y ∷ ys) a = (l, 0, omega arith, makes k l (x ∷ xs) (y ∷ ys) a, refl)
 
     -- the groups after a run of plain elements
-    pub groups_alike : (k a b : ℕ) (es : List (Element B A)) (fs : List (Element C D)) (xs : List B) (ys : List C) → Threaded R k a xs ys → Alike (k + a) b es fs → Threaded Q k (a + b) (groups T xs es) (groups U ys fs)
-    groups_alike k a b [] [] xs ys r h = threaded_as Q k k a (a + b) (grouped T xs) (grouped U ys) refl (omega (arith, h)) (grouped_alike k a xs ys r)
+    pub groups_alike : (k a b : ℕ) (es : List (Element B A)) (fs : List (Element C D)) (xs : List B) (ys : List C) → Threaded R k a xs ys
+        → Alike (k + a) b es fs → Threaded Q k (a + b) (groups T xs es) (groups U ys fs)
+    groups_alike k a b [] [] xs ys r h = threaded_as Q k k a (a + b) (run_tuple T xs) (run_tuple U ys) refl (omega (arith, h)) (grouped_alike k a xs ys r)
     groups_alike k a b [] (f ∷ fs) xs ys r h = absurd h
     groups_alike k a b (e ∷ es) [] xs ys r h = absurd h
     groups_alike k a b (Single v ∷ es) (Single f ∷ fs) xs ys r h =
@@ -106,7 +107,7 @@ module _ {A B C D : Type 0} (R : Relation B C) (Q : Relation A D) where
     groups_alike k a b (Single v ∷ es) (Spread f ∷ fs) xs ys r h = absurd h.3
     groups_alike k a b (Spread v ∷ es) (Single f ∷ fs) xs ys r h = absurd h.3
     groups_alike k a b (Spread v ∷ es) (Spread f ∷ fs) xs ys r h =
-        threaded_join Q k a b (grouped T xs) (v ∷ groups T [] es) (grouped U ys) (f ∷ groups U [] fs) (grouped_alike k a xs ys r)
+        threaded_join Q k a b (run_tuple T xs) (v ∷ groups T [] es) (run_tuple U ys) (f ∷ groups U [] fs) (grouped_alike k a xs ys r)
         (h.0, h.1, h.2, h.3, threaded_as Q (k + a + h.0) (k + a + h.0) (0 + h.1) h.1 (groups T [] es) (groups U [] fs) refl (omega arith) (groups_alike (k + a + h.0) 0 h.1 es fs [] [] refl (threaded_as (AlikeElement R Q) (k + a + h.0) (k + a + h.0 + 0) h.1 h.1 es fs (omega arith) refl h.4)))
 
 module _ {A D : Type 0} (R : Relation A D) where
@@ -145,7 +146,7 @@ module _ {A D : Type 0} (R : Relation A D) where
   same_after k l (Single v ∷ es) (Single f ∷ fs) a = same_after (k + a.0) a.1 es fs a.4
   same_after k l (Single v ∷ es) (Spread f ∷ fs) a = absurd a.3
   same_after k l (Spread v ∷ es) (Single f ∷ fs) a = absurd a.3
-  same_after k l (Spread v ∷ es) (Spread f ∷ fs) a = same_length (AlikeElement R R) (k + a.0) a.1 es fs a.4
+  same_after k l (Spread v ∷ es) (Spread f ∷ fs) a = threaded_same_length (AlikeElement R R) (k + a.0) a.1 es fs a.4
 
 module _ {A : Type 0} where
   pub bare_length : (fs : List (Element A A)) → length (bare fs) ≡ length fs
@@ -154,7 +155,7 @@ module _ {A : Type 0} where
   bare_length (Spread f ∷ fs) = ap suc (bare_length fs)
 
   -- those before the first star, the star, and those after it
-  pub around_star : (es : List (Element A A)) → stars es ≢ 0 → before_star es + after_star es + 1 ≡ length es
-  around_star [] some = absurd (some refl)
-  around_star (Single x ∷ es) some = let h = around_star es some in omega (arith, h)
-  around_star (Spread x ∷ es) some = omega arith
+  pub threaded_around_star : (es : List (Element A A)) → stars es ≢ 0 → before_star es + after_star es + 1 ≡ length es
+  threaded_around_star [] some = absurd (some refl)
+  threaded_around_star (Single x ∷ es) some = let h = threaded_around_star es some in omega (arith, h)
+  threaded_around_star (Spread x ∷ es) some = omega arith

@@ -9,7 +9,7 @@ use Rattle.py_bytecode.specs.declared.operand.CodeUnit.{CodeUnit}
 use Rattle.py_dataflow.specs.Flat.{is_jump, named_place}
 use Rattle.py_dataflow.specs.declared.info.InstructionInfo.{InstructionInfo}
 use Rattle.py_layout.specs.Widths.{IsWidth}
-use Rattle.py_layout.specs.Written.{IsAssembled, located, need_of, needs_of, operand_in, units_of, written}
+use Rattle.py_layout.specs.Written.{IsAssembled, unit_locations, need_of, needs_of, operand_in, units_of, written_units}
 use Rattle.py_layout.specs.declared.widths.Need.TheVariants.{Fixed, Jump}
 use Rattle.py_layout.specs.declared.widths.Need.{Need}
 use Rattle.py_emission_proof.proofs.Additions.Widths.{units_four}
@@ -19,15 +19,15 @@ units_long op n zero = refl
 units_long op n (suc zero) = refl
 units_long op n (suc (suc w)) = ap suc (units_long op n (suc w))
 
-located_long : (f : InstructionInfo → ℕ) (xs : List InstructionInfo) (ws : List ℕ) → length (located xs ws) ≡ length (written f xs ws)
+located_long : (f : InstructionInfo → ℕ) (xs : List InstructionInfo) (ws : List ℕ) → length (unit_locations xs ws) ≡ length (written_units f xs ws)
 located_long f [] ws = refl
 located_long f (x ∷ xs) [] = refl
 located_long f (x ∷ xs) (w ∷ ws) =
     let l : length (replicate w x.location) ≡ w = length-replicate w x.location in
     let u : length (units_of x.instr (f x) w) ≡ w = units_long x.instr (f x) w in
-    let rest : length (located xs ws) ≡ length (written f xs ws) = located_long f xs ws in
-    let a : length (located (x ∷ xs) (w ∷ ws)) ≡ length (replicate w x.location) + length (located xs ws) = length-append (replicate w x.location) (located xs ws) in
-    let b : length (written f (x ∷ xs) (w ∷ ws)) ≡ length (units_of x.instr (f x) w) + length (written f xs ws) = length-append (units_of x.instr (f x) w) (written f xs ws) in
+    let rest : length (unit_locations xs ws) ≡ length (written_units f xs ws) = located_long f xs ws in
+    let a : length (unit_locations (x ∷ xs) (w ∷ ws)) ≡ length (replicate w x.location) + length (unit_locations xs ws) = length-append (replicate w x.location) (unit_locations xs ws) in
+    let b : length (written_units f (x ∷ xs) (w ∷ ws)) ≡ length (units_of x.instr (f x) w) + length (written_units f xs ws) = length-append (units_of x.instr (f x) w) (written_units f xs ws) in
     a ∙ omega (arith, l, u, rest) ∙ sym b
 
 -- no instruction has more than four units
@@ -38,14 +38,16 @@ width_four starts x w h = go (is_jump x.instr) h
     go true h = h.1
     go false h = let u = units_four x.arg.0 in omega (arith, h, u)
 
-written_short : (starts : List ℕ) (f : InstructionInfo → ℕ) (xs : List InstructionInfo) (ws : List ℕ) → ((k : ℕ) (d : Need) → k < length (needs_of starts xs) → IsWidth (get_or (needs_of starts xs) k d) (get_or ws k 0)) → length (written f xs ws) ≤ 4 * length xs
+written_short : (starts : List ℕ) (f : InstructionInfo → ℕ) (xs : List InstructionInfo) (ws : List ℕ)
+    → ((k : ℕ) (d : Need) → k < length (needs_of starts xs) → IsWidth (get_or (needs_of starts xs) k d) (get_or ws k 0))
+    → length (written_units f xs ws) ≤ 4 * length xs
 written_short starts f [] ws h = omega arith
 written_short starts f (x ∷ xs) [] h = omega arith
 written_short starts f (x ∷ xs) (w ∷ ws) h =
     let here : w ≤ 4 = width_four starts x w (h 0 (Fixed 0) (omega arith)) in
     let u : length (units_of x.instr (f x) w) ≡ w = units_long x.instr (f x) w in
-    let rest : length (written f xs ws) ≤ 4 * length xs = written_short starts f xs ws (λ k d l. h (suc k) d (omega (arith, l))) in
-    let b : length (written f (x ∷ xs) (w ∷ ws)) ≡ length (units_of x.instr (f x) w) + length (written f xs ws) = length-append (units_of x.instr (f x) w) (written f xs ws) in
+    let rest : length (written_units f xs ws) ≤ 4 * length xs = written_short starts f xs ws (λ k d l. h (suc k) d (omega (arith, l))) in
+    let b : length (written_units f (x ∷ xs) (w ∷ ws)) ≡ length (units_of x.instr (f x) w) + length (written_units f xs ws) = length-append (units_of x.instr (f x) w) (written_units f xs ws) in
     omega (arith, here, u, rest, b)
 
 -- so there are at most four units for each, and as many locations as units

@@ -1,4 +1,4 @@
--- What else is so of a code object that is made from a scope, and of the code objects within it.
+-- What else is so of a code object that is made from a scope, and of the code objects nested in it.
 use Rattle.std.proofs.Common.{◌≡◌, ℕ, zero, suc, ◌<◌, ◌^◌, List, [], ◌∷◌, length}
 use Rattle.py_bytecode.specs.Objects.{Object, constants, codes_in, head}
 use Rattle.py_bytecode.specs.Values.{Answer}

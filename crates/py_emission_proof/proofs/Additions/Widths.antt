@@ -32,9 +32,9 @@ wide_four x = go (is_jump x.instr)
     go true = omega arith
     go false = units_four x.arg.0
 
-few_units : (items : List InstructionInfo) → sum (map wide items) ≤ 4 * length items
-few_units [] = omega arith
-few_units (x ∷ items) = let a = wide_four x in let b = few_units items in let c = sum_by-cons (λ n. n) (wide x) (map wide items) in omega (arith, a, b, c)
+width_few_units : (items : List InstructionInfo) → sum (map wide items) ≤ 4 * length items
+width_few_units [] = omega arith
+width_few_units (x ∷ items) = let a = wide_four x in let b = width_few_units items in let c = sum_by-cons (λ n. n) (wide x) (map wide items) in omega (arith, a, b, c)
 
 few_before : (items : List InstructionInfo) (place : ℕ) → offset (map wide items) place ≤ 4 * length items
 few_before items zero = omega arith
@@ -71,7 +71,8 @@ module _ (starts : List ℕ) where
       go true = h (named_place starts x)
       go false = tt
 
-  each_reaches : (ws : List ℕ) → ((place : ℕ) → width_for (offset ws place) ≤ 4) → (items : List InstructionInfo) (k : ℕ) (d : Need) → k < length (needs_of starts items) → Reaches ws (get_or (needs_of starts items) k d) (get_or (map wide items) k 0)
+  each_reaches : (ws : List ℕ) → ((place : ℕ) → width_for (offset ws place) ≤ 4) → (items : List InstructionInfo) (k : ℕ) (d : Need)
+      → k < length (needs_of starts items) → Reaches ws (get_or (needs_of starts items) k d) (get_or (map wide items) k 0)
   each_reaches ws h [] k d l = absurd (omega arith)
   each_reaches ws h (x ∷ items) zero d l = wide_reaches ws h x
   each_reaches ws h (x ∷ items) (suc k) d l = each_reaches ws h items k d (omega (arith, l))
@@ -82,5 +83,5 @@ module _ (starts : List ℕ) where
       let reach : (place : ℕ) → width_for (offset ws place) ≤ 4 = λ place. width_four (offset ws place) (let b = few_before items place in omega (arith, b, few)) in
       let long : length ws ≡ length (needs_of starts items) = length-map items wide ∙ sym (length-map items (need_of starts)) in
       let many = h ws (record { chosen = record { long = long; each = each_is items }; reaches = each_reaches ws reach items }) in
-      let some = few_units items in
+      let some = width_few_units items in
       absurd (omega (arith, many, some, few))

@@ -11,9 +11,9 @@ use Rattle.py_bytecode.specs.Decode.{Tables, tables as tables_of}
 use Rattle.py_bytecode.specs.Units.{fetch_unit, machine}
 use Rattle.py_bytecode.specs.Blocks.{Of}
 use Rattle.py_bytecode.specs.declared.operand.CodeUnit.{CodeUnit}
-use Rattle.py_dataflow.specs.Walks.{IsDepth, seen}
+use Rattle.py_dataflow.specs.Walks.{IsDepth, seen_instr}
 use Rattle.py_ir.specs.Chain.{Blk, IsChain, coded_block, coded_blocks, flat}
-use Rattle.py_ir.proofs.CodeTableLemmas.{listed_is}
+use Rattle.py_ir.proofs.CodeTableLemmas.{code_table_listed_is}
 use Rattle.py_control.specs.Form.{Scope}
 use Rattle.py_control.specs.Code.{Item, labels, body_code, size}
 use Rattle.py_control_proof.specs.Live.{live}
@@ -26,33 +26,33 @@ use Rattle.py_control_proof.specs.Laws.{IsEnd}
 use Rattle.py_control_proof.proofs.Agreement.{each_to}
 use Rattle.py_control_proof.proofs.CodeObjects.{each_itself}
 use Rattle.py_control_proof.proofs.CodeOver.{code_over}
-use Rattle.py_control_proof.proofs.Kids.{children_are}
+use Rattle.py_control_proof.proofs.Kids.{kid_children_are}
 use Rattle.py_control_proof.proofs.LabelCount.{labels_counted}
-use Rattle.py_control_proof.proofs.Labels.{never_placed, once}
+use Rattle.py_control_proof.proofs.Labels.{never_placed, label_once}
 use Rattle.py_control_proof.proofs.LaidOut.{laid_runs}
 use Rattle.py_control_proof.proofs.Laws.{scope_ends}
 use Rattle.py_control_proof.proofs.OtherChildren.{children_over}
 use Rattle.py_emission_parts.specs.Context.{Context, cells_among, frees_among, symbols_in}
-use Rattle.py_emission_parts.specs.Children.{code_head}
+use Rattle.py_emission_parts.specs.Running.{code_head, run}
 use Rattle.py_emission_parts.specs.Within.{Shape}
-use Rattle.py_emission_parts.specs.Emitting.{Emission, State, Done, begun}
+use Rattle.py_emission_parts.specs.Emitting.{Emission, State, Done, initial_state}
 use Rattle.py_emission_parts.specs.Listed.{items_in, steps_at}
-use Rattle.py_emission_parts.specs.Sealed.{Head, sealed, tables_in}
+use Rattle.py_emission_parts.specs.Sealed.{Head, assembled_object, tables_in}
 use Rattle.py_emit.specs.Placed.{IsFit, IsPlaced, IsSealedOf, begun_in, blocks_in}
 use Rattle.py_emit.specs.Steps.{steps_in}
 use Rattle.py_emit.proofs.Chains.{chain_leads, chain_short}
-use Rattle.py_emit.proofs.Placed.{chain_in, long, steps_back}
-use Rattle.py_emit.proofs.Sealed.{items_are}
+use Rattle.py_emit.proofs.Placed.{chain_in, placed_long, steps_back}
+use Rattle.py_emit.proofs.Sealed.{sealed_items_are}
 use Rattle.py_emit.proofs.SealedLaid.{sealed_runs}
 use Rattle.py_emission_proof.specs.Distinct.{AreDistinct}
 use Rattle.py_emission_proof.specs.Loads.{AreNumbered, LoadsUpTo, loads}
 use Rattle.py_emission_proof.proofs.Additions.AddedCodeLemmas.{AllInside, AllRead, Begins, Completes, cells_of, completed, ground_of, read_as}
 use Rattle.py_emission_proof.proofs.Additions.Burden.{burden, burden_is, cells_in, cells_over, labels_few}
-use Rattle.py_emission_proof.proofs.Additions.Codes.{AllKnown, LoadsFew, MadeFrom, MadeWhereFew, Numbered, all_known, all_stand, by_number, each_made, number_of, own_numbers, scopes, stand_at}
-use Rattle.py_emission_proof.proofs.Additions.EmissionSequenceLemmas.{Gives, Stands, outside}
+use Rattle.py_emission_proof.proofs.Additions.Codes.{AllKnown, LoadsFew, MadeFrom, MadeWhereFew, Numbered, all_known, all_stand, by_number, each_made, code_number_of, own_numbers, code_scopes, stand_at}
+use Rattle.py_emission_proof.proofs.Additions.EmissionSequenceLemmas.{Gives, EmissionSequenceStands, emission_sequence_outside}
 use Rattle.py_emission_proof.proofs.Additions.Functions.{Makes}
 use Rattle.py_emission_proof.proofs.Additions.Settled.{Settled}
-use Rattle.py_emission_proof.proofs.Additions.ReachableUnitLemmas.{few, units_enough}
+use Rattle.py_emission_proof.proofs.Additions.ReachableUnitLemmas.{reachable_unit_few, units_enough}
 use Rattle.py_emission_proof.proofs.Additions.LaidCodeLemmas.{Lays}
 use Rattle.py_emission_proof.proofs.Additions.BlockPlacementLemmas.{few_left, in_range, placing}
 use Rattle.py_emission_proof.proofs.Additions.Readings.{Read, only_sizes}
@@ -70,9 +70,9 @@ pub each_paired : (d : ℕ → Object) (ss : List Scope) → each_to (λ s. (by_
 each_paired d [] = refl
 each_paired d (s ∷ ss) = ap (λ l. (by_number d s, s) ∷ l) (each_paired d ss)
 
-pub paired_are : (d : ℕ → Object) (ps : List (Object × Scope)) → Numbered d ps → paired d (scopes ps) ≡ ps
+pub paired_are : (d : ℕ → Object) (ps : List (Object × Scope)) → Numbered d ps → paired d (code_scopes ps) ≡ ps
 paired_are d [] h = refl
-paired_are d (p ∷ ps) h = ap (λ o. (o, p.1) ∷ paired d (scopes ps)) h.0 ∙ ap (λ l. p ∷ l) (paired_are d ps h.1)
+paired_are d (p ∷ ps) h = ap (λ o. (o, p.1) ∷ paired d (code_scopes ps)) h.0 ∙ ap (λ l. p ∷ l) (paired_are d ps h.1)
 
 fuel_more : (a b : ℕ) (answers : List Answer) → a ≤ b → fuel a answers ≤ fuel b answers
 fuel_more a b answers h = let le : 2 * a + 2 ≤ 2 * b + 2 = omega (arith, h) in mul-le-mul_left (length answers + 1) le
@@ -80,7 +80,7 @@ fuel_more a b answers h = let le : 2 * a + 2 ≤ 2 * b + 2 = omega (arith, h) in
 -- what is emitted of a whole scope
 pub record Emitted (c : Context) (at : SourceLocation) (k : ℕ) (s : Scope) (t : State) : Type 0 where
   pub count : ℕ
-  pub adds : Completes (begun c at k) t (body_code (exactly (λ x. x) s) (form_of s)) (labels (form_of s)) count
+  pub adds : Completes (initial_state c at k) t (body_code (exactly (λ x. x) s) (form_of s)) (labels (form_of s)) count
   pub looped : Looped false (form_of s)
   pub small : (d : Scope → Object) → burden (body_code (exactly d s) (form_of s)) < 2 ^ 27
   pub loading : LoadsFew c.scopes s
@@ -93,8 +93,8 @@ module _ (c : Context) (at : SourceLocation) (k : ℕ) (s : Scope) (t : State) (
   abbrev pub child_at : Scope → Object
   child_at = by_number objects_at
 
-  abbrev items : List (Item Scope)
-  items = body_code (exactly (λ x. x) s) (form_of s)
+  abbrev within_items : List (Item Scope)
+  within_items = body_code (exactly (λ x. x) s) (form_of s)
 
   abbrev object_items : List (Item Object)
   object_items = body_code (exactly child_at s) (form_of s)
@@ -102,7 +102,7 @@ module _ (c : Context) (at : SourceLocation) (k : ℕ) (s : Scope) (t : State) (
   stood : Numbered objects_at e.adds.made
   stood = all_stand e.adds.made e.adds.counted.apart
 
-  over : read_as objects_at items ≡ object_items
+  over : read_as objects_at within_items ≡ object_items
   over = code_over child_at (exactly (λ x. x) s) (form_of s)
 
   pub steps_read : (tables : Tables) → Begins t tables → AllRead tables t.steps object_items
@@ -111,19 +111,19 @@ module _ (c : Context) (at : SourceLocation) (k : ℕ) (s : Scope) (t : State) (
   pub steps_inside : AllInside t.blocks t.steps
   steps_inside = subst (AllInside t.blocks) (sym e.adds.added.steps_are) e.adds.added.inside
 
-  kids_are : kids (form_of s) ≡ scopes e.adds.made
-  kids_are = sym (children_are (exactly (λ x. x) s) (form_of s) ∙ each_itself (kids (form_of s))) ∙ e.adds.added.codes.loads
+  kids_are : kids (form_of s) ≡ code_scopes e.adds.made
+  kids_are = sym (kid_children_are (exactly (λ x. x) s) (form_of s) ∙ each_itself (kids (form_of s))) ∙ e.adds.added.codes.loads
 
   -- each child is made from its scope, since its codes load few cells
-  made : AllOf (MadeFrom (ground_of c)) e.adds.made
-  made = each_made (ground_of c) e.adds.made e.adds.added.codes.from_scopes (λ n. subst (AllOf (LoadsUpTo c.scopes (3 * 2 ^ 22) n)) kids_are (e.loading.down (suc n)).1)
+  within_made : AllOf (MadeFrom (ground_of c)) e.adds.made
+  within_made = each_made (ground_of c) e.adds.made e.adds.added.codes.from_scopes (λ n. subst (AllOf (LoadsUpTo c.scopes (3 * 2 ^ 22) n)) kids_are (e.loading.down (suc n)).1)
 
   cells_few : cells_in object_items ≤ 2 ^ 24
   cells_few =
-      let a : cells_in (read_as objects_at items) ≡ cells_in items = cells_over child_at items in
-      let b : cells_in object_items ≡ cells_in items = ap cells_in (sym over) ∙ a in
+      let a : cells_in (read_as objects_at within_items) ≡ cells_in within_items = cells_over child_at within_items in
+      let b : cells_in object_items ≡ cells_in within_items = ap cells_in (sym over) ∙ a in
       let h = e.adds.cells in
-      let r : loads c.scopes (scopes e.adds.made) ≤ 3 * 2 ^ 22 = subst (λ xs. loads c.scopes xs ≤ 3 * 2 ^ 22) kids_are ((e.loading.down 1).0 (subst AreNumbered (sym kids_are) (own_numbers e.adds.made e.adds.counted.apart))) in
+      let r : loads c.scopes (code_scopes e.adds.made) ≤ 3 * 2 ^ 22 = subst (λ xs. loads c.scopes xs ≤ 3 * 2 ^ 22) kids_are ((e.loading.down 1).0 (subst AreNumbered (sym kids_are) (own_numbers e.adds.made e.adds.counted.apart))) in
       omega (arith, b, h, r)
 
   pub reading : (tables : Tables) (bs : List Blk) → Begins t tables → steps_in bs ≡ t.steps → length bs ≡ t.blocks → Read child_at tables bs s
@@ -146,7 +146,7 @@ module _ (c : Context) (at : SourceLocation) (k : ℕ) (s : Scope) (t : State) (
   pairs_are : children pairs ≡ e.adds.made
   pairs_are =
       ap children (sym (code_over (λ x. (child_at x, x)) (exactly (λ x. x) s) (form_of s)))
-      ∙ children_over (λ x. (child_at x, x)) items ∙ ap (each_to (λ x. (child_at x, x))) e.adds.added.codes.loads ∙ each_paired objects_at (scopes e.adds.made) ∙ paired_are objects_at e.adds.made stood
+      ∙ children_over (λ x. (child_at x, x)) within_items ∙ ap (each_to (λ x. (child_at x, x))) e.adds.added.codes.loads ∙ each_paired objects_at (code_scopes e.adds.made) ∙ paired_are objects_at e.adds.made stood
 
   made_of : (o : Object) → ((answers : List Answer) → machine o answers ≡ runs_code object_items answers) → codes_in (constants o) ≡ codes_in t.constants → (n : ℕ) → IsMade n o s
   made_of o runs codes zero = tt
@@ -156,7 +156,7 @@ module _ (c : Context) (at : SourceLocation) (k : ℕ) (s : Scope) (t : State) (
     λ answers. runs answers ∙ ap (λ is. runs_code is answers) (sym (code_over (λ p. p.0) (exactly (λ x. (child_at x, x)) s) (form_of s))),
     code_over (λ p. p.1) (exactly (λ x. (child_at x, x)) s) (form_of s),
     subst (λ ks. SameMembers ks (objects (children pairs))) (sym codes) (subst (λ ps. SameMembers (codes_in t.constants) (objects ps)) (sym pairs_are) (known, e.adds.added.codes.kept)),
-    subst (AllOf (λ p. IsMade n p.0 p.1)) (sym pairs_are) (all_so (MadeFrom (ground_of c)) (λ p. IsMade n p.0 p.1) (λ p h. h.from n) e.adds.made made),
+    subst (AllOf (λ p. IsMade n p.0 p.1)) (sym pairs_are) (all_so (MadeFrom (ground_of c)) (λ p. IsMade n p.0 p.1) (λ p h. h.from n) e.adds.made within_made),
   )
 
   -- and its cells and free names are those of the scope
@@ -168,7 +168,7 @@ module _ (c : Context) (at : SourceLocation) (k : ℕ) (s : Scope) (t : State) (
     pairs,
     λ answers. runs answers ∙ ap (λ is. runs_code is answers) (sym (code_over (λ p. p.0) (exactly (λ x. (child_at x, x)) s) (form_of s))),
     code_over (λ p. p.1) (exactly (λ x. (child_at x, x)) s) (form_of s),
-    subst (AllOf (λ p. IsMadeSo (Named c.scopes) n p.0 p.1)) (sym pairs_are) (all_so (MadeFrom (ground_of c)) (λ p. IsMadeSo (Named c.scopes) n p.0 p.1) (λ p h. h.named n) e.adds.made made),
+    subst (AllOf (λ p. IsMadeSo (Named c.scopes) n p.0 p.1)) (sym pairs_are) (all_so (MadeFrom (ground_of c)) (λ p. IsMadeSo (Named c.scopes) n p.0 p.1) (λ p h. h.named n) e.adds.made within_made),
   )
 
   -- what is well made has well made code objects among its constants
@@ -177,15 +177,15 @@ module _ (c : Context) (at : SourceLocation) (k : ℕ) (s : Scope) (t : State) (
   well_of o well codes (suc n) = (
     well,
     subst (AllOf (UpTo (WellMade c.source c.scopes) n)) (sym codes)
-        (all_known (UpTo (WellMade c.source c.scopes) n) e.adds.made (all_so (MadeFrom (ground_of c)) (λ p. UpTo (WellMade c.source c.scopes) n p.0) (λ p h. h.well n) e.adds.made made) (codes_in t.constants) known),
+        (all_known (UpTo (WellMade c.source c.scopes) n) e.adds.made (all_so (MadeFrom (ground_of c)) (λ p. UpTo (WellMade c.source c.scopes) n p.0) (λ p h. h.well n) e.adds.made within_made) (codes_in t.constants) known),
   )
 
   module _ (level : ℕ) (h : Head) (named : h.source_path ≡ c.source) (cellvars : h.cellvars ≡ c.cells) (freevars : h.freevars ≡ c.frees) where
     abbrev tables : Tables
     tables = tables_in h t
 
-    begins : Begins t tables
-    begins = record {
+    within_begins : Begins t tables
+    within_begins = record {
       names = [];
       names_are = sym (append-nil t.names);
       varnames = [];
@@ -209,126 +209,134 @@ module _ (c : Context) (at : SourceLocation) (k : ℕ) (s : Scope) (t : State) (
         let small = e.small child_at in
         omega (arith, a, b, d, small)
 
-    placed : IsPlaced t.blocks t.steps
-    placed = placing tables t.blocks t.steps object_items (let a = e.adds.added.blocks_are in omega (arith, a)) few_blocks (steps_read tables begins) steps_inside (once (exactly child_at s) (form_of s)) (never_placed (exactly child_at s) (form_of s))
+    within_placed : IsPlaced t.blocks t.steps
+    within_placed = placing tables t.blocks t.steps object_items (let a = e.adds.added.blocks_are in omega (arith, a)) few_blocks (steps_read tables within_begins) steps_inside (label_once (exactly child_at s) (form_of s)) (never_placed (exactly child_at s) (form_of s))
 
     chain : IsChain bs cs
-    chain = chain_in t.blocks t.steps placed
+    chain = chain_in t.blocks t.steps within_placed
 
-    read : Read child_at tables bs s
-    read = reading tables bs begins (steps_back t.blocks t.steps placed) (long t.blocks t.steps placed)
+    within_read : Read child_at tables bs s
+    within_read = reading tables bs within_begins (steps_back t.blocks t.steps within_placed) (placed_long t.blocks t.steps within_placed)
 
     few_instructions : 4 * size object_items < 2 ^ 32
     few_instructions = let small = e.small child_at in let cells = cells_few in let both = burden_is object_items in omega (arith, small, cells, both)
 
     fit : IsFit level h t
     fit = record {
-      placed = placed;
-      clear = only_sizes child_at tables level bs s read cs chain;
-      range = in_range tables level t.steps object_items (steps_read tables begins);
-      few = let a = few_left tables level t.steps object_items (steps_read tables begins) in let b = few_instructions in omega (arith, a, b);
+      placed = within_placed;
+      clear = only_sizes child_at tables level bs s within_read cs chain;
+      range = in_range tables level t.steps object_items (steps_read tables within_begins);
+      few = let a = few_left tables level t.steps object_items (steps_read tables within_begins) in let b = few_instructions in omega (arith, a, b);
     }
 
-    of : IsSealedOf level h t bs (sealed level h t)
+    of : IsSealedOf level h t bs (assembled_object level h t)
     of = sealed_runs level h t fit
 
     lays : Lays tables (coded_blocks bs) object_items (Of 0 0)
-    lays = laid_along tables level bs object_items read.reads read.inside cs chain
+    lays = laid_along tables level bs object_items within_read.reads within_read.inside cs chain
 
     -- what can be come to pays for no more steps than the units do
-    enough : live true object_items ≤ length (const.head (sealed level h t)).instructions
+    enough : live true object_items ≤ length (const.head (assembled_object level h t)).instructions
     enough =
         let g = chain_leads bs of.laid.chain of.laid.is_chain in
         let short : length (0 ∷ g.0) ≤ length bs = let x = chain_short bs of.laid.chain of.laid.is_chain.path in let y = ap length g.1 in omega (arith, x, y) in
-        let f = few tables level bs (length bs) 0 g.0 object_items g.2 short read.reads in
+        let f = reachable_unit_few tables level bs (length bs) 0 g.0 object_items g.2 short within_read.reads in
         let z = ap (λ l. length (flat level bs l)) g.1 in
-        let u = units_enough of.laid.starts (flat level bs of.laid.chain) (const.head (sealed level h t)).instructions (const.head (sealed level h t)).locations of.laid.assembled in
+        let u = units_enough of.laid.starts (flat level bs of.laid.chain) (const.head (assembled_object level h t)).instructions (const.head (assembled_object level h t)).locations of.laid.assembled in
         omega (arith, f, z, u)
 
-    runs : (answers : List Answer) → machine (sealed level h t) answers ≡ runs_code object_items answers
-    runs answers =
+    within_runs : (answers : List Answer) → machine (assembled_object level h t) answers ≡ runs_code object_items answers
+    within_runs answers =
         of.runs answers
-        ∙ laid_runs child_at s tables (coded_blocks bs) lays.place lays.laid lays.ends (let a = read.blocks in let b = length-map bs coded_block in omega (arith, a, b)) e.looped answers (fuel (length (const.head (sealed level h t)).instructions) answers)
-        (fuel_more (live true object_items) (length (const.head (sealed level h t)).instructions) answers enough)
+        ∙ laid_runs child_at s tables (coded_blocks bs) lays.place lays.laid lays.ends (let a = within_read.blocks in let b = length-map bs coded_block in omega (arith, a, b)) e.looped answers (fuel (length (const.head (assembled_object level h t)).instructions) answers)
+        (fuel_more (live true object_items) (length (const.head (assembled_object level h t)).instructions) answers enough)
 
-    sealed_codes : codes_in (constants (sealed level h t)) ≡ codes_in t.constants
-    unfolding sealed
-    sealed_codes = ap codes_in (listed_is t.constants)
+    sealed_codes : codes_in (constants (assembled_object level h t)) ≡ codes_in t.constants
+    unfolding assembled_object
+    sealed_codes = ap codes_in (code_table_listed_is t.constants)
 
-    sealed_tables : tables_of (sealed level h t) ≡ tables
-    unfolding sealed
-    sealed_tables = λ j. record { constants = listed_is t.constants j; names = t.names; varnames = t.varnames; cells = h.cellvars ++ h.freevars }
+    sealed_tables : tables_of (assembled_object level h t) ≡ tables
+    unfolding assembled_object
+    sealed_tables = λ j. record { constants = code_table_listed_is t.constants j; names = t.names; varnames = t.varnames; cells = h.cellvars ++ h.freevars }
 
-    sealed_named : (const.head (sealed level h t)).source_path ≡ c.source
-    unfolding sealed
+    sealed_named : (const.head (assembled_object level h t)).source_path ≡ c.source
+    unfolding assembled_object
     sealed_named = named
 
-    sealed_cells : Named c.scopes (sealed level h t) s
-    unfolding sealed
+    sealed_cells : Named c.scopes (assembled_object level h t) s
+    unfolding assembled_object
     sealed_cells = record { cells = cellvars ∙ e.says.cells; frees = freevars ∙ e.says.frees }
 
-    sealed_names : AreDistinct (const.head (sealed level h t)).names
-    unfolding sealed
+    sealed_names : AreDistinct (const.head (assembled_object level h t)).names
+    unfolding assembled_object
     sealed_names = e.adds.added.distinct tt
 
-    sealed_own : AreDistinct (const.head (sealed level h t)).varnames
-    unfolding sealed
+    sealed_own : AreDistinct (const.head (assembled_object level h t)).varnames
+    unfolding assembled_object
     sealed_own = e.adds.added.own_distinct tt
 
-    abbrev units : List CodeUnit
-    units = (const.head (sealed level h t)).instructions
+    abbrev within_units : List CodeUnit
+    within_units = (const.head (assembled_object level h t)).instructions
 
-    few_units : length units < 2 ^ 32
-    few_units =
-        let u = units_few of.laid.starts (flat level bs of.laid.chain) units (const.head (sealed level h t)).locations of.laid.assembled in
-        let left : flat level bs of.laid.chain ≡ items_in (steps_at level t.steps) = items_are level bs of.laid.chain of.laid.is_chain ∙ ap (λ xs. items_in (steps_at level xs)) of.steps in
+    within_few_units : length within_units < 2 ^ 32
+    within_few_units =
+        let u = units_few of.laid.starts (flat level bs of.laid.chain) within_units (const.head (assembled_object level h t)).locations of.laid.assembled in
+        let left : flat level bs of.laid.chain ≡ items_in (steps_at level t.steps) = sealed_items_are level bs of.laid.chain of.laid.is_chain ∙ ap (λ xs. items_in (steps_at level xs)) of.steps in
         let l = ap length left in
         let z = fit.few in
         omega (arith, u, l, z)
 
-    well : WellMade c.source c.scopes (sealed level h t)
+    well : WellMade c.source c.scopes (assembled_object level h t)
     well = record {
-      ends = λ answers. subst (λ r. IsEnd r.outcome) (sym (runs answers)) (scope_ends child_at s e.looped answers);
+      ends = λ answers. subst (λ r. IsEnd r.outcome) (sym (within_runs answers)) (scope_ends child_at s e.looped answers);
       sound = of.sound;
-      depth = subst (λ (x : Tables). IsDepth (λ p. seen (fetch_unit x units p)) 0 (const.head (sealed level h t)).max_stackdepth) (sym sealed_tables) of.laid.unit_depth;
+      depth = subst (λ (x : Tables). IsDepth (λ p. seen_instr (fetch_unit x within_units p)) 0 (const.head (assembled_object level h t)).max_stackdepth) (sym sealed_tables) of.laid.unit_depth;
       written = (of.laid.starts, flat level bs of.laid.chain, of.laid.assembled);
-      located = as_located of.laid.starts (flat level bs of.laid.chain) units (const.head (sealed level h t)).locations of.laid.assembled;
-      few = few_units;
+      located = as_located of.laid.starts (flat level bs of.laid.chain) within_units (const.head (assembled_object level h t)).locations of.laid.assembled;
+      few = within_few_units;
       named = sealed_named;
       names = sealed_names;
       varnames = sealed_own;
-      celled = (number_of s, sealed_cells.cells, sealed_cells.frees);
+      celled = (code_number_of s, sealed_cells.cells, sealed_cells.frees);
     }
 
-    pub sealed_made : MadeFrom (ground_of c) (sealed level h t, s)
-    sealed_made = record { from = made_of (sealed level h t) runs sealed_codes; named = named_of (sealed level h t) sealed_cells runs; well = well_of (sealed level h t) well sealed_codes }
+    pub sealed_made : MadeFrom (ground_of c) (assembled_object level h t, s)
+    sealed_made = record { from = made_of (assembled_object level h t) within_runs sealed_codes; named = named_of (assembled_object level h t) sealed_cells within_runs; well = well_of (assembled_object level h t) well sealed_codes }
 
 -- what is emitted in a scope within adds its whole code, in which breaks and continues stand in loops
-abbrev pub Whole : (inner : Context) → (body : Emission) → (next count : ℕ) → Scope → Type 0
-Whole inner body k l x = Gives (outside inner) 1 k body (body_code (exactly (λ y. y) x) (form_of x)) (labels (form_of x)) l (Looped false (form_of x))
+abbrev pub WithinWhole : (inner : Context) → (body : Emission) → (next count : ℕ) → Scope → Type 0
+WithinWhole inner body k l x = Gives (emission_sequence_outside inner) 1 k body (body_code (exactly (λ y. y) x) (form_of x)) (labels (form_of x)) l (Looped false (form_of x))
 
 -- the same, where one cell more may be loaded
 pub record Completing (inner : Context) (body : Emission) (next count : ℕ) (x : Scope) : Type 0 where
-  pub run : (at : SourceLocation) (t : State) → Stands (outside inner) (begun inner at next) → body (begun inner at next) ≡ Done t → Completes (begun inner at next) t (body_code (exactly (λ y. y) x) (form_of x)) (labels (form_of x)) count × Looped false (form_of x)
+  pub does : (at : SourceLocation) (t : State) → EmissionSequenceStands (emission_sequence_outside inner) (initial_state inner at next)
+      → run body (initial_state inner at next) ≡ Done t
+      → Completes (initial_state inner at next) t (body_code (exactly (λ y. y) x) (form_of x)) (labels (form_of x)) count × Looped false (form_of x)
 
-pub whole_completes : (inner : Context) (body : Emission) (next count : ℕ) (x : Scope) → Whole inner body next count x → Completing inner body next count x
+pub whole_completes : (inner : Context) (body : Emission) (next count : ℕ) (x : Scope) → WithinWhole inner body next count x → Completing inner body next count x
 whole_completes inner body next count x w = record {
-  run = λ at t z e. let a = w.run (begun inner at next) t refl refl z e in (completed (begun inner at next) t (body_code (exactly (λ y. y) x) (form_of x)) (labels (form_of x)) count a.0, a.1);
+  does = λ at t z e. let a = w.does (initial_state inner at next) t refl refl z e in (completed (initial_state inner at next) t (body_code (exactly (λ y. y) x) (form_of x)) (labels (form_of x)) count a.0, a.1);
 }
 
 -- so the code object of the scope is made from it, where it and those within it load few cells
-pub completed_makes : (c inner : Context) (h : Shape) (body : Emission) (k l : ℕ) (x : Scope) → number_of x ≡ k → inner.cells ≡ cells_among (symbols_in c.scopes k) → inner.frees ≡ frees_among (symbols_in c.scopes k) → inner.scopes ≡ c.scopes → inner.source ≡ c.source → Settled inner → ((d : Scope → Object) → burden (body_code (exactly d x) (form_of x)) < 2 ^ 27) → Completing inner body (suc k) l x → Makes c inner h body k l x
+pub completed_makes : (c inner : Context) (h : Shape) (body : Emission) (k l : ℕ) (x : Scope) → code_number_of x ≡ k
+    → inner.cells ≡ cells_among (symbols_in c.scopes k) → inner.frees ≡ frees_among (symbols_in c.scopes k) → inner.scopes ≡ c.scopes → inner.source ≡ c.source
+    → Settled inner → ((d : Scope → Object) → burden (body_code (exactly d x) (form_of x)) < 2 ^ 27) → Completing inner body (suc k) l x
+    → Makes c inner h body k l x
 completed_makes c inner h body k l x number cells frees same source settled small completing = record {
   number = number;
   frees = frees;
-  run = λ at t e.
+  does = λ at t e.
       let says : Says inner x = record { cells = cells ∙ (λ j. cells_among (symbols_in (sym same j) (sym number j))); frees = frees ∙ (λ j. frees_among (symbols_in (sym same j) (sym number j))) } in
-      let a = completing.run at t (record { around = refl; settled = settled }) e in
+      let a = completing.does at t (record { around = refl; settled = settled }) e in
       let emitted : LoadsFew inner.scopes x → Emitted inner at (suc k) x t = λ few. record { count = l; adds = a.0; looped = a.1; small = small; loading = few; says = says } in
-      let made : MadeWhereFew (ground_of inner) (sealed inner.level (code_head inner h at) t, x) = λ few. sealed_made inner at (suc k) x t (emitted few) inner.level (code_head inner h at) refl refl refl in
-      (subst (λ ground. MadeWhereFew ground (sealed inner.level (code_head inner h at) t, x)) (λ j. (source j, same j)) made, a.0.next_is);
+      let made : MadeWhereFew (ground_of inner) (assembled_object inner.level (code_head inner h at) t, x) = λ few. sealed_made inner at (suc k) x t (emitted few) inner.level (code_head inner h at) refl refl refl in
+      (subst (λ ground. MadeWhereFew ground (assembled_object inner.level (code_head inner h at) t, x)) (λ j. (source j, same j)) made, a.0.next_is);
 }
 
-pub scope_makes : (c inner : Context) (h : Shape) (body : Emission) (k l : ℕ) (x : Scope) → number_of x ≡ k → inner.cells ≡ cells_among (symbols_in c.scopes k) → inner.frees ≡ frees_among (symbols_in c.scopes k) → inner.scopes ≡ c.scopes → inner.source ≡ c.source → Settled inner → ((d : Scope → Object) → burden (body_code (exactly d x) (form_of x)) < 2 ^ 27) → Whole inner body (suc k) l x → Makes c inner h body k l x
+pub scope_makes : (c inner : Context) (h : Shape) (body : Emission) (k l : ℕ) (x : Scope) → code_number_of x ≡ k
+    → inner.cells ≡ cells_among (symbols_in c.scopes k) → inner.frees ≡ frees_among (symbols_in c.scopes k) → inner.scopes ≡ c.scopes → inner.source ≡ c.source
+    → Settled inner → ((d : Scope → Object) → burden (body_code (exactly d x) (form_of x)) < 2 ^ 27) → WithinWhole inner body (suc k) l x
+    → Makes c inner h body k l x
 scope_makes c inner h body k l x number cells frees same source settled small whole =
     completed_makes c inner h body k l x number cells frees same source settled small (whole_completes inner body (suc k) l x whole)

@@ -1,4 +1,4 @@
--- What future imports weigh, and the statements behind them.
+-- What future imports weigh, and the statements after them.
 use Rattle.std.proofs.Common.{◌≡◌, ℕ, ◌+◌, ◌*◌, ◌≤◌, Bool, true, false, Option, Some, None, refl, subst, arith}
 use Rattle.py_tree.specs.Tree as tree
 use Rattle.py_limits.specs.Size.{stmt_size, stmts_size}
@@ -28,15 +28,18 @@ module _ (i : Interp Object) where
   abbrev Within : (more : ℕ) → SForm → ℕ → Type 0
   Within more f s = (x : Loops) (n : ℕ) → burden (code i f x n) ≤ 16 * s + more
 
-  pub future_or : (more : ℕ) (c : Context) (t : tree.Stmt) (ss : tree.Stmts) (f : SForm) (form : Future → SForm) (o : Option Future) → future_of t ≡ o → Within more f (stmts_size (tree.more_stmts t ss)) → ((y : Future) → Within more (form y) (stmts_size ss)) → Within more (elim o [ None ↦ f | Some y ↦ SThen (future_form c y) (form y) ]) (stmts_size (tree.more_stmts t ss))
-  future_or more c t ss f form None e p q x n = p x n
-  future_or more c t ss f form (Some y) e p q x n =
+  pub future_size_future_or : (more : ℕ) (c : Context) (t : tree.Stmt) (ss : tree.Stmts) (f : SForm) (form : Future → SForm) (o : Option Future)
+      → future_of t ≡ o → Within more f (stmts_size (tree.more_stmts t ss)) → ((y : Future) → Within more (form y) (stmts_size ss))
+      → Within more (elim o [ None ↦ f | Some y ↦ SThen (future_form c y) (form y) ]) (stmts_size (tree.more_stmts t ss))
+  future_size_future_or more c t ss f form None e p q x n = p x n
+  future_size_future_or more c t ss f form (Some y) e p q x n =
       let m = n + labels (future_form c y) in
       let u = future_small c t y e x n in
       let v = q y x m in
       let w = burden-append (code i (future_form c y) x n) (code i (form y) x m) in
       omega (arith, u, v, w)
 
-  pub behind_small : (more : ℕ) (form : Context → tree.Stmts → SForm) → ((c : Context) (ts : tree.Stmts) → Within more (form c ts) (stmts_size ts)) → (c : Context) (ts : tree.Stmts) → Within more (behind_futures form c ts) (stmts_size ts)
+  pub behind_small : (more : ℕ) (form : Context → tree.Stmts → SForm) → ((c : Context) (ts : tree.Stmts) → Within more (form c ts) (stmts_size ts))
+      → (c : Context) (ts : tree.Stmts) → Within more (behind_futures form c ts) (stmts_size ts)
   behind_small more form h c tree.no_stmts = h c tree.no_stmts
-  behind_small more form h c (tree.more_stmts t ss) = future_or more c t ss (form c (tree.more_stmts t ss)) (λ f. behind_futures form (after_future f c) ss) (future_of t) refl (h c (tree.more_stmts t ss)) (λ f. behind_small more form h (after_future f c) ss)
+  behind_small more form h c (tree.more_stmts t ss) = future_size_future_or more c t ss (form c (tree.more_stmts t ss)) (λ f. behind_futures form (after_future f c) ss) (future_of t) refl (h c (tree.more_stmts t ss)) (λ f. behind_small more form h (after_future f c) ss)

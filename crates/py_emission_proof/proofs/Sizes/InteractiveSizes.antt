@@ -18,7 +18,7 @@ use Rattle.py_meaning.specs.Table.{after, after_all, expr_form}
 use Rattle.py_meaning.specs.TableParams.{around_own, function_number, own_number}
 use Rattle.py_meaning.specs.TableStmts.{function_body, rest_form, stmt_form}
 use Rattle.py_emission_proof.proofs.Additions.Burden.{burden, burden-append}
-use Rattle.py_emission_proof.proofs.Sizes.FutureSizes.{behind_small, future_or}
+use Rattle.py_emission_proof.proofs.Sizes.FutureSizes.{behind_small, future_size_future_or}
 use Rattle.py_emission_proof.proofs.Sizes.Sizes.{expr_small}
 use Rattle.py_emission_proof.proofs.Sizes.SmallAssigns.{CodeSmall}
 use Rattle.py_emission_proof.proofs.Sizes.SmallTypeParameters.{class_small, def_small}
@@ -86,7 +86,7 @@ module _ (i : Interp Object) where
       let p = (expr_small i c k value).value n in
       let q = prompt_small c (after c k value) (tree.more_stmts t ts) x (n + (labels_v (expr_form c k value) + 0)) in
       simp burden-append (omega (arith, p, q))
-  prompt_small c k (tree.more_stmts s ss) x n = future_or i 3 c s ss (single_form c k (tree.more_stmts s ss)) (λ f. prompt_form (after_future f c) k ss) (future_of s) refl (single_small i c k (tree.more_stmts s ss)) (λ f. prompt_small (after_future f c) k ss) x n
+  prompt_small c k (tree.more_stmts s ss) x n = future_size_future_or i 3 c s ss (single_form c k (tree.more_stmts s ss)) (λ f. prompt_form (after_future f c) k ss) (future_of s) refl (single_small i c k (tree.more_stmts s ss)) (λ f. prompt_small (after_future f c) k ss) x n
 
   -- in each mode
   pub interactive_small : (c : Context) (m : Mode) (ss : tree.Stmts) → ShownSmall i c (interactive_form m c ss) (stmts_size ss)

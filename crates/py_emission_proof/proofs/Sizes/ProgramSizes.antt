@@ -1,4 +1,4 @@
--- What the whole code of a scope weighs, of a program, of a lambda, of a function, of a class, and of a hidden scope of type parameters: at most sixteen for each unit of size, two more for what ends a function, and fourteen more for what begins and ends a class.
+-- What the whole code of a scope weighs, of a program, of a lambda, of a function, of a class, and of a type-parameter scope of type parameters: at most sixteen for each unit of size, two more for what ends a function, and fourteen more for what begins and ends a class.
 use Rattle.std.proofs.Common.{ℕ, ◌+◌, ◌*◌, ◌^◌, ◌<◌, ◌≤◌, ◌≡◌, List, [], ◌∷◌, Bool, true, false, Option, Some, None, refl, arith, append-nil}
 use Rattle.std.specs.Prelude.{codes, nat_lt, if◌then◌else◌}
 use Rattle.py_tree.specs.Tree as tree
@@ -12,18 +12,18 @@ use Rattle.py_bytecode.specs.Values.{Bare, Cell, operation}
 use Rattle.py_control.specs.Form.{Interp, VForm, VConst, VLoad, VSwap, VNone, VMore, FixedFast, SForm, SThen, SReturn, Scope, MkScope}
 use Rattle.py_control.specs.Fit.{Loops}
 use Rattle.py_control.specs.Agree.{exactly, form_of}
-use Rattle.py_control.specs.Code.{class_code, closes, closing, labels, labels_v, code, code_v, body_code}
+use Rattle.py_control.specs.Code.{class_code, closes, closing_return, labels, labels_v, code, code_v, body_code}
 use Rattle.py_scope.specs.declared.flat.ScopeEntry.{ScopeEntry}
 use Rattle.py_emission_parts.specs.Context.{Context, head_of, outermost}
-use Rattle.py_emission_parts.specs.Within.{handed, handed_parts}
+use Rattle.py_emission_parts.specs.Within.{passed_defaults, handed_parts}
 use Rattle.py_emission.specs.Texts.{after_doc, doc_of, first_text, stmt_text, unless_text}
 use Rattle.py_meaning.specs.Interactive.{interactive_form}
 use Rattle.py_meaning.specs.Meaning.{body, mod_form}
 use Rattle.py_meaning.specs.StmtParts.{after_stmt, class_value, function_value, unless_last}
-use Rattle.py_emission.specs.Predicates.{annotated, but_doc, is_last_return}
+use Rattle.py_emission.specs.Predicates.{any_annotates, but_doc, is_last_return}
 use Rattle.py_meaning.specs.Table.{after, after_all, clause_forms, expr_form, expr_forms, filter_forms, further_forms, target_forms}
 use Rattle.py_meaning.specs.TableParams.{params_form}
-use Rattle.py_meaning.specs.TableScopes.{class_form, gathered, generated, iterator, setup_form}
+use Rattle.py_meaning.specs.TableScopes.{class_form, gather_form, generate_form, iterator, setup_form}
 use Rattle.py_meaning.specs.TableStmts.{doc_form, ended_form, function_body, rest_form, stmt_form, stmts_form}
 use Rattle.py_emission_proof.proofs.Additions.Burden.{burden, burden-append}
 use Rattle.py_emission_proof.proofs.Sizes.FutureSizes.{behind_small}
@@ -42,7 +42,8 @@ stmt_some other = omega arith
 
 module _ (i : Interp Object) (x : Loops) (n : ℕ) where
   -- a docstring that is kept has less than its statement
-  doc_if : (b : Bool) (text : Option (List ℕ)) (stmts : tree.Stmts) → first_text stmts ≡ text → burden (code i (doc_form (if b then text else None)) x n) + 16 * stmts_size (unless_text text stmts) ≤ 16 * stmts_size stmts
+  doc_if : (b : Bool) (text : Option (List ℕ)) (stmts : tree.Stmts) → first_text stmts ≡ text
+      → burden (code i (doc_form (if b then text else None)) x n) + 16 * stmts_size (unless_text text stmts) ≤ 16 * stmts_size stmts
   doc_if true None stmts e = omega arith
   doc_if false None stmts e = omega arith
   doc_if b (Some text) tree.no_stmts e = absurd cc
@@ -56,7 +57,7 @@ setup_small : (i : Interp Object) (b : Bool) (x : Loops) (n : ℕ) → burden (c
 setup_small i true x n = omega arith
 setup_small i false x n = omega arith
 
-closing_small : (b : Bool) → burden (closing {K = Object} b) ≤ 1
+closing_small : (b : Bool) → burden (closing_return {K = Object} b) ≤ 1
 closing_small true = omega arith
 closing_small false = omega arith
 
@@ -69,15 +70,15 @@ mod_small : (i : Interp Object) (c : Context) (t : tree.Mod) (m : Mode) → burd
 mod_small i c (tree.Module stmts) m =
     let p = doc_small i unlooped 1 c.level stmts in
     let begun = 1 + labels (doc_form (doc_of c.level stmts)) in
-    let setup = setup_form (annotated (after_doc stmts)) in
-    let q = setup_small i (annotated (after_doc stmts)) unlooped begun in
+    let setup = setup_form (any_annotates (after_doc stmts)) in
+    let q = setup_small i (any_annotates (after_doc stmts)) unlooped begun in
     let r = behind_small i 0 (λ d. stmts_form d 1) (λ d ts x n. let u = stmts_small i d 1 ts x n in omega (arith, u)) c (after_doc stmts) unlooped (begun + labels setup) in
     simp burden-append (omega (arith, p, q, r))
 mod_small i c (tree.Interactive stmts) m =
     let f = interactive_form m c stmts in
     let p = interactive_small i c m stmts unlooped 1 in
     let q = closing_small (closes f) in
-    let e = burden-append (code i f unlooped 1) (closing (closes f)) in
+    let e = burden-append (code i f unlooped 1) (closing_return (closes f)) in
     omega (arith, p, q, e)
 mod_small i c (tree.Expression e) m =
     let p = (expr_small i c 1 e).value 1 in
@@ -127,7 +128,7 @@ module _ (i : Interp Object) (c : Context) where
   run_small k ts =
       let p = statements_small k ts unlooped 1 in
       let q = closing_small (closes (function_body c k ts)) in
-      let e = burden-append (code i (function_body c k ts) unlooped 1) (closing (closes (function_body c k ts))) in
+      let e = burden-append (code i (function_body c k ts) unlooped 1) (closing_return (closes (function_body c k ts))) in
       omega (arith, p, q, e)
 
 -- what keeps and returns the cell of a class, or returns None
@@ -156,24 +157,28 @@ module _ (i : Interp Object) (c : Context) where
       simp burden-append (omega (arith, p, q, r))
 
 -- a lambda has a small code of its own, whatever stands within it
-pub lambda_small : (d : Scope → Object) (c : Context) (n : ℕ) (e : tree.Expr) → expr_size e < 2 ^ 22 → burden (body_code (exactly d (MkScope (head_of c) (SReturn (expr_forms c n e).value))) (SReturn (expr_forms c n e).value)) < 2 ^ 27
+pub lambda_small : (d : Scope → Object) (c : Context) (n : ℕ) (e : tree.Expr) → expr_size e < 2 ^ 22
+    → burden (body_code (exactly d (MkScope (head_of c) (SReturn (expr_forms c n e).value))) (SReturn (expr_forms c n e).value)) < 2 ^ 27
 lambda_small d c n e small =
     let p = returned_small (exactly d (MkScope (head_of c) (SReturn (expr_forms c n e).value))) c n e in
     omega (arith, p, small)
 
 -- and a function
-pub function_small : (d : Scope → Object) (c : Context) (n : ℕ) (stmts : tree.Stmts) → stmts_size stmts < 2 ^ 22 → burden (body_code (exactly d (MkScope (head_of c) (function_body c n stmts))) (function_body c n stmts)) < 2 ^ 27
+pub function_small : (d : Scope → Object) (c : Context) (n : ℕ) (stmts : tree.Stmts) → stmts_size stmts < 2 ^ 22
+    → burden (body_code (exactly d (MkScope (head_of c) (function_body c n stmts))) (function_body c n stmts)) < 2 ^ 27
 function_small d c n stmts small =
     let p = run_small (exactly d (MkScope (head_of c) (function_body c n stmts))) c n stmts in
     omega (arith, p, small)
 
 -- and a class
-pub class_body_small : (d : Scope → Object) (c : Context) (path : List ℕ) (doc : Option (List ℕ)) (b : Bool) (n : ℕ) (stmts : tree.Stmts) → stmts_size stmts < 2 ^ 22 → burden (body_code (exactly d (MkScope (head_of c) (class_form path doc b (rest_form c n stmts)))) (class_form path doc b (rest_form c n stmts))) < 2 ^ 27
+pub class_body_small : (d : Scope → Object) (c : Context) (path : List ℕ) (doc : Option (List ℕ)) (b : Bool) (n : ℕ) (stmts : tree.Stmts)
+    → stmts_size stmts < 2 ^ 22
+    → burden (body_code (exactly d (MkScope (head_of c) (class_form path doc b (rest_form c n stmts)))) (class_form path doc b (rest_form c n stmts))) < 2 ^ 27
 class_body_small d c path doc b n stmts small =
     let p = class_run_small (exactly d (MkScope (head_of c) (class_form path doc b (rest_form c n stmts)))) c path doc b n stmts in
     omega (arith, p, small)
 
--- the code of a hidden scope, which returns what is made in it
+-- the code of a type-parameter scope, which returns what is made in it
 made_small : (i : Interp Object) (f : VForm) (m : ℕ) → ValueWithin i f m → burden (body_code i (SReturn f)) ≤ m + 1
 made_small i f m x =
     let p = return_small i f 1 m (x 1) in
@@ -184,15 +189,19 @@ abbrev pub Light : (d : Scope → Object) → Context → SForm → Type 0
 Light d c f = burden (body_code (exactly d (MkScope (head_of c) f)) f) < 2 ^ 27
 
 -- of a function, whatever defaults it is handed
-pub hidden_function_small : {A B : Type 0} (ps : List A) (ks : List B) (d : Scope → Object) (c : Context) (n m flags : ℕ) (generic : tree.TypeParams) (name : List ℕ) (params : tree.Arguments) (body : tree.Stmts) (returns : tree.OptExpr) (f : SForm) → arguments_size params + opt_expr_size returns + type_params_size generic < 2 ^ 22 → Light d c (SReturn (function_value c m flags (handed_parts (handed ps ks) (VMore (params_form c n generic) VNone)) name params body returns f))
+pub hidden_function_small : {A B : Type 0} (ps : List A) (ks : List B) (d : Scope → Object) (c : Context) (n m flags : ℕ) (generic : tree.TypeParams) (name : List ℕ) (params : tree.Arguments) (body : tree.Stmts) (returns : tree.OptExpr) (f : SForm)
+    → arguments_size params + opt_expr_size returns + type_params_size generic < 2 ^ 22
+    → Light d c (SReturn (function_value c m flags (handed_parts (passed_defaults ps ks) (VMore (params_form c n generic) VNone)) name params body returns f))
 hidden_function_small ps ks d c n m flags generic name params body returns f small =
-    let value = function_value c m flags (handed_parts (handed ps ks) (VMore (params_form c n generic) VNone)) name params body returns f in
+    let value = function_value c m flags (handed_parts (passed_defaults ps ks) (VMore (params_form c n generic) VNone)) name params body returns f in
     let i = exactly d (MkScope (head_of c) (SReturn value)) in
     let p = made_small i value (16 * (arguments_size params + opt_expr_size returns + type_params_size generic) + 6) (generic_function_small i c ps ks n m flags generic name params body returns f) in
     omega (arith, p, small)
 
 -- of a class
-pub hidden_class_small : (d : Scope → Object) (c : Context) (path : List ℕ) (n m flags : ℕ) (generic : tree.TypeParams) (name : List ℕ) (bases : tree.Exprs) (keywords : tree.Keywords) (body : tree.Stmts) (f : SForm) → exprs_size bases + keywords_size keywords + type_params_size generic < 2 ^ 22 → Light d c (SReturn (class_value c path m flags (VMore (params_form c n generic) VNone) name bases keywords body f))
+pub hidden_class_small : (d : Scope → Object) (c : Context) (path : List ℕ) (n m flags : ℕ) (generic : tree.TypeParams) (name : List ℕ) (bases : tree.Exprs) (keywords : tree.Keywords) (body : tree.Stmts) (f : SForm)
+    → exprs_size bases + keywords_size keywords + type_params_size generic < 2 ^ 22
+    → Light d c (SReturn (class_value c path m flags (VMore (params_form c n generic) VNone) name bases keywords body f))
 hidden_class_small d c path n m flags generic name bases keywords body f small =
     let value = class_value c path m flags (VMore (params_form c n generic) VNone) name bases keywords body f in
     let i = exactly d (MkScope (head_of c) (SReturn value)) in
@@ -200,7 +209,9 @@ hidden_class_small d c path n m flags generic name bases keywords body f small =
     omega (arith, p, small)
 
 -- and of an alias
-pub hidden_alias_small : (d : Scope → Object) (c : Context) (n m : ℕ) (generic : tree.TypeParams) (name : List ℕ) (e : tree.Expr) → type_params_size generic + expr_size e < 2 ^ 22 → Light d c (SReturn (VSwap (operation op.TypeAlias Bare) (params_form c n generic) (expr_form c m e) (VMore (VConst (const.str name)) VNone)))
+pub hidden_alias_small : (d : Scope → Object) (c : Context) (n m : ℕ) (generic : tree.TypeParams) (name : List ℕ) (e : tree.Expr)
+    → type_params_size generic + expr_size e < 2 ^ 22
+    → Light d c (SReturn (VSwap (operation op.TypeAlias Bare) (params_form c n generic) (expr_form c m e) (VMore (VConst (const.str name)) VNone)))
 hidden_alias_small d c n m generic name e small =
     let value = VSwap (operation op.TypeAlias Bare) (params_form c n generic) (expr_form c m e) (VMore (VConst (const.str name)) VNone) in
     let i = exactly d (MkScope (head_of c) (SReturn value)) in
@@ -238,29 +249,37 @@ module _ (i : Interp Object) (c : Context) where
   element_small k e n = let p = (expr_small i c k e).value n in simp burden-append (omega (arith, p))
 
   -- the whole codes of comprehensions
-  elements_small : (k m : ℕ) (build append : Instruction) (elt : tree.Expr) (gs : tree.Generators) → burden (body_code i (gathered build append (clause_forms c k gs) (VMore (expr_forms c m elt).value VNone))) ≤ 16 * (expr_size elt + generators_size gs + 1)
+  elements_small : (k m : ℕ) (build append : Instruction) (elt : tree.Expr) (gs : tree.Generators)
+      → burden (body_code i (gather_form build append (clause_forms c k gs) (VMore (expr_forms c m elt).value VNone))) ≤ 16 * (expr_size elt + generators_size gs + 1)
   elements_small k m build append elt gs = gathered_small i build append (clause_forms c k gs) (VMore (expr_forms c m elt).value VNone) (expr_size elt) (generators_size gs) (element_small m elt) (clauses_small k gs)
 
-  pairs_small : (k m l : ℕ) (key value : tree.Expr) (gs : tree.Generators) → burden (body_code i (gathered op.BuildMap op.MapAdd (clause_forms c k gs) (VMore (expr_forms c m key).value (VMore (expr_forms c l value).value VNone)))) ≤ 16 * (expr_size key + expr_size value + generators_size gs + 1)
+  pairs_small : (k m l : ℕ) (key value : tree.Expr) (gs : tree.Generators)
+      → burden (body_code i (gather_form op.BuildMap op.MapAdd (clause_forms c k gs) (VMore (expr_forms c m key).value (VMore (expr_forms c l value).value VNone)))) ≤ 16 * (expr_size key + expr_size value + generators_size gs + 1)
   pairs_small k m l key value gs = gathered_small i op.BuildMap op.MapAdd (clause_forms c k gs) (VMore (expr_forms c m key).value (VMore (expr_forms c l value).value VNone)) (expr_size key + expr_size value) (generators_size gs) (pair_small m l key value) (clauses_small k gs)
 
-  given_small : (k m : ℕ) (elt : tree.Expr) (gs : tree.Generators) → burden (body_code i (generated (clause_forms c k gs) (expr_forms c m elt).value)) ≤ 16 * (expr_size elt + generators_size gs + 1)
+  given_small : (k m : ℕ) (elt : tree.Expr) (gs : tree.Generators)
+      → burden (body_code i (generate_form (clause_forms c k gs) (expr_forms c m elt).value)) ≤ 16 * (expr_size elt + generators_size gs + 1)
   given_small k m elt gs = generated_small i (clause_forms c k gs) (expr_forms c m elt).value (expr_size elt) (generators_size gs) (expr_small i c m elt).value (clauses_small k gs)
 
 -- a comprehension that adds each element to a collection
-pub element_comp_small : (d : Scope → Object) (c : Context) (n m : ℕ) (build append : Instruction) (elt : tree.Expr) (gs : tree.Generators) → expr_size elt + generators_size gs < 2 ^ 22 → burden (body_code (exactly d (MkScope (head_of c) (gathered build append (clause_forms c n gs) (VMore (expr_forms c m elt).value VNone)))) (gathered build append (clause_forms c n gs) (VMore (expr_forms c m elt).value VNone))) < 2 ^ 27
+pub element_comp_small : (d : Scope → Object) (c : Context) (n m : ℕ) (build append : Instruction) (elt : tree.Expr) (gs : tree.Generators)
+    → expr_size elt + generators_size gs < 2 ^ 22
+    → burden (body_code (exactly d (MkScope (head_of c) (gather_form build append (clause_forms c n gs) (VMore (expr_forms c m elt).value VNone)))) (gather_form build append (clause_forms c n gs) (VMore (expr_forms c m elt).value VNone))) < 2 ^ 27
 element_comp_small d c n m build append elt gs small =
-    let p = elements_small (exactly d (MkScope (head_of c) (gathered build append (clause_forms c n gs) (VMore (expr_forms c m elt).value VNone)))) c n m build append elt gs in
+    let p = elements_small (exactly d (MkScope (head_of c) (gather_form build append (clause_forms c n gs) (VMore (expr_forms c m elt).value VNone)))) c n m build append elt gs in
     omega (arith, p, small)
 
 -- one that adds each value at its key
-pub dict_comp_small : (d : Scope → Object) (c : Context) (n m l : ℕ) (key value : tree.Expr) (gs : tree.Generators) → expr_size key + expr_size value + generators_size gs < 2 ^ 22 → burden (body_code (exactly d (MkScope (head_of c) (gathered op.BuildMap op.MapAdd (clause_forms c n gs) (VMore (expr_forms c m key).value (VMore (expr_forms c l value).value VNone))))) (gathered op.BuildMap op.MapAdd (clause_forms c n gs) (VMore (expr_forms c m key).value (VMore (expr_forms c l value).value VNone)))) < 2 ^ 27
+pub dict_comp_small : (d : Scope → Object) (c : Context) (n m l : ℕ) (key value : tree.Expr) (gs : tree.Generators)
+    → expr_size key + expr_size value + generators_size gs < 2 ^ 22
+    → burden (body_code (exactly d (MkScope (head_of c) (gather_form op.BuildMap op.MapAdd (clause_forms c n gs) (VMore (expr_forms c m key).value (VMore (expr_forms c l value).value VNone))))) (gather_form op.BuildMap op.MapAdd (clause_forms c n gs) (VMore (expr_forms c m key).value (VMore (expr_forms c l value).value VNone)))) < 2 ^ 27
 dict_comp_small d c n m l key value gs small =
-    let p = pairs_small (exactly d (MkScope (head_of c) (gathered op.BuildMap op.MapAdd (clause_forms c n gs) (VMore (expr_forms c m key).value (VMore (expr_forms c l value).value VNone))))) c n m l key value gs in
+    let p = pairs_small (exactly d (MkScope (head_of c) (gather_form op.BuildMap op.MapAdd (clause_forms c n gs) (VMore (expr_forms c m key).value (VMore (expr_forms c l value).value VNone))))) c n m l key value gs in
     omega (arith, p, small)
 
 -- and a generator
-pub generator_small : (d : Scope → Object) (c : Context) (n m : ℕ) (elt : tree.Expr) (gs : tree.Generators) → expr_size elt + generators_size gs < 2 ^ 22 → burden (body_code (exactly d (MkScope (head_of c) (generated (clause_forms c n gs) (expr_forms c m elt).value))) (generated (clause_forms c n gs) (expr_forms c m elt).value)) < 2 ^ 27
+pub generator_small : (d : Scope → Object) (c : Context) (n m : ℕ) (elt : tree.Expr) (gs : tree.Generators) → expr_size elt + generators_size gs < 2 ^ 22
+    → burden (body_code (exactly d (MkScope (head_of c) (generate_form (clause_forms c n gs) (expr_forms c m elt).value))) (generate_form (clause_forms c n gs) (expr_forms c m elt).value)) < 2 ^ 27
 generator_small d c n m elt gs small =
-    let p = given_small (exactly d (MkScope (head_of c) (generated (clause_forms c n gs) (expr_forms c m elt).value))) c n m elt gs in
+    let p = given_small (exactly d (MkScope (head_of c) (generate_form (clause_forms c n gs) (expr_forms c m elt).value))) c n m elt gs in
     omega (arith, p, small)

@@ -12,10 +12,10 @@ use Rattle.py_bytecode.specs.Values.{Bare, operation}
 use Rattle.py_control.specs.Form.{Interp, VForm, VConst, VLoad, VOp, VNone, VMore, VAt, VKeep, VMake, GPut, Resolved, SReturn, Scope, MkScope}
 use Rattle.py_emission.specs.Texts.{texts_of}
 use Rattle.py_control.specs.Code.{labels_v}
-use Rattle.py_emission_parts.specs.TableParts.{ExprForms, tested, values, elements, parts_of, conversion_case, counted, named, binary, display, value_or, debug_constant, is_debug, no_operand, unpacked_to}
+use Rattle.py_emission_parts.specs.TableParts.{ExprForms, tested_form, values, elements, parts_of, conversion_case, counted_operation, named_operation, binary, display, value_or, debug_constant, is_debug, no_operand, unpacked_to}
 use Rattle.py_emission_parts.specs.Within.{lambda_inside}
-use Rattle.py_emission_parts.specs.Context.{Context, head_of, mangled}
-use Rattle.py_meaning.specs.Table.{after, after_all, after_args, after_clauses, after_defaults, after_opt, after_key, after_value, but_first_key, but_first_value, expr_forms, all_forms, opt_form, key_forms, value_forms, default_forms, positional_defaults, keyword_defaults, keyword_forms, target_forms, all_targets, first_iterable, unsupported}
+use Rattle.py_emission_parts.specs.Context.{Context, head_of, mangled_by}
+use Rattle.py_meaning.specs.Table.{after, after_all, after_args, after_clauses, after_defaults, after_opt, after_key, after_value, but_first_key, but_first_value, expr_forms, all_forms, opt_form, key_forms, value_forms, default_forms, positional_defaults, keyword_defaults, keyword_forms, target_forms, all_targets, first_iterable, unsupported_forms}
 use Rattle.py_meaning.specs.TableScopes.{Defaults, default_flags, default_parts}
 use Rattle.py_emission_proof.proofs.Additions.Burden.{burden-append}
 use Rattle.py_emission_proof.proofs.Sizes.Together.{Together, Possible, OneElement, join_together}
@@ -39,24 +39,27 @@ module _ (i : Interp Object) where
   named_small l false x n = omega arith
 
   -- a value that is formatted, and what says how
-  formatted_small : (o : ℕ) (spec : Option VForm) (f : VForm) (a b : ℕ) → Possible (FormSmall i) spec b → FormSmall i f a → FormSmall i (VOp (counted op.FormatValue o) (VMore f (VMore (value_or (const.str []) spec) VNone))) (a + b + 1)
+  formatted_small : (o : ℕ) (spec : Option VForm) (f : VForm) (a b : ℕ) → Possible (FormSmall i) spec b → FormSmall i f a
+      → FormSmall i (VOp (counted_operation op.FormatValue o) (VMore f (VMore (value_or (const.str []) spec) VNone))) (a + b + 1)
   formatted_small o spec f a b x y n =
       let p = y n in
       let q = value_or_small i (const.str []) spec b x (n + labels_v f) in
       simp burden-append (omega (arith, p, q))
 
-  attribute_small : (f : VForm) (name : List ℕ) (a : ℕ) → FormSmall i f a → FormSmall i (VOp (named op.LoadAttr name) (VMore f VNone)) (a + 2)
-  attribute_small f name a x n = let p = one_small i (named op.LoadAttr name) f a x n in omega (arith, p)
+  attribute_small : (f : VForm) (name : List ℕ) (a : ℕ) → FormSmall i f a → FormSmall i (VOp (named_operation op.LoadAttr name) (VMore f VNone)) (a + 2)
+  attribute_small f name a x n = let p = one_small i (named_operation op.LoadAttr name) f a x n in omega (arith, p)
 
-  displayed_small : (at : SourceLocation) (build unpack : Instruction) (fs : List ExprForms) (s : ℕ) → Together (Small i) fs s → Small i (tested (VAt at (display build unpack (elements fs)))) (s + 1)
+  displayed_small : (at : SourceLocation) (build unpack : Instruction) (fs : List ExprForms) (s : ℕ) → Together (Small i) fs s
+      → Small i (tested_form (VAt at (display build unpack (elements fs)))) (s + 1)
   displayed_small at build unpack fs s h = tested_small i (VAt at (display build unpack (elements fs))) (s + 1) (display_small i build unpack (elements fs) s (elements_small i fs s h))
 
   -- a constant stands for what is never compiled
-  unsupported_small : (at : SourceLocation) (s : ℕ) → 1 ≤ s → Small i (unsupported at) s
+  unsupported_small : (at : SourceLocation) (s : ℕ) → 1 ≤ s → Small i (unsupported_forms at) s
   unsupported_small at s some = tested_small i (VAt at no_operand) s (λ n. omega (arith, some))
 
   -- a lambda of these defaults
-  lambda_small : (d : Defaults) (s : Scope) (name : List ℕ) (a b m : ℕ) → Together (FormSmall i) d.positional a → Together (NotedSmall i) d.keyword b → a + b + 2 ≤ m → FormSmall i (VMake (default_flags d) (default_parts d VNone) s name VNone) m
+  lambda_small : (d : Defaults) (s : Scope) (name : List ℕ) (a b m : ℕ) → Together (FormSmall i) d.positional a → Together (NotedSmall i) d.keyword b
+      → a + b + 2 ≤ m → FormSmall i (VMake (default_flags d) (default_parts d VNone) s name VNone) m
   lambda_small d s name a b m x y le n =
       let p = make_small i (default_flags d) (default_parts d VNone) VNone s name (16 * (a + b) + 4) 0 (defaults_small i d a b x y) (λ k. omega arith) n in
       omega (arith, p, le)
@@ -113,8 +116,8 @@ module _ (i : Interp Object) where
     expr_small c k (tree.Attribute at value attr) =
         let x = expr_small c k value in
         let s = expr_size value in
-        let whole = attribute_small (expr_forms c k value).value (mangled c attr) s x.value in
-        let y = tested_small i (VAt at (VOp (named op.LoadAttr (mangled c attr)) (VMore (expr_forms c k value).value VNone))) (s + 2) whole in
+        let whole = attribute_small (expr_forms c k value).value (mangled_by c attr) s x.value in
+        let y = tested_small i (VAt at (VOp (named_operation op.LoadAttr (mangled_by c attr)) (VMore (expr_forms c k value).value VNone))) (s + 2) whole in
         record { value = whole; test = y.test; element = whole; callee = λ n. let p = x.value n in omega (arith, p) }
     expr_small c k (tree.Subscript at value slice) =
         let m = after c k value in
@@ -126,7 +129,7 @@ module _ (i : Interp Object) where
         let more : FormSmall i f (s + 1) = λ n. let p = x.value n in omega (arith, p) in
         let y = tested_small i (VAt at f) (s + 1) more in
         record { value = more; test = y.test; element = more; callee = more }
-    expr_small c k (tree.Name at x) = tested_small i _ _ (named_small c.level (is_debug x) (mangled c x))
+    expr_small c k (tree.Name at x) = tested_small i _ _ (named_small c.level (is_debug x) (mangled_by c x))
     expr_small c k (tree.List at elts) = displayed_small at op.BuildList op.BuildListUnpack (all_forms c k elts) (exprs_size elts) (exprs_small c k elts)
     expr_small c k (tree.Tuple at elts) = displayed_small at op.BuildTuple op.BuildTupleUnpack (all_forms c k elts) (exprs_size elts) (exprs_small c k elts)
     expr_small c k (tree.Slice at lower upper step) =
@@ -190,11 +193,11 @@ module _ (i : Interp Object) where
     by_name_small c k (tree.more_args (tree.arg at name annotation) (tree.some_expr e) rest) = (expr_size e, default_size rest, (expr_small c k e).value, by_name_small c (after c k e) rest, omega arith)
 
     pub target_small : (c : Context) (k : ℕ) (t : tree.Expr) → SmallTarget i (target_forms c k t) (expr_size t)
-    target_small c k (tree.Name at x) = store_small i (mangled c x) 2 (omega arith)
+    target_small c k (tree.Name at x) = store_small i (mangled_by c x) 2 (omega arith)
     target_small c k (tree.Attribute at value attr) =
         let f = (expr_forms c k value).value in
-        let put = put_one_small i (named op.StoreAttr (mangled c attr)) f (expr_size value) (expr_small c k value).value in
-        plain_small i (GPut (named op.StoreAttr (mangled c attr)) (parts_of (f ∷ []))) (expr_size value + 2) (λ n. let p = put n in omega (arith, p))
+        let put = put_one_small i (named_operation op.StoreAttr (mangled_by c attr)) f (expr_size value) (expr_small c k value).value in
+        plain_small i (GPut (named_operation op.StoreAttr (mangled_by c attr)) (parts_of (f ∷ []))) (expr_size value + 2) (λ n. let p = put n in omega (arith, p))
     target_small c k (tree.Subscript at value slice) =
         let m = after c k value in
         let f = (expr_forms c k value).value in

@@ -5,7 +5,7 @@ use Rattle.py_bytecode.specs.Values.{Operation}
 use Rattle.py_emission_parts.specs.Elements.{Callee, Function, Method}
 use Rattle.py_control.specs.Form.{Interp, VForm, VOp, Target}
 use Rattle.py_control.specs.Code.{labels_v, code_v, code_vs, code_t, code_g}
-use Rattle.py_emission_parts.specs.TableParts.{ExprForms, TargetForms, tested, plain_target, values, elements, parts_of}
+use Rattle.py_emission_parts.specs.TableParts.{ExprForms, TargetForms, tested_form, plain_target, values, elements, parts_of}
 use Rattle.py_emission_proof.proofs.Additions.Burden.{burden, burden-append}
 use Rattle.py_emission_proof.proofs.Sizes.Together.{Together, OneElement}
 
@@ -34,7 +34,7 @@ module _ (i : Interp Object) where
     pub alone : TargetSmall t.alone s
     pub element : OneElement TargetSmall TargetSmall t.element s
 
-  pub tested_small : (f : VForm) (s : ℕ) → FormSmall f s → Small (tested f) s
+  pub tested_small : (f : VForm) (s : ℕ) → FormSmall f s → Small (tested_form f) s
   tested_small f s h = record { value = h; test = λ c to n. let p = h n in simp burden-append (omega (arith, p)); element = h; callee = h }
 
   pub plain_small : (t : Target) (s : ℕ) → TargetSmall t s → SmallTarget (plain_target t) s

@@ -9,8 +9,8 @@ use Rattle.py_control.specs.Form.{Interp, VForm, VKeep, Target, SForm, SSkip, ST
 use Rattle.py_control.specs.Fit.{Loops}
 use Rattle.py_control.specs.Code.{labels, labels_v, code, code_v}
 use Rattle.py_emission_parts.specs.TableParts.{name_form, is_debug}
-use Rattle.py_emission_parts.specs.Context.{Context, is_function, mangled}
-use Rattle.py_meaning.specs.StmtParts.{removal, removals, assigned, assign_form, augment_form, declared_form, annotation_target, annotated_form}
+use Rattle.py_emission_parts.specs.Context.{Context, is_function, mangled_by}
+use Rattle.py_meaning.specs.StmtParts.{removal, removals, assigned_form, assign_form, augment_form, declared_form, annotation_target, annotated_form}
 use Rattle.py_meaning.specs.Table.{after, after_opt, expr_form, target_form}
 use Rattle.py_meaning.specs.TableNotes.{note_form, text_form}
 use Rattle.py_annotation_text.specs.Annotation.{annotation}
@@ -49,7 +49,7 @@ module _ (i : Interp Object) (c : Context) where
       let v = q (n + labels_v f) in
       simp burden-append (omega (arith, u, v))
 
-  assigned_small : (f : VForm) (t : Target) (k : ℕ) (ts : tree.Exprs) (a b : ℕ) → FormSmall i f a → TargetSmall i t b → CodeSmall (assigned f t c k ts) (a + b + exprs_size ts)
+  assigned_small : (f : VForm) (t : Target) (k : ℕ) (ts : tree.Exprs) (a b : ℕ) → FormSmall i f a → TargetSmall i t b → CodeSmall (assigned_form f t c k ts) (a + b + exprs_size ts)
   assigned_small f t k tree.no_exprs a b p q x n = let u = into_small f t a b p q x n in omega (arith, u)
   assigned_small f t k (tree.more_exprs e es) a b p q x n =
       let u = assigned_small (VKeep f None t) (target_form c k e) (after c k e) es (a + b) (expr_size e) (keep_small i f t a b p q) (target_small i c k e).alone x n in
@@ -61,8 +61,8 @@ module _ (i : Interp Object) (c : Context) where
 
   pub augment_small : (k : ℕ) (t : tree.Expr) (o : Operator) (e : tree.Expr) → CodeSmall (augment_form c k t o e) (expr_size t + expr_size e + 1)
   augment_small k (tree.Name at id) o e x n =
-      let u = named_small i c.level (is_debug id) (mangled c id) n in
-      let v = (expr_small i c k e).value (n + labels_v (name_form c.level id (mangled c id))) in
+      let u = named_small i c.level (is_debug id) (mangled_by c id) n in
+      let v = (expr_small i c k e).value (n + labels_v (name_form c.level id (mangled_by c id))) in
       simp burden-append (omega (arith, u, v))
   augment_small k (tree.Attribute at value attr) o e x n =
       let u = (expr_small i c k value).value n in
@@ -81,12 +81,12 @@ module _ (i : Interp Object) (c : Context) where
   text_small None n = omega arith
   text_small (Some text) n = omega arith
 
-  told_or : (b : Bool) (k : ℕ) (e : tree.Expr) (n : ℕ) → burden (code_v i (if b then text_form (annotation e) else expr_form c k e) n) + 2 ≤ 16 * expr_size e
-  told_or true k e n = let p = text_small (annotation e) n in let q = expr_some e in omega (arith, p, q)
-  told_or false k e n = (expr_small i c k e).value n
+  small_assign_told_or : (b : Bool) (k : ℕ) (e : tree.Expr) (n : ℕ) → burden (code_v i (if b then text_form (annotation e) else expr_form c k e) n) + 2 ≤ 16 * expr_size e
+  small_assign_told_or true k e n = let p = text_small (annotation e) n in let q = expr_some e in omega (arith, p, q)
+  small_assign_told_or false k e n = (expr_small i c k e).value n
 
   pub note_value_small : (k : ℕ) (e : tree.Expr) (n : ℕ) → burden (code_v i (note_form c k e) n) + 2 ≤ 16 * expr_size e
-  note_value_small k e n = told_or c.postponed k e n
+  note_value_small k e n = small_assign_told_or c.postponed k e n
 
   -- an annotation, and where it is kept
   noted_small : (k : ℕ) (t e : tree.Expr) (x : Loops) (n : ℕ) → burden (code i (SInto (note_form c k e) (annotation_target c t)) x n) ≤ 16 * expr_size e + 5
@@ -105,7 +105,8 @@ module _ (i : Interp Object) (c : Context) where
       let u = into_small (expr_form c k e) (target_form c m t) (expr_size e) (expr_size t) (expr_small i c k e).value (target_small i c m t).alone x n in
       omega (arith, u)
 
-  pub declare_small : (k : ℕ) (t e : tree.Expr) (o : tree.OptExpr) → CodeSmall (SThen (declared_form c k t o) (annotated_form c (after c (after_opt c k o) t) t e)) (expr_size t + expr_size e + opt_expr_size o + 1)
+  pub declare_small : (k : ℕ) (t e : tree.Expr) (o : tree.OptExpr)
+      → CodeSmall (SThen (declared_form c k t o) (annotated_form c (after c (after_opt c k o) t) t e)) (expr_size t + expr_size e + opt_expr_size o + 1)
   declare_small k t e o x n =
       let u = declared_small k t o x n in
       let v = annotated_if (is_function c.typ) (after c (after_opt c k o) t) t e x (n + labels (declared_form c k t o)) in

@@ -1,4 +1,4 @@
--- What comprehensions weigh: the call outside, and the code within, clause by clause.
+-- What comprehensions weigh: the call outside, and the nested code, clause by clause.
 use Rattle.std.proofs.Common.{ℕ, suc, ◌+◌, ◌*◌, ◌≤◌, List, Bool, false, arith}
 use Rattle.py_base.specs.declared.location.SourceLocation.{SourceLocation}
 use Rattle.py_bytecode.specs.declared.instruction.Instruction.{Instruction}
@@ -7,21 +7,21 @@ use Rattle.py_bytecode.specs.Objects.{Object}
 use Rattle.py_bytecode.specs.Values.{operation, Bare}
 use Rattle.py_control.specs.Form.{Interp, VForm, VLoad, VOp, VMake, VAt, VForms, VNone, VMore, TForm, Target, Fixed, Scope, Clauses, CLast, CEach, Filters, NoFilter, MoreFilter}
 use Rattle.py_control.specs.Code.{Item, body_code, labels_v, labels_t, labels_g, labels_bs, code_t, code_bs, code_c, append_code, drop_code}
-use Rattle.py_emission_parts.specs.TableParts.{counted, tested}
-use Rattle.py_meaning.specs.TableScopes.{called_at_once, gathered, generated, iterator}
+use Rattle.py_emission_parts.specs.TableParts.{counted_operation, tested_form}
+use Rattle.py_meaning.specs.TableScopes.{called_at_once, gather_form, generate_form, iterator}
 use Rattle.py_emission_proof.proofs.Additions.Burden.{burden, burden-append}
 use Rattle.py_emission_proof.proofs.Sizes.Small.{FormSmall, Small, TargetSmall, tested_small}
 use Rattle.py_emission_proof.proofs.Sizes.SmallFunctions.{ValueWithin, PartsWithin, make_small}
 
 module _ (i : Interp Object) where
   -- a function that is called with the iterator of a value
-  at_once_small : (g f : VForm) (a : ℕ) → ValueWithin i g 8 → FormSmall i f a → FormSmall i (VOp (counted op.CallFunctionPositional 1) (VMore g (VMore (iterator f) VNone))) (a + 1)
+  at_once_small : (g f : VForm) (a : ℕ) → ValueWithin i g 8 → FormSmall i f a → FormSmall i (VOp (counted_operation op.CallFunctionPositional 1) (VMore g (VMore (iterator f) VNone))) (a + 1)
   at_once_small g f a x y n =
       let p = x n in
       let q = y (n + labels_v g) in
       simp burden-append (omega (arith, p, q))
 
-  pub called_small : (at : SourceLocation) (name : List ℕ) (s : Scope) (f : VForm) (a : ℕ) → FormSmall i f a → Small i (tested (VAt at (called_at_once name s f))) (a + 1)
+  pub called_small : (at : SourceLocation) (name : List ℕ) (s : Scope) (f : VForm) (a : ℕ) → FormSmall i f a → Small i (tested_form (VAt at (called_at_once name s f))) (a + 1)
   called_small at name s f a x =
       let g = VMake 0 VNone s name VNone in
       tested_small i (VAt at (called_at_once name s f)) (a + 1) (at_once_small g f a (make_small i 0 VNone VNone s name 0 0 (λ k. omega arith) (λ k. omega arith)) x)
@@ -51,7 +51,8 @@ module _ (i : Interp Object) where
   no_clause_small leaf m x d n = let p = x d n in omega (arith, p)
 
   -- a clause pays for its loop
-  pub each_small : (f : VForm) (t : Target) (bs : Filters) (cs : Clauses) (a b e s : ℕ) → ValueWithin i f (16 * a + 2) → TargetSmall i t b → FiltersSmall bs e → ClausesSmall cs s → ClausesSmall (CEach f t bs cs) (b + a + e + 1 + s)
+  pub each_small : (f : VForm) (t : Target) (bs : Filters) (cs : Clauses) (a b e s : ℕ) → ValueWithin i f (16 * a + 2) → TargetSmall i t b → FiltersSmall bs e
+      → ClausesSmall cs s → ClausesSmall (CEach f t bs cs) (b + a + e + 1 + s)
   each_small f t bs cs a b e s x y z w leaf m l d n =
       let k = 2 + n + labels_v f in
       let j = k + labels_g t in
@@ -75,12 +76,13 @@ module _ (i : Interp Object) where
   given_small f a x d n = let p = x n in simp burden-append (omega (arith, p))
 
   -- the whole code within, which the comprehension itself pays for
-  pub gathered_small : (build append : Instruction) (cs : Clauses) (fs : VForms) (a s : ℕ) → PartsWithin i fs (16 * a) → ClausesSmall cs s → burden (body_code i (gathered build append cs fs)) ≤ 16 * (a + s + 1)
+  pub gathered_small : (build append : Instruction) (cs : Clauses) (fs : VForms) (a s : ℕ) → PartsWithin i fs (16 * a) → ClausesSmall cs s
+      → burden (body_code i (gather_form build append cs fs)) ≤ 16 * (a + s + 1)
   gathered_small build append cs fs a s x y =
       let p = y (append_code i (operation append Bare) fs) (16 * a + 2) (append_small append fs a x) 0 1 in
       simp burden-append (omega (arith, p))
 
-  pub generated_small : (cs : Clauses) (f : VForm) (a s : ℕ) → FormSmall i f a → ClausesSmall cs s → burden (body_code i (generated cs f)) ≤ 16 * (a + s + 1)
+  pub generated_small : (cs : Clauses) (f : VForm) (a s : ℕ) → FormSmall i f a → ClausesSmall cs s → burden (body_code i (generate_form cs f)) ≤ 16 * (a + s + 1)
   generated_small cs f a s x y =
       let p = y (drop_code i (VOp (operation op.YieldValue Bare) (VMore f VNone))) (16 * a + 2) (given_small f a x) 0 1 in
       simp burden-append (omega (arith, p))

@@ -6,12 +6,12 @@ use Rattle.py_bytecode.specs.declared.instruction.Instruction.TheVariants as op
 use Rattle.py_bytecode.specs.Objects as const
 use Rattle.py_bytecode.specs.Objects.{Const, Object}
 use Rattle.py_bytecode.specs.Values.{Bare, operation}
-use Rattle.py_emission_parts.specs.Elements.{Element, Single, Spread, starred, bare, grouped, groups, front, behind, pairs, sides}
+use Rattle.py_emission_parts.specs.Elements.{Element, Single, Spread, has_starred, bare, run_tuple, groups, front, behind, pairs, sides}
 use Rattle.py_control.specs.Form.{Interp, VForm, VOp, VNone, VMore}
 use Rattle.py_control.specs.Code.{labels_v, code_v, code_vs}
-use Rattle.py_emission_parts.specs.TableParts.{parts_of, built, counted, unpacked, display, updated, map_of_pairs, dict_form, value_or, slice_form, joined_form}
+use Rattle.py_emission_parts.specs.TableParts.{parts_of, built_form, counted_operation, unpacked_form, display, updated_map, map_of_pairs, dict_form, value_or, slice_form, joined_form}
 use Rattle.py_emission_proof.proofs.Additions.Burden.{burden, burden-append}
-use Rattle.py_emission_proof.proofs.Sizes.Together.{Together, Possible, OneElement, parted, groups_together, push_together, bare_together}
+use Rattle.py_emission_proof.proofs.Sizes.Together.{Together, Possible, OneElement, together_parted, groups_together, push_together, bare_together}
 use Rattle.py_emission_proof.proofs.Sizes.Small.{FormSmall, parts_small, operation_small}
 
 module _ (i : Interp Object) where
@@ -20,14 +20,14 @@ module _ (i : Interp Object) where
 
   -- runs of elements, each of which is made one value that its first element pays for
   module _ {B : Type 0} (made_of : List B → VForm) (P : B → ℕ → Type 0) (made_small : (x : B) (xs : List B) (r : ℕ) → Together P (x ∷ xs) r → (n : ℕ) → burden (code_v i (made_of (x ∷ xs)) n) ≤ 16 * r) where
-    grouped_small : (run : List B) (rest : List VForm) (r s : ℕ) → Together P run r → PartsSmall rest s → PartsSmall (grouped made_of run ++ rest) (r + s)
+    grouped_small : (run : List B) (rest : List VForm) (r s : ℕ) → Together P run r → PartsSmall rest s → PartsSmall (run_tuple made_of run ++ rest) (r + s)
     grouped_small [] rest r s x h n = let p = h n in omega (arith, p)
     grouped_small (y ∷ ys) rest r s x h n =
         let p = made_small y ys r x n in
         let q = h (n + labels_v (made_of (y ∷ ys))) in
         simp burden-append (omega (arith, p, q))
 
-    last_small : (run : List B) (r : ℕ) → Together P run r → PartsSmall (grouped made_of run) r
+    last_small : (run : List B) (r : ℕ) → Together P run r → PartsSmall (run_tuple made_of run) r
     last_small [] r x n = omega arith
     last_small (y ∷ ys) r x n = let p = made_small y ys r x n in simp burden-append (omega (arith, p))
 
@@ -52,29 +52,31 @@ module _ (i : Interp Object) where
   abbrev pub ElementsSmall : List (Element VForm VForm) → ℕ → Type 0
   ElementsSmall es s = Together (OneElement (FormSmall i) (FormSmall i)) es s
 
-  tuple_small : (f : VForm) (fs : List VForm) (r : ℕ) → Together (FormSmall i) (f ∷ fs) r → (n : ℕ) → burden (code_v i (built op.BuildTuple (f ∷ fs)) n) ≤ 16 * r
+  tuple_small : (f : VForm) (fs : List VForm) (r : ℕ) → Together (FormSmall i) (f ∷ fs) r → (n : ℕ) → burden (code_v i (built_form op.BuildTuple (f ∷ fs)) n) ≤ 16 * r
   tuple_small f fs r x n = let p = parts_small i (f ∷ fs) r x n in simp burden-append (omega (arith, simp burden-append at p))
 
   -- a tuple of each run of elements
-  pub tuples_small : (es : List (Element VForm VForm)) (s : ℕ) → ElementsSmall es s → PartsSmall (groups (built op.BuildTuple) [] es) s
-  tuples_small es s h n = let p = groups_small (built op.BuildTuple) (FormSmall i) tuple_small [] es 0 s tt h n in omega (arith, p)
+  pub tuples_small : (es : List (Element VForm VForm)) (s : ℕ) → ElementsSmall es s → PartsSmall (groups (built_form op.BuildTuple) [] es) s
+  tuples_small es s h n = let p = groups_small (built_form op.BuildTuple) (FormSmall i) tuple_small [] es 0 s tt h n in omega (arith, p)
 
-  unpacked_small : (gather : Instruction) (es : List (Element VForm VForm)) (s : ℕ) → ElementsSmall es s → (n : ℕ) → burden (code_v i (unpacked gather es) n) ≤ 16 * s + 2
+  unpacked_small : (gather : Instruction) (es : List (Element VForm VForm)) (s : ℕ) → ElementsSmall es s → (n : ℕ) → burden (code_v i (unpacked_form gather es) n) ≤ 16 * s + 2
   unpacked_small gather es s h n = let p = tuples_small es s h n in simp burden-append (omega (arith, p))
 
   -- all the elements in one value
-  pub gathered_small : (b : Bool) (build gather : Instruction) (es : List (Element VForm VForm)) (s : ℕ) → ElementsSmall es s → (n : ℕ) → burden (code_v i (if b then unpacked gather es else built build (bare es)) n) ≤ 16 * s + 2
+  pub gathered_small : (b : Bool) (build gather : Instruction) (es : List (Element VForm VForm)) (s : ℕ) → ElementsSmall es s → (n : ℕ)
+      → burden (code_v i (if b then unpacked_form gather es else built_form build (bare es)) n) ≤ 16 * s + 2
   gathered_small true build gather es s h n = unpacked_small gather es s h n
   gathered_small false build gather es s h n = let p = parts_small i (bare es) s (bare_together (FormSmall i) es s h) n in simp burden-append (omega (arith, p))
 
   pub display_small : (build gather : Instruction) (es : List (Element VForm VForm)) (s : ℕ) → ElementsSmall es s → FormSmall i (display build gather es) (s + 1)
-  display_small build gather es s h n = let p = gathered_small (starred es) build gather es s h n in omega (arith, p)
+  display_small build gather es s h n = let p = gathered_small (has_starred es) build gather es s h n in omega (arith, p)
 
   -- dict displays: a key with its value, and a value that is unpacked
   abbrev PairSmall : VForm × VForm → ℕ → Type 0
   PairSmall p s = (a : ℕ) × (b : ℕ) × FormSmall i p.0 a × FormSmall i p.1 b × (a + b ≤ s)
 
-  entries_small : (ks : List (Option VForm)) (vs : List VForm) (a b : ℕ) → Together (Possible (FormSmall i)) ks a → Together (FormSmall i) vs b → Together (OneElement PairSmall (FormSmall i)) (pairs ks vs) (a + b)
+  entries_small : (ks : List (Option VForm)) (vs : List VForm) (a b : ℕ) → Together (Possible (FormSmall i)) ks a → Together (FormSmall i) vs b
+      → Together (OneElement PairSmall (FormSmall i)) (pairs ks vs) (a + b)
   entries_small [] vs a b x y = tt
   entries_small (k ∷ ks) [] a b x y = tt
   entries_small (None ∷ ks) (v ∷ vs) a b x y = (y.0, x.1 + y.1, y.2, entries_small ks vs x.1 y.1 x.3 y.3, (let c = x.4 in let d = y.4 in omega (arith, c, d)))
@@ -87,7 +89,8 @@ module _ (i : Interp Object) where
   map_of_small : (p : VForm × VForm) (ps : List (VForm × VForm)) (r : ℕ) → Together PairSmall (p ∷ ps) r → FormSmall i (map_of_pairs (p ∷ ps)) r
   map_of_small p ps r h n = let q = parts_small i (sides (p ∷ ps)) r (sides_small (p ∷ ps) r h) n in simp burden-append (omega (arith, simp burden-append at q))
 
-  updated_small : (map : VForm) (m : ℕ) (fs : List VForm) (s : ℕ) → ((n : ℕ) → burden (code_v i map n) ≤ m) → Together (FormSmall i) fs s → (n : ℕ) → burden (code_v i (updated map fs) n) ≤ m + 16 * s
+  updated_small : (map : VForm) (m : ℕ) (fs : List VForm) (s : ℕ) → ((n : ℕ) → burden (code_v i map n) ≤ m) → Together (FormSmall i) fs s → (n : ℕ)
+      → burden (code_v i (updated_map map fs) n) ≤ m + 16 * s
   updated_small map m [] s h x n = let p = h n in omega (arith, p)
   updated_small map m (f ∷ fs) s h x n =
       let more : VForm = VOp (operation op.DictUpdate Bare) (VMore map (VMore f VNone)) in
@@ -99,7 +102,7 @@ module _ (i : Interp Object) where
   pub dict_small : (ks : List (Option VForm)) (vs : List VForm) (a b : ℕ) → Together (Possible (FormSmall i)) ks a → Together (FormSmall i) vs b → FormSmall i (dict_form (pairs ks vs)) (a + b + 1)
   dict_small ks vs a b x y n =
       let es = pairs ks vs in
-      let p = parted PairSmall (FormSmall i) es (a + b) (entries_small ks vs a b x y) in
+      let p = together_parted PairSmall (FormSmall i) es (a + b) (entries_small ks vs a b x y) in
       let one : (n : ℕ) → burden (code_v i (map_of_pairs (front es)) n) ≤ 16 * p.first + 2 = λ n. let q = parts_small i (sides (front es)) p.first (sides_small (front es) p.first p.front_together) n in simp burden-append (omega (arith, q)) in
       let more = groups_together PairSmall (FormSmall i) map_of_pairs map_of_small [] (behind es) 0 p.rest tt p.behind_together in
       let q = updated_small (map_of_pairs (front es)) (16 * p.first + 2) (groups map_of_pairs [] (behind es)) (0 + p.rest) one more n in
@@ -111,7 +114,8 @@ module _ (i : Interp Object) where
   value_or_small c None s h n = omega arith
   value_or_small c (Some f) s h n = let p = h n in omega (arith, p)
 
-  pub slice_small : (lower upper step : Option VForm) (a b s : ℕ) → Possible (FormSmall i) lower a → Possible (FormSmall i) upper b → Possible (FormSmall i) step s → FormSmall i (slice_form lower upper step) (a + b + s + 1)
+  pub slice_small : (lower upper step : Option VForm) (a b s : ℕ) → Possible (FormSmall i) lower a → Possible (FormSmall i) upper b
+      → Possible (FormSmall i) step s → FormSmall i (slice_form lower upper step) (a + b + s + 1)
   slice_small lower upper None a b s x y z n =
       let p = value_or_small const.none lower a x n in
       let q = value_or_small const.none upper b y (n + labels_v (value_or const.none lower)) in
@@ -124,5 +128,5 @@ module _ (i : Interp Object) where
 
   -- one text, or the values
   pub joined_small : (text : Option (List ℕ)) (fs : List VForm) (s : ℕ) → Together (FormSmall i) fs s → FormSmall i (joined_form text fs) (s + 1)
-  joined_small None fs s h n = operation_small i (counted op.BuildString (length fs)) fs s h n
+  joined_small None fs s h n = operation_small i (counted_operation op.BuildString (length fs)) fs s h n
   joined_small (Some text) fs s h n = omega arith

@@ -7,8 +7,8 @@ use Rattle.py_bytecode.specs.Values.{operation, Bare, Cell}
 use Rattle.py_control.specs.Form.{Interp, VForm, VConst, VOp, VMake, VForms, VNone, VMore, Scope}
 use Rattle.py_control.specs.Code.{labels_v, labels_vs, cell_codes, closure_code, code_v, code_vs}
 use Rattle.py_emission_parts.specs.Within.{some_flag}
-use Rattle.py_emission_parts.specs.TableParts.{parts_of, built, map_of, name_values, some_built, value_or}
-use Rattle.py_meaning.specs.TableScopes.{Defaults, default_parts, documented, function_form, decorated, iterator}
+use Rattle.py_emission_parts.specs.TableParts.{parts_of, built_form, map_of, name_values, some_built, value_or}
+use Rattle.py_meaning.specs.TableScopes.{Defaults, default_parts, documented_form, function_form, decorated_form, iterator}
 use Rattle.py_emission_proof.proofs.Additions.Burden.{burden, burden-append}
 use Rattle.py_emission_proof.proofs.Sizes.Together.{Together, Possible}
 use Rattle.py_emission_proof.proofs.Sizes.Small.{FormSmall, parts_small}
@@ -47,7 +47,7 @@ module _ (i : Interp Object) where
   noted_map_small : (ps : List (List ℕ × VForm)) (s : ℕ) → Together NotedSmall ps s → ValueWithin (map_of ps) (16 * s + 2)
   noted_map_small ps s h n = let a = notes_small ps s h n in simp burden-append (omega (arith, a))
 
-  pub built_tuple_small : (fs : List VForm) (s : ℕ) → Together (FormSmall i) fs s → ValueWithin (built op.BuildTuple fs) (16 * s + 2)
+  pub built_tuple_small : (fs : List VForm) (s : ℕ) → Together (FormSmall i) fs s → ValueWithin (built_form op.BuildTuple fs) (16 * s + 2)
   built_tuple_small fs s h n = let a = parts_small i fs s h n in simp burden-append (omega (arith, a))
 
   -- one value, and then others
@@ -57,9 +57,9 @@ module _ (i : Interp Object) where
       let q = y (n + labels_v f) in
       simp burden-append (omega (arith, p, q))
 
-  some_tuple_small : (fs : List VForm) (rest : VForms) (s m : ℕ) → Together (FormSmall i) fs s → PartsWithin rest m → PartsWithin (some_built (built op.BuildTuple) fs rest) (16 * s + 2 + m)
+  some_tuple_small : (fs : List VForm) (rest : VForms) (s m : ℕ) → Together (FormSmall i) fs s → PartsWithin rest m → PartsWithin (some_built (built_form op.BuildTuple) fs rest) (16 * s + 2 + m)
   some_tuple_small [] rest s m h x n = let p = x n in omega (arith, p)
-  some_tuple_small (f ∷ fs) rest s m h x n = first_within (built op.BuildTuple (f ∷ fs)) rest (16 * s + 2) m (built_tuple_small (f ∷ fs) s h) x n
+  some_tuple_small (f ∷ fs) rest s m h x n = first_within (built_form op.BuildTuple (f ∷ fs)) rest (16 * s + 2) m (built_tuple_small (f ∷ fs) s h) x n
 
   some_map_small : (ps : List (List ℕ × VForm)) (s : ℕ) → Together NotedSmall ps s → PartsWithin (some_built map_of ps VNone) (16 * s + 2)
   some_map_small [] s h n = omega arith
@@ -76,18 +76,19 @@ module _ (i : Interp Object) where
       let r = closure_light (i.closure s) in
       simp burden-append (omega (arith, p, q, r))
 
-  documented_small : (doc : Option (List ℕ)) (f : VForm) (m : ℕ) → ValueWithin f m → ValueWithin (documented doc f) (m + 6)
+  documented_small : (doc : Option (List ℕ)) (f : VForm) (m : ℕ) → ValueWithin f m → ValueWithin (documented_form doc f) (m + 6)
   documented_small None f m x n = let p = x n in omega (arith, p)
   documented_small (Some text) f m x n = let p = x n in simp burden-append (omega (arith, p))
 
-  pub function_form_small : (flags : ℕ) (fs : VForms) (s : Scope) (name : List ℕ) (notes : List (List ℕ × VForm)) (doc : Option (List ℕ)) (a b : ℕ) → PartsWithin fs a → Together NotedSmall notes b → ValueWithin (function_form flags fs s name notes doc) (a + 16 * b + 16)
+  pub function_form_small : (flags : ℕ) (fs : VForms) (s : Scope) (name : List ℕ) (notes : List (List ℕ × VForm)) (doc : Option (List ℕ)) (a b : ℕ)
+      → PartsWithin fs a → Together NotedSmall notes b → ValueWithin (function_form flags fs s name notes doc) (a + 16 * b + 16)
   function_form_small flags fs s name notes doc a b x y n =
       let made = make_small (flags + some_flag 0x02 notes) fs (some_built map_of notes VNone) s name a (16 * b + 2) x (some_map_small notes b y) in
       let p = documented_small doc (VMake (flags + some_flag 0x02 notes) fs s name (some_built map_of notes VNone)) (a + (16 * b + 2) + 8) made n in
       omega (arith, p)
 
   -- each decorator pays for its call
-  pub decorated_small : (ds : List VForm) (f : VForm) (s m : ℕ) → Together (FormSmall i) ds s → ValueWithin f m → ValueWithin (decorated ds f) (16 * s + m)
+  pub decorated_small : (ds : List VForm) (f : VForm) (s m : ℕ) → Together (FormSmall i) ds s → ValueWithin f m → ValueWithin (decorated_form ds f) (16 * s + m)
   decorated_small [] f s m h x n = let p = x n in omega (arith, p)
   decorated_small (d ∷ ds) f s m h x n =
       let p = h.2 n in

@@ -7,7 +7,7 @@ use Rattle.py_bytecode.specs.Objects.{Object}
 use Rattle.py_emission.specs.Texts.{doc_of}
 use Rattle.py_control.specs.Form.{Interp, SForm, VForms, MkScope}
 use Rattle.py_emission_parts.specs.Within.{function_inside}
-use Rattle.py_emission_parts.specs.Context.{Context, head_of, mangled, qualified}
+use Rattle.py_emission_parts.specs.Context.{Context, head_of, mangled_by, qualified_under}
 use Rattle.py_scope_counts.specs.Counts.{scopes_in_arg, scopes_in_returns}
 use Rattle.py_meaning.specs.StmtCounts.{scopes_in_stmts}
 use Rattle.py_meaning.specs.StmtParts.{function_value}
@@ -23,7 +23,7 @@ module _ (i : Interp Object) (c : Context) where
   opt_note_small k name (tree.some_expr e) = (expr_size e, 0, note_value_small i c k e, tt, omega arith)
 
   arg_note_small : (k : ℕ) (a : tree.Arg) → Together (NotedSmall i) (arg_note c k a) (note_size a)
-  arg_note_small k (tree.arg at name annotation) = opt_note_small k (mangled c name) annotation
+  arg_note_small k (tree.arg at name annotation) = opt_note_small k (mangled_by c name) annotation
 
   opt_arg_note_small : (k : ℕ) (o : tree.OptArg) → Together (NotedSmall i) (opt_arg_note c k o) (opt_note_size o)
   opt_arg_note_small k tree.no_arg = tt
@@ -52,8 +52,10 @@ module _ (i : Interp Object) (c : Context) where
       join_together (NotedSmall i) (opt_note c k (codes "return") returns) (param_notes c m params) (opt_expr_size returns) (param_notes_size params) (opt_note_small k (codes "return") returns) (param_notes_small m params)
 
   -- a function of these parts
-  pub function_value_small : (k flags : ℕ) (parts : VForms) (a : ℕ) (name : List ℕ) (params : tree.Arguments) (body : tree.Stmts) (returns : tree.OptExpr) (f : SForm) → PartsWithin i parts a → ValueWithin i (function_value c k flags parts name params body returns f) (a + 16 * (opt_expr_size returns + param_notes_size params) + 16)
+  pub function_value_small : (k flags : ℕ) (parts : VForms) (a : ℕ) (name : List ℕ) (params : tree.Arguments) (body : tree.Stmts) (returns : tree.OptExpr) (f : SForm)
+      → PartsWithin i parts a
+      → ValueWithin i (function_value c k flags parts name params body returns f) (a + 16 * (opt_expr_size returns + param_notes_size params) + 16)
   function_value_small k flags parts a name params body returns f x =
       let s = MkScope (head_of (function_inside name c k)) f in
       let j = suc k + scopes_in_stmts c.postponed body in
-      function_form_small i flags parts s (qualified c name) (note_forms c j params returns) (doc_of c.level body) a (opt_expr_size returns + param_notes_size params) x (note_forms_small j params returns)
+      function_form_small i flags parts s (qualified_under c name) (note_forms c j params returns) (doc_of c.level body) a (opt_expr_size returns + param_notes_size params) x (note_forms_small j params returns)

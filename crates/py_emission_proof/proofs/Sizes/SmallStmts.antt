@@ -74,7 +74,8 @@ module _ (i : Interp Object) (c : Context) where
   message_small k tree.no_expr n = omega arith
   message_small k (tree.some_expr e) n = let p = (expr_small i c k e).value n in simp burden-append (omega (arith, p))
 
-  assert_small : (b : Bool) (k : ℕ) (t : tree.Expr) (msg : tree.OptExpr) → CodeSmall i c (if b then SIf (TNot (test_form c k t)) (SDo (operation op.Raise (Number 0)) true (VMore (assertion c (after c k t) msg) VNone)) else SSkip) (expr_size t + opt_expr_size msg + 1)
+  assert_small : (b : Bool) (k : ℕ) (t : tree.Expr) (msg : tree.OptExpr)
+      → CodeSmall i c (if b then SIf (TNot (test_form c k t)) (SDo (operation op.Raise (Number 0)) true (VMore (assertion c (after c k t) msg) VNone)) else SSkip) (expr_size t + opt_expr_size msg + 1)
   assert_small true k t msg x n =
       let p = (expr_small i c k t).test true n (1 + n) in
       let q = message_small (after c k t) msg (1 + n + labels_t (test_form c k t) true + 0) in
@@ -100,7 +101,8 @@ module _ (i : Interp Object) (c : Context) where
       let t = tail_small final in
       simp burden-append (omega (arith, p, q, t))
 
-  typed_small : (k : ℕ) (e : tree.Expr) (name : Option (List ℕ)) (body rest : ℕ) (f : SForm) (hs : Handlers) → CodeSmall i c f body → HandlersSmall hs rest → HandlersSmall (HTyped (expr_form c k e) (handler_target c name) (named_form c name f) hs) (expr_size e + opt_name_size name + body + 1 + rest)
+  typed_small : (k : ℕ) (e : tree.Expr) (name : Option (List ℕ)) (body rest : ℕ) (f : SForm) (hs : Handlers) → CodeSmall i c f body → HandlersSmall hs rest
+      → HandlersSmall (HTyped (expr_form c k e) (handler_target c name) (named_form c name f) hs) (expr_size e + opt_name_size name + body + 1 + rest)
   typed_small k e name body rest f hs h g final x end n =
       let m = 1 + n + labels_v (expr_form c k e) in
       let j = m + labels_g (handler_target c name) in

@@ -1,6 +1,6 @@
 -- What it is for things to have at most such a size together.
 use Rattle.std.proofs.Common.{ℕ, ◌+◌, ◌≤◌, List, [], ◌∷◌, ◌++◌, Option, Some, None, arith}
-use Rattle.py_emission_parts.specs.Elements.{Element, Single, Spread, bare, grouped, groups, front, behind}
+use Rattle.py_emission_parts.specs.Elements.{Element, Single, Spread, bare, run_tuple, groups, front, behind}
 
 -- the size is shared among them
 abbrev pub Together : {A : Type 0} → (A → ℕ → Type 0) → List A → ℕ → Type 0
@@ -35,30 +35,30 @@ module _ {A : Type 0} (P : A → ℕ → Type 0) where
 
 module _ {B A : Type 0} (P : B → ℕ → Type 0) (Q : A → ℕ → Type 0) where
   -- the plain elements at the front, and what follows them
-  pub record Parted (es : List (Element B A)) (s : ℕ) : Type 0 where
+  pub record TogetherParted (es : List (Element B A)) (s : ℕ) : Type 0 where
     pub first : ℕ
     pub rest : ℕ
     pub front_together : Together P (front es) first
     pub behind_together : Together (OneElement P Q) (behind es) rest
     pub within : first + rest ≤ s
 
-  pub parted : (es : List (Element B A)) (s : ℕ) → Together (OneElement P Q) es s → Parted es s
-  parted [] s h = record { first = 0; rest = 0; front_together = tt; behind_together = tt; within = omega arith }
-  parted (Single x ∷ es) s h =
-      let p = parted es h.1 h.3 in
+  pub together_parted : (es : List (Element B A)) (s : ℕ) → Together (OneElement P Q) es s → TogetherParted es s
+  together_parted [] s h = record { first = 0; rest = 0; front_together = tt; behind_together = tt; within = omega arith }
+  together_parted (Single x ∷ es) s h =
+      let p = together_parted es h.1 h.3 in
       record { first = h.0 + p.first; rest = p.rest; front_together = (h.0, p.first, h.2, p.front_together, omega arith); behind_together = p.behind_together; within = (let e = p.within in let d = h.4 in omega (arith, e, d)) }
-  parted (Spread x ∷ es) s h = record { first = 0; rest = s; front_together = tt; behind_together = h; within = omega arith }
+  together_parted (Spread x ∷ es) s h = record { first = 0; rest = s; front_together = tt; behind_together = h; within = omega arith }
 
   module _ (T : List B → A) (makes : (x : B) (xs : List B) (r : ℕ) → Together P (x ∷ xs) r → Q (T (x ∷ xs)) r) where
-    grouped_together : (run : List B) (r : ℕ) → Together P run r → Together Q (grouped T run) r
+    grouped_together : (run : List B) (r : ℕ) → Together P run r → Together Q (run_tuple T run) r
     grouped_together [] r p = tt
     grouped_together (x ∷ xs) r p = (r, 0, makes x xs r p, tt, omega arith)
 
     -- a run, and what its elements are grouped to with those after it
     pub groups_together : (run : List B) (es : List (Element B A)) (r s : ℕ) → Together P run r → Together (OneElement P Q) es s → Together Q (groups T run es) (r + s)
-    groups_together run [] r s p h = more_together Q (grouped T run) r (r + s) (omega arith) (grouped_together run r p)
+    groups_together run [] r s p h = more_together Q (run_tuple T run) r (r + s) (omega arith) (grouped_together run r p)
     groups_together run (Single x ∷ es) r s p h =
         more_together Q (groups T (run ++ x ∷ []) es) (r + h.0 + h.1) (r + s) (let e = h.4 in omega (arith, e)) (groups_together (run ++ x ∷ []) es (r + h.0) h.1 (push_together P run x r h.0 p h.2) h.3)
     groups_together run (Spread x ∷ es) r s p h =
-        more_together Q (grouped T run ++ x ∷ groups T [] es) (r + (h.0 + h.1)) (r + s) (let e = h.4 in omega (arith, e))
-        (join_together Q (grouped T run) (x ∷ groups T [] es) r (h.0 + h.1) (grouped_together run r p) (h.0, h.1, h.2, more_together Q (groups T [] es) (0 + h.1) h.1 (omega arith) (groups_together [] es 0 h.1 tt h.3), omega arith))
+        more_together Q (run_tuple T run ++ x ∷ groups T [] es) (r + (h.0 + h.1)) (r + s) (let e = h.4 in omega (arith, e))
+        (join_together Q (run_tuple T run) (x ∷ groups T [] es) r (h.0 + h.1) (grouped_together run r p) (h.0, h.1, h.2, more_together Q (groups T [] es) (0 + h.1) h.1 (omega arith) (groups_together [] es 0 h.1 tt h.3), omega arith))

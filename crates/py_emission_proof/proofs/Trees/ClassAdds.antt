@@ -22,7 +22,8 @@ use Rattle.py_emission_parts.specs.Classes.{class_end, class_names, class_shape}
 use Rattle.py_emission_parts.specs.Within.{behind_name, class_path, class_within}
 use Rattle.py_emission_parts.specs.Context.{Context, cell_place, class_cells, head_of, inside, with_path, within_class}
 use Rattle.py_emission_parts.specs.Elements.{Function}
-use Rattle.py_emission_parts.specs.Emitting.{Around, Emission, State, ◌▸◌, begun, by_level, emit, emit_constant}
+use Rattle.py_emission_parts.specs.Emitting.{Around, Emission, State, ◌▸◌, initial_state, by_level, emit, emit_constant}
+use Rattle.py_emission_parts.specs.Running.{run}
 use Rattle.py_emission_parts.specs.TableParts.{call_form}
 use Rattle.py_emission_parts.specs.EmissionParts as emitting
 use Rattle.py_emission_parts.specs.TableParts as table
@@ -31,7 +32,7 @@ use Rattle.py_emission.specs.Texts.{after_doc, doc_of}
 use Rattle.py_emission.specs.EmissionDefs.{class_call, class_function, class_scope, emission_of_class, emission_of_setup}
 use Rattle.py_meaning.specs.StmtCounts.{scopes_in_stmts}
 use Rattle.py_meaning.specs.StmtParts.{class_value}
-use Rattle.py_emission.specs.Predicates.{annotated}
+use Rattle.py_emission.specs.Predicates.{any_annotates}
 use Rattle.py_meaning.specs.Table.{all_forms, keyword_forms}
 use Rattle.py_meaning.specs.TableScopes.{build_class, class_form, setup_form}
 use Rattle.py_meaning.specs.TableStmts.{rest_form}
@@ -40,8 +41,8 @@ use Rattle.py_emission_proof.proofs.Additions.AddedCodeLemmas.{Added, added_join
 use Rattle.py_emission_proof.proofs.Additions.Burden.{cells_in, cells-append}
 use Rattle.py_emission_proof.proofs.Additions.CallAdds.{NamedAdds, call_form_adds}
 use Rattle.py_emission_proof.proofs.Additions.ClassAdds.{behind_adds, end_adds, names_code, names_yield}
-use Rattle.py_emission_proof.proofs.Additions.Codes.{Counted, loads_join, scopes}
-use Rattle.py_emission_proof.proofs.Additions.EmissionSequenceLemmas.{Gives, Yields, after_these, both, context_gives, grouped, keep_yields, level_gives, next_as, outside, scopes_as, still, then_yields}
+use Rattle.py_emission_proof.proofs.Additions.Codes.{Counted, loads_join, code_scopes}
+use Rattle.py_emission_proof.proofs.Additions.EmissionSequenceLemmas.{Gives, Yields, after_these, emission_sequence_both, context_gives, emission_sequence_grouped, keep_yields, level_gives, next_as, emission_sequence_outside, scopes_as, still, then_yields, on_each}
 use Rattle.py_emission_proof.proofs.Additions.FormAdds.{PartsAdd, ValueAdds, all_elements_add}
 use Rattle.py_emission_proof.proofs.Additions.Functions.{Flagged, Makes, made_alone_adds}
 use Rattle.py_emission_proof.proofs.Additions.Instructions.{constant_adds}
@@ -52,15 +53,14 @@ use Rattle.py_emission_proof.proofs.Additions.TypeParameterAdds.{made_behind_add
 use Rattle.py_emission_proof.proofs.Additions.Within.{Completing, completed_makes}
 use Rattle.py_emission_proof.proofs.Sizes.ProgramSizes.{class_body_small}
 use Rattle.py_emission_proof.proofs.Trees.ExprAdds.{exprs_add, keywords_add}
-use Rattle.py_emission_proof.proofs.Trees.FunctionAdds.{on_each}
-use Rattle.py_emission_proof.proofs.Trees.Told.{outer, pathless, told}
+use Rattle.py_emission_proof.proofs.Trees.Told.{told_outer, pathless, told_context}
 
 -- what stands in no loop
 abbrev pub unlooped_labels : Loops
 unlooped_labels = record { inside = false; on_break = 0; on_continue = 0 }
 
 -- room for annotations
-pub setup_adds : (c : Around) (b : Bool) (n k : ℕ) → Yields c n k (emission_of_setup b) (code (outer c) (setup_form b) unlooped_labels n) (labels (setup_form b)) 0
+pub setup_adds : (c : Around) (b : Bool) (n k : ℕ) → Yields c n k (emission_of_setup b) (code (told_outer c) (setup_form b) unlooped_labels n) (labels (setup_form b)) 0
 setup_adds c false n k = keep_yields
 setup_adds c true n k = emit_adds op.SetupAnnotation 0 (Operate (operation op.SetupAnnotation Bare) 0 (Some 0)) (refl, refl) (λ d t. refl) c n k
 
@@ -82,131 +82,135 @@ added_so s t is js m n ps e f a = subst (λ xs. Added s t xs n ps) e (subst (λ 
 
 module _ (c : Around) (k : ℕ) (path name : List ℕ) (body : tree.Stmts) where
   -- the context in the class
-  abbrev pub inner : Context
-  inner = class_within path name c.context k
+  abbrev pub class_add_inner : Context
+  class_add_inner = class_within path name c.context k
 
   -- how many scopes stand in it
-  abbrev count : ℕ
-  count = scopes_in_stmts c.context.postponed body
+  abbrev class_add_count : ℕ
+  class_add_count = scopes_in_stmts c.context.postponed body
 
-  abbrev form : SForm
-  form = rest_form (pathless inner) (suc k) body
+  abbrev class_add_form : SForm
+  class_add_form = rest_form (pathless class_add_inner) (suc k) body
 
   abbrev setup : SForm
-  setup = setup_form (annotated (after_doc body))
+  setup = setup_form (any_annotates (after_doc body))
 
   abbrev doc : Option (List ℕ)
-  doc = doc_of inner.level body
+  doc = doc_of class_add_inner.level body
 
   -- the scope of a class of these statements
   abbrev pub class_of : Scope
-  class_of = MkScope (head_of (pathless inner)) (class_form inner.path doc (annotated (after_doc body)) form)
+  class_of = MkScope (head_of (pathless class_add_inner)) (class_form class_add_inner.path doc (any_annotates (after_doc body)) class_add_form)
 
   -- the statements add their code
   abbrev pub BodyAdds : Emission → Type 0
-  BodyAdds v = (n : ℕ) → Gives (outside inner) n (suc k) v (code (outer (outside inner)) form unlooped_labels n) (labels form) (scopes_in_stmts inner.postponed body) (Looped false form)
+  BodyAdds v = (n : ℕ) → Gives (emission_sequence_outside class_add_inner) n (suc k) v (code (told_outer (emission_sequence_outside class_add_inner)) class_add_form unlooped_labels n) (labels class_add_form) (scopes_in_stmts class_add_inner.postponed body) (Looped false class_add_form)
 
   module _ (v : Emission) (adds : BodyAdds v) where
     -- all but the end
     abbrev begin_emission : Emission
-    begin_emission = by_level (λ l. class_names (doc_of l body)) ▸ emission_of_setup (annotated (after_doc body)) ▸ v
+    begin_emission = by_level (λ l. class_names (doc_of l body)) ▸ emission_of_setup (any_annotates (after_doc body)) ▸ v
 
     abbrev begin_items : List (Item Scope)
-    begin_items = names_code inner.path doc ++ (code (outer (outside inner)) setup unlooped_labels 1 ++ code (outer (outside inner)) form unlooped_labels (1 + labels setup))
+    begin_items = names_code class_add_inner.path doc ++ (code (told_outer (emission_sequence_outside class_add_inner)) setup unlooped_labels 1 ++ code (told_outer (emission_sequence_outside class_add_inner)) class_add_form unlooped_labels (1 + labels setup))
 
-    begin_gives : Gives (outside inner) 1 (suc k) begin_emission begin_items (labels setup + labels form) (0 + scopes_in_stmts inner.postponed body) (Looped false form)
+    begin_gives : Gives (emission_sequence_outside class_add_inner) 1 (suc k) begin_emission begin_items (labels setup + labels class_add_form) (0 + scopes_in_stmts class_add_inner.postponed body) (Looped false class_add_form)
     begin_gives =
-        after_these (level_gives (λ l. class_names (doc_of l body)) (names_yield doc (outside inner) 1 (suc k)))
-        (then_yields (setup_adds (outside inner) (annotated (after_doc body)) 1 (suc k)) (next_as (omega arith) (adds (1 + labels setup))))
+        after_these (level_gives (λ l. class_names (doc_of l body)) (names_yield doc (emission_sequence_outside class_add_inner) 1 (suc k)))
+        (then_yields (setup_adds (emission_sequence_outside class_add_inner) (any_annotates (after_doc body)) 1 (suc k)) (next_as (omega arith) (adds (1 + labels setup))))
 
     abbrev end_items : List (Item Scope)
-    end_items = class_code (cells_of (cell_place inner) (class_cells inner))
+    end_items = class_code (cells_of (cell_place class_add_inner) (class_cells class_add_inner))
 
     -- the whole code of the class
-    items_are : begin_items ++ end_items ≡ body_code (outer (outside inner)) (class_form inner.path doc (annotated (after_doc body)) form)
-    items_are =
-        ap (λ xs. names_code inner.path doc ++ xs) (append_assoc (code (outer (outside inner)) setup unlooped_labels 1) (code (outer (outside inner)) form unlooped_labels (1 + labels setup)) end_items)
+    class_add_items_are : begin_items ++ end_items ≡ body_code (told_outer (emission_sequence_outside class_add_inner)) (class_form class_add_inner.path doc (any_annotates (after_doc body)) class_add_form)
+    class_add_items_are =
+        ap (λ xs. names_code class_add_inner.path doc ++ xs) (append_assoc (code (told_outer (emission_sequence_outside class_add_inner)) setup unlooped_labels 1) (code (told_outer (emission_sequence_outside class_add_inner)) class_add_form unlooped_labels (1 + labels setup)) end_items)
         ∙ sym (append-nil _)
 
     -- the end comes after the rest
-    last : (s : State) → class_scope body v s ≡ (begin_emission ▸ class_end) s
-    last s =
+    class_add_last : (s : State) → run (class_scope body v) s ≡ run (begin_emission ▸ class_end) s
+    class_add_last s =
         let a : Emission = by_level (λ l. class_names (doc_of l body)) in
-        let b : Emission = emission_of_setup (annotated (after_doc body)) in
-        on_each (a s) (b ▸ v ▸ class_end) ((b ▸ v) ▸ class_end) (λ m. grouped (b m) v class_end) ∙ grouped (a s) (b ▸ v) class_end
+        let b : Emission = emission_of_setup (any_annotates (after_doc body)) in
+        on_each (run a s) (b ▸ v ▸ class_end) ((b ▸ v) ▸ class_end) (λ m. emission_sequence_grouped (run b m) v class_end) ∙ emission_sequence_grouped (run a s) (b ▸ v) class_end
 
-    looped : Looped false form → Looped false (form_of class_of)
-    looped h = (tt, (tt, (tt, (setup_looped (annotated (after_doc body)), (h, tt)))))
+    looped : Looped false class_add_form → Looped false (form_of class_of)
+    looped h = (tt, (tt, (tt, (setup_looped (any_annotates (after_doc body)), (h, tt)))))
 
-    pub completing : Completing inner (class_scope body v) (suc k) (scopes_in_stmts inner.postponed body) class_of
+    pub completing : Completing class_add_inner (class_scope body v) (suc k) (scopes_in_stmts class_add_inner.postponed body) class_of
     completing = record {
-      run = λ at t z e.
-          let s = begun inner at (suc k) in
-          let h = both begin_emission class_end s t (sym (last s) ∙ e) in
-          let p = begin_gives.run s h.0 refl refl z h.1 in
-          let q = end_adds (outside inner) h.0 t (still z p.0.added.around_are) h.2 in
+      does = λ at t z e.
+          let s = initial_state class_add_inner at (suc k) in
+          let h = emission_sequence_both begin_emission class_end s t (sym (class_add_last s) ∙ e) in
+          let p = begin_gives.does s h.0 refl refl z h.1 in
+          let q = end_adds (emission_sequence_outside class_add_inner) h.0 t (still z p.0.added.around_are) h.2 in
           let n = p.0.next_is in
           let y = q.next_is in
           let made : List (Object × Scope) = p.0.made ++ [] in
-          let all : Added s t (begin_items ++ end_items) (labels setup + labels form + 0) made = added_join s h.0 t begin_items end_items (labels setup + labels form) 0 p.0.made [] p.0.added q.added in (
+          let all : Added s t (begin_items ++ end_items) (labels setup + labels class_add_form + 0) made = added_join s h.0 t begin_items end_items (labels setup + labels class_add_form) 0 p.0.made [] p.0.added q.added in (
             record {
               made = made;
-              added = added_so s t (begin_items ++ end_items) (body_code (outer (outside inner)) (form_of class_of)) (labels setup + labels form + 0) (labels (form_of class_of)) made items_are (omega arith) all;
+              added = added_so s t (begin_items ++ end_items) (body_code (told_outer (emission_sequence_outside class_add_inner)) (form_of class_of)) (labels setup + labels class_add_form + 0) (labels (form_of class_of)) made class_add_items_are (omega arith) all;
               next_is = omega (arith, n, y);
               counted = subst (Counted s.next t.next) (sym (append-nil p.0.made)) (subst (λ j. Counted s.next j p.0.made) (sym y) p.0.counted);
-              cells = subst (λ is. cells_in is ≤ suc (loads (scopes_in s) (scopes made))) items_are
-                  (let a = cells-append begin_items end_items in let b = end_cells inner in let d = p.0.cells in let f = loads_join (scopes_in s) p.0.made [] in omega (arith, a, b, d, f));
+              cells = subst (λ is. cells_in is ≤ suc (loads (scopes_in s) (code_scopes made))) class_add_items_are
+                  (let a = cells-append begin_items end_items in let b = end_cells class_add_inner in let d = p.0.cells in let f = loads_join (scopes_in s) p.0.made [] in omega (arith, a, b, d, f));
             },
             looped p.1,
           );
     }
 
     -- the code object of the class is made from it
-    makes : stmts_size body < 2 ^ 22 → Makes c.context inner (class_shape name) (class_scope body v) k count class_of
+    class_add_makes : stmts_size body < 2 ^ 22 → Makes c.context class_add_inner (class_shape name) (class_scope body v) k class_add_count class_of
     unfolding inside with_path within_class
-    makes few =
-        completed_makes c.context inner (class_shape name) (class_scope body v) k count class_of refl refl refl refl refl (inside_settled kind.Class k (with_path path (within_class name c.context)))
-        (λ d. class_body_small d (pathless inner) inner.path doc (annotated (after_doc body)) (suc k) body few) completing
+    class_add_makes few =
+        completed_makes c.context class_add_inner (class_shape name) (class_scope body v) k class_add_count class_of refl refl refl refl refl (inside_settled kind.Class k (with_path path (within_class name c.context)))
+        (λ d. class_body_small d (pathless class_add_inner) class_add_inner.path doc (any_annotates (after_doc body)) (suc k) body few) completing
 
     -- and the function is made of it
-    pub function_add : stmts_size body < 2 ^ 22 → ValueAdds (outer c) c k (suc count) (class_function path 0 name body v) (VMake 0 VNone class_of name VNone)
+    pub function_add : stmts_size body < 2 ^ 22 → ValueAdds (told_outer c) c k (suc class_add_count) (class_function path 0 name body v) (VMake 0 VNone class_of name VNone)
     unfolding inside with_path within_class
-    function_add few n = made_alone_adds (outer c) c (class_within path name) (class_shape name) (class_scope body v) name class_of k count (makes few) refl refl n
+    function_add few n = made_alone_adds (told_outer c) c (class_within path name) (class_shape name) (class_scope body v) name class_of k class_add_count (class_add_makes few) refl refl n
 
-    -- also behind the parts that it is made of
-    pub function_after : stmts_size body < 2 ^ 22 → (j a flags : ℕ) (p : Emission) (fs : VForms) → j + a ≡ k → PartsAdd (outer c) c j a p fs → Flagged flags (count_parts fs) → ValueAdds (outer c) c j (a + suc count) (p ▸ class_function path flags name body v) (VMake flags fs class_of name VNone)
+    -- also after the parts that it is made of
+    pub function_after : stmts_size body < 2 ^ 22 → (j a flags : ℕ) (p : Emission) (fs : VForms) → j + a ≡ k → PartsAdd (told_outer c) c j a p fs
+        → Flagged flags (count_parts fs)
+        → ValueAdds (told_outer c) c j (a + suc class_add_count) (p ▸ class_function path flags name body v) (VMake flags fs class_of name VNone)
     unfolding inside with_path within_class
     function_after few j a flags p fs here h flagged n =
-        made_behind_adds (outer c) c j a count flags p fs (class_within path name) (class_shape name) (class_scope body v) name class_of h
-        (subst (λ m. Makes c.context (class_within path name c.context m) (class_shape name) (class_scope body v) m count class_of) (sym here) (makes few)) refl (ap (λ m. cells_of (cell_place c.context) (class_within path name c.context m).frees) (sym here)) flagged n
+        made_behind_adds (told_outer c) c j a class_add_count flags p fs (class_within path name) (class_shape name) (class_scope body v) name class_of h
+        (subst (λ m. Makes c.context (class_within path name c.context m) (class_shape name) (class_scope body v) m class_add_count class_of) (sym here) (class_add_makes few)) refl (ap (λ m. cells_of (cell_place c.context) (class_within path name c.context m).frees) (sym here)) flagged n
 
--- what builds a class is called with a function, behind whose scopes this number is the next, the name, the bases and the keywords
+-- what builds a class is called with a function, after whose scopes this number is the next, the name, the bases and the keywords
 module _ (c : Around) (k l j : ℕ) (behind : k + l ≡ j) (name : List ℕ) (function : Emission) (form : VForm) (bases : tree.Exprs) (keywords : tree.Keywords) where
-  abbrev called : VForm
-  called = call_form (Function build_class) (behind_name (table.built op.BuildTuple) form (VConst (const.str name)) (table.elements (all_forms (told c) j bases))) (keyword_forms (told c) (j + scopes_in_all c.context.postponed bases) keywords)
+  abbrev class_add_called : VForm
+  class_add_called = call_form (Function build_class) (behind_name (table.built_form op.BuildTuple) form (VConst (const.str name)) (table.elements (all_forms (told_context c) j bases))) (keyword_forms (told_context c) (j + scopes_in_all c.context.postponed bases) keywords)
 
-  pub class_call_adds : ValueAdds (outer c) c k l function form → exprs_size bases < 2 ^ 22 → keywords_size keywords < 2 ^ 22 → ValueAdds (outer c) c k (l + scopes_in_all c.context.postponed bases + scopes_in_keywords c.context.postponed keywords) (class_call name function bases keywords) called
+  pub class_call_adds : ValueAdds (told_outer c) c k l function form → exprs_size bases < 2 ^ 22 → keywords_size keywords < 2 ^ 22
+      → ValueAdds (told_outer c) c k (l + scopes_in_all c.context.postponed bases + scopes_in_keywords c.context.postponed keywords) (class_call name function bases keywords) class_add_called
   class_call_adds own less least n =
       let p = c.context.postponed in
       let y = scopes_in_all p bases in
       let z = scopes_in_keywords p keywords in
       let text : Emission = emit_constant op.LoadConst (const.str name) in
       let es = emitting.elements (all_emissions bases) in
-      let fs = table.elements (all_forms (told c) j bases) in
-      let build : ValueAdds (outer c) c k 0 (emit op.LoadBuildClass 0) build_class = λ m. emit_adds op.LoadBuildClass 0 (Operate (operation op.LoadBuildClass Bare) 0 (Some 1)) (refl, refl) (λ d t. refl) c m k in
-      let named : ValueAdds (outer c) c (k + 0 + l) 0 text (VConst (const.str name)) = λ m. constant_adds (const.str name) refl c m (k + 0 + l) in
-      let more = all_elements_add (outer c) c j y (all_emissions bases) (all_forms (told c) j bases) (exprs_add c j bases less) in
-      let R = AlikeElement (ValueAdds (outer c) c) (ValueAdds (outer c) c) in
-      let elements = behind_adds (outer c) c (k + 0) l y function text form (VConst (const.str name)) es fs (λ m. next_as (omega arith) (own m)) named (threaded_as R j (k + 0 + l) y y es fs (omega (arith, behind)) refl more) in
+      let fs = table.elements (all_forms (told_context c) j bases) in
+      let build : ValueAdds (told_outer c) c k 0 (emit op.LoadBuildClass 0) build_class = λ m. emit_adds op.LoadBuildClass 0 (Operate (operation op.LoadBuildClass Bare) 0 (Some 1)) (refl, refl) (λ d t. refl) c m k in
+      let named : ValueAdds (told_outer c) c (k + 0 + l) 0 text (VConst (const.str name)) = λ m. constant_adds (const.str name) refl c m (k + 0 + l) in
+      let more = all_elements_add (told_outer c) c j y (all_emissions bases) (all_forms (told_context c) j bases) (exprs_add c j bases less) in
+      let R = AlikeElement (ValueAdds (told_outer c) c) (ValueAdds (told_outer c) c) in
+      let elements = behind_adds (told_outer c) c (k + 0) l y function text form (VConst (const.str name)) es fs (λ m. next_as (omega arith) (own m)) named (threaded_as R j (k + 0 + l) y y es fs (omega (arith, behind)) refl more) in
       let ks = keyword_emissions keywords in
-      let js = keyword_forms (told c) (j + y) keywords in
-      let words = threaded_as (AlikeElement (NamedAdds (outer c) c) (ValueAdds (outer c) c)) (j + y) (k + 0 + (l + y)) z z ks js (omega (arith, behind)) refl (keywords_add c (j + y) keywords least) in
+      let js = keyword_forms (told_context c) (j + y) keywords in
+      let words = threaded_as (AlikeElement (NamedAdds (told_outer c) c) (ValueAdds (told_outer c) c)) (j + y) (k + 0 + (l + y)) z z ks js (omega (arith, behind)) refl (keywords_add c (j + y) keywords least) in
       scopes_as (omega arith)
-      (call_form_adds (outer c) c k 0 (l + y) z (Function (emit op.LoadBuildClass 0)) (Function build_class) (behind_name (emitting.built op.BuildTuple) function text es) (behind_name (table.built op.BuildTuple) form (VConst (const.str name)) fs) ks js build elements words n)
+      (call_form_adds (told_outer c) c k 0 (l + y) z (Function (emit op.LoadBuildClass 0)) (Function build_class) (behind_name (emitting.counted_build op.BuildTuple) function text es) (behind_name (table.built_form op.BuildTuple) form (VConst (const.str name)) fs) ks js build elements words n)
 
 -- a class without type parameters
 module _ (c : Around) (k : ℕ) (name : List ℕ) (body : tree.Stmts) (v : Emission) (adds : BodyAdds c k (class_path c.context name) name body v) where
-  pub class_adds : (bases : tree.Exprs) (keywords : tree.Keywords) → stmts_size body < 2 ^ 22 → exprs_size bases < 2 ^ 22 → keywords_size keywords < 2 ^ 22 → ValueAdds (outer c) c k (suc (scopes_in_stmts c.context.postponed body) + scopes_in_all c.context.postponed bases + scopes_in_keywords c.context.postponed keywords) (emission_of_class name bases keywords body v) (class_value (told c) (class_path c.context name) k 0 VNone name bases keywords body (rest_form (class_within (class_path c.context name) name (told c) k) (suc k) body))
+  pub class_adds : (bases : tree.Exprs) (keywords : tree.Keywords) → stmts_size body < 2 ^ 22 → exprs_size bases < 2 ^ 22 → keywords_size keywords < 2 ^ 22
+      → ValueAdds (told_outer c) c k (suc (scopes_in_stmts c.context.postponed body) + scopes_in_all c.context.postponed bases + scopes_in_keywords c.context.postponed keywords) (emission_of_class name bases keywords body v) (class_value (told_context c) (class_path c.context name) k 0 VNone name bases keywords body (rest_form (class_within (class_path c.context name) name (told_context c) k) (suc k) body))
   unfolding emission_of_class inside with_path within_class
   class_adds bases keywords few less least n =
       let path = class_path c.context name in

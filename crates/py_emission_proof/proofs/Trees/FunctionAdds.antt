@@ -13,13 +13,14 @@ use Rattle.py_bytecode.specs.Machine.{Duplicate, Operate, Push, Rotate2}
 use Rattle.py_control.specs.Form.{Interp, Scope, MkScope, VForm, VForms, VConst, VMake, VMore, VNone}
 use Rattle.py_control.specs.Code.{Item, Do, code_v, code_vs, count, labels_v, labels_vs, make_code}
 use Rattle.py_control.specs.Agree.{cells_of}
-use Rattle.py_emission_parts.specs.Context.{Context, cell_place, head_of, inside, mangled, qualified, with_path}
-use Rattle.py_emission_parts.specs.Emitting.{Around, Emission, Outcome, State, Done, TooWide, Refused, ◌▸◌, by_context, by_level, emit_constant, emit_count, go_on}
-use Rattle.py_emission_parts.specs.EmissionParts.{built, in_turn}
-use Rattle.py_emission_parts.specs.Children.{child, decorated, decorations, documented, emission_of_defaults, flags_of_defaults, function_made, function_scope, made, noted, some_emitted}
+use Rattle.py_emission_parts.specs.Context.{Context, cell_place, head_of, inside, mangled_by, qualified_under, with_path}
+use Rattle.py_emission_parts.specs.Emitting.{Around, Emission, State, Done, ◌▸◌, by_context, by_level, emit_constant, emit_count}
+use Rattle.py_emission_parts.specs.Running.{run, on_done}
+use Rattle.py_emission_parts.specs.EmissionParts.{counted_build, in_turn}
+use Rattle.py_emission_parts.specs.Children.{child, decorated_value, decorations, docstring_store, emission_of_defaults, flags_of_defaults, function_made, function_scope, made_function, named_annotation, some_emitted}
 use Rattle.py_emission_parts.specs.Within.{Shape, function_inside, some_flag}
 use Rattle.py_emission_parts.specs.TableParts as table
-use Rattle.py_emission_parts.specs.TableParts.{counted, map_of, name_values, named, parts_of, some_built}
+use Rattle.py_emission_parts.specs.TableParts.{counted_operation, map_of, name_values, named_operation, parts_of, some_built}
 use Rattle.py_emission.specs.Emission.{default_emissions, keyword_only_emissions, positional_emissions}
 use Rattle.py_emission.specs.Parameters.{function_shape, parameters}
 use Rattle.py_emission.specs.Texts.{doc_of}
@@ -34,42 +35,32 @@ use Rattle.py_meaning.specs.TableScopes.{default_flags, default_parts}
 use Rattle.py_meaning.specs.TableScopes as forms
 use Rattle.py_meaning.specs.TableStmts.{function_body}
 use Rattle.py_emission_proof.proofs.Additions.Defaults.{flags_say, part_count, parts_count, same_flag}
-use Rattle.py_emission_proof.proofs.Additions.EmissionSequenceLemmas.{Gives, Stands, Yields, after_these, both, context_gives, gives_as, grouped, keep_yields, kept_on, level_gives, next_as, regroup, scopes_as, then_keep, then_these, then_yields, ungroup}
+use Rattle.py_emission_proof.proofs.Additions.EmissionSequenceLemmas.{EmissionSequenceStands, Yields, after_these, emission_sequence_both, context_gives, gives_as, emission_sequence_grouped, keep_yields, kept_on, level_gives, next_as, regroup, scopes_as, then_keep, then_these, then_yields, ungroup, alike_gives, on_each}
 use Rattle.py_emission_proof.proofs.Additions.FormAdds.{PartsAdd, ValueAdds, AllValuesAdd, more_parts, no_parts, one_part, operation_adds, two_add}
 use Rattle.py_emission_proof.proofs.Additions.Functions.{Flagged, Makes, function_adds, scope_gives}
 use Rattle.py_emission_proof.proofs.Additions.Instructions.{attribute_put_adds, call_adds, constant_adds, duplicate_adds, map_adds, rotate_two_adds}
 use Rattle.py_emission_proof.proofs.Additions.Steps.{StepAdds}
-use Rattle.py_emission_proof.proofs.Additions.Threaded.{Relation, Threaded, same_length, threaded_as, threaded_join}
-use Rattle.py_emission_proof.proofs.Additions.Within.{Whole, scope_makes}
+use Rattle.py_emission_proof.proofs.Additions.Threaded.{Relation, Threaded, threaded_same_length, threaded_as, threaded_join}
+use Rattle.py_emission_proof.proofs.Additions.Within.{WithinWhole, scope_makes}
 use Rattle.py_emission_proof.proofs.Sizes.ProgramSizes.{function_small}
 use Rattle.py_emission_proof.proofs.Trees.ExprAdds.{defaults_add}
 use Rattle.py_emission_proof.proofs.Trees.NoteAdds.{note_value_adds}
-use Rattle.py_emission_proof.proofs.Trees.Told.{outer, pathless, told}
-
--- what runs alike adds the same
-alike_gives : {c : Around} {n k : ℕ} {v w : Emission} {p : List (Item Scope)} {m l : ℕ} {P : Type 0} → ((s : State) → v s ≡ w s) → Gives c n k w p m l P → Gives c n k v p m l P
-alike_gives same a = record { run = λ s r b g z e. a.run s r b g z (sym (same s) ∙ e) }
-
--- what follows runs alike
-pub on_each : (o : Outcome) (v w : Emission) → ((m : State) → v m ≡ w m) → go_on o v ≡ go_on o w
-on_each (Done s) v w same = same s
-on_each TooWide v w same = refl
-on_each (Refused e at) v w same = refl
+use Rattle.py_emission_proof.proofs.Trees.Told.{told_outer, pathless, told_context}
 
 -- a call for each decorator, the first of them first or last
-called_last : (ds : List Emission) (s : State) → (emit_count op.CallFunctionPositional 1 ▸ decorations ds) s ≡ (decorations ds ▸ emit_count op.CallFunctionPositional 1) s
-called_last [] s = kept_on (emit_count op.CallFunctionPositional 1 s)
+called_last : (ds : List Emission) (s : State) → run (emit_count op.CallFunctionPositional 1 ▸ decorations ds) s ≡ run (decorations ds ▸ emit_count op.CallFunctionPositional 1) s
+called_last [] s = kept_on (run (emit_count op.CallFunctionPositional 1) s)
 called_last (d ∷ ds) s =
     let call : Emission = emit_count op.CallFunctionPositional 1 in
-    on_each (call s) (call ▸ decorations ds) (decorations ds ▸ call) (called_last ds) ∙ grouped (call s) (decorations ds) call
+    on_each (run call s) (call ▸ decorations ds) (decorations ds ▸ call) (called_last ds) ∙ emission_sequence_grouped (run call s) (decorations ds) call
 
 -- the first decorator stands before what those after it give, and is called last
-called : (d : Emission) (ds : List Emission) (v : Emission) (s : State) → decorated (d ∷ ds) v s ≡ (d ▸ decorated ds v ▸ emit_count op.CallFunctionPositional 1) s
-called d ds v s =
+function_add_called : (d : Emission) (ds : List Emission) (v : Emission) (s : State) → run (decorated_value (d ∷ ds) v) s ≡ run (d ▸ decorated_value ds v ▸ emit_count op.CallFunctionPositional 1) s
+function_add_called d ds v s =
     let call : Emission = emit_count op.CallFunctionPositional 1 in
-    let within : (x : State) → (v ▸ call ▸ decorations ds) x ≡ ((v ▸ decorations ds) ▸ call) x = λ x. on_each (v x) (call ▸ decorations ds) (decorations ds ▸ call) (called_last ds) ∙ grouped (v x) (decorations ds) call in
-    let before : (m : State) → (in_turn ds ▸ v ▸ call ▸ decorations ds) m ≡ (decorated ds v ▸ call) m = λ m. on_each (in_turn ds m) (v ▸ call ▸ decorations ds) ((v ▸ decorations ds) ▸ call) within ∙ grouped (in_turn ds m) (v ▸ decorations ds) call in
-    sym (grouped (d s) (in_turn ds) (v ▸ call ▸ decorations ds)) ∙ on_each (d s) (in_turn ds ▸ v ▸ call ▸ decorations ds) (decorated ds v ▸ call) before
+    let within : (x : State) → run (v ▸ call ▸ decorations ds) x ≡ run ((v ▸ decorations ds) ▸ call) x = λ x. on_each (run v x) (call ▸ decorations ds) (decorations ds ▸ call) (called_last ds) ∙ emission_sequence_grouped (run v x) (decorations ds) call in
+    let before : (m : State) → run (in_turn ds ▸ v ▸ call ▸ decorations ds) m ≡ run (decorated_value ds v ▸ call) m = λ m. on_each (run (in_turn ds) m) (v ▸ call ▸ decorations ds) ((v ▸ decorations ds) ▸ call) within ∙ emission_sequence_grouped (run (in_turn ds) m) (v ▸ decorations ds) call in
+    sym (emission_sequence_grouped (run d s) (in_turn ds) (v ▸ call ▸ decorations ds)) ∙ on_each (run d s) (in_turn ds ▸ v ▸ call ▸ decorations ds) (decorated_value ds v ▸ call) before
 
 -- a map takes two values for each name
 two_for_each : (qs : List (List ℕ × VForm)) → 2 * length qs ≡ count (parts_of (name_values qs))
@@ -79,29 +70,31 @@ two_for_each (q ∷ qs) = let h = two_for_each qs in omega (arith, h)
 -- what stores a docstring
 abbrev doc_items : Option (List ℕ) → List (Item Scope)
 doc_items None = []
-doc_items (Some text) = Do Duplicate ∷ Do (Push (It (Constant (const.str text)))) ∷ Do Rotate2 ∷ Do (Operate (named op.StoreAttr (codes "__doc__")) 2 (Some 0)) ∷ []
+doc_items (Some text) = Do Duplicate ∷ Do (Push (It (Constant (const.str text)))) ∷ Do Rotate2 ∷ Do (Operate (named_operation op.StoreAttr (codes "__doc__")) 2 (Some 0)) ∷ []
 
-doc_yields : (o : Option (List ℕ)) (c : Around) (n k : ℕ) → Yields c n k (documented o) (doc_items o) 0 0
+doc_yields : (o : Option (List ℕ)) (c : Around) (n k : ℕ) → Yields c n k (docstring_store o) (doc_items o) 0 0
 doc_yields None c n k = keep_yields
 doc_yields (Some text) c n k = after_these (duplicate_adds c n k) (after_these (constant_adds (const.str text) refl c n k) (after_these (rotate_two_adds c n k) (attribute_put_adds (codes "__doc__") c n k)))
 
 module _ (i : Interp Scope) (c : Around) where
-  doc_joined : (o : Option (List ℕ)) (f : VForm) (n : ℕ) → code_v i f n ++ doc_items o ≡ code_v i (forms.documented o f) n
+  doc_joined : (o : Option (List ℕ)) (f : VForm) (n : ℕ) → code_v i f n ++ doc_items o ≡ code_v i (forms.documented_form o f) n
   doc_joined None f n = append-nil (code_v i f n)
   doc_joined (Some text) f n = refl
 
-  doc_labels : (o : Option (List ℕ)) (f : VForm) → labels_v f ≡ labels_v (forms.documented o f)
+  doc_labels : (o : Option (List ℕ)) (f : VForm) → labels_v f ≡ labels_v (forms.documented_form o f)
   doc_labels None f = refl
   doc_labels (Some text) f = omega arith
 
   -- a function whose docstring is stored
-  documented_adds : (k l : ℕ) (v : Emission) (f : VForm) (doc : (level : ℕ) → Option (List ℕ)) → ValueAdds i c k l v f → ValueAdds i c k l (v ▸ by_level (λ l. documented (doc l))) (forms.documented (doc c.context.level) f)
+  documented_adds : (k l : ℕ) (v : Emission) (f : VForm) (doc : (level : ℕ) → Option (List ℕ)) → ValueAdds i c k l v f
+      → ValueAdds i c k l (v ▸ by_level (λ l. docstring_store (doc l))) (forms.documented_form (doc c.context.level) f)
   documented_adds k l v f doc h n =
       let o = doc c.context.level in
-      gives_as (doc_joined o f n) (doc_labels o f) refl (then_these (h n) (level_gives (λ l. documented (doc l)) (doc_yields o c _ _)))
+      gives_as (doc_joined o f n) (doc_labels o f) refl (then_these (h n) (level_gives (λ l. docstring_store (doc l)) (doc_yields o c _ _)))
 
   -- decorators come first, and are called last
-  pub decorated_adds : (k a l : ℕ) (ds : List Emission) (fs : List VForm) (v : Emission) (f : VForm) → AllValuesAdd i c k a ds fs → ValueAdds i c (k + a) l v f → ValueAdds i c k (a + l) (decorated ds v) (forms.decorated fs f)
+  pub decorated_adds : (k a l : ℕ) (ds : List Emission) (fs : List VForm) (v : Emission) (f : VForm) → AllValuesAdd i c k a ds fs → ValueAdds i c (k + a) l v f
+      → ValueAdds i c k (a + l) (decorated_value ds v) (forms.decorated_form fs f)
   decorated_adds k a l [] [] v f h g n =
       scopes_as (let e : l ≡ a + l = omega (arith, h) in e) (after_these keep_yields (then_keep (next_as (let e : k + a ≡ k = omega (arith, h) in e) (g n))))
   decorated_adds k a l [] (x ∷ fs) v f h g n = absurd h
@@ -109,17 +102,17 @@ module _ (i : Interp Scope) (c : Around) where
   decorated_adds k a l (d ∷ ds) (x ∷ fs) v f h g n =
       let e = h.2 in
       let rest = decorated_adds (k + h.0) h.1 l ds fs v f h.4 (λ m. next_as (let z : k + a ≡ k + h.0 + h.1 = omega (arith, e) in z) (g m)) in
-      scopes_as (let z : h.0 + (h.1 + l) ≡ a + l = omega (arith, e) in z) (alike_gives (called d ds v)
-      (two_add i c k h.0 (h.1 + l) (counted op.CallFunctionPositional 1) d (decorated ds v) (emit_count op.CallFunctionPositional 1) x (forms.decorated fs f) h.3 rest (call_adds 1 c) n))
+      scopes_as (let z : h.0 + (h.1 + l) ≡ a + l = omega (arith, e) in z) (alike_gives (function_add_called d ds v)
+      (two_add i c k h.0 (h.1 + l) (counted_operation op.CallFunctionPositional 1) d (decorated_value ds v) (emit_count op.CallFunctionPositional 1) x (forms.decorated_form fs f) h.3 rest (call_adds 1 c) n))
 
   -- an annotation stands before further parts, after its name
   abbrev NoteAdds : Relation Emission (List ℕ × VForm)
   NoteAdds k l v q = (p : Emission) (fs : VForms) (m : ℕ) → PartsAdd i c (k + l) m p fs → PartsAdd i c k (l + m) (v ▸ p) (VMore (VConst (const.str q.0)) (VMore q.1 fs))
 
-  note_adds : (k l : ℕ) (name text : List ℕ) (v : Emission) (f : VForm) → mangled c.context name ≡ text → ValueAdds i c k l v f → NoteAdds k l (noted name v) (text, f)
+  note_adds : (k l : ℕ) (name text : List ℕ) (v : Emission) (f : VForm) → mangled_by c.context name ≡ text → ValueAdds i c k l v f → NoteAdds k l (named_annotation name v) (text, f)
   note_adds k l name text v f e h p fs m g n =
-      let key : Emission = by_context (λ d. emit_constant op.LoadConst (const.str (mangled d name))) in
-      let own : ValueAdds i c k 0 key (VConst (const.str (mangled c.context name))) = λ j. context_gives (λ d. emit_constant op.LoadConst (const.str (mangled d name))) (constant_adds (const.str (mangled c.context name)) refl c j k) in
+      let key : Emission = by_context (λ d. emit_constant op.LoadConst (const.str (mangled_by d name))) in
+      let own : ValueAdds i c k 0 key (VConst (const.str (mangled_by c.context name))) = λ j. context_gives (λ d. emit_constant op.LoadConst (const.str (mangled_by d name))) (constant_adds (const.str (mangled_by c.context name)) refl c j k) in
       let value = more_parts i c k l m v p f fs h g in
       scopes_as (let z : 0 + (l + m) ≡ l + m = omega arith in z) (ungroup key v p (more_parts i c k 0 (l + m) key (v ▸ p) (VConst (const.str text)) (VMore f fs) (subst (λ z. ValueAdds i c k 0 key (VConst (const.str z))) e own)
       (λ j. next_as (let z : k ≡ k + 0 = omega arith in z) (value j)) n))
@@ -131,16 +124,16 @@ module _ (i : Interp Scope) (c : Around) where
   notes_parts k l (v ∷ vs) (q ∷ qs) a n = scopes_as (sym a.2) (a.3 (in_turn vs) (parts_of (name_values qs)) a.1 (notes_parts (k + a.0) a.1 vs qs a.4) n)
 
   -- the map of the annotations, where there are any
-  notes_add : (k l : ℕ) (vs : List Emission) (qs : List (List ℕ × VForm)) → Threaded NoteAdds k l vs qs → PartsAdd i c k l (some_emitted (built op.BuildMap) vs) (some_built map_of qs VNone)
+  notes_add : (k l : ℕ) (vs : List Emission) (qs : List (List ℕ × VForm)) → Threaded NoteAdds k l vs qs → PartsAdd i c k l (some_emitted (counted_build op.BuildMap) vs) (some_built map_of qs VNone)
   notes_add k l [] [] a n = scopes_as (sym a) (no_parts i c k n)
   notes_add k l [] (q ∷ qs) a n = absurd a
   notes_add k l (v ∷ vs) [] a n = absurd a
   notes_add k l (v ∷ vs) (q ∷ qs) a n =
       let x = length (v ∷ vs) in
       let y = length (q ∷ qs) in
-      let step : StepAdds (emit_count op.BuildMap x) (Operate (counted op.BuildMap y) (2 * y) (Some 1)) = subst (λ z. StepAdds (emit_count op.BuildMap x) (Operate (counted op.BuildMap z) (2 * z) (Some 1))) (same_length NoteAdds k l (v ∷ vs) (q ∷ qs) a) (map_adds x) in
-      one_part i c k l (built op.BuildMap (v ∷ vs)) (map_of (q ∷ qs))
-      (operation_adds i c k l (counted op.BuildMap y) (in_turn (v ∷ vs)) (emit_count op.BuildMap x) (parts_of (name_values (q ∷ qs))) (notes_parts k l (v ∷ vs) (q ∷ qs) a) (subst (λ z. StepAdds (emit_count op.BuildMap x) (Operate (counted op.BuildMap y) z (Some 1))) (two_for_each (q ∷ qs)) step c)) n
+      let step : StepAdds (emit_count op.BuildMap x) (Operate (counted_operation op.BuildMap y) (2 * y) (Some 1)) = subst (λ z. StepAdds (emit_count op.BuildMap x) (Operate (counted_operation op.BuildMap z) (2 * z) (Some 1))) (threaded_same_length NoteAdds k l (v ∷ vs) (q ∷ qs) a) (map_adds x) in
+      one_part i c k l (counted_build op.BuildMap (v ∷ vs)) (map_of (q ∷ qs))
+      (operation_adds i c k l (counted_operation op.BuildMap y) (in_turn (v ∷ vs)) (emit_count op.BuildMap x) (parts_of (name_values (q ∷ qs))) (notes_parts k l (v ∷ vs) (q ∷ qs) a) (subst (λ z. StepAdds (emit_count op.BuildMap x) (Operate (counted_operation op.BuildMap y) z (Some 1))) (two_for_each (q ∷ qs)) step c)) n
 
 -- the name of what a function returns is not mangled
 return_stays : (class : Option (List ℕ)) → mangled_in class (codes "return") ≡ codes "return"
@@ -155,32 +148,34 @@ module _ (c : Around) where
 
   -- annotations by their names
   abbrev Notes : (k l : ℕ) → List Emission → List (List ℕ × VForm) → Type 0
-  Notes = Threaded (NoteAdds (outer c) c)
+  Notes = Threaded (NoteAdds (told_outer c) c)
 
-  opt_note_adds : (k : ℕ) (name text : List ℕ) (e : tree.OptExpr) → mangled c.context name ≡ text → opt_expr_size e < 2 ^ 22 → Notes k (scopes_in_returns c.context.postponed e) (emitting.opt_note name e) (notes_of.opt_note (told c) k text e)
+  opt_note_adds : (k : ℕ) (name text : List ℕ) (e : tree.OptExpr) → mangled_by c.context name ≡ text → opt_expr_size e < 2 ^ 22
+      → Notes k (scopes_in_returns c.context.postponed e) (emitting.opt_note name e) (notes_of.opt_note (told_context c) k text e)
   opt_note_adds k name text tree.no_expr same few = no_scopes c.context.postponed
   opt_note_adds k name text (tree.some_expr e) same few =
       let l = scopes_in_annotation c.context.postponed e in
-      (l, 0, omega arith, note_adds (outer c) c k l name text (emission_of_note e) (note_form (told c) k e) same (note_value_adds c k e few), refl)
+      (l, 0, omega arith, note_adds (told_outer c) c k l name text (emission_of_note e) (note_form (told_context c) k e) same (note_value_adds c k e few), refl)
 
-  arg_note_adds : (k : ℕ) (a : tree.Arg) → arg_size a < 2 ^ 22 → Notes k (scopes_in_arg c.context.postponed a) (emitting.arg_note a) (notes_of.arg_note (told c) k a)
-  arg_note_adds k (tree.arg at name annotation) few = opt_note_adds k name (mangled (told c) name) annotation refl (omega (arith, few))
+  arg_note_adds : (k : ℕ) (a : tree.Arg) → arg_size a < 2 ^ 22 → Notes k (scopes_in_arg c.context.postponed a) (emitting.arg_note a) (notes_of.arg_note (told_context c) k a)
+  arg_note_adds k (tree.arg at name annotation) few = opt_note_adds k name (mangled_by (told_context c) name) annotation refl (omega (arith, few))
 
-  opt_arg_note_adds : (k : ℕ) (a : tree.OptArg) → opt_arg_size a < 2 ^ 22 → Notes k (scopes_in_opt_arg c.context.postponed a) (emitting.opt_arg_note a) (notes_of.opt_arg_note (told c) k a)
+  opt_arg_note_adds : (k : ℕ) (a : tree.OptArg) → opt_arg_size a < 2 ^ 22 → Notes k (scopes_in_opt_arg c.context.postponed a) (emitting.opt_arg_note a) (notes_of.opt_arg_note (told_context c) k a)
   opt_arg_note_adds k tree.no_arg few = refl
   opt_arg_note_adds k (tree.some_arg a) few = arg_note_adds k a few
 
-  arg_notes_add : (k : ℕ) (args : tree.Args) → args_size args < 2 ^ 22 → Notes k (scopes_in_notes c.context.postponed args) (emitting.arg_notes args) (notes_of.arg_notes (told c) k args)
+  arg_notes_add : (k : ℕ) (args : tree.Args) → args_size args < 2 ^ 22 → Notes k (scopes_in_notes c.context.postponed args) (emitting.arg_notes args) (notes_of.arg_notes (told_context c) k args)
   arg_notes_add k tree.no_args few = refl
   arg_notes_add k (tree.more_args a default rest) few =
       let x = scopes_in_arg c.context.postponed a in
-      threaded_join (NoteAdds (outer c) c) k x (scopes_in_notes c.context.postponed rest) (emitting.arg_note a) (emitting.arg_notes rest) (notes_of.arg_note (told c) k a) (notes_of.arg_notes (told c) (k + x) rest) (arg_note_adds k a (omega (arith, few))) (arg_notes_add (k + x) rest (omega (arith, few)))
+      threaded_join (NoteAdds (told_outer c) c) k x (scopes_in_notes c.context.postponed rest) (emitting.arg_note a) (emitting.arg_notes rest) (notes_of.arg_note (told_context c) k a) (notes_of.arg_notes (told_context c) (k + x) rest) (arg_note_adds k a (omega (arith, few))) (arg_notes_add (k + x) rest (omega (arith, few)))
 
   -- the annotations of all parameters, and before them that of what the function returns
-  all_notes_add : (k : ℕ) (params : tree.Arguments) (returns : tree.OptExpr) → arguments_size params + opt_expr_size returns < 2 ^ 22 → Notes k (scopes_in_returns c.context.postponed returns + scopes_in_all_notes c.context.postponed params) (notes params returns) (note_forms (told c) k params returns)
+  all_notes_add : (k : ℕ) (params : tree.Arguments) (returns : tree.OptExpr) → arguments_size params + opt_expr_size returns < 2 ^ 22
+      → Notes k (scopes_in_returns c.context.postponed returns + scopes_in_all_notes c.context.postponed params) (notes params returns) (note_forms (told_context c) k params returns)
   all_notes_add k (tree.arguments posonly args vararg kwonly kwarg) returns few =
       let p = c.context.postponed in
-      let R = NoteAdds (outer c) c in
+      let R = NoteAdds (told_outer c) c in
       let j = k + scopes_in_returns p returns in
       let x = j + scopes_in_notes p posonly in
       let y = x + scopes_in_notes p args in
@@ -198,7 +193,8 @@ positional_flag c flag k tree.no_args = refl
 positional_flag c flag k (tree.more_args a tree.no_expr rest) = positional_flag c flag k rest
 positional_flag c flag k (tree.more_args a (tree.some_expr e) rest) = refl
 
-positionals_flag : (c : Context) (flag k j : ℕ) (posonly args : tree.Args) → some_flag flag (positional_emissions posonly ++ positional_emissions args) ≡ some_flag flag (positional_defaults c k posonly ++ positional_defaults c j args)
+positionals_flag : (c : Context) (flag k j : ℕ) (posonly args : tree.Args)
+    → some_flag flag (positional_emissions posonly ++ positional_emissions args) ≡ some_flag flag (positional_defaults c k posonly ++ positional_defaults c j args)
 positionals_flag c flag k j tree.no_args args = positional_flag c flag j args
 positionals_flag c flag k j (tree.more_args a tree.no_expr rest) args = positionals_flag c flag k j rest args
 positionals_flag c flag k j (tree.more_args a (tree.some_expr e) rest) args = refl
@@ -222,24 +218,26 @@ unfolding inside with_path
 pathless_within name c k = refl
 
 -- what the context decides, where it is this one
-in_context : (g : Context → Emission) (m r : State) (c : Around) → m.around ≡ c → by_context g m ≡ Done r → g c.context m ≡ Done r
+in_context : (g : Context → Emission) (m r : State) (c : Around) → m.around ≡ c → run (by_context g) m ≡ Done r → run (g c.context) m ≡ Done r
 unfolding by_context
-in_context g m r c same e = subst (λ (u : Around). g u.context m ≡ Done r) same e
+in_context g m r c same e = subst (λ (u : Around). run (g u.context) m ≡ Done r) same e
 
 module _ (c : Around) (k : ℕ) (name : List ℕ) where
   -- the context in the function
-  abbrev inner : Context
-  inner = function_inside name c.context k
+  abbrev function_add_inner : Context
+  function_add_inner = function_inside name c.context k
 
   -- the scope of a function of these statements
   abbrev pub function_of : tree.Stmts → Scope
-  function_of body = MkScope (head_of (pathless inner)) (function_body (pathless inner) (suc k) body)
+  function_of body = MkScope (head_of (pathless function_add_inner)) (function_body (pathless function_add_inner) (suc k) body)
 
   -- is made from what they add
-  function_makes : (h : Shape) (params : List (List ℕ)) (v : Emission) (body : tree.Stmts) → stmts_size body < 2 ^ 22 → Whole inner v (suc k) (scopes_in_stmts inner.postponed body) (function_of body) → Makes c.context inner h (function_scope params v) k (scopes_in_stmts c.context.postponed body) (function_of body)
+  function_makes : (h : Shape) (params : List (List ℕ)) (v : Emission) (body : tree.Stmts) → stmts_size body < 2 ^ 22
+      → WithinWhole function_add_inner v (suc k) (scopes_in_stmts function_add_inner.postponed body) (function_of body)
+      → Makes c.context function_add_inner h (function_scope params v) k (scopes_in_stmts c.context.postponed body) (function_of body)
   unfolding inside with_path
   function_makes h params v body few whole =
-      scope_makes c.context inner h (function_scope params v) k (scopes_in_stmts c.context.postponed body) (function_of body) refl refl refl refl refl (record { cells = refl; frees = refl }) (λ d. function_small d (pathless inner) (suc k) body few) (scope_gives params v whole)
+      scope_makes c.context function_add_inner h (function_scope params v) k (scopes_in_stmts c.context.postponed body) (function_of body) refl refl refl refl refl (record { cells = refl; frees = refl }) (λ d. function_small d (pathless function_add_inner) (suc k) body few) (scope_gives params v whole)
 
 module _ (c : Around) (k : ℕ) (name : List ℕ) (params : tree.Arguments) (body : tree.Stmts) (returns : tree.OptExpr) where
   -- the scope of the function, which has this number
@@ -255,17 +253,17 @@ module _ (c : Around) (k : ℕ) (name : List ℕ) (params : tree.Arguments) (bod
 
   -- the annotations, and what emits their map
   abbrev pub note_values : List (List ℕ × VForm)
-  note_values = note_forms (told c) (suc k + own_count) params returns
+  note_values = note_forms (told_context c) (suc k + own_count) params returns
 
   abbrev note_map : Emission
-  note_map = some_emitted (built op.BuildMap) (notes params returns)
+  note_map = some_emitted (counted_build op.BuildMap) (notes params returns)
 
   -- the parts after the scope
-  abbrev others : VForms
-  others = some_built map_of note_values VNone
+  abbrev function_add_others : VForms
+  function_add_others = some_built map_of note_values VNone
 
   abbrev text : List ℕ
-  text = qualified c.context name
+  text = qualified_under c.context name
 
   -- flags and parts before the scope, where the same flags are emitted
   module _ (early flags : ℕ) (parts : VForms) where
@@ -277,62 +275,66 @@ module _ (c : Around) (k : ℕ) (name : List ℕ) (params : tree.Arguments) (bod
 
     -- what makes the function after its annotations
     abbrev made_after : Emission → Object → Emission
-    made_after v o = v ▸ by_context (λ d. made all_early (qualified d name) o)
+    made_after v o = v ▸ by_context (λ d. made_function all_early (qualified_under d name) o)
 
-    module _ (same : early ≡ flags) (flagged : Flagged all_flags (count parts + count others)) (few : arguments_size params + opt_expr_size returns < 2 ^ 22) where
+    module _ (same : early ≡ flags) (flagged : Flagged all_flags (count parts + count function_add_others)) (few : arguments_size params + opt_expr_size returns < 2 ^ 22) where
       threaded : Notes c (k + suc own_count) note_count (notes params returns) note_values
-      threaded = threaded_as (NoteAdds (outer c) c) (suc k + own_count) (k + suc own_count) note_count note_count (notes params returns) note_values (omega arith) refl (all_notes_add c (suc k + own_count) params returns few)
+      threaded = threaded_as (NoteAdds (told_outer c) c) (suc k + own_count) (k + suc own_count) note_count note_count (notes params returns) note_values (omega arith) refl (all_notes_add c (suc k + own_count) params returns few)
 
-      flags_are : all_early ≡ all_flags
-      flags_are = let b = same_flag (NoteAdds (outer c) c) 0x02 (k + suc own_count) note_count (notes params returns) note_values threaded in omega (arith, same, b)
+      function_add_flags_are : all_early ≡ all_flags
+      function_add_flags_are = let b = same_flag (NoteAdds (told_outer c) c) 0x02 (k + suc own_count) note_count (notes params returns) note_values threaded in omega (arith, same, b)
 
       -- the annotations leave the context as it is
-      goes : (o : Object) (s r : State) → Stands c s → made_after note_map o s ≡ Done r → (note_map ▸ made all_flags text o) s ≡ Done r
-      goes o s r z e =
-          let g : Context → Emission = λ d. made all_early (qualified d name) o in
-          let h = both note_map (by_context g) s r e in
-          let a = (notes_add (outer c) c s.next note_count (notes params returns) (note_forms (told c) s.next params returns) (all_notes_add c s.next params returns few) s.blocks).run s h.0 refl refl z h.1 in
+      function_add_goes : (o : Object) (s r : State) → EmissionSequenceStands c s → run (made_after note_map o) s ≡ Done r → run (note_map ▸ made_function all_flags text o) s ≡ Done r
+      function_add_goes o s r z e =
+          let g : Context → Emission = λ d. made_function all_early (qualified_under d name) o in
+          let h = emission_sequence_both note_map (by_context g) s r e in
+          let a = (notes_add (told_outer c) c s.next note_count (notes params returns) (note_forms (told_context c) s.next params returns) (all_notes_add c s.next params returns few) s.blocks).does s h.0 refl refl z h.1 in
           let there = in_context g h.0 r c (a.0.added.around_are ∙ sym z.around) h.2 in
-          ap (λ q. go_on q (made all_flags text o)) h.1 ∙ subst (λ f. made f text o h.0 ≡ Done r) flags_are there
+          ap (λ q. on_done q (run (made_function all_flags text o))) h.1 ∙ subst (λ f. run (made_function f text o) h.0 ≡ Done r) function_add_flags_are there
 
-      module _ (less : stmts_size body < 2 ^ 22) (v : Emission) (whole : Whole (inner c k name) v (suc k) (scopes_in_stmts (inner c k name).postponed body) own_scope) where
+      module _ (less : stmts_size body < 2 ^ 22) (v : Emission) (whole : WithinWhole (function_add_inner c k name) v (suc k) (scopes_in_stmts (function_add_inner c k name).postponed body) own_scope) where
         -- what emits the function's scope, its annotations and the function
-        abbrev own : Emission
-        own = child (function_inside name) (function_shape params name) (function_scope (parameters params) v) (λ o. function_made early (notes params returns) name o)
+        abbrev function_add_own : Emission
+        function_add_own = child (function_inside name) (function_shape params name) (function_scope (parameters params) v) (λ o. function_made early (notes params returns) name o)
 
-        own_adds : (n : ℕ) → Yields c n k own (code_vs (outer c) others n ++ make_code all_flags (cells_of (cell_place c.context) (inner c k name).frees) (count parts + count others) (Child own_scope) text) (labels_vs others) (suc own_count + note_count)
+        own_adds : (n : ℕ)
+            → Yields c n k function_add_own (code_vs (told_outer c) function_add_others n ++ make_code all_flags (cells_of (cell_place c.context) (function_add_inner c k name).frees) (count parts + count function_add_others) (Child own_scope) text) (labels_vs function_add_others) (suc own_count + note_count)
         own_adds n =
-            function_adds (outer c) c (function_inside name) (function_shape params name) (function_scope (parameters params) v) note_map all_flags (count parts + count others) made_after text others own_scope k own_count note_count
+            function_adds (told_outer c) c (function_inside name) (function_shape params name) (function_scope (parameters params) v) note_map all_flags (count parts + count function_add_others) made_after text function_add_others own_scope k own_count note_count
             (function_makes c k name (function_shape params name) (parameters params) v body less whole)
-            (notes_add (outer c) c (k + suc own_count) note_count (notes params returns) note_values threaded) flagged goes n
+            (notes_add (told_outer c) c (k + suc own_count) note_count (notes params returns) note_values threaded) flagged function_add_goes n
 
-        -- the function behind its parts, and its docstring
-        pub function_value_adds : (j a : ℕ) (p : Emission) → j + a ≡ k → PartsAdd (outer c) c j a p parts → ValueAdds (outer c) c j (a + suc (own_count + note_count)) (p ▸ emitting.function_value early name params body returns v) (function_value (told c) k flags parts name params body returns (function_body (function_inside name (told c) k) (suc k) body))
+        -- the function after its parts, and its docstring
+        pub function_value_adds : (j a : ℕ) (p : Emission) → j + a ≡ k → PartsAdd (told_outer c) c j a p parts
+            → ValueAdds (told_outer c) c j (a + suc (own_count + note_count)) (p ▸ emitting.function_value early name params body returns v) (function_value (told_context c) k flags parts name params body returns (function_body (function_inside name (told_context c) k) (suc k) body))
         function_value_adds j a p here h n =
             let doc : ℕ → Option (List ℕ) = λ l. doc_of l body in
-            let made_adds : ValueAdds (outer c) c j (a + (suc own_count + note_count)) (p ▸ own) (VMake all_flags parts own_scope text others) = λ m. then_yields (h m) (next_as (sym here) (own_adds (m + labels_vs parts))) in
-            let all = documented_adds (outer c) c j _ (p ▸ own) (VMake all_flags parts own_scope text others) doc made_adds in
-            subst (λ d. Yields c n j (p ▸ emitting.function_value early name params body returns v) (code_v (outer c) (forms.documented (doc c.context.level) (VMake all_flags parts (MkScope (head_of d) (function_body d (suc k) body)) text others)) n) (labels_v (forms.documented (doc c.context.level) (VMake all_flags parts (MkScope (head_of d) (function_body d (suc k) body)) text others))) (a + suc (own_count + note_count))) (pathless_within name c.context k)
-            (scopes_as (omega arith) (regroup p own (by_level (λ l. documented (doc l))) (all n)))
+            let made_adds : ValueAdds (told_outer c) c j (a + (suc own_count + note_count)) (p ▸ function_add_own) (VMake all_flags parts own_scope text function_add_others) = λ m. then_yields (h m) (next_as (sym here) (own_adds (m + labels_vs parts))) in
+            let all = documented_adds (told_outer c) c j _ (p ▸ function_add_own) (VMake all_flags parts own_scope text function_add_others) doc made_adds in
+            subst (λ d. Yields c n j (p ▸ emitting.function_value early name params body returns v) (code_v (told_outer c) (forms.documented_form (doc c.context.level) (VMake all_flags parts (MkScope (head_of d) (function_body d (suc k) body)) text function_add_others)) n) (labels_v (forms.documented_form (doc c.context.level) (VMake all_flags parts (MkScope (head_of d) (function_body d (suc k) body)) text function_add_others))) (a + suc (own_count + note_count))) (pathless_within name c.context k)
+            (scopes_as (omega arith) (regroup p function_add_own (by_level (λ l. docstring_store (doc l))) (all n)))
 
 module _ (c : Around) (k : ℕ) (name : List ℕ) (params : tree.Arguments) (body : tree.Stmts) (returns : tree.OptExpr) where
   -- the number of the function's scope, before which its defaults come
   abbrev scope_here : ℕ
   scope_here = k + scopes_in_defaults c.context.postponed params
 
-  abbrev defaults : forms.Defaults
-  defaults = default_forms (told c) k params
+  abbrev function_add_defaults : forms.Defaults
+  function_add_defaults = default_forms (told_context c) k params
 
-  flagged_by_defaults : Flagged (all_flags c scope_here name params body returns (flags_of_defaults (default_emissions params)) (default_flags defaults) (default_parts defaults VNone)) (count (default_parts defaults VNone) + count (some_built map_of (note_values c scope_here name params body returns) VNone))
+  flagged_by_defaults : Flagged (all_flags c scope_here name params body returns (flags_of_defaults (default_emissions params)) (default_flags function_add_defaults) (default_parts function_add_defaults VNone)) (count (default_parts function_add_defaults VNone) + count (some_built map_of (note_values c scope_here name params body returns) VNone))
   flagged_by_defaults =
       let zs = note_values c scope_here name params body returns in
-      let a = parts_count (table.built op.BuildTuple) map_of defaults.positional defaults.keyword in
+      let a = parts_count (table.built_form op.BuildTuple) map_of function_add_defaults.positional function_add_defaults.keyword in
       let b = part_count map_of zs in
-      subst (Flagged (default_flags defaults + some_flag 0x02 zs)) (omega (arith, a, b)) (flags_say defaults.positional defaults.keyword zs)
+      subst (Flagged (default_flags function_add_defaults + some_flag 0x02 zs)) (omega (arith, a, b)) (flags_say function_add_defaults.positional function_add_defaults.keyword zs)
 
   -- a function without type parameters
-  pub def_adds : arguments_size params + opt_expr_size returns < 2 ^ 22 → stmts_size body < 2 ^ 22 → (v : Emission) → Whole (inner c scope_here name) v (suc scope_here) (scopes_in_stmts (inner c scope_here name).postponed body) (function_of c scope_here name body) → ValueAdds (outer c) c k (scopes_in_defaults c.context.postponed params + suc (scopes_in_stmts c.context.postponed body + (scopes_in_returns c.context.postponed returns + scopes_in_all_notes c.context.postponed params))) (emission_of_def name params body returns v) (function_value (told c) scope_here (default_flags defaults) (default_parts defaults VNone) name params body returns (function_body (function_inside name (told c) scope_here) (suc scope_here) body))
+  pub def_adds : arguments_size params + opt_expr_size returns < 2 ^ 22 → stmts_size body < 2 ^ 22 → (v : Emission)
+      → WithinWhole (function_add_inner c scope_here name) v (suc scope_here) (scopes_in_stmts (function_add_inner c scope_here name).postponed body) (function_of c scope_here name body)
+      → ValueAdds (told_outer c) c k (scopes_in_defaults c.context.postponed params + suc (scopes_in_stmts c.context.postponed body + (scopes_in_returns c.context.postponed returns + scopes_in_all_notes c.context.postponed params))) (emission_of_def name params body returns v) (function_value (told_context c) scope_here (default_flags function_add_defaults) (default_parts function_add_defaults VNone) name params body returns (function_body (function_inside name (told_context c) scope_here) (suc scope_here) body))
   unfolding emission_of_def
   def_adds few less v whole n =
-      function_value_adds c scope_here name params body returns (flags_of_defaults (default_emissions params)) (default_flags defaults) (default_parts defaults VNone) (same_flags (told c) k params) flagged_by_defaults few less v whole k (scopes_in_defaults c.context.postponed params) (emission_of_defaults (default_emissions params)) refl
+      function_value_adds c scope_here name params body returns (flags_of_defaults (default_emissions params)) (default_flags function_add_defaults) (default_parts function_add_defaults VNone) (same_flags (told_context c) k params) flagged_by_defaults few less v whole k (scopes_in_defaults c.context.postponed params) (emission_of_defaults (default_emissions params)) refl
       (defaults_add c k params (omega (arith, few))) n

@@ -1,4 +1,4 @@
--- What future imports add, and the statements behind them.
+-- What future imports add, and the statements after them.
 use Rattle.std.proofs.Common.{◌≡◌, ℕ, ◌+◌, ◌<◌, ◌^◌, List, [], ◌∷◌, Bool, true, false, Option, Some, None, refl, ap, subst, arith}
 use Rattle.std.specs.Prelude.{if◌then◌else◌}
 use Rattle.py_tree.specs.Tree as tree
@@ -12,15 +12,15 @@ use Rattle.py_control.specs.Code.{closes, code, labels}
 use Rattle.py_control.specs.Looped.{Looped}
 use Rattle.py_base.specs.declared.errors.CodegenErrorType.TheVariants as error
 use Rattle.py_emission_parts.specs.Context.{Context, access_kind, cell_place, class_cells, head_of, place_by}
-use Rattle.py_emission_parts.specs.Emitting.{Around, Emission, ◌▸◌, postponing, refuse}
-use Rattle.py_emission.specs.EmissionFutures.{check_features, emission_behind, emission_of_future, following}
+use Rattle.py_emission_parts.specs.Emitting.{Around, Emission, ◌▸◌, postponed_part, refuse}
+use Rattle.py_emission.specs.EmissionFutures.{check_features, emission_behind, emission_of_future, after_future_import}
 use Rattle.py_emission.specs.EmissionImports.{emission_of_from}
 use Rattle.py_emission.specs.Futures.{Future, after_future, future_of, is_feature, postpones}
 use Rattle.py_meaning.specs.TableImports.{behind_futures, from_form, future_form}
-use Rattle.py_emission_proof.proofs.Additions.EmissionSequenceLemmas.{Gives, Yields, after_these, keep_yields, next_as, postponed_around, postponed_gives, refused_gives, scopes_as, then_gives}
-use Rattle.py_emission_proof.proofs.Trees.Controls.{Controls, InLoop, act_gives, held, in_more}
+use Rattle.py_emission_proof.proofs.Additions.EmissionSequenceLemmas.{Gives, Yields, after_these, keep_yields, next_as, emission_sequence_postponed_around, postponed_gives, refused_gives, scopes_as, then_gives}
+use Rattle.py_emission_proof.proofs.Trees.Controls.{Controls, InLoop, act_gives, control_held, in_more}
 use Rattle.py_emission_proof.proofs.Trees.ImportAdds.{present_adds}
-use Rattle.py_emission_proof.proofs.Trees.Told.{outer, told}
+use Rattle.py_emission_proof.proofs.Trees.Told.{told_outer, told_context}
 use Rattle.py_emission_proof.proofs.Trees.Unlooped.{from_unlooped}
 
 -- what a scope is told by its names does not say whether annotations are postponed
@@ -40,17 +40,17 @@ head_same c p = λ i. record {
   class_cell = class_cells c;
 }
 
-outer_same : (c : Around) → outer (postponed_around c) ≡ outer c
-outer_same c = ap {B = Interp Scope} (λ (h : Head). exactly (λ x. x) (MkScope h SSkip)) (head_same (told c) true)
+outer_same : (c : Around) → told_outer (emission_sequence_postponed_around c) ≡ told_outer c
+outer_same c = ap {B = Interp Scope} (λ (h : Head). exactly (λ x. x) (MkScope h SSkip)) (head_same (told_context c) true)
 
--- what stands around behind it
+-- what stands around after it
 abbrev pub around_after : Future → Around → Around
 around_after f c = record c { context = after_future f c.context }
 
-pub told_after : (f : Future) (c : Around) → told (around_after f c) ≡ after_future f (told c)
+pub told_after : (f : Future) (c : Around) → told_context (around_after f c) ≡ after_future f (told_context c)
 told_after f c = go (postpones f)
   where
-    go : (z : Bool) → told (record c { context = if z then record c.context { postponed = true } else c.context }) ≡ (if z then record (told c) { postponed = true } else told c)
+    go : (z : Bool) → told_context (record c { context = if z then record c.context { postponed = true } else c.context }) ≡ (if z then record (told_context c) { postponed = true } else told_context c)
     go true = refl
     go false = refl
 
@@ -63,39 +63,45 @@ module _ (c : Around) where
       go true h = h
       go false h = refused_gives (error.InvalidFutureFeature a.name)
 
-  future_gives : (f : Future) (b : Loops) (n k : ℕ) → Controls c b n k 0 (emission_of_future f) (future_form (told c) f)
+  future_gives : (f : Future) (b : Loops) (n k : ℕ) → Controls c b n k 0 (emission_of_future f) (future_form (told_context c) f)
   future_gives f b n k =
-      act_gives c b n k 0 f.at (check_features f.names ▸ emission_of_from f.path f.names f.level) (from_form (told c) f.path f.names f.level)
-      (λ x m. after_these (features_yield f.names m k) (present_adds c k f.path f.names f.level x m)) (from_unlooped (told c) f.path f.names f.level)
+      act_gives c b n k 0 f.at (check_features f.names ▸ emission_of_from f.path f.names f.level) (from_form (told_context c) f.path f.names f.level)
+      (λ x m. after_these (features_yield f.names m k) (present_adds c k f.path f.names f.level x m)) (from_unlooped (told_context c) f.path f.names f.level)
 
-  following_gives : (f : Future) (b : Loops) (n k l : ℕ) (v : Emission) (g : SForm) → Controls (around_after f c) b n k l v g → Controls c b n k l (following f v) g
+  following_gives : (f : Future) (b : Loops) (n k l : ℕ) (v : Emission) (g : SForm) → Controls (around_after f c) b n k l v g → Controls c b n k l (after_future_import f v) g
   following_gives f b n k l v g h = go (postpones f) h
     where
-      go : (z : Bool) → Controls (record c { context = if z then record c.context { postponed = true } else c.context }) b n k l v g → Controls c b n k l (if z then postponing v else v) g
-      go true x = postponed_gives (subst (λ (i : Interp Scope). Gives (postponed_around c) n k v (code i g b n) (labels g) l (Looped (held c.loops) g)) (outer_same c) x)
+      go : (z : Bool) → Controls (record c { context = if z then record c.context { postponed = true } else c.context }) b n k l v g → Controls c b n k l (if z then postponed_part v else v) g
+      go true x = postponed_gives (subst (λ (i : Interp Scope). Gives (emission_sequence_postponed_around c) n k v (code i g b n) (labels g) l (Looped (control_held c.loops) g)) (outer_same c) x)
       go false x = x
 
   -- a future import, and what follows it, by its form in the context there
-  pub future_then : (f : Future) (b : Loops) (n k l : ℕ) (v : Emission) (form : Context → SForm) → Controls (around_after f c) b (n + labels (future_form (told c) f)) k l v (form (told (around_after f c))) → Controls c b n k l (emission_of_future f ▸ following f v) (SThen (future_form (told c) f) (form (after_future f (told c))))
+  pub future_then : (f : Future) (b : Loops) (n k l : ℕ) (v : Emission) (form : Context → SForm)
+      → Controls (around_after f c) b (n + labels (future_form (told_context c) f)) k l v (form (told_context (around_after f c)))
+      → Controls c b n k l (emission_of_future f ▸ after_future_import f v) (SThen (future_form (told_context c) f) (form (after_future f (told_context c))))
   future_then f b n k l v form h =
-      let m = n + labels (future_form (told c) f) in
+      let m = n + labels (future_form (told_context c) f) in
       let later = subst (λ (d : Context). Controls (around_after f c) b m k l v (form d)) (told_after f c) h in
-      scopes_as (omega arith) (then_gives (future_gives f b n k) (next_as (let e : k ≡ k + 0 = omega arith in e) (following_gives f b m k l v (form (after_future f (told c))) later)))
+      scopes_as (omega arith) (then_gives (future_gives f b n k) (next_as (let e : k ≡ k + 0 = omega arith in e) (following_gives f b m k l v (form (after_future f (told_context c))) later)))
 
 -- statements that add the code of their form, with some scopes, where the next scope is the first within
 abbrev pub BehindAdds : (tree.Stmts → Emission) → (Context → tree.Stmts → SForm) → tree.Stmts → Type 0
-BehindAdds e form ts = (c : Around) (b : Loops) (n : ℕ) → InLoop c.loops b n → (l : ℕ) × Controls c b n 1 l (e ts) (form (told c) ts)
+BehindAdds e form ts = (c : Around) (b : Loops) (n : ℕ) → InLoop c.loops b n → (l : ℕ) × Controls c b n 1 l (e ts) (form (told_context c) ts)
 
-pub behind_gives : (e : tree.Stmts → Emission) (form : Context → tree.Stmts → SForm) → ((ts : tree.Stmts) → stmts_size ts < 2 ^ 22 → BehindAdds e form ts) → (ts : tree.Stmts) → stmts_size ts < 2 ^ 22 → BehindAdds (emission_behind e) (behind_futures form) ts
+pub behind_gives : (e : tree.Stmts → Emission) (form : Context → tree.Stmts → SForm) → ((ts : tree.Stmts) → stmts_size ts < 2 ^ 22 → BehindAdds e form ts)
+    → (ts : tree.Stmts) → stmts_size ts < 2 ^ 22 → BehindAdds (emission_behind e) (behind_futures form) ts
 behind_gives e form h tree.no_stmts few c b n w = h tree.no_stmts few c b n w
-behind_gives e form h (tree.more_stmts s ss) few c b n w = go (future_of s) (h (tree.more_stmts s ss) few c b n w) (λ f. let m = n + labels (future_form (told c) f) in behind_gives e form h ss (omega (arith, few)) (around_after f c) b m (in_more c.loops b n m (omega arith) w))
+behind_gives e form h (tree.more_stmts s ss) few c b n w = go (future_of s) (h (tree.more_stmts s ss) few c b n w) (λ f. let m = n + labels (future_form (told_context c) f) in behind_gives e form h ss (omega (arith, few)) (around_after f c) b m (in_more c.loops b n m (omega arith) w))
   where
-    go : (o : Option Future) → (l : ℕ) × Controls c b n 1 l (e (tree.more_stmts s ss)) (form (told c) (tree.more_stmts s ss)) → ((f : Future) → (l : ℕ) × Controls (around_after f c) b (n + labels (future_form (told c) f)) 1 l (emission_behind e ss) (behind_futures form (told (around_after f c)) ss)) → (l : ℕ) × Controls c b n 1 l (elim o [ None ↦ e (tree.more_stmts s ss) | Some f ↦ emission_of_future f ▸ following f (emission_behind e ss) ]) (elim o [ None ↦ form (told c) (tree.more_stmts s ss) | Some f ↦ SThen (future_form (told c) f) (behind_futures form (after_future f (told c)) ss) ])
+    go : (o : Option Future) → (l : ℕ) × Controls c b n 1 l (e (tree.more_stmts s ss)) (form (told_context c) (tree.more_stmts s ss))
+        → ((f : Future) → (l : ℕ) × Controls (around_after f c) b (n + labels (future_form (told_context c) f)) 1 l (emission_behind e ss) (behind_futures form (told_context (around_after f c)) ss))
+        → (l : ℕ) × Controls c b n 1 l (elim o [ None ↦ e (tree.more_stmts s ss) | Some f ↦ emission_of_future f ▸ after_future_import f (emission_behind e ss) ]) (elim o [ None ↦ form (told_context c) (tree.more_stmts s ss) | Some f ↦ SThen (future_form (told_context c) f) (behind_futures form (after_future f (told_context c)) ss) ])
     go None x y = x
     go (Some f) x y = let z = y f in (z.0, future_then c f b n 1 z.0 (emission_behind e ss) (λ d. behind_futures form d ss) z.1)
 
--- code that closes with a return does so behind future imports
-pub closes_or : (c : Context) (f : SForm) (form : Future → SForm) (o : Option Future) → closes f ≡ true → ((x : Future) → closes (form x) ≡ true) → closes (elim o [ None ↦ f | Some x ↦ SThen (future_form c x) (form x) ]) ≡ true
+-- code that closes with a return does so after future imports
+pub closes_or : (c : Context) (f : SForm) (form : Future → SForm) (o : Option Future) → closes f ≡ true → ((x : Future) → closes (form x) ≡ true)
+    → closes (elim o [ None ↦ f | Some x ↦ SThen (future_form c x) (form x) ]) ≡ true
 closes_or c f form None p q = p
 closes_or c f form (Some x) p q = q x
 

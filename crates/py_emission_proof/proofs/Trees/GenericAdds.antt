@@ -9,11 +9,11 @@ use Rattle.py_bytecode.specs.Values.{operation, Bare}
 use Rattle.py_control.specs.Form.{MkScope, SForm, SReturn, Scope, VForm, VForms, VConst, VMake, VMore, VNone, VSwap}
 use Rattle.py_control.specs.Code.{count}
 use Rattle.py_emission_parts.specs.Children.{emission_of_defaults, flags_of_defaults}
-use Rattle.py_emission_parts.specs.Within.{behind_name, class_path, class_within, function_inside, handed, handed_parts, hidden_inside, some_flag}
-use Rattle.py_emission_parts.specs.Context.{Context, head_of, inside, qualified, with_path, within_class}
+use Rattle.py_emission_parts.specs.Within.{behind_name, class_path, class_within, function_inside, passed_defaults, handed_parts, hidden_inside, some_flag}
+use Rattle.py_emission_parts.specs.Context.{Context, head_of, inside, qualified_under, with_path, within_class}
 use Rattle.py_emission_parts.specs.Elements.{Function}
 use Rattle.py_emission_parts.specs.Emitting.{Around, Emission, ◌▸◌}
-use Rattle.py_emission_parts.specs.TableParts.{built, elements, map_of, some_built}
+use Rattle.py_emission_parts.specs.TableParts.{built_form, elements, map_of, some_built}
 use Rattle.py_emission_parts.specs.TypeParameters as emitted
 use Rattle.py_emission_parts.specs.TypeParameters.{generic_alias, hidden, load_handed, plain_alias}
 use Rattle.py_emission.specs.Emission.{default_emissions, emission}
@@ -34,142 +34,155 @@ use Rattle.py_emission_proof.proofs.Additions.FormAdds.{IsPushed, PartsAdd, Valu
 use Rattle.py_emission_proof.proofs.Additions.Functions.{Flagged}
 use Rattle.py_emission_proof.proofs.Additions.Pushed.{call_pushed}
 use Rattle.py_emission_proof.proofs.Additions.TypeParameterAdds.{generic_alias_adds, generic_flags_say, handed_add, handed_count, handed_parts_count, params_flag}
-use Rattle.py_emission_proof.proofs.Additions.Within.{Whole}
+use Rattle.py_emission_proof.proofs.Additions.Within.{WithinWhole}
 use Rattle.py_emission_proof.proofs.Trees.ClassAdds.{BodyAdds, class_call_adds, class_of, function_after}
 use Rattle.py_emission_proof.proofs.Trees.ExprAdds.{defaults_add, expr_adds}
 use Rattle.py_emission_proof.proofs.Trees.FunctionAdds.{all_flags, function_of, function_value_adds, note_values, same_flags}
-use Rattle.py_emission_proof.proofs.Trees.Told.{outer, told}
-use Rattle.py_emission_proof.proofs.Trees.TypeParams.{HiddenSmall, handed_loads, hidden_value_adds, params_add, same_handed, within}
+use Rattle.py_emission_proof.proofs.Trees.Told.{told_outer, told_context}
+use Rattle.py_emission_proof.proofs.Trees.TypeParams.{HiddenSmall, handed_loads, hidden_value_adds, params_add, same_handed, type_param_within}
 
 -- a function, with its docstring or without one, is no constant
-documented_pushed : (c : Around) (o : Option (List ℕ)) (flags : ℕ) (parts others : VForms) (x : Scope) (name : List ℕ) → IsPushed (outer c) c (forms.documented o (VMake flags parts x name others))
+documented_pushed : (c : Around) (o : Option (List ℕ)) (flags : ℕ) (parts others : VForms) (x : Scope) (name : List ℕ)
+    → IsPushed (told_outer c) c (forms.documented_form o (VMake flags parts x name others))
 documented_pushed c None flags parts others x name n = refl
 documented_pushed c (Some text) flags parts others x name n = refl
 
-function_pushed : (c : Around) (d : Context) (k flags : ℕ) (parts : VForms) (name : List ℕ) (params : tree.Arguments) (body : tree.Stmts) (returns : tree.OptExpr) (f : SForm) → IsPushed (outer c) c (function_value d k flags parts name params body returns f)
+function_pushed : (c : Around) (d : Context) (k flags : ℕ) (parts : VForms) (name : List ℕ) (params : tree.Arguments) (body : tree.Stmts) (returns : tree.OptExpr) (f : SForm)
+    → IsPushed (told_outer c) c (function_value d k flags parts name params body returns f)
 function_pushed c d k flags parts name params body returns f =
     let zs = note_forms d (suc k + scopes_in_stmts d.postponed body) params returns in
-    documented_pushed c (doc_of d.level body) (flags + some_flag 0x02 zs) parts (some_built map_of zs VNone) (MkScope (head_of (function_inside name d k)) f) (qualified d name)
+    documented_pushed c (doc_of d.level body) (flags + some_flag 0x02 zs) parts (some_built map_of zs VNone) (MkScope (head_of (function_inside name d k)) f) (qualified_under d name)
 
 -- nothing is handed
-none_handed : (c : Around) (k : ℕ) → PartsAdd (outer c) c k 0 (emission_of_defaults emitted.no_defaults) VNone
-none_handed c k n = after_these keep_yields keep_yields
+generic_add_none_handed : (c : Around) (k : ℕ) → PartsAdd (told_outer c) c k 0 (emission_of_defaults emitted.no_defaults) VNone
+generic_add_none_handed c k n = after_these keep_yields keep_yields
 
 module _ (c : Around) (k : ℕ) (generic : tree.TypeParams) (few : type_params_size generic < 2 ^ 22) where
-  -- how many scopes stand in the type parameters, and the number of what stands in the hidden scope behind them
+  -- how many scopes stand in the type parameters, and the number of what stands in the type-parameter scope after them
   abbrev pub bounds : ℕ
   bounds = scopes_in_params c.context.postponed generic
 
-  abbrev pub own_here : ℕ
-  own_here = suc k + bounds
+  abbrev pub generic_add_own_here : ℕ
+  generic_add_own_here = suc k + bounds
 
-  -- the tuple of the type parameters, in the hidden scope
+  -- the tuple of the type parameters, in the type-parameter scope
   abbrev params_value : VForm
-  params_value = params_form (told (within c k)) (suc k) generic
+  params_value = params_form (told_context (type_param_within c k)) (suc k) generic
 
-  tuple_adds : ValueAdds (outer (within c k)) (within c k) (suc k) bounds (emission_of_params generic) params_value
+  tuple_adds : ValueAdds (told_outer (type_param_within c k)) (type_param_within c k) (suc k) bounds (emission_of_params generic) params_value
   unfolding inside
-  tuple_adds = params_add (within c k) (suc k) generic few
+  tuple_adds = params_add (type_param_within c k) (suc k) generic few
 
   module _ (name : List ℕ) (params : tree.Arguments) (body : tree.Stmts) (returns : tree.OptExpr) (bound : arguments_size params + opt_expr_size returns < 2 ^ 22) where
-    -- the number behind the hidden scope, where its defaults begin
-    abbrev behind : ℕ
-    behind = suc own_here + (scopes_in_stmts c.context.postponed body + (scopes_in_returns c.context.postponed returns + scopes_in_all_notes c.context.postponed params))
+    -- the number after the type-parameter scope, where its defaults begin
+    abbrev generic_add_behind : ℕ
+    generic_add_behind = suc generic_add_own_here + (scopes_in_stmts c.context.postponed body + (scopes_in_returns c.context.postponed returns + scopes_in_all_notes c.context.postponed params))
 
-    abbrev defaults : forms.Defaults
-    defaults = default_forms (told c) behind params
+    abbrev generic_add_defaults : forms.Defaults
+    generic_add_defaults = default_forms (told_context c) generic_add_behind params
 
-    -- the parts of the function, in the hidden scope
-    abbrev parts : VForms
-    parts = handed_parts (handed defaults.positional defaults.keyword) (VMore params_value VNone)
+    -- the parts of the function, in the type-parameter scope
+    abbrev generic_add_parts : VForms
+    generic_add_parts = handed_parts (passed_defaults generic_add_defaults.positional generic_add_defaults.keyword) (VMore params_value VNone)
 
-    abbrev pub form : VForm
-    form = function_value (told (within c k)) own_here (0x10 + default_flags defaults) parts name params body returns (function_body (function_inside name (told (within c k)) own_here) (suc own_here) body)
+    abbrev pub generic_add_form : VForm
+    generic_add_form = function_value (told_context (type_param_within c k)) generic_add_own_here (0x10 + default_flags generic_add_defaults) generic_add_parts name params body returns (function_body (function_inside name (told_context (type_param_within c k)) generic_add_own_here) (suc generic_add_own_here) body)
 
-    flagged : Flagged (all_flags (within c k) own_here name params body returns (0x10 + flags_of_defaults (default_emissions params)) (0x10 + default_flags defaults) parts) (count parts + count (some_built map_of (note_values (within c k) own_here name params body returns) VNone))
+    flagged : Flagged (all_flags (type_param_within c k) generic_add_own_here name params body returns (0x10 + flags_of_defaults (default_emissions params)) (0x10 + default_flags generic_add_defaults) generic_add_parts) (count generic_add_parts + count (some_built map_of (note_values (type_param_within c k) generic_add_own_here name params body returns) VNone))
     flagged =
-        let zs = note_values (within c k) own_here name params body returns in
-        let a = handed_count defaults.positional defaults.keyword in
-        let b = handed_parts_count (handed defaults.positional defaults.keyword) (VMore params_value VNone) in
+        let zs = note_values (type_param_within c k) generic_add_own_here name params body returns in
+        let a = handed_count generic_add_defaults.positional generic_add_defaults.keyword in
+        let b = handed_parts_count (passed_defaults generic_add_defaults.positional generic_add_defaults.keyword) (VMore params_value VNone) in
         let d = part_count map_of zs in
-        subst (Flagged (0x10 + default_flags defaults + _)) (omega (arith, a, b, d)) (generic_flags_say defaults.positional defaults.keyword zs)
+        subst (Flagged (0x10 + default_flags generic_add_defaults + _)) (omega (arith, a, b, d)) (generic_flags_say generic_add_defaults.positional generic_add_defaults.keyword zs)
 
     -- the names of its defaults, which are handed, and its flags, as they are emitted
-    abbrev pub names : List (List ℕ)
-    names = handed (default_emissions params).positional (default_emissions params).keyword
+    abbrev pub generic_add_names : List (List ℕ)
+    generic_add_names = passed_defaults (default_emissions params).positional (default_emissions params).keyword
 
     abbrev pub early : ℕ
     early = 0x10 + flags_of_defaults (default_emissions params)
 
-    -- what makes it in the hidden scope
-    pub generic_function_adds : stmts_size body < 2 ^ 22 → (v : Emission) → Whole (function_inside name (within c k).context own_here) v (suc own_here) (scopes_in_stmts (function_inside name (within c k).context own_here).postponed body) (function_of (within c k) own_here name body) → ValueAdds (outer (within c k)) (within c k) (suc k) (bounds + suc (scopes_in_stmts c.context.postponed body + (scopes_in_returns c.context.postponed returns + scopes_in_all_notes c.context.postponed params))) (load_handed names ▸ emission_of_params generic ▸ emitting.function_value early name params body returns v) form
+    -- what makes it in the type-parameter scope
+    pub generic_function_adds : stmts_size body < 2 ^ 22 → (v : Emission)
+        → WithinWhole (function_inside name (type_param_within c k).context generic_add_own_here) v (suc generic_add_own_here) (scopes_in_stmts (function_inside name (type_param_within c k).context generic_add_own_here).postponed body) (function_of (type_param_within c k) generic_add_own_here name body)
+        → ValueAdds (told_outer (type_param_within c k)) (type_param_within c k) (suc k) (bounds + suc (scopes_in_stmts c.context.postponed body + (scopes_in_returns c.context.postponed returns + scopes_in_all_notes c.context.postponed params))) (load_handed generic_add_names ▸ emission_of_params generic ▸ emitting.function_value early name params body returns v) generic_add_form
     unfolding inside with_path
     generic_function_adds less v whole m =
-        let flags = 0x10 + default_flags defaults in
-        let same : names ≡ handed defaults.positional defaults.keyword = same_handed c behind params (omega (arith, bound)) in
-        let loads : PartsAdd (outer (within c k)) (within c k) (suc k) bounds (load_handed names ▸ emission_of_params generic) parts =
-        subst (λ xs. PartsAdd (outer (within c k)) (within c k) (suc k) bounds (load_handed names ▸ emission_of_params generic) (handed_parts xs (VMore params_value VNone))) same
-        (handed_add (outer (within c k)) (within c k) (handed_loads (within c k)) (suc k) bounds names (emission_of_params generic) (VMore params_value VNone) (one_part (outer (within c k)) (within c k) (suc k) bounds (emission_of_params generic) params_value tuple_adds)) in
-        let equal : early ≡ flags = ap (λ x. 0x10 + x) (same_flags (told c) behind params) in
-        regroup (load_handed names) (emission_of_params generic) (emitting.function_value early name params body returns v)
-        (function_value_adds (within c k) own_here name params body returns early flags parts equal flagged bound less v whole (suc k) bounds (load_handed names ▸ emission_of_params generic) refl loads m)
+        let flags = 0x10 + default_flags generic_add_defaults in
+        let same : generic_add_names ≡ passed_defaults generic_add_defaults.positional generic_add_defaults.keyword = same_handed c generic_add_behind params (omega (arith, bound)) in
+        let loads : PartsAdd (told_outer (type_param_within c k)) (type_param_within c k) (suc k) bounds (load_handed generic_add_names ▸ emission_of_params generic) generic_add_parts =
+        subst (λ xs. PartsAdd (told_outer (type_param_within c k)) (type_param_within c k) (suc k) bounds (load_handed generic_add_names ▸ emission_of_params generic) (handed_parts xs (VMore params_value VNone))) same
+        (handed_add (told_outer (type_param_within c k)) (type_param_within c k) (handed_loads (type_param_within c k)) (suc k) bounds generic_add_names (emission_of_params generic) (VMore params_value VNone) (one_part (told_outer (type_param_within c k)) (type_param_within c k) (suc k) bounds (emission_of_params generic) params_value tuple_adds)) in
+        let equal : early ≡ flags = ap (λ x. 0x10 + x) (same_flags (told_context c) generic_add_behind params) in
+        regroup (load_handed generic_add_names) (emission_of_params generic) (emitting.function_value early name params body returns v)
+        (function_value_adds (type_param_within c k) generic_add_own_here name params body returns early flags generic_add_parts equal flagged bound less v whole (suc k) bounds (load_handed generic_add_names ▸ emission_of_params generic) refl loads m)
 
     -- which is no constant
-    pub generic_function_pushed : IsPushed (outer (within c k)) (within c k) form
-    generic_function_pushed = function_pushed (within c k) (told (within c k)) own_here (0x10 + default_flags defaults) parts name params body returns (function_body (function_inside name (told (within c k)) own_here) (suc own_here) body)
+    pub generic_function_pushed : IsPushed (told_outer (type_param_within c k)) (type_param_within c k) generic_add_form
+    generic_function_pushed = function_pushed (type_param_within c k) (told_context (type_param_within c k)) generic_add_own_here (0x10 + default_flags generic_add_defaults) generic_add_parts name params body returns (function_body (function_inside name (told_context (type_param_within c k)) generic_add_own_here) (suc generic_add_own_here) body)
 
-    -- a function with type parameters, whose defaults come behind the hidden scope
-    pub generic_def_adds : stmts_size body < 2 ^ 22 → (v : Emission) → Whole (function_inside name (within c k).context own_here) v (suc own_here) (scopes_in_stmts (function_inside name (within c k).context own_here).postponed body) (function_of (within c k) own_here name body) → HiddenSmall c k form → ValueAdds (outer c) c k (suc (bounds + suc (scopes_in_stmts c.context.postponed body + (scopes_in_returns c.context.postponed returns + scopes_in_all_notes c.context.postponed params))) + scopes_in_defaults c.context.postponed params) (emission_of_generic_def name params body returns generic v) (hidden_call (MkScope (head_of (hidden_inside (told c) k)) (SReturn form)) name defaults)
+    -- a function with type parameters, whose defaults come after the type-parameter scope
+    pub generic_def_adds : stmts_size body < 2 ^ 22 → (v : Emission)
+        → WithinWhole (function_inside name (type_param_within c k).context generic_add_own_here) v (suc generic_add_own_here) (scopes_in_stmts (function_inside name (type_param_within c k).context generic_add_own_here).postponed body) (function_of (type_param_within c k) generic_add_own_here name body)
+        → HiddenSmall c k generic_add_form
+        → ValueAdds (told_outer c) c k (suc (bounds + suc (scopes_in_stmts c.context.postponed body + (scopes_in_returns c.context.postponed returns + scopes_in_all_notes c.context.postponed params))) + scopes_in_defaults c.context.postponed params) (emission_of_generic_def name params body returns generic v) (hidden_call (MkScope (head_of (hidden_inside (told_context c) k)) (SReturn generic_add_form)) name generic_add_defaults)
     unfolding emission_of_generic_def inside with_path
     generic_def_adds less v whole small n =
-        hidden_value_adds c k _ (scopes_in_defaults c.context.postponed params) name (default_emissions params) defaults (load_handed names ▸ emission_of_params generic ▸ emitting.function_value early name params body returns v) form small generic_function_pushed (generic_function_adds less v whole)
-        (λ m. next_as (omega arith) (defaults_add c behind params (omega (arith, bound)) m)) (same_handed c behind params (omega (arith, bound))) n
+        hidden_value_adds c k _ (scopes_in_defaults c.context.postponed params) name (default_emissions params) generic_add_defaults (load_handed generic_add_names ▸ emission_of_params generic ▸ emitting.function_value early name params body returns v) generic_add_form small generic_function_pushed (generic_function_adds less v whole)
+        (λ m. next_as (omega arith) (defaults_add c generic_add_behind params (omega (arith, bound)) m)) (same_handed c generic_add_behind params (omega (arith, bound))) n
 
   -- a class with type parameters, by its qualified name
   module _ (path name : List ℕ) (body : tree.Stmts) (bases : tree.Exprs) (keywords : tree.Keywords) where
     abbrev pub class_form : VForm
-    class_form = class_value (told (within c k)) path own_here 0x10 (VMore params_value VNone) name bases keywords body (rest_form (class_within path name (told (within c k)) own_here) (suc own_here) body)
+    class_form = class_value (told_context (type_param_within c k)) path generic_add_own_here 0x10 (VMore params_value VNone) name bases keywords body (rest_form (class_within path name (told_context (type_param_within c k)) generic_add_own_here) (suc generic_add_own_here) body)
 
-    -- what builds it in the hidden scope
-    pub generic_built_adds : (v : Emission) → BodyAdds (within c k) own_here path name body v → stmts_size body < 2 ^ 22 → exprs_size bases < 2 ^ 22 → keywords_size keywords < 2 ^ 22 → ValueAdds (outer (within c k)) (within c k) (suc k) (bounds + suc (scopes_in_stmts c.context.postponed body) + scopes_in_all c.context.postponed bases + scopes_in_keywords c.context.postponed keywords) (class_call name (emission_of_params generic ▸ class_function path 0x10 name body v) bases keywords) class_form
+    -- what builds it in the type-parameter scope
+    pub generic_built_adds : (v : Emission) → BodyAdds (type_param_within c k) generic_add_own_here path name body v → stmts_size body < 2 ^ 22
+        → exprs_size bases < 2 ^ 22 → keywords_size keywords < 2 ^ 22
+        → ValueAdds (told_outer (type_param_within c k)) (type_param_within c k) (suc k) (bounds + suc (scopes_in_stmts c.context.postponed body) + scopes_in_all c.context.postponed bases + scopes_in_keywords c.context.postponed keywords) (class_call name (emission_of_params generic ▸ class_function path 0x10 name body v) bases keywords) class_form
     unfolding inside with_path within_class
     generic_built_adds v adds less fewer least =
-        let w = within c k in
+        let w = type_param_within c k in
         let size = scopes_in_stmts c.context.postponed body in
         let function : Emission = emission_of_params generic ▸ class_function path 0x10 name body v in
-        let own = function_after w own_here path name body v adds less (suc k) bounds 0x10 (emission_of_params generic) (VMore params_value VNone) refl (one_part (outer w) w (suc k) bounds (emission_of_params generic) params_value tuple_adds) params_flag in
-        class_call_adds w (suc k) (bounds + suc size) (suc own_here + size) (omega arith) name function (VMake 0x10 (VMore params_value VNone) (class_of w own_here path name body) name VNone) bases keywords own fewer least
+        let own = function_after w generic_add_own_here path name body v adds less (suc k) bounds 0x10 (emission_of_params generic) (VMore params_value VNone) refl (one_part (told_outer w) w (suc k) bounds (emission_of_params generic) params_value tuple_adds) params_flag in
+        class_call_adds w (suc k) (bounds + suc size) (suc generic_add_own_here + size) (omega arith) name function (VMake 0x10 (VMore params_value VNone) (class_of w generic_add_own_here path name body) name VNone) bases keywords own fewer least
 
     -- which is no constant
-    pub generic_class_pushed : IsPushed (outer (within c k)) (within c k) class_form
+    pub generic_class_pushed : IsPushed (told_outer (type_param_within c k)) (type_param_within c k) class_form
     unfolding inside with_path within_class
     generic_class_pushed =
-        let w = within c k in
+        let w = type_param_within c k in
         let size = scopes_in_stmts c.context.postponed body in
-        call_pushed (outer w) w (Function forms.build_class) (behind_name (built op.BuildTuple) (VMake 0x10 (VMore params_value VNone) (class_of w own_here path name body) name VNone) (VConst (const.str name)) (elements (all_forms (told w) (suc own_here + size) bases))) (keyword_forms (told w) (suc own_here + size + scopes_in_all c.context.postponed bases) keywords)
+        call_pushed (told_outer w) w (Function forms.build_class) (behind_name (built_form op.BuildTuple) (VMake 0x10 (VMore params_value VNone) (class_of w generic_add_own_here path name body) name VNone) (VConst (const.str name)) (elements (all_forms (told_context w) (suc generic_add_own_here + size) bases))) (keyword_forms (told_context w) (suc generic_add_own_here + size + scopes_in_all c.context.postponed bases) keywords)
 
-  -- its qualified name is asked around the hidden scope
-  module _ (name : List ℕ) (body : tree.Stmts) (bases : tree.Exprs) (keywords : tree.Keywords) (v : Emission) (adds : BodyAdds (within c k) own_here (class_path c.context name) name body v) where
-    pub generic_class_adds : stmts_size body < 2 ^ 22 → exprs_size bases < 2 ^ 22 → keywords_size keywords < 2 ^ 22 → HiddenSmall c k (class_form (class_path c.context name) name body bases keywords) → ValueAdds (outer c) c k (suc (bounds + suc (scopes_in_stmts c.context.postponed body) + scopes_in_all c.context.postponed bases + scopes_in_keywords c.context.postponed keywords) + 0) (emission_of_generic_class name bases keywords body generic v) (hidden_call (MkScope (head_of (hidden_inside (told c) k)) (SReturn (class_form (class_path c.context name) name body bases keywords))) name no_defaults)
+  -- its qualified name is asked around the type-parameter scope
+  module _ (name : List ℕ) (body : tree.Stmts) (bases : tree.Exprs) (keywords : tree.Keywords) (v : Emission) (adds : BodyAdds (type_param_within c k) generic_add_own_here (class_path c.context name) name body v) where
+    pub generic_class_adds : stmts_size body < 2 ^ 22 → exprs_size bases < 2 ^ 22 → keywords_size keywords < 2 ^ 22
+        → HiddenSmall c k (class_form (class_path c.context name) name body bases keywords)
+        → ValueAdds (told_outer c) c k (suc (bounds + suc (scopes_in_stmts c.context.postponed body) + scopes_in_all c.context.postponed bases + scopes_in_keywords c.context.postponed keywords) + 0) (emission_of_generic_class name bases keywords body generic v) (hidden_call (MkScope (head_of (hidden_inside (told_context c) k)) (SReturn (class_form (class_path c.context name) name body bases keywords))) name no_defaults)
     unfolding emission_of_generic_class inside with_path within_class
     generic_class_adds less fewer least small n =
         let path = class_path c.context name in
         context_gives (λ d. hidden name emitted.no_defaults (class_call name (emission_of_params generic ▸ class_function (class_path d name) 0x10 name body v) bases keywords))
-        (hidden_value_adds c k _ 0 name emitted.no_defaults no_defaults (class_call name (emission_of_params generic ▸ class_function path 0x10 name body v) bases keywords) (class_form path name body bases keywords) small (generic_class_pushed path name body bases keywords) (generic_built_adds path name body bases keywords v adds less fewer least) (none_handed c _) refl n)
+        (hidden_value_adds c k _ 0 name emitted.no_defaults no_defaults (class_call name (emission_of_params generic ▸ class_function path 0x10 name body v) bases keywords) (class_form path name body bases keywords) small (generic_class_pushed path name body bases keywords) (generic_built_adds path name body bases keywords v adds less fewer least) (generic_add_none_handed c _) refl n)
 
   -- an alias with type parameters
   module _ (name : List ℕ) (value : tree.Expr) where
     abbrev pub alias_form : VForm
-    alias_form = VSwap (operation op.TypeAlias Bare) params_value (expr_form (told (within c k)) own_here value) (VMore (VConst (const.str name)) VNone)
+    alias_form = VSwap (operation op.TypeAlias Bare) params_value (expr_form (told_context (type_param_within c k)) generic_add_own_here value) (VMore (VConst (const.str name)) VNone)
 
-    -- what makes it in the hidden scope
-    pub generic_alias_value_adds : expr_size value < 2 ^ 22 → ValueAdds (outer (within c k)) (within c k) (suc k) (bounds + scopes_in c.context.postponed value) (generic_alias name (emission_of_params generic) (emission value)) alias_form
+    -- what makes it in the type-parameter scope
+    pub generic_alias_value_adds : expr_size value < 2 ^ 22
+        → ValueAdds (told_outer (type_param_within c k)) (type_param_within c k) (suc k) (bounds + scopes_in c.context.postponed value) (generic_alias name (emission_of_params generic) (emission value)) alias_form
     unfolding inside
     generic_alias_value_adds less =
-        let w = within c k in
-        (generic_alias_adds (outer w) w (suc k) bounds (scopes_in c.context.postponed value) name (emission_of_params generic) (emission value) params_value (expr_form (told w) own_here value) tuple_adds (expr_adds w own_here value less).value)
+        let w = type_param_within c k in
+        (generic_alias_adds (told_outer w) w (suc k) bounds (scopes_in c.context.postponed value) name (emission_of_params generic) (emission value) params_value (expr_form (told_context w) generic_add_own_here value) tuple_adds (expr_adds w generic_add_own_here value less).value)
 
-    pub generic_alias_adds_here : expr_size value < 2 ^ 22 → HiddenSmall c k alias_form → ValueAdds (outer c) c k (suc (bounds + scopes_in c.context.postponed value) + 0) (hidden name emitted.no_defaults (generic_alias name (emission_of_params generic) (emission value))) (hidden_call (MkScope (head_of (hidden_inside (told c) k)) (SReturn alias_form)) name no_defaults)
+    pub generic_alias_adds_here : expr_size value < 2 ^ 22 → HiddenSmall c k alias_form
+        → ValueAdds (told_outer c) c k (suc (bounds + scopes_in c.context.postponed value) + 0) (hidden name emitted.no_defaults (generic_alias name (emission_of_params generic) (emission value))) (hidden_call (MkScope (head_of (hidden_inside (told_context c) k)) (SReturn alias_form)) name no_defaults)
     unfolding inside
     generic_alias_adds_here less small n =
-        hidden_value_adds c k (bounds + scopes_in c.context.postponed value) 0 name emitted.no_defaults no_defaults (generic_alias name (emission_of_params generic) (emission value)) alias_form small (λ m. refl) (generic_alias_value_adds less) (none_handed c _) refl n
+        hidden_value_adds c k (bounds + scopes_in c.context.postponed value) 0 name emitted.no_defaults no_defaults (generic_alias name (emission_of_params generic) (emission value)) alias_form small (λ m. refl) (generic_alias_value_adds less) (generic_add_none_handed c _) refl n

@@ -1,4 +1,4 @@
--- Blocks and tables that hold what is emitted for a tree of such a size are refused for want of memory alone.
+-- Blocks and tables that hold what is emitted for a tree of such a size are refused only when memory runs out.
 use Rattle.std.proofs.Common.{◌≡◌, ℕ, ◌<◌, ◌^◌, List, [], ◌++◌, map, sym, ◌∙◌, append-nil}
 use Rattle.std.proofs.lemmas.List.{length-map}
 use Rattle.py_tree.specs.Tree as tree
@@ -13,7 +13,7 @@ use Rattle.py_emission_parts.specs.Context.{Context, outermost}
 use Rattle.py_control.specs.Form.{Scope}
 use Rattle.py_meaning.specs.Meaning.{body}
 use Rattle.py_emission_parts.specs.Emitting.{State, Done}
-use Rattle.py_emission.specs.EmissionMods.{emitted}
+use Rattle.py_emission.specs.EmissionMods.{emission_outcome}
 use Rattle.py_emit.specs.Emitted.{Holds}
 use Rattle.py_emission_parts.specs.Sealed.{Head}
 use Rattle.py_emit.specs.States.{IsUnrefused}
@@ -40,12 +40,15 @@ begins_all info head o k h = record {
   cells_are = (λ j. (h.cellvars ∙ k.cellvars) j ++ (h.freevars ∙ k.freevars) j);
 }
 
--- what holds the emission of a whole scope is refused for want of memory alone
-pub emitted_unrefused : (c : Context) (at : SourceLocation) (k : ℕ) (s : Scope) (o : State) → Emitted c at k s o → (level : ℕ) (info : CodeInfo) (head : Head) → IsCelled head o → Holds info head o → IsUnrefused level info
+-- what holds the emission of a whole scope is refused only when memory runs out
+pub emitted_unrefused : (c : Context) (at : SourceLocation) (k : ℕ) (s : Scope) (o : State) → Emitted c at k s o → (level : ℕ) (info : CodeInfo) (head : Head)
+    → IsCelled head o → Holds info head o → IsUnrefused level info
 emitted_unrefused c at k s o a level info head celled h cs chain short e refused =
     only_memory (child_at c at k s o a) (tables_of info) level (map plain info.blocks) s (reading c at k s o a (tables_of info) (map plain info.blocks) (begins_all info head o celled h) h.steps (length-map info.blocks plain ∙ h.blocks)) cs chain e short refused.0
 
 -- and so is that of a tree
-pub never_refused : (t : tree.Mod) (m : Mode) (l : ℕ) (path : List ℕ) (scopes : List ScopeEntry) (o : State) (info : CodeInfo) (head : Head) → size_of t < 2 ^ 22 → LoadsFew scopes (body scopes t m l) → emitted t m (outermost l path scopes) ≡ Done o → IsCelled head o → Holds info head o → IsUnrefused l info
+pub never_refused : (t : tree.Mod) (m : Mode) (l : ℕ) (path : List ℕ) (scopes : List ScopeEntry) (o : State) (info : CodeInfo) (head : Head)
+    → size_of t < 2 ^ 22 → LoadsFew scopes (body scopes t m l) → emission_outcome t m (outermost l path scopes) ≡ Done o → IsCelled head o → Holds info head o
+    → IsUnrefused l info
 never_refused t m l path scopes o info head small few is k h =
     emitted_unrefused (outermost l path scopes) first_place 1 (body scopes t m l) o (tree_adds t m l path scopes o small few is) l info head k h

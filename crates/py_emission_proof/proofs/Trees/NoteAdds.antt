@@ -16,16 +16,17 @@ use Rattle.py_emission_proof.proofs.Additions.EmissionSequenceLemmas.{context_gi
 use Rattle.py_emission_proof.proofs.Additions.FormAdds.{ValueAdds}
 use Rattle.py_emission_proof.proofs.Additions.Instructions.{constant_adds}
 use Rattle.py_emission_proof.proofs.Trees.ExprAdds.{expr_adds}
-use Rattle.py_emission_proof.proofs.Trees.Told.{outer, told}
+use Rattle.py_emission_proof.proofs.Trees.Told.{told_outer, told_context}
 
 module _ (c : Around) (k : ℕ) where
-  text_adds : (text : Option (List ℕ)) → ValueAdds (outer c) c k 0 (emission_of_text text) (text_form text)
+  text_adds : (text : Option (List ℕ)) → ValueAdds (told_outer c) c k 0 (emission_of_text text) (text_form text)
   text_adds None n = refused_gives error.NotImplementedYet
   text_adds (Some text) n = constant_adds (const.str text) refl c n k
 
-  told_or : (z : Bool) (e : tree.Expr) → expr_size e < 2 ^ 22 → ValueAdds (outer c) c k (if z then 0 else scopes_in c.context.postponed e) (if z then emission_of_text (annotation e) else emission e) (if z then text_form (annotation e) else expr_form (told c) k e)
-  told_or true e few = text_adds (annotation e)
-  told_or false e few = (expr_adds c k e few).value
+  note_add_told_or : (z : Bool) (e : tree.Expr) → expr_size e < 2 ^ 22
+      → ValueAdds (told_outer c) c k (if z then 0 else scopes_in c.context.postponed e) (if z then emission_of_text (annotation e) else emission e) (if z then text_form (annotation e) else expr_form (told_context c) k e)
+  note_add_told_or true e few = text_adds (annotation e)
+  note_add_told_or false e few = (expr_adds c k e few).value
 
-  pub note_value_adds : (e : tree.Expr) → expr_size e < 2 ^ 22 → ValueAdds (outer c) c k (scopes_in_annotation c.context.postponed e) (emission_of_note e) (note_form (told c) k e)
-  note_value_adds e few n = context_gives (λ d. if d.postponed then emission_of_text (annotation e) else emission e) (told_or c.context.postponed e few n)
+  pub note_value_adds : (e : tree.Expr) → expr_size e < 2 ^ 22 → ValueAdds (told_outer c) c k (scopes_in_annotation c.context.postponed e) (emission_of_note e) (note_form (told_context c) k e)
+  note_value_adds e few n = context_gives (λ d. if d.postponed then emission_of_text (annotation e) else emission e) (note_add_told_or c.context.postponed e few n)

@@ -14,13 +14,14 @@ abbrev pub pathless : Context → Context
 pathless c = record c { source = [] }
 
 -- what the table is told by what stands around
-abbrev pub told : Around → Context
-told c = pathless c.context
+abbrev pub told_context : Around → Context
+told_context c = pathless c.context
 
--- the present scope as its code sees it, over the scopes within it
-abbrev pub outer : Around → Interp Scope
-outer c = exactly (λ x. x) (MkScope (head_of (told c)) SSkip)
+-- the present scope as its code sees it, over the scopes nested in it
+abbrev pub told_outer : Around → Interp Scope
+told_outer c = exactly (λ x. x) (MkScope (head_of (told_context c)) SSkip)
 
 -- a value, from where it stands
-pub value_adds : (c : Around) (k l : ℕ) (at : SourceLocation) (v : Emission) (g : VForm) → IsPushed (outer c) c g → ValueAdds (outer c) c k l v g → AddsForms (outer c) c k l (emitting.tested (move at ▸ v)) (table.tested (VAt at g))
-value_adds c k l at v g p h = tested_adds (outer c) c k l (move at ▸ v) (VAt at g) p (moved_adds (outer c) c k l at v g h)
+pub value_adds : (c : Around) (k l : ℕ) (at : SourceLocation) (v : Emission) (g : VForm) → IsPushed (told_outer c) c g → ValueAdds (told_outer c) c k l v g
+    → AddsForms (told_outer c) c k l (emitting.tested_value (move at ▸ v)) (table.tested_form (VAt at g))
+value_adds c k l at v g p h = tested_adds (told_outer c) c k l (move at ▸ v) (VAt at g) p (moved_adds (told_outer c) c k l at v g h)

@@ -11,7 +11,7 @@ use Rattle.py_meaning.specs.Table.{after, target_form}
 use Rattle.py_meaning.specs.TableNotes.{note_form}
 use Rattle.py_emission.specs.Imports.{takes_all}
 use Rattle.py_meaning.specs.TableImports.{from_form, import_form}
-use Rattle.py_meaning.specs.StmtParts.{removal, removals, assigned, assign_form, augment_form, annotated_form, annotation_target, declared_form, return_form}
+use Rattle.py_meaning.specs.StmtParts.{removal, removals, assigned_form, assign_form, augment_form, annotated_form, annotation_target, declared_form, return_form}
 
 -- it stands in a loop or in none
 abbrev pub Unlooped : SForm → Type 0
@@ -33,7 +33,7 @@ module _ (c : Context) where
     removals_unlooped k tree.no_exprs b = tt
     removals_unlooped k (tree.more_exprs t ts) b = (removal_unlooped k t b, removals_unlooped (after c k t) ts b)
 
-  assigned_unlooped : (k : ℕ) (f : VForm) (t : Target) (ts : tree.Exprs) → Unlooped (assigned f t c k ts)
+  assigned_unlooped : (k : ℕ) (f : VForm) (t : Target) (ts : tree.Exprs) → Unlooped (assigned_form f t c k ts)
   assigned_unlooped k f t tree.no_exprs b = tt
   assigned_unlooped k f t (tree.more_exprs u us) b = assigned_unlooped (after c k u) (VKeep f None t) (target_form c k u) us b
 

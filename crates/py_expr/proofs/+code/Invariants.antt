@@ -3,14 +3,15 @@ use Rattle.std.specs.Prelude.{max}
 use Rattle.py_bytecode.specs.declared.instruction.Instruction.TheVariants as op
 use Rattle.py_tree.specs.View.{args, expr_tree, exprs, generators, keywords}
 use Rattle.py_tree.proofs.expressions.Expr.TheLaws.{the_size}
+use Rattle.py_emission_parts.specs.Running.{◌▹◌, run}
 use Rattle.py_emission_parts.specs.Comprehensions.{clauses, conditions}
 use Rattle.py_emission_parts.specs.Elements.{bare, groups}
-use Rattle.py_emission_parts.specs.Emitting.{Emission, ◌▸◌}
-use Rattle.py_emission_parts.specs.EmissionParts.{map_of, values_in, built, elements, dict_value, in_turn, links, shorts, tests}
+use Rattle.py_emission_parts.specs.Emitting.{Emission}
+use Rattle.py_emission_parts.specs.EmissionParts.{map_of, values_in, counted_build, elements, dict_value, in_turn, links, shorts, tests}
 use Rattle.py_emission.specs.Emission.{all_emissions, all_stores, clause_emissions, keyword_emissions, emission_of_exprs}
 use Rattle.py_emit.specs.States.{rest, state}
 use Rattle.py_expr_parts.specs.Calls.{map_rest}
-use Rattle.py_expr_scopes.specs.Clauses.{AllOpen, clauses_by, closed}
+use Rattle.py_expr_scopes.specs.Clauses.{AllOpen, clauses_by, closed_clauses}
 use Rattle.py_expr_parts.specs.Dicts.{dict_rest}
 use Rattle.py_expr_scopes.specs.Functions.{default_values}
 use Rattle.py_expr_parts.specs.Turns.{group_count, group_rest, pairs_of}
@@ -20,30 +21,30 @@ use Rattle.py_expr_scopes.proofs.OpenClauses.{none_open}
 use Rattle.py_expr.proofs.+code.Given as goal
 
 abbrev pub invariant-expressions::compile_expressions-loop-item : goal.invariant-expressions::compile_expressions-loop-item
-invariant-expressions::compile_expressions-loop-item l = (rest l.em ≡ rest l.initial.em) × (emission_of_exprs (exprs expr_tree l.items) (state l.initial.em) ≡ emission_of_exprs (exprs expr_tree (drop l.item-index l.items)) (state l.em))
+invariant-expressions::compile_expressions-loop-item l = (rest l.em ≡ rest l.initial.em) × (run (emission_of_exprs (exprs expr_tree l.items)) (state l.initial.em) ≡ run (emission_of_exprs (exprs expr_tree (drop l.item-index l.items))) (state l.em))
 
 abbrev pub invariant-conditions::compile_shorts-loop-i : goal.invariant-conditions::compile_shorts-loop-i
-invariant-conditions::compile_shorts-loop-i l = (rest l.em ≡ rest l.initial.em) × (shorts l.op l.end.0 (all_emissions (exprs expr_tree l.values)) (state l.initial.em) ≡ shorts l.op l.end.0 (all_emissions (exprs expr_tree (drop l.i l.values))) (state l.em))
+invariant-conditions::compile_shorts-loop-i l = (rest l.em ≡ rest l.initial.em) × (run (shorts l.op l.end.0 (all_emissions (exprs expr_tree l.values))) (state l.initial.em) ≡ run (shorts l.op l.end.0 (all_emissions (exprs expr_tree (drop l.i l.values)))) (state l.em))
 
 abbrev pub invariant-comparisons::compile_links-loop-i : goal.invariant-comparisons::compile_links-loop-i
-invariant-comparisons::compile_links-loop-i l = (rest l.em ≡ rest l.initial.em) × (links l.out.0 l.ops (all_emissions (exprs expr_tree l.values)) (state l.initial.em) ≡ links l.out.0 (drop l.i l.ops) (all_emissions (exprs expr_tree (drop l.i l.values))) (state l.em))
+invariant-comparisons::compile_links-loop-i l = (rest l.em ≡ rest l.initial.em) × (run (links l.out.0 l.ops (all_emissions (exprs expr_tree l.values))) (state l.initial.em) ≡ run (links l.out.0 (drop l.i l.ops) (all_emissions (exprs expr_tree (drop l.i l.values)))) (state l.em))
 
 abbrev pub invariant-conditions::compile_tests-loop-i : goal.invariant-conditions::compile_tests-loop-i
-invariant-conditions::compile_tests-loop-i l = (rest l.em ≡ rest l.initial.em) × (tests l.stop.truth l.stop.block.0 l.last.truth l.last.block.0 (all_emissions (exprs expr_tree l.values)) (state l.initial.em) ≡ tests l.stop.truth l.stop.block.0 l.last.truth l.last.block.0 (all_emissions (exprs expr_tree (drop l.i l.values))) (state l.em))
+invariant-conditions::compile_tests-loop-i l = (rest l.em ≡ rest l.initial.em) × (run (tests l.stop.truth l.stop.block.0 l.last.truth l.last.block.0 (all_emissions (exprs expr_tree l.values))) (state l.initial.em) ≡ run (tests l.stop.truth l.stop.block.0 l.last.truth l.last.block.0 (all_emissions (exprs expr_tree (drop l.i l.values)))) (state l.em))
 
 abbrev pub invariant-elements::compile_groups-loop-elt : goal.invariant-elements::compile_groups-loop-elt
 invariant-elements::compile_groups-loop-elt l =
     let all = elements (all_emissions (exprs expr_tree l.elts)) in
     let left = elements (all_emissions (exprs expr_tree (drop l.elt-index l.elts))) in
     (rest l.em ≡ rest l.initial.em)
-    × (in_turn (groups (built op.BuildTuple) [] all) (state l.initial.em) ≡ group_rest l.run left (state l.em))
-    × (length (groups (built op.BuildTuple) [] all) ≡ l.groups + group_count l.run left)
+    × (run (in_turn (groups (counted_build op.BuildTuple) [] all)) (state l.initial.em) ≡ run (group_rest l.run left) (state l.em))
+    × (length (groups (counted_build op.BuildTuple) [] all) ≡ l.groups + group_count l.run left)
     × (l.groups + l.run ≤ l.elt-index)
 
 abbrev pub invariant-displays::compile_entries-loop-i : goal.invariant-displays::compile_entries-loop-i
 invariant-displays::compile_entries-loop-i l =
     (rest l.em ≡ rest l.initial.em)
-    × (dict_value (pairs_of l.keys l.values) (state l.initial.em) ≡ dict_rest l.begun l.run (pairs_of (drop l.i l.keys) (drop l.i l.values)) (state l.em))
+    × (run (dict_value (pairs_of l.keys l.values)) (state l.initial.em) ≡ run (dict_rest l.begun l.run (pairs_of (drop l.i l.keys) (drop l.i l.values))) (state l.em))
     × (l.run ≤ l.i)
 
 abbrev pub decreases-expressions::compile_expression : goal.decreases-expressions::compile_expression
@@ -179,17 +180,17 @@ abbrev pub decreases-expressions::compile_subscript : goal.decreases-expressions
 decreases-expressions::compile_subscript l = 16 * goal.size-expressions::compile_subscript l + 8
 
 abbrev pub invariant-targets::compile_stores-loop-elt : goal.invariant-targets::compile_stores-loop-elt
-invariant-targets::compile_stores-loop-elt l = (rest l.em ≡ rest l.initial.em) × (in_turn (bare (all_stores (exprs expr_tree l.elts))) (state l.initial.em) ≡ in_turn (bare (all_stores (exprs expr_tree (drop l.elt-index l.elts)))) (state l.em))
+invariant-targets::compile_stores-loop-elt l = (rest l.em ≡ rest l.initial.em) × (run (in_turn (bare (all_stores (exprs expr_tree l.elts)))) (state l.initial.em) ≡ run (in_turn (bare (all_stores (exprs expr_tree (drop l.elt-index l.elts))))) (state l.em))
 
 abbrev pub invariant-keywords::compile_values-loop-keyword : goal.invariant-keywords::compile_values-loop-keyword
-invariant-keywords::compile_values-loop-keyword l = (rest l.em ≡ rest l.initial.em) × (in_turn (values_in (keyword_emissions (keywords expr_tree l.keywords))) (state l.initial.em) ≡ in_turn (values_in (keyword_emissions (keywords expr_tree (drop l.keyword-index l.keywords)))) (state l.em))
+invariant-keywords::compile_values-loop-keyword l = (rest l.em ≡ rest l.initial.em) × (run (in_turn (values_in (keyword_emissions (keywords expr_tree l.keywords)))) (state l.initial.em) ≡ run (in_turn (values_in (keyword_emissions (keywords expr_tree (drop l.keyword-index l.keywords))))) (state l.em))
 
 abbrev pub invariant-keywords::compile_maps-loop-keyword : goal.invariant-keywords::compile_maps-loop-keyword
 invariant-keywords::compile_maps-loop-keyword l =
     let all = keyword_emissions (keywords expr_tree l.keywords) in
     let left = keyword_emissions (keywords expr_tree (drop l.keyword-index l.keywords)) in
     (rest l.em ≡ rest l.initial.em)
-    × (in_turn (groups map_of [] all) (state l.initial.em) ≡ map_rest l.run left (state l.em))
+    × (run (in_turn (groups map_of [] all)) (state l.initial.em) ≡ run (map_rest l.run left) (state l.em))
     × (length (groups map_of [] all) ≡ l.maps + group_count l.run left)
     × (l.maps + l.run ≤ l.keyword-index)
 
@@ -255,7 +256,7 @@ invariant-functions::compile_each_default-loop-item l =
     let all = default_values l.named (args expr_tree l.items) in
     let left = default_values l.named (args expr_tree (drop l.item-index l.items)) in
     (rest l.em ≡ rest l.initial.em)
-    × (in_turn all (state l.initial.em) ≡ in_turn left (state l.em))
+    × (run (in_turn all) (state l.initial.em) ≡ run (in_turn left) (state l.em))
     × (length all ≡ l.count + length left)
     × (l.count ≤ l.item-index)
 
@@ -317,10 +318,10 @@ abbrev pub invariant-clauses::open_clauses-loop-clause : goal.invariant-clauses:
 invariant-clauses::open_clauses-loop-clause l =
     (rest l.em ≡ rest l.initial.em)
     × AllOpen l.blocks (state l.em)
-    × ((within : Emission) → clauses (clause_emissions (generators expr_tree l.generators)) within (state l.initial.em) ≡ (clauses_by (none_open l.blocks) (clause_emissions (generators expr_tree (drop l.clause-index l.generators))) within ▸ closed l.blocks) (state l.em))
+    × ((within : Emission) → run (clauses (clause_emissions (generators expr_tree l.generators)) within) (state l.initial.em) ≡ (run (clauses_by (none_open l.blocks) (clause_emissions (generators expr_tree (drop l.clause-index l.generators))) within) ▹ closed_clauses l.blocks) (state l.em))
 
 abbrev pub invariant-clauses::compile_conditions-loop-condition : goal.invariant-clauses::compile_conditions-loop-condition
-invariant-clauses::compile_conditions-loop-condition l = (rest l.em ≡ rest l.initial.em) × (conditions (all_emissions (exprs expr_tree l.ifs)) l.start.0 (state l.initial.em) ≡ conditions (all_emissions (exprs expr_tree (drop l.condition-index l.ifs))) l.start.0 (state l.em))
+invariant-clauses::compile_conditions-loop-condition l = (rest l.em ≡ rest l.initial.em) × (run (conditions (all_emissions (exprs expr_tree l.ifs)) l.start.0) (state l.initial.em) ≡ run (conditions (all_emissions (exprs expr_tree (drop l.condition-index l.ifs))) l.start.0) (state l.em))
 
 abbrev pub decreases-clauses::compile_conditions : goal.decreases-clauses::compile_conditions
 decreases-clauses::compile_conditions l = 16 * goal.size-clauses::compile_conditions l + 4

@@ -17,7 +17,7 @@ use Rattle.py_interp_exprs.proofs.+walk.Answers.KeywordLoops.{values_go_on}
 use Rattle.py_interp_exprs.proofs.+walk.Answers.LinkLoop.{last_ended, link_ended, links_decided, links_go_on, right_ended}
 use Rattle.py_interp_exprs.proofs.+walk.Answers.MapLoops.{keyword_only_ended, keyword_only_goes_on, maps_go_on, positional_ended, positional_go_on}
 use Rattle.py_interp_exprs.proofs.+walk.Answers.Otherwise.{callee_ended, other_callee}
-use Rattle.py_interp_exprs.proofs.+walk.Answers.Unpacking.{unpack_ended, unpacks}
+use Rattle.py_interp_exprs.proofs.+walk.Answers.Unpacking.{unpack_ended, unpacking_unpacks}
 use Rattle.py_interp_exprs.proofs.+walk.Goals as goal
 
 pub conditions::walk_shorts-loop-i-preserved : goal.conditions::walk_shorts-loop-i-preserved
@@ -129,7 +129,7 @@ pub calls::walk_callee-returns-in_err-value-in_default : goal.calls::walk_callee
 calls::walk_callee-returns-in_err-value-in_default = callee_ended
 
 pub targets::unpack-returns : goal.targets::unpack-returns
-targets::unpack-returns = unpacks
+targets::unpack-returns = unpacking_unpacks
 
 pub targets::unpack-returns-in_err-answer : goal.targets::unpack-returns-in_err-answer
 targets::unpack-returns-in_err-answer = unpack_ended

@@ -1,7 +1,7 @@
 use Rattle.std.proofs.Common.{◌≡◌, ◌≤◌, ◌+◌, ◌*◌, [], drop, length}
 use denote.Param.Weighed.{most}
 use Rattle.std.specs.Prelude.{max}
-use Rattle.py_bytecode.specs.Values.{given}
+use Rattle.py_bytecode.specs.Values.{given_values}
 use Rattle.py_tree.specs.View.{args, expr_tree, exprs, keywords}
 use Rattle.py_tree.proofs.expressions.Expr.TheLaws.{the_size}
 use Rattle.py_answers.specs.Log.{world_of}
@@ -67,8 +67,8 @@ invariant-comparisons::walk_links-loop-i l =
 
 abbrev pub invariant-targets::put_each-loop-elt : goal.invariant-targets::put_each-loop-elt
 invariant-targets::put_each-loop-elt l =
-    (put_each (all_targets l.around (exprs expr_tree l.elts)) (given (length l.elts) l.answer 0) (world_of l.initial.log)
-    ≡ put_each (all_targets l.around (exprs expr_tree (drop l.elt-index l.elts))) (given (length (drop l.elt-index l.elts)) l.answer l.index) (world_of l.log))
+    (put_each (all_targets l.around (exprs expr_tree l.elts)) (given_values (length l.elts) l.answer 0) (world_of l.initial.log)
+    ≡ put_each (all_targets l.around (exprs expr_tree (drop l.elt-index l.elts))) (given_values (length (drop l.elt-index l.elts)) l.answer l.index) (world_of l.log))
     × (l.index ≡ l.elt-index)
 
 abbrev pub decreases-expressions::walk_expression : goal.decreases-expressions::walk_expression

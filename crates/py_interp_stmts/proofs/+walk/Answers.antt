@@ -3,17 +3,17 @@ use Rattle.py_tree.specs.View.{expr_tree, stmt_tree, stmts}
 use Rattle.py_tree.specs.declared.expressions.Expr.{Expr}
 use Rattle.py_tree.specs.declared.statements.Stmt.{Stmt}
 use Rattle.py_bytecode.specs.Values.{Fine, Given}
-use Rattle.py_control.specs.Form.{assigned, rounds, turns}
+use Rattle.py_control.specs.Form.{assign_then, rounds, turns}
 use Rattle.py_answers.specs.Log.{next_given, world_of}
 use Rattle.py_answers.specs.Told.{value_of}
 use Rattle.py_interp.specs.Statements.{stmts_walk}
 use Rattle.py_interp.specs.Walks.{walk_target, walk_test}
-use Rattle.py_interp_exprs.proofs.ContinuationLemmas.{Ends as Stopping}
+use Rattle.py_interp_exprs.proofs.ContinuationLemmas.{ContinuationEnds as Stopping}
 use Rattle.py_interp_simple.specs.Ends.{Ends, flow_of, slot_of}
-use Rattle.py_interp_simple.proofs.Endings.{Halted, do_halted, followed, got_halted, halted_as, left, same}
-use Rattle.py_interp_stmts.proofs.Behind.{finally_halts, finally_leaves, finally_normal, over_stays}
-use Rattle.py_interp_stmts.proofs.Places.{handlers_at, no_final, passed, some_final, stmts_at, taken}
-use Rattle.py_interp_stmts.proofs.LoopTurnLemmas.{left_loop, no_round, no_turn, none_of, one_round, one_turn, one_turn_more, round_none, round_some, turn_false, turn_halted, turn_true, went_on}
+use Rattle.py_interp_simple.proofs.Endings.{Halted, do_halted, followed, got_halted, halted_as, left, ending_same}
+use Rattle.py_interp_stmts.proofs.Behind.{finally_halts, finally_leaves, finally_normal, behind_over_stays}
+use Rattle.py_interp_stmts.proofs.Places.{handlers_at, no_final, place_passed, some_final, stmts_at, place_taken}
+use Rattle.py_interp_stmts.proofs.LoopTurnLemmas.{left_loop, no_round, no_turn, loop_turn_none_of, one_round, one_turn, one_turn_more, round_none, round_some, turn_false, turn_halted, turn_true, went_on}
 use Rattle.py_interp_stmts.proofs.+walk.Goals as goal
 
 -- ---- statements
@@ -83,7 +83,7 @@ loops::walk_while-returns-then-not-branch t c =
     let orelse = stmts_walk a (stmts stmt_tree s.orelse) (slot_of c.args.slot) in
     let holds = subst (λ (y : Expr). walk_test a (expr_tree y) w ≡ Fine c.in_ok-walk_test.field-0 w1) c.deref.ensures c.in_ok-walk_test.ensures in
     let ends = subst (λ (xs : List Stmt). Ends flow_of c.walk_statements.result (world_of c.walk_statements.new.log) (stmts_walk a (stmts stmt_tree xs) (slot_of c.args.slot) w1)) c.as_slice.ensures c.walk_statements.ensures in
-    same _ _ _ _ _ (c.loop-left.invariant ∙ turn_false test body orelse c.loop-left.left w _ _ c.loop-left-test.true holds c.if-not-branch.true) ends
+    ending_same _ _ _ _ _ (c.loop-left.invariant ∙ turn_false test body orelse c.loop-left.left w _ _ c.loop-left-test.true holds c.if-not-branch.true) ends
 
 pub loops::walk_while-returns-in_err-flow : goal.loops::walk_while-returns-in_err-flow
 loops::walk_while-returns-in_err-flow t c =
@@ -131,14 +131,14 @@ pub loops::walk_rounds-loop-left-init : goal.loops::walk_rounds-loop-left-init
 loops::walk_rounds-loop-left-init t c =
     let a = c.args.around in
     let s = c.args.s.now in
-    ap (λ n. rounds n (value_of c.args.iterator.now) (assigned (walk_target a (expr_tree s.target.value)) (stmts_walk a (stmts stmt_tree s.body) (slot_of c.args.slot))) (stmts_walk a (stmts stmt_tree s.orelse) (slot_of c.args.slot)) (world_of c.args.log.now)) (one_turn_more c.args.log.now.answers.now)
+    ap (λ n. rounds n (value_of c.args.iterator.now) (assign_then (walk_target a (expr_tree s.target.value)) (stmts_walk a (stmts stmt_tree s.body) (slot_of c.args.slot))) (stmts_walk a (stmts stmt_tree s.orelse) (slot_of c.args.slot)) (world_of c.args.log.now)) (one_turn_more c.args.log.now.answers.now)
 
 pub loops::walk_rounds-loop-left-preserved : goal.loops::walk_rounds-loop-left-preserved
 loops::walk_rounds-loop-left-preserved t c =
     let a = c.args.around in
     let s = c.args.s.now in
     let w1 = world_of c.next.new.log in
-    let turn = assigned (walk_target a (expr_tree s.target.value)) (stmts_walk a (stmts stmt_tree s.body) (slot_of c.args.slot)) in
+    let turn = assign_then (walk_target a (expr_tree s.target.value)) (stmts_walk a (stmts stmt_tree s.body) (slot_of c.args.slot)) in
     let orelse = stmts_walk a (stmts stmt_tree s.orelse) (slot_of c.args.slot) in
     let some = c.in_ok-answer.ensures ∙ ap (λ o. Fine (next_given o) w1) c.in-Some.is in
     c.loop-left.invariant
@@ -149,7 +149,7 @@ pub loops::walk_rounds-returns-in_err-answer : goal.loops::walk_rounds-returns-i
 loops::walk_rounds-returns-in_err-answer t c =
     let a = c.args.around in
     let s = c.args.s.now in
-    let turn = assigned (walk_target a (expr_tree s.target.value)) (stmts_walk a (stmts stmt_tree s.body) (slot_of c.args.slot)) in
+    let turn = assign_then (walk_target a (expr_tree s.target.value)) (stmts_walk a (stmts stmt_tree s.body) (slot_of c.args.slot)) in
     let orelse = stmts_walk a (stmts stmt_tree s.orelse) (slot_of c.args.slot) in
     let r : c.from_residual.result ≡ Err c.in_err-answer.field-0.0 = grind arith in
     got_halted _ _ _ _ _ _ _ r (c.loop-left.invariant ∙ one_round (value_of c.args.iterator.now) turn orelse c.loop-left.left (world_of c.loop-left.log) c.loop-left-test.true) c.in_err-answer.ensures
@@ -159,18 +159,18 @@ loops::walk_rounds-returns-in_default t c =
     let a = c.args.around in
     let s = c.args.s.now in
     let w1 = world_of c.next.new.log in
-    let turn = assigned (walk_target a (expr_tree s.target.value)) (stmts_walk a (stmts stmt_tree s.body) (slot_of c.args.slot)) in
+    let turn = assign_then (walk_target a (expr_tree s.target.value)) (stmts_walk a (stmts stmt_tree s.body) (slot_of c.args.slot)) in
     let orelse = stmts_walk a (stmts stmt_tree s.orelse) (slot_of c.args.slot) in
-    let none = c.in_ok-answer.ensures ∙ ap (λ o. Fine (next_given o) w1) (none_of _ c.in_default.not-Some) in
+    let none = c.in_ok-answer.ensures ∙ ap (λ o. Fine (next_given o) w1) (loop_turn_none_of _ c.in_default.not-Some) in
     let ends = subst (λ (xs : List Stmt). Ends flow_of c.walk_statements.result (world_of c.walk_statements.new.log) (stmts_walk a (stmts stmt_tree xs) (slot_of c.args.slot) w1)) c.as_slice.ensures c.walk_statements.ensures in
-    same _ _ _ _ _ (c.loop-left.invariant ∙ round_none (value_of c.args.iterator.now) turn orelse c.loop-left.left (world_of c.loop-left.log) w1 c.loop-left-test.true none) ends
+    ending_same _ _ _ _ _ (c.loop-left.invariant ∙ round_none (value_of c.args.iterator.now) turn orelse c.loop-left.left (world_of c.loop-left.log) w1 c.loop-left-test.true none) ends
 
 pub loops::walk_rounds-returns-in_err-flow : goal.loops::walk_rounds-returns-in_err-flow
 loops::walk_rounds-returns-in_err-flow t c =
     let a = c.args.around in
     let s = c.args.s.now in
     let w1 = world_of c.next.new.log in
-    let turn = assigned (walk_target a (expr_tree s.target.value)) (stmts_walk a (stmts stmt_tree s.body) (slot_of c.args.slot)) in
+    let turn = assign_then (walk_target a (expr_tree s.target.value)) (stmts_walk a (stmts stmt_tree s.body) (slot_of c.args.slot)) in
     let orelse = stmts_walk a (stmts stmt_tree s.orelse) (slot_of c.args.slot) in
     let some = c.in_ok-answer.ensures ∙ ap (λ o. Fine (next_given o) w1) c.in-Some.is in
     let r : c.from_residual-in_err-flow.result ≡ Err c.in_err-flow.field-0.0 = grind arith in
@@ -181,7 +181,7 @@ loops::walk_rounds-returns-then-not-goes_again t c =
     let a = c.args.around in
     let s = c.args.s.now in
     let w1 = world_of c.next.new.log in
-    let turn = assigned (walk_target a (expr_tree s.target.value)) (stmts_walk a (stmts stmt_tree s.body) (slot_of c.args.slot)) in
+    let turn = assign_then (walk_target a (expr_tree s.target.value)) (stmts_walk a (stmts stmt_tree s.body) (slot_of c.args.slot)) in
     let orelse = stmts_walk a (stmts stmt_tree s.orelse) (slot_of c.args.slot) in
     let some = c.in_ok-answer.ensures ∙ ap (λ o. Fine (next_given o) w1) c.in-Some.is in
     c.loop-left.invariant
@@ -193,7 +193,7 @@ pub loops::walk_rounds-returns : goal.loops::walk_rounds-returns
 loops::walk_rounds-returns t c =
     let a = c.args.around in
     let s = c.args.s.now in
-    let turn = assigned (walk_target a (expr_tree s.target.value)) (stmts_walk a (stmts stmt_tree s.body) (slot_of c.args.slot)) in
+    let turn = assign_then (walk_target a (expr_tree s.target.value)) (stmts_walk a (stmts stmt_tree s.body) (slot_of c.args.slot)) in
     let orelse = stmts_walk a (stmts stmt_tree s.orelse) (slot_of c.args.slot) in
     c.loop-left.invariant ∙ no_round (value_of c.args.iterator.now) turn orelse c.loop-left.left (world_of c.loop-left.log) (omega arith)
 
@@ -203,14 +203,14 @@ pub tries::walk_handlers-loop-handler-preserved : goal.tries::walk_handlers-loop
 tries::walk_handlers-loop-handler-preserved t c =
     c.loop-handler.invariant
     ∙ handlers_at c.args.around c.args.handlers.now c.loop-handler.handler-index _ c.handler-item.result (Given c.args.exception 0) (world_of c.loop-handler.log) c.handler-item.is c.loop-handler-test.true
-    ∙ passed _ _ _ _ _ c.in_ok-takes.ensures c.if-branch.false
+    ∙ place_passed _ _ _ _ _ c.in_ok-takes.ensures c.if-branch.false
 
 pub tries::walk_handlers-returns-then-branch : goal.tries::walk_handlers-returns-then-branch
 tries::walk_handlers-returns-then-branch t c =
-    same _ _ _ _ _
+    ending_same _ _ _ _ _
     (c.loop-handler.invariant
     ∙ handlers_at c.args.around c.args.handlers.now c.loop-handler.handler-index _ c.handler-item.result (Given c.args.exception 0) (world_of c.loop-handler.log) c.handler-item.is c.loop-handler-test.true
-    ∙ taken _ _ _ _ _ c.in_ok-takes.ensures c.if-branch.true)
+    ∙ place_taken _ _ _ _ _ c.in_ok-takes.ensures c.if-branch.true)
     c.walk_handler.ensures
 
 pub tries::walk_handlers-returns-in_err-takes : goal.tries::walk_handlers-returns-in_err-takes
@@ -220,17 +220,17 @@ tries::walk_handlers-returns-in_err-takes t c =
     (c.loop-handler.invariant ∙ handlers_at c.args.around c.args.handlers.now c.loop-handler.handler-index _ c.handler-item.result (Given c.args.exception 0) (world_of c.loop-handler.log) c.handler-item.is c.loop-handler-test.true)
     c.in_err-takes.ensures
 
--- ---- a last part
+-- ---- a finally block
 
 pub tries::walk_try-returns-then-is_empty : goal.tries::walk_try-returns-then-is_empty
-tries::walk_try-returns-then-is_empty t c = same _ _ _ _ _ (no_final c.args.around c.args.s.now (slot_of c.args.slot) (world_of c.args.log.now) (c.is_empty.ensures.0 c.if-is_empty.true)) c.walk_handled.ensures
+tries::walk_try-returns-then-is_empty t c = ending_same _ _ _ _ _ (no_final c.args.around c.args.s.now (slot_of c.args.slot) (world_of c.args.log.now) (c.is_empty.ensures.0 c.if-is_empty.true)) c.walk_handled.ensures
 
 pub tries::walk_try-returns : goal.tries::walk_try-returns
 tries::walk_try-returns t c =
-    same _ _ _ _ _ (some_final c.args.around c.args.s.now (slot_of c.args.slot) (world_of c.args.log.now) (λ e. let h = c.is_empty.ensures.1 e in let n = c.if-is_empty.false in absurd cc)) c.walk_finally.ensures
+    ending_same _ _ _ _ _ (some_final c.args.around c.args.s.now (slot_of c.args.slot) (world_of c.args.log.now) (λ e. let h = c.is_empty.ensures.1 e in let n = c.if-is_empty.false in absurd cc)) c.walk_finally.ensures
 
 pub tries::walk_finally-returns-then-is_over : goal.tries::walk_finally-returns-then-is_over
-tries::walk_finally-returns-then-is_over t c = over_stays c.walk_handled-ended.result _ _ _ _ (sym c.is_over.ensures ∙ c.if-is_over.true) c.walk_handled-ended.ensures
+tries::walk_finally-returns-then-is_over t c = behind_over_stays c.walk_handled-ended.result _ _ _ _ (sym c.is_over.ensures ∙ c.if-is_over.true) c.walk_handled-ended.ensures
 
 pub tries::walk_finally-returns-in_err-flow : goal.tries::walk_finally-returns-in_err-flow
 tries::walk_finally-returns-in_err-flow t c =

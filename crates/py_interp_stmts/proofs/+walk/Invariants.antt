@@ -1,7 +1,7 @@
 use Rattle.std.proofs.Common.{◌≡◌, ◌+◌, ◌*◌, suc, drop, length}
 use Rattle.py_tree.specs.View.{expr_tree, handlers, stmt_tree, stmts}
 use Rattle.py_bytecode.specs.Values.{Given}
-use Rattle.py_control.specs.Form.{assigned, rounds, turns}
+use Rattle.py_control.specs.Form.{assign_then, rounds, turns}
 use Rattle.py_answers.specs.Log.{world_of}
 use Rattle.py_answers.specs.Told.{value_of}
 use Rattle.py_interp.specs.Statements.{handlers_walk, stmts_walk}
@@ -26,7 +26,7 @@ decreases-loops::walk_while-loop-left l = l.left
 
 abbrev pub invariant-loops::walk_rounds-loop-left : goal.invariant-loops::walk_rounds-loop-left
 invariant-loops::walk_rounds-loop-left l =
-    let turn = assigned (walk_target l.around (expr_tree l.s.target.value)) (stmts_walk l.around (stmts stmt_tree l.s.body) (slot_of l.slot)) in
+    let turn = assign_then (walk_target l.around (expr_tree l.s.target.value)) (stmts_walk l.around (stmts stmt_tree l.s.body) (slot_of l.slot)) in
     let orelse = stmts_walk l.around (stmts stmt_tree l.s.orelse) (slot_of l.slot) in
     rounds (suc (length (world_of l.initial.log).answers)) (value_of l.iterator') turn orelse (world_of l.initial.log) ≡ rounds l.left (value_of l.iterator') turn orelse (world_of l.log)
 

@@ -9,7 +9,8 @@ use Rattle.std.proofs.Common.{rules, Option, ap, false, sym, ◌∙◌}
 use Rattle.std.specs.Prelude.{if◌then◌else◌}
 use Rattle.py_bytecode.specs.declared.instruction.Instruction.TheVariants as op
 use Rattle.py_tree.specs.View.{expr_tree, stmt_tree, stmts}
-use Rattle.py_emission_parts.specs.Emitting.{Done, Emission, State, go_on, in_loop, located, with_loops}
+use Rattle.py_emission_parts.specs.Emitting.{Done, Emission, State, emit, in_loop, with_location, with_loops}
+use Rattle.py_emission_parts.specs.Running.{Action, on_done, run}
 use Rattle.py_emission_parts.specs.EmissionParts.{choice, only}
 use Rattle.py_emission.specs.Emission.{emission_of_test}
 use Rattle.py_emission.specs.EmissionStmts.{emission_of_stmt, emission_of_stmts}
@@ -19,13 +20,12 @@ use Rattle.py_dataflow.specs.declared.info.BlockIdx.{BlockIdx}
 use Rattle.py_emit.proofs.Joined.{goes_as, went}
 use Rattle.py_expr_parts.proofs.Turns.{if_not}
 use Rattle.py_stmt.proofs.LocationLemmas.{entering}
-use Rattle.py_stmt_parts.proofs.Steps.{none_is}
-use Rattle.py_expr_parts.proofs.Steps.{stays}
-use Rattle.py_expr_scopes.proofs.KeptExpressions.{apart, begin_opens, block_opens, emit_opens, jump_opens, test_opens}
-use Rattle.py_stmt.proofs.OpenBlockLemmas.{loop_opens, stmts_open}
+use Rattle.py_stmt_parts.proofs.Steps.{step_none_is}
+use Rattle.py_expr_parts.proofs.Steps.{step_stays}
+use Rattle.py_expr_scopes.proofs.OpenBlocks.{open_block_apart, begin_opens, block_opens, jump_opens, opens}
 use Rattle.py_stmt.proofs.+code.Answers.Around.{each_around, last_around, unguarded_around, while_around}
 use Rattle.py_stmt.proofs.+code.Answers.Classes as class
-use Rattle.py_stmt.proofs.+code.Answers.Defining.{decorated_refused, defaults_refused, inner_goes, inner_refused, made_goes, made_refused, plain_goes, rest_done, rest_goes_on, rest_refused, scope_inner, scope_left, scope_refused, scope_unlooped, some_goes, value_refused}
+use Rattle.py_stmt.proofs.+code.Answers.Defining.{decorated_refused, defaults_refused, inner_goes, inner_refused, made_goes, made_refused, plain_goes, rest_done, rest_goes_on, rest_refused, defining_scope_inner, defining_scope_left, defining_scope_refused, scope_unlooped, some_goes, value_refused}
 use Rattle.py_stmt.proofs.+code.Answers.Hidden as hidden
 use Rattle.py_stmt.proofs.+code.Answers.Iterating.{end_begins, end_refused, for_goes, other_begins, turn_begins, turn_refused}
 use Rattle.py_stmt.proofs.+code.Answers.Managing.{left_open, no_body, no_items, some_body, some_items}
@@ -34,41 +34,41 @@ use Rattle.py_stmt.proofs.+code.Goals as goal
 
 pub statements::compile_only-switch_to_block-requires : goal.statements::compile_only-switch_to_block-requires
 statements::compile_only-switch_to_block-requires t c =
-    let e = test_opens (expr_tree c.deref.result.now) false c.in_ok-end.end.0 _ _ _ c.in_ok-compile_jump_if.ensures.goes c.in_ok-end.ensures.made in
-    record { made = stmts_open (stmts stmt_tree c.as_slice.result.now) _ _ _ c.in_ok-compile_statements.ensures.goes e; below = c.in_ok-end.ensures.below }
+    let e = opens (emission_of_test (expr_tree c.deref.result.now) false c.in_ok-end.end.0) _ _ _ c.in_ok-compile_jump_if.ensures.goes c.in_ok-end.ensures.made in
+    record { made = opens (emission_of_stmts (stmts stmt_tree c.as_slice.result.now)) _ _ _ c.in_ok-compile_statements.ensures.goes e; below = c.in_ok-end.ensures.below }
 
 pub statements::compile_choice-switch_to_block-requires : goal.statements::compile_choice-switch_to_block-requires
 statements::compile_choice-switch_to_block-requires t c =
     let a = block_opens _ _ _ c.in_ok-end.ensures.ok c.in_ok-other.ensures.made in
-    let e = test_opens (expr_tree c.deref.result.now) false c.in_ok-other.other.0 _ _ _ c.in_ok-compile_jump_if.ensures.goes a in
-    let m = stmts_open (stmts stmt_tree c.as_slice.result.now) _ _ _ c.in_ok-compile_statements.ensures.goes e in
+    let e = opens (emission_of_test (expr_tree c.deref.result.now) false c.in_ok-other.other.0) _ _ _ c.in_ok-compile_jump_if.ensures.goes a in
+    let m = opens (emission_of_stmts (stmts stmt_tree c.as_slice.result.now)) _ _ _ c.in_ok-compile_statements.ensures.goes e in
     record { made = jump_opens op.Jump c.in_ok-end.end.0 _ _ _ c.in_Continue-emit-emit.ensures.goes m; below = c.in_ok-other.ensures.below }
 
 pub statements::compile_choice-switch_to_block-requires-2 : goal.statements::compile_choice-switch_to_block-requires-2
 statements::compile_choice-switch_to_block-requires-2 t c =
     let out = c.in_ok-other.other.0 in
-    let other = apart _ _ _ c.in_ok-other.ensures.made c.in_ok-end.ensures.number in
-    let e = test_opens (expr_tree c.deref.result.now) false out _ _ _ c.in_ok-compile_jump_if.ensures.goes c.in_ok-end.ensures.made in
-    let m = stmts_open (stmts stmt_tree c.as_slice.result.now) _ _ _ c.in_ok-compile_statements.ensures.goes e in
+    let other = open_block_apart _ _ _ c.in_ok-other.ensures.made c.in_ok-end.ensures.number in
+    let e = opens (emission_of_test (expr_tree c.deref.result.now) false out) _ _ _ c.in_ok-compile_jump_if.ensures.goes c.in_ok-end.ensures.made in
+    let m = opens (emission_of_stmts (stmts stmt_tree c.as_slice.result.now)) _ _ _ c.in_ok-compile_statements.ensures.goes e in
     let j = jump_opens op.Jump c.in_ok-end.end.0 _ _ _ c.in_Continue-emit-emit.ensures.goes m in
     let g = begin_opens _ _ _ out (λ e. other (sym e)) c.switch_to_block.ensures.state j in
-    record { made = stmts_open (stmts stmt_tree c.as_slice-2.result.now) _ _ _ c.in_ok-compile_statements-2.ensures.goes g; below = c.in_ok-end.ensures.below }
+    record { made = opens (emission_of_stmts (stmts stmt_tree c.as_slice-2.result.now)) _ _ _ c.in_ok-compile_statements-2.ensures.goes g; below = c.in_ok-end.ensures.below }
 
 pub loops::compile_while-switch_to_block-requires : goal.loops::compile_while-switch_to_block-requires
 loops::compile_while-switch_to_block-requires t c =
     let a = block_opens _ _ _ c.in_ok-other.ensures.ok c.in_ok-start.ensures.made in
     let e = block_opens _ _ _ c.in_ok-end.ensures.ok a in
-    record { made = emit_opens op.SetupLoop 0 _ _ _ c.in_Continue-emit-emit.ensures.goes e; below = c.in_ok-start.ensures.below }
+    record { made = opens (emit op.SetupLoop 0) _ _ _ c.in_Continue-emit-emit.ensures.goes e; below = c.in_ok-start.ensures.below }
 
 pub loops::compile_while-switch_to_block-requires-2 : goal.loops::compile_while-switch_to_block-requires-2
 loops::compile_while-switch_to_block-requires-2 t c =
     let start = c.in_ok-start.start.0 in
-    let first = apart _ _ _ c.in_ok-start.ensures.made c.in_ok-other.ensures.number in
+    let first = open_block_apart _ _ _ c.in_ok-start.ensures.made c.in_ok-other.ensures.number in
     let a = block_opens _ _ _ c.in_ok-end.ensures.ok c.in_ok-other.ensures.made in
-    let e = emit_opens op.SetupLoop 0 _ _ _ c.in_Continue-emit-emit.ensures.goes a in
+    let e = opens (emit op.SetupLoop 0) _ _ _ c.in_Continue-emit-emit.ensures.goes a in
     let g = begin_opens _ _ _ start (λ e. first (sym e)) c.switch_to_block.ensures.state e in
-    let j = test_opens (expr_tree c.deref.result.now) false c.in_ok-other.other.0 _ _ _ c.in_ok-compile_jump_if.ensures.goes g in
-    let m = loop_opens (record { on_break = c.in_ok-end.end.0; on_continue = start }) (stmts stmt_tree c.as_slice.result.now) _ _ _ c.in_ok-compile_loop_body.ensures.goes j in
+    let j = opens (emission_of_test (expr_tree c.deref.result.now) false c.in_ok-other.other.0) _ _ _ c.in_ok-compile_jump_if.ensures.goes g in
+    let m = opens (in_loop (record { on_break = c.in_ok-end.end.0; on_continue = start }) (emission_of_stmts (stmts stmt_tree c.as_slice.result.now))) _ _ _ c.in_ok-compile_loop_body.ensures.goes j in
     record { made = jump_opens op.Jump start _ _ _ c.in_Continue-emit-emit-2.ensures.goes m; below = c.in_ok-other.ensures.below }
 
 pub loops::compile_while-switch_to_block-requires-3 : goal.loops::compile_while-switch_to_block-requires-3
@@ -76,16 +76,16 @@ loops::compile_while-switch_to_block-requires-3 t c =
     let start = c.in_ok-start.start.0 in
     let out = c.in_ok-other.other.0 in
     let a = block_opens _ _ _ c.in_ok-other.ensures.ok c.in_ok-start.ensures.made in
-    let first = apart _ _ _ a c.in_ok-end.ensures.number in
-    let second = apart _ _ _ c.in_ok-other.ensures.made c.in_ok-end.ensures.number in
-    let e = emit_opens op.SetupLoop 0 _ _ _ c.in_Continue-emit-emit.ensures.goes c.in_ok-end.ensures.made in
+    let first = open_block_apart _ _ _ a c.in_ok-end.ensures.number in
+    let second = open_block_apart _ _ _ c.in_ok-other.ensures.made c.in_ok-end.ensures.number in
+    let e = opens (emit op.SetupLoop 0) _ _ _ c.in_Continue-emit-emit.ensures.goes c.in_ok-end.ensures.made in
     let g = begin_opens _ _ _ start (λ e. first (sym e)) c.switch_to_block.ensures.state e in
-    let j = test_opens (expr_tree c.deref.result.now) false out _ _ _ c.in_ok-compile_jump_if.ensures.goes g in
-    let m = loop_opens (record { on_break = c.in_ok-end.end.0; on_continue = start }) (stmts stmt_tree c.as_slice.result.now) _ _ _ c.in_ok-compile_loop_body.ensures.goes j in
+    let j = opens (emission_of_test (expr_tree c.deref.result.now) false out) _ _ _ c.in_ok-compile_jump_if.ensures.goes g in
+    let m = opens (in_loop (record { on_break = c.in_ok-end.end.0; on_continue = start }) (emission_of_stmts (stmts stmt_tree c.as_slice.result.now))) _ _ _ c.in_ok-compile_loop_body.ensures.goes j in
     let n = jump_opens op.Jump start _ _ _ c.in_Continue-emit-emit-2.ensures.goes m in
     let p = begin_opens _ _ _ out (λ e. second (sym e)) c.switch_to_block-2.ensures.state n in
-    let q = emit_opens op.PopBlock 0 _ _ _ c.in_Continue-emit-emit-3.ensures.goes p in
-    record { made = stmts_open (stmts stmt_tree c.as_slice-2.result.now) _ _ _ c.in_ok-compile_statements.ensures.goes q; below = c.in_ok-end.ensures.below }
+    let q = opens (emit op.PopBlock 0) _ _ _ c.in_Continue-emit-emit-3.ensures.goes p in
+    record { made = opens (emission_of_stmts (stmts stmt_tree c.as_slice-2.result.now)) _ _ _ c.in_ok-compile_statements.ensures.goes q; below = c.in_ok-end.ensures.below }
 
 pub statements::compile_if-returns : goal.statements::compile_if-returns
 statements::compile_if-returns t c = record {
@@ -93,10 +93,10 @@ statements::compile_if-returns t c = record {
       let test = emission_of_test (expr_tree c.args.s.now.test.value) in
       let body = emission_of_stmts (stmts stmt_tree c.args.s.now.body) in
       let orelse = emission_of_stmts (stmts stmt_tree c.args.s.now.orelse) in
-      let some = none_is c.args.s.now.orelse c.is_empty.result c.is_empty.ensures.0 c.is_empty.ensures.1 ∙ c.if-is_empty.false in
+      let some = step_none_is c.args.s.now.orelse c.is_empty.result c.is_empty.ensures.0 c.is_empty.ensures.1 ∙ c.if-is_empty.false in
       goes_as _ _ _ _
-      (went _ (if none (stmts stmt_tree c.args.s.now.orelse) then only test body else choice test body orelse) _ (stays c.args.s.now.location (state c.args.em.now) c.requires.at)
-      ∙ ap (λ (f : Emission). f (state c.args.em.now)) (if_not _ (only test body) (choice test body orelse) some))
+      (went _ (run (if none (stmts stmt_tree c.args.s.now.orelse) then only test body else choice test body orelse)) _ (step_stays c.args.s.now.location (state c.args.em.now) c.requires.at)
+      ∙ ap (λ (v : Emission). run v (state c.args.em.now)) (if_not _ (only test body) (choice test body orelse) some))
       c.compile_choice.ensures.goes;
   same = search rules;
 }
@@ -106,8 +106,8 @@ pub loops::compile_loop_body-returns : goal.loops::compile_loop_body-returns
 unfolding in_loop rest
 loops::compile_loop_body-returns t c = record {
   goes =
-      let behind : Emission = λ r. Done (with_loops (state c.args.em.now).around.loops r) in
-      ap (λ (s : State). go_on (emission_of_stmts (stmts stmt_tree c.args.body.now) s) behind) (sym c.set_loops-around.ensures.state)
+      let behind : Action = λ r. Done (with_loops (state c.args.em.now).around.loops r) in
+      ap (λ (s : State). on_done (run (emission_of_stmts (stmts stmt_tree c.args.body.now)) s) behind) (sym c.set_loops-around.ensures.state)
       ∙ went _ behind _ c.in_ok-compile_statements.ensures.goes
       ∙ ap (λ (x : Option (BlockIdx × BlockIdx)). Done (with_loops (loop_blocks x) (state c.compile_statements.new.em))) (sym c.set_loops-around.ensures.old)
       ∙ ap Done (sym c.set_loops.ensures.state);
@@ -119,7 +119,7 @@ statements::compile_statement-returns t c = record {
   goes =
       let x = stmt_tree c.args.statement.now in
       let s = state c.args.em.now in
-      goes_as _ _ _ _ (entering x s ∙ ap (λ at. emission_of_stmt x (located at s)) (sym c.location.ensures) ∙ ap (emission_of_stmt x) (sym c.set_location.ensures.state)) c.compile_entered.ensures.goes;
+      goes_as _ _ _ _ (entering x s ∙ ap (λ at. run (emission_of_stmt x) (with_location at s)) (sym c.location.ensures) ∙ ap (run (emission_of_stmt x)) (sym c.set_location.ensures.state)) c.compile_entered.ensures.goes;
   same = search rules;
 }
 
@@ -199,13 +199,13 @@ pub tries::compile_parts-compile_last-requires : goal.tries::compile_parts-compi
 tries::compile_parts-compile_last-requires = last_around
 
 pub functions::compile_function_scope-returns : goal.functions::compile_function_scope-returns
-functions::compile_function_scope-returns = scope_left
+functions::compile_function_scope-returns = defining_scope_left
 
 pub functions::compile_function_scope-leave_scope-requires : goal.functions::compile_function_scope-leave_scope-requires
-functions::compile_function_scope-leave_scope-requires = scope_inner
+functions::compile_function_scope-leave_scope-requires = defining_scope_inner
 
 pub functions::compile_function_scope-returns-in_err-compile_inner : goal.functions::compile_function_scope-returns-in_err-compile_inner
-functions::compile_function_scope-returns-in_err-compile_inner = scope_refused
+functions::compile_function_scope-returns-in_err-compile_inner = defining_scope_refused
 
 pub functions::compile_function_scope-compile_inner-requires : goal.functions::compile_function_scope-compile_inner-requires
 functions::compile_function_scope-compile_inner-requires = scope_unlooped
@@ -238,13 +238,13 @@ pub functions::compile_function_def-returns-in_err-compile_decorated : goal.func
 functions::compile_function_def-returns-in_err-compile_decorated = decorated_refused
 
 pub functions::compile_hidden_scope-returns : goal.functions::compile_hidden_scope-returns
-functions::compile_hidden_scope-returns = hidden.scope_left
+functions::compile_hidden_scope-returns = hidden.hidden_scope_left
 
 pub functions::compile_hidden_scope-leave_scope-requires : goal.functions::compile_hidden_scope-leave_scope-requires
-functions::compile_hidden_scope-leave_scope-requires = hidden.scope_inner
+functions::compile_hidden_scope-leave_scope-requires = hidden.hidden_scope_inner
 
 pub functions::compile_hidden_scope-returns-in_err-return_value : goal.functions::compile_hidden_scope-returns-in_err-return_value
-functions::compile_hidden_scope-returns-in_err-return_value = hidden.scope_refused
+functions::compile_hidden_scope-returns-in_err-return_value = hidden.hidden_scope_refused
 
 pub functions::make_around-returns : goal.functions::make_around-returns
 functions::make_around-returns = hidden.around_goes
@@ -268,13 +268,13 @@ pub functions::compile_rest-returns : goal.functions::compile_rest-returns
 functions::compile_rest-returns = rest_done
 
 pub classes::compile_class_scope-returns : goal.classes::compile_class_scope-returns
-classes::compile_class_scope-returns = class.scope_left
+classes::compile_class_scope-returns = class.class_scope_left
 
 pub classes::compile_class_scope-leave_scope-requires : goal.classes::compile_class_scope-leave_scope-requires
-classes::compile_class_scope-leave_scope-requires = class.scope_inner
+classes::compile_class_scope-leave_scope-requires = class.class_scope_inner
 
 pub classes::compile_class_scope-returns-in_err-compile_inner : goal.classes::compile_class_scope-returns-in_err-compile_inner
-classes::compile_class_scope-returns-in_err-compile_inner = class.scope_refused
+classes::compile_class_scope-returns-in_err-compile_inner = class.class_scope_refused
 
 pub classes::compile_class_scope-compile_inner-requires : goal.classes::compile_class_scope-compile_inner-requires
 classes::compile_class_scope-compile_inner-requires = class.scope_begins

@@ -1,14 +1,15 @@
 use Rattle.std.proofs.Common.{◌≡◌, ◌+◌, ◌*◌, drop}
 use Rattle.py_tree.specs.View.{handlers, stmt_tree, stmts}
+use Rattle.py_emission_parts.specs.Running.{run}
 use Rattle.py_emission.specs.EmissionStmts.{emission_of_handlers, emission_of_stmts}
 use Rattle.py_emit.specs.States.{rest, state}
 use Rattle.py_stmt.proofs.+code.Given as goal
 
 abbrev pub invariant-statements::compile_statements-loop-statement : goal.invariant-statements::compile_statements-loop-statement
-invariant-statements::compile_statements-loop-statement l = (rest l.em ≡ rest l.initial.em) × (emission_of_stmts (stmts stmt_tree l.body) (state l.initial.em) ≡ emission_of_stmts (stmts stmt_tree (drop l.statement-index l.body)) (state l.em))
+invariant-statements::compile_statements-loop-statement l = (rest l.em ≡ rest l.initial.em) × (run (emission_of_stmts (stmts stmt_tree l.body)) (state l.initial.em) ≡ run (emission_of_stmts (stmts stmt_tree (drop l.statement-index l.body))) (state l.em))
 
 abbrev pub invariant-tries::compile_handlers-loop-handler : goal.invariant-tries::compile_handlers-loop-handler
-invariant-tries::compile_handlers-loop-handler l = (rest l.em ≡ rest l.initial.em) × (emission_of_handlers (handlers stmt_tree l.handlers) l.last l.end.0 (state l.initial.em) ≡ emission_of_handlers (handlers stmt_tree (drop l.handler-index l.handlers)) l.last l.end.0 (state l.em))
+invariant-tries::compile_handlers-loop-handler l = (rest l.em ≡ rest l.initial.em) × (run (emission_of_handlers (handlers stmt_tree l.handlers) l.last l.end.0) (state l.initial.em) ≡ run (emission_of_handlers (handlers stmt_tree (drop l.handler-index l.handlers)) l.last l.end.0) (state l.em))
 
 abbrev pub decreases-statements::compile_statement : goal.decreases-statements::compile_statement
 decreases-statements::compile_statement l = 16 * goal.size-statements::compile_statement l + 1
@@ -83,7 +84,7 @@ abbrev pub decreases-tries::compile_try : goal.decreases-tries::compile_try
 decreases-tries::compile_try l = 16 * goal.size-tries::compile_try l + 9
 
 abbrev pub invariant-functions::compile_rest-loop-i : goal.invariant-functions::compile_rest-loop-i
-invariant-functions::compile_rest-loop-i l = (rest l.em ≡ rest l.initial.em) × (emission_of_stmts (stmts stmt_tree (drop l.from l.body)) (state l.initial.em) ≡ emission_of_stmts (stmts stmt_tree (drop l.i l.body)) (state l.em))
+invariant-functions::compile_rest-loop-i l = (rest l.em ≡ rest l.initial.em) × (run (emission_of_stmts (stmts stmt_tree (drop l.from l.body))) (state l.initial.em) ≡ run (emission_of_stmts (stmts stmt_tree (drop l.i l.body))) (state l.em))
 
 abbrev pub decreases-functions::compile_rest : goal.decreases-functions::compile_rest
 decreases-functions::compile_rest l = 16 * goal.size-functions::compile_rest l + 2

@@ -10,7 +10,7 @@ ended-requires c = asks_as c.in-Ok.words c.args.output c.args.mode c.args.level 
 
 pub returns-in-Ok-clause-run : goal.returns-in-Ok-clause-run
 returns-in-Ok-clause-run c =
-    subst (λ ws. IsRun ws c.args.rows.now c.ended.result c.ended.new.count c.args.text.now c.ended.new.text) c.in-Ok.ensures c.ended.ensures.run
+    subst (λ ws. IsRun ws c.args.input.now c.ended.result c.ended.new.count c.args.text.now c.ended.new.text) c.in-Ok.ensures c.ended.ensures.run
 
 pub returns-in-Err-clause-run : goal.returns-in-Err-clause-run
-returns-in-Err-clause-run c = no_memory (words_of c.args.output c.args.mode c.args.level c.args.path.now) c.args.rows.now c.args.text.now
+returns-in-Err-clause-run c = no_memory (words_of c.args.output c.args.mode c.args.level c.args.path.now) c.args.input.now c.args.text.now

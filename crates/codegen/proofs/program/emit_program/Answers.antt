@@ -3,6 +3,7 @@ use Rattle.py_tree.specs.View.{stmt_tree, stmts}
 use Rattle.py_emit.specs.States.{state}
 use Rattle.py_emit.proofs.Joined.{first_refuses, goes_as, went}
 use Rattle.codegen.proofs.Files.{behind_doc, returning}
+use Rattle.py_emission_parts.specs.Running.{run}
 use Rattle.codegen.proofs.program.emit_program.Goals as goal
 
 pub returns : goal.returns
@@ -11,8 +12,8 @@ returns c = record {
       let after = stmts stmt_tree (drop c.in_ok-from.from c.args.body.now) in
       goes_as _ _ _ _
       (behind_doc (stmts stmt_tree c.args.body.now) after c.find_ann.result _ _ c.in_ok-from.ensures.emits.goes c.in_ok-from.ensures.from c.find_ann.ensures
-      ∙ went _ (returning after) _ c.in_ok-emit_setup.ensures.goes
-      ∙ ap (λ xs. returning (stmts stmt_tree xs) (state c.emit_setup.new.em)) (sym c.statements_from-statements.ensures))
+      ∙ went _ (run (returning after)) _ c.in_ok-emit_setup.ensures.goes
+      ∙ ap (λ xs. run (returning (stmts stmt_tree xs)) (state c.emit_setup.new.em)) (sym c.statements_from-statements.ensures))
       c.emit_rest.ensures.goes;
   same = search rules;
 }

@@ -4,7 +4,7 @@ use Rattle.py_tree.specs.View.{stmt_tree, stmts}
 use Rattle.py_tree.specs.declared.modules.Mode.TheVariants as mode
 use Rattle.py_limits.specs.Nesting.{nesting}
 use Rattle.py_limits.specs.Size.{size_of}
-use Rattle.py_symbol_tables.proofs.Firsts.{at_least, below}
+use Rattle.py_symbol_tables.proofs.Firsts.{at_least, first_below}
 use Rattle.codegen.proofs.Wholes.{malformed_checked, too_deep_checked, too_large_checked, whole_checked}
 use Rattle.codegen.proofs.whole.body_fault.Goals as goal
 
@@ -16,14 +16,14 @@ returns-then-is_none c =
 pub returns-then-is_none-2 : goal.returns-then-is_none-2
 returns-then-is_none-2 c =
     let t = tree.Module (stmts stmt_tree c.args.body.now) in
-    too_large_checked t mode.Exec (below c.depth_of_body.result 1024 (nesting t) c.if-is_none.ensures c.depth_of_body.ensures) (at_least c.size_of_body.result 4194304 (size_of t) c.if-is_none-2.ensures c.size_of_body.ensures)
+    too_large_checked t mode.Exec (first_below c.depth_of_body.result 1024 (nesting t) c.if-is_none.ensures c.depth_of_body.ensures) (at_least c.size_of_body.result 4194304 (size_of t) c.if-is_none-2.ensures c.size_of_body.ensures)
 
 pub returns-in-Some : goal.returns-in-Some
 returns-in-Some c =
     let t = tree.Module (stmts stmt_tree c.args.body.now) in
-    malformed_checked t mode.Exec c.in-Some.shape (below c.depth_of_body.result 1024 (nesting t) c.if-is_none.ensures c.depth_of_body.ensures) (below c.size_of_body.result 4194304 (size_of t) c.if-is_none-2.ensures c.size_of_body.ensures) (sym c.valid_body.ensures ∙ c.in-Some.is)
+    malformed_checked t mode.Exec c.in-Some.shape (first_below c.depth_of_body.result 1024 (nesting t) c.if-is_none.ensures c.depth_of_body.ensures) (first_below c.size_of_body.result 4194304 (size_of t) c.if-is_none-2.ensures c.size_of_body.ensures) (sym c.valid_body.ensures ∙ c.in-Some.is)
 
 pub returns-in-None : goal.returns-in-None
 returns-in-None c =
     let t = tree.Module (stmts stmt_tree c.args.body.now) in
-    whole_checked t mode.Exec (below c.depth_of_body.result 1024 (nesting t) c.if-is_none.ensures c.depth_of_body.ensures) (below c.size_of_body.result 4194304 (size_of t) c.if-is_none-2.ensures c.size_of_body.ensures) (sym c.valid_body.ensures ∙ c.in-None.is)
+    whole_checked t mode.Exec (first_below c.depth_of_body.result 1024 (nesting t) c.if-is_none.ensures c.depth_of_body.ensures) (first_below c.size_of_body.result 4194304 (size_of t) c.if-is_none-2.ensures c.size_of_body.ensures) (sym c.valid_body.ensures ∙ c.in-None.is)

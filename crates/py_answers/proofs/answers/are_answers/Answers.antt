@@ -1,6 +1,6 @@
 use Rattle.std.proofs.Common.{Some, None, arith, sym, ◌∙◌, rules}
 use Rattle.std.proofs.lemmas.Bool.{le-ltb}
-use Rattle.py_answers.proofs.Found.{cut, ends, ends_full, full, go_on, no_answer}
+use Rattle.py_answers.proofs.Found.{cut, found_ends, ends_full, full, go_on, found_no_answer}
 use Rattle.py_answers.proofs.answers.are_answers.Goals as goal
 use Rattle.py_answers.proofs.answers.are_answers.Goals.{then-room-eq0-via-then-room-eq0, then-room-eq0-via-else-room-eq0+then-not-is_answer}
 
@@ -9,7 +9,7 @@ returns-then-room-eq0 c =
     let split = cut c.loop-piece.rest.now (Some (c.in-Some.piece, c.in-Some.behind)) c.in-Some.ensures.cases in
     elim c.then-room-eq0.branch [
       | then-room-eq0-via-then-room-eq0 w ↦ let z = w.if-room-eq0.true in full c.args.text.now c.loop-piece.rest.now c.in-Some.piece.now c.in-Some.behind.now c.loop-piece.room c.loop-piece.invariant.1 split (omega (arith, z))
-      | then-room-eq0-via-else-room-eq0+then-not-is_answer w ↦ no_answer c.args.text.now c.loop-piece.rest.now c.in-Some.piece.now c.in-Some.behind.now c.loop-piece.room c.loop-piece.invariant.1 split (sym w.is_answer.ensures ∙ w.if-not-is_answer.true)
+      | then-room-eq0-via-else-room-eq0+then-not-is_answer w ↦ found_no_answer c.args.text.now c.loop-piece.rest.now c.in-Some.piece.now c.in-Some.behind.now c.loop-piece.room c.loop-piece.invariant.1 split (sym w.is_answer.ensures ∙ w.if-not-is_answer.true)
     ]
 
 pub loop-piece-preserved : goal.loop-piece-preserved
@@ -22,7 +22,7 @@ loop-piece-preserved c =
 pub returns-then-room-gt1 : goal.returns-then-room-gt1
 returns-then-room-gt1 c =
     c.is_answer-then-room-gt1.ensures
-    ∙ ends c.args.text.now c.loop-piece.rest.now c.loop-piece.room c.loop-piece.invariant.1 (cut c.loop-piece.rest.now None c.in_default.ensures.cases) c.if-room-gt1.true
+    ∙ found_ends c.args.text.now c.loop-piece.rest.now c.loop-piece.room c.loop-piece.invariant.1 (cut c.loop-piece.rest.now None c.in_default.ensures.cases) c.if-room-gt1.true
 
 pub returns-else-room-gt1 : goal.returns-else-room-gt1
 returns-else-room-gt1 c =

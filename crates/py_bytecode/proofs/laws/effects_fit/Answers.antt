@@ -1,5 +1,5 @@
-use Rattle.py_bytecode.proofs.Effects.{fits}
+use Rattle.py_bytecode.proofs.Effects.{effect_fits}
 use Rattle.py_bytecode.proofs.laws.effects_fit.Goals as goal
 
 pub returns : goal.returns
-returns c = fits
+returns c = effect_fits

@@ -1,8 +1,9 @@
 use Rattle.std.proofs.Common.{sym, ap, ◌∙◌}
 use Rattle.py_bytecode.specs.Objects as const
 use Rattle.py_tree.specs.View.{arguments, expr_tree}
-use Rattle.py_emission_parts.specs.Children.{code_head, enter_parameters}
+use Rattle.py_emission_parts.specs.Children.{enter_parameters}
 use Rattle.py_emission_parts.specs.Emitting.{Done, ◌▸◌, add_constant}
+use Rattle.py_emission_parts.specs.Running.{code_head, run}
 use Rattle.py_emission_parts.specs.Within.{lambda_inside}
 use Rattle.py_emission.specs.Parameters.{function_shape, parameters}
 use Rattle.py_emit.specs.States.{entered_rest, rest, state}
@@ -17,7 +18,7 @@ returns-clause-entered c =
       around = e;
       defaults = c.in_ok-defaults.ensures.emits.goes ∙ ap (λ (x : Emitter). Done (state x)) (sym c.in_ok-name.ensures.same);
       kept = ap (λ (x : Emitter). rest x) c.in_ok-name.ensures.same ∙ c.in_ok-defaults.ensures.emits.same;
-      opened = ap (enter_parameters (parameters p) ▸ add_constant const.none) (sym c.in_ok-enter_function.ensures.state) ∙ c.in_ok-begin_function.ensures.goes;
+      opened = ap (run (enter_parameters (parameters p) ▸ add_constant const.none)) (sym c.in_ok-enter_function.ensures.state) ∙ c.in_ok-begin_function.ensures.goes;
       waits =
           c.in_ok-begin_function.ensures.same ∙ c.in_ok-enter_function.ensures.rest
           ∙ ap (λ n. entered_rest e.scope (code_head (lambda_inside (state e).around.context (state e).next) (function_shape p n) (state e).location) (rest e)) c.in_ok-name.ensures.data;

@@ -2,11 +2,11 @@ use Rattle.std.proofs.Common.{length}
 use Rattle.py_dataflow.specs.Flat.{look_at}
 use Rattle.py_dataflow.specs.Known.{state_of}
 use Rattle.py_dataflow.proofs.ArrivalLemmas.{arrives_covers, arrives_grows, arrives_shown, refused_at}
-use Rattle.py_dataflow.proofs.PlaceSuccessorLemmas.{ends_at}
+use Rattle.py_dataflow.proofs.PlaceSuccessorLemmas.{place_successor_ends_at}
 use Rattle.py_dataflow.proofs.walk.reach.Goals as goal
 
 pub returns-then-to-items-clause-refused : goal.returns-then-to-items-clause-refused
-returns-then-to-items-clause-refused c = ends_at c.args._starts.now c.args.items.now c.args.to (state_of c.args.arriving) c.requires.arriving c.if-to-items.true
+returns-then-to-items-clause-refused c = place_successor_ends_at c.args._starts.now c.args.items.now c.args.to (state_of c.args.arriving) c.requires.arriving c.if-to-items.true
 
 pub returns-in-Ok-clause-steps : goal.returns-in-Ok-clause-steps
 returns-in-Ok-clause-steps c = record {

@@ -1,5 +1,5 @@
 use Rattle.std.proofs.Common.{◌≡◌, length}
-use Rattle.py_dataflow.specs.Known.{missing, unknown}
+use Rattle.py_dataflow.specs.Known.{missing_marks, unknown}
 use Rattle.py_dataflow.specs.Shown.{AllShown, Grows}
 use Rattle.py_dataflow.specs.Flat.{look_at}
 use Rattle.py_dataflow.proofs.walk.spread.Given as goal
@@ -12,4 +12,4 @@ invariant-loop-visited l = record {
 }
 
 abbrev pub decreases-loop-visited : goal.decreases-loop-visited
-decreases-loop-visited l = missing l.states
+decreases-loop-visited l = missing_marks l.states

@@ -8,23 +8,24 @@ use Rattle.py_tree.specs.Tree as tree
 use Rattle.py_tree.specs.View.{expr_tree, generators}
 use Rattle.py_tree.specs.declared.expressions.ComprehensionOf.{ComprehensionOf}
 use Rattle.py_tree.specs.declared.expressions.Expr.{Expr}
-use Rattle.py_emission_parts.specs.Children.{made}
-use Rattle.py_emission_parts.specs.Comprehensions.{as_element, called_at_once, comprehension, comprehension_shape, gathered, generated}
+use Rattle.py_emission_parts.specs.Running.{Action, ◌▹◌, run}
+use Rattle.py_emission_parts.specs.Children.{made_function}
+use Rattle.py_emission_parts.specs.Comprehensions.{as_element, called_at_once, comprehension, comprehension_shape, collection_scope, generator_body}
 use Rattle.py_emission_parts.specs.Refused.{retold}
-use Rattle.py_emission_parts.specs.Emitting.{Emission, Refused, ◌▸◌, emit_count, keep}
+use Rattle.py_emission_parts.specs.Emitting.{Emission, Refused, ◌▸◌, keep}
 use Rattle.py_emission.specs.Awaits.{awaits, some_async}
 use Rattle.py_emission.specs.Emission.{clause_emissions, emission}
 use Rattle.py_emit.specs.States.{state}
 use Rattle.py_emit.proofs.Joined.{first_refuses, goes_as, refuses_as, went}
-use Rattle.py_emit.proofs.Within.{inner}
+use Rattle.py_emit.proofs.Within.{within_inner}
 use Rattle.py_emit.specs.declared.context.Naming.TheVariants as naming
-use Rattle.py_expr_scopes.specs.Clauses.{closed}
-use Rattle.py_expr_scopes.specs.Comprehensions.{added, element_of, first_iterable, name_of, scope_of, turn}
+use Rattle.py_expr_scopes.specs.Clauses.{closed_clauses}
+use Rattle.py_expr_scopes.specs.Comprehensions.{added_element, element_of, first_iterable, name_of, scope_of, turn}
 use Rattle.py_expr_scopes.proofs.OpenClauses.{all_stay, many_clauses}
-use Rattle.py_expr_scopes.proofs.ComprehensionScopes.{called_is, first_is, no_clause, scope_as, some_clause, told_done, told_refused, turn_opens}
+use Rattle.py_expr_scopes.proofs.ComprehensionScopes.{called_is, comprehension_scope_first_is, no_clause, scope_alike, comprehension_scope_as, some_clause, comprehension_scope_told_done, told_refused, turn_opens}
 use Rattle.py_expr_scopes.proofs.Scopes.{left_gives, left_keeps, refused_gives, same_path}
-use Rattle.py_expr_parts.proofs.Steps.{stays}
-use Rattle.py_expr_parts.proofs.Turns.{if_not, if_so, path_of, refused_by, refused_shape}
+use Rattle.py_expr_parts.proofs.Steps.{step_stays}
+use Rattle.py_expr_parts.proofs.Turns.{if_not, turn_if_so, path_of, refused_by, refused_shape}
 use Rattle.py_expr.proofs.+code.Goals as goal
 
 pub comprehension_left : goal.comprehensions::compile_comprehension_scope-returns
@@ -42,7 +43,7 @@ comprehension_left t c =
     }
 
 pub comprehension_inner : goal.comprehensions::compile_comprehension_scope-leave_scope-requires
-comprehension_inner t c = record { inner = inner kind.Comprehension naming.AsAround (comprehension_shape c.args.name) c.args.em.now c.enter_comprehension.new.em c.compile_turns.new.em c.in_ok-enter_comprehension.ensures.rest c.in_ok-compile_turns.ensures.same }
+comprehension_inner t c = record { inner = within_inner kind.Comprehension naming.AsAround (comprehension_shape c.args.name) c.args.em.now c.enter_comprehension.new.em c.compile_turns.new.em c.in_ok-enter_comprehension.ensures.rest c.in_ok-compile_turns.ensures.same }
 
 pub comprehension_refused : goal.comprehensions::compile_comprehension_scope-returns-in_err-compile_turns
 comprehension_refused t c =
@@ -63,7 +64,7 @@ comprehension_made t c = record {
       let e = c.args.element.now in
       let v = scope_of (clause_emissions (generators expr_tree c.args.generators.now)) e in
       goes_as _ _ _ _
-      (scope_as v (made 0 (name_of e)) c.in_ok-name.name (name_of e) c.args.em.now c.text.new.self (c.in_ok-name.ensures.data ∙ c.scope_name.ensures) c.in_ok-name.ensures.same ∙ c.in_ok-code.ensures.goes (made 0 (name_of e)))
+      (comprehension_scope_as v (made_function 0 (name_of e)) c.in_ok-name.name (name_of e) c.args.em.now c.text.new.self (c.in_ok-name.ensures.data ∙ c.scope_name.ensures) c.in_ok-name.ensures.same ∙ c.in_ok-code.ensures.goes (made_function 0 (name_of e)))
       c.make_named.ensures.goes;
   same = search rules;
 }
@@ -75,7 +76,7 @@ body_refused t c = record {
       let v = scope_of (clause_emissions (generators expr_tree c.args.generators.now)) e in
       let x = c.in_err-code.field-0.0 in
       let r : c.from_residual-in_err-code.result ≡ Err x = grind arith in
-      refuses_as _ x _ _ _ r (scope_as v (made 0 (name_of e)) c.in_ok-name.name (name_of e) c.args.em.now c.text.new.self (c.in_ok-name.ensures.data ∙ c.scope_name.ensures) c.in_ok-name.ensures.same) (λ n. c.in_err-code.ensures.goes (made 0 (name_of e)) n);
+      refuses_as _ x _ _ _ r (comprehension_scope_as v (made_function 0 (name_of e)) c.in_ok-name.name (name_of e) c.args.em.now c.text.new.self (c.in_ok-name.ensures.data ∙ c.scope_name.ensures) c.in_ok-name.ensures.same) (λ n. c.in_err-code.ensures.goes (made_function 0 (name_of e)) n);
   same = search rules;
 }
 
@@ -85,11 +86,11 @@ comprehension_called t c = record {
       let e = c.args.element.now in
       let cs = clause_emissions (generators expr_tree c.args.generators.now) in
       let d = c.index-generators-0.result in
-      let here = first_is c.args.generators.now d (get_or c.args.generators.now 0 d) refl c.requires ∙ ap (λ (y : Expr). emission (expr_tree y)) (sym c.deref.ensures) in
+      let here = comprehension_scope_first_is c.args.generators.now d (get_or c.args.generators.now 0 d) refl c.requires ∙ ap (λ (y : Expr). emission (expr_tree y)) (sym c.deref.ensures) in
       goes_as _ _ _ _
-      (ap (λ (f : Emission). f (state c.args.em.now)) (ap (called_at_once (name_of e) (scope_of cs e)) here ∙ called_is (name_of e) (scope_of cs e) (emission (expr_tree c.deref.result.now)))
+      (ap (λ (f : Action). f (state c.args.em.now)) (ap (λ (v : Emission). run (called_at_once (name_of e) (scope_of cs e) v)) here ∙ called_is (name_of e) (scope_of cs e) (emission (expr_tree c.deref.result.now)))
       ∙ went _ _ _ c.in_ok-make_comprehension.ensures.goes
-      ∙ went _ (emit_count op.CallFunctionPositional 1) _ c.in_ok-compile_iterator.ensures.goes)
+      ∙ went _ _ _ c.in_ok-compile_iterator.ensures.goes)
       c.emit_count.ensures.goes;
   same = search rules;
 }
@@ -100,7 +101,7 @@ function_refused t c = record {
       let e = c.args.element.now in
       let cs = clause_emissions (generators expr_tree c.args.generators.now) in
       let r : c.from_residual.result ≡ Err c.in_err-make_comprehension.field-0.0 = grind arith in
-      first_refuses _ _ _ _ _ _ r (ap (λ (f : Emission). f (state c.args.em.now)) (called_is (name_of e) (scope_of cs e) (first_iterable cs))) c.in_err-make_comprehension.ensures.goes;
+      first_refuses _ _ _ _ _ _ r (ap (λ (f : Action). f (state c.args.em.now)) (called_is (name_of e) (scope_of cs e) (first_iterable cs))) c.in_err-make_comprehension.ensures.goes;
   same = search rules;
 }
 
@@ -110,10 +111,10 @@ iterable_refused t c = record {
       let e = c.args.element.now in
       let cs = clause_emissions (generators expr_tree c.args.generators.now) in
       let d = c.index-generators-0.result in
-      let here = first_is c.args.generators.now d (get_or c.args.generators.now 0 d) refl c.requires ∙ ap (λ (y : Expr). emission (expr_tree y)) (sym c.deref.ensures) in
+      let here = comprehension_scope_first_is c.args.generators.now d (get_or c.args.generators.now 0 d) refl c.requires ∙ ap (λ (y : Expr). emission (expr_tree y)) (sym c.deref.ensures) in
       let r : c.from_residual-in_err-compile_iterator.result ≡ Err c.in_err-compile_iterator.field-0.0 = grind arith in
-      first_refuses _ _ _ _ _ (emit_count op.CallFunctionPositional 1) r
-      (ap (λ (f : Emission). f (state c.args.em.now)) (ap (called_at_once (name_of e) (scope_of cs e)) here ∙ called_is (name_of e) (scope_of cs e) (emission (expr_tree c.deref.result.now)))
+      first_refuses _ _ _ _ _ _ r
+      (ap (λ (f : Action). f (state c.args.em.now)) (ap (λ (v : Emission). run (called_at_once (name_of e) (scope_of cs e) v)) here ∙ called_is (name_of e) (scope_of cs e) (emission (expr_tree c.deref.result.now)))
       ∙ went _ _ _ c.in_ok-make_comprehension.ensures.goes)
       c.in_err-compile_iterator.ensures.goes;
   same = search rules;
@@ -122,13 +123,13 @@ iterable_refused t c = record {
 pub no_generator : goal.comprehensions::compile_comprehension-returns-then-is_empty
 no_generator t c =
     let none = sym c.is_empty.ensures ∙ c.if-is_empty.true in
-    record { goes = λ n. ap (λ (f : Emission). f (state c.args.em.now)) (no_clause c.args.generators.now c.args.element.now none) ∙ refused_shape _ (state c.args.em.now) _ c.refuse-error.result c.refuse-error.ensures.told; same = path_of _ (state c.args.em.now) _ c.refuse-error.result c.refuse-error.ensures.told }
+    record { goes = λ n. ap (λ (f : Emission). run f (state c.args.em.now)) (no_clause c.args.generators.now c.args.element.now none) ∙ refused_shape _ (state c.args.em.now) _ c.refuse-error.result c.refuse-error.ensures.told; same = path_of _ (state c.args.em.now) _ c.refuse-error.result c.refuse-error.ensures.told }
 
 pub comprehension_awaits : goal.comprehensions::compile_comprehension-returns-then-is_awaited
 comprehension_awaits t c = record {
   goes =
       let some = sym c.is_empty.ensures ∙ c.if-is_empty.false in
-      λ n. ap (λ (f : Emission). f (state c.args.em.now)) (some_clause c.args.generators.now c.args.element.now some ∙ if_so _ _ _ (sym c.is_awaited.ensures ∙ c.if-is_awaited.true)) ∙ refused_by error.NotImplementedYet (state c.args.em.now) _ c.refuse-error-then-is_awaited.result c.refuse-error-then-is_awaited.ensures.told;
+      λ n. ap (λ (f : Emission). run f (state c.args.em.now)) (some_clause c.args.generators.now c.args.element.now some ∙ turn_if_so _ _ _ (sym c.is_awaited.ensures ∙ c.if-is_awaited.true)) ∙ refused_by error.NotImplementedYet (state c.args.em.now) _ c.refuse-error-then-is_awaited.result c.refuse-error-then-is_awaited.ensures.told;
   same = search rules;
 }
 
@@ -136,7 +137,7 @@ pub comprehension_goes : goal.comprehensions::compile_comprehension-returns
 comprehension_goes t c = record {
   goes =
       let some = sym c.is_empty.ensures ∙ c.if-is_empty.false in
-      goes_as _ _ _ _ (ap (λ (f : Emission). f (state c.args.em.now)) (some_clause c.args.generators.now c.args.element.now some ∙ if_not _ _ _ (sym c.is_awaited.ensures ∙ c.if-is_awaited.false))) c.call_comprehension.ensures.goes;
+      goes_as _ _ _ _ (ap (λ (f : Emission). run f (state c.args.em.now)) (some_clause c.args.generators.now c.args.element.now some ∙ if_not _ _ _ (sym c.is_awaited.ensures ∙ c.if-is_awaited.false))) c.call_comprehension.ensures.goes;
   same = search rules;
 }
 
@@ -152,8 +153,8 @@ clauses_closed t c = record {
       let many = many_clauses xs in
       goes_as _ _ _ _
       (c.in_ok-blocks.ensures.opened.goes (turn cs e)
-      ∙ ap (λ n. ((element_of e ▸ added e n) ▸ closed c.in_ok-blocks.blocks) (state c.open_clauses.new.em)) many
-      ∙ went _ (closed c.in_ok-blocks.blocks) _ c.in_ok-compile_turn.ensures.goes)
+      ∙ ap (λ n. (run (element_of e ▸ added_element e n) ▹ closed_clauses c.in_ok-blocks.blocks) (state c.open_clauses.new.em)) many
+      ∙ went _ _ _ c.in_ok-compile_turn.ensures.goes)
       c.close_clauses.ensures.goes;
   same = search rules;
 }
@@ -176,16 +177,16 @@ turn_refused t c = record {
       let cs = clause_emissions (generators expr_tree xs) in
       let many = many_clauses xs in
       let r : c.from_residual-in_err-compile_turn.result ≡ Err c.in_err-compile_turn.field-0.0 = grind arith in
-      first_refuses _ _ _ _ _ (closed c.in_ok-blocks.blocks) r
+      first_refuses _ _ _ _ _ _ r
       (c.in_ok-blocks.ensures.opened.goes (turn cs e)
-      ∙ ap (λ n. ((element_of e ▸ added e n) ▸ closed c.in_ok-blocks.blocks) (state c.open_clauses.new.em)) many)
+      ∙ ap (λ n. (run (element_of e ▸ added_element e n) ▹ closed_clauses c.in_ok-blocks.blocks) (state c.open_clauses.new.em)) many)
       c.in_err-compile_turn.ensures.goes;
   same = search rules;
 }
 
 pub unstarred_done : goal.comprehensions::compile_unstarred-returns-in-Ok
 unstarred_done t c = record {
-  goes = told_done (emission (expr_tree c.args.elt.now)) (state c.args.em.now) _ c.in-Ok.ensures.goes;
+  goes = comprehension_scope_told_done (emission (expr_tree c.args.elt.now)) (state c.args.em.now) _ c.in-Ok.ensures.goes;
   same = search rules;
 }
 
@@ -201,7 +202,7 @@ unstarred_refused t c = record {
 
 -- a dict comprehension, of a key and a value
 abbrev dict_value : (key value : tree.Expr) → tree.Generators → Emission
-dict_value key value gs = comprehension (some_async gs) (codes "<dictcomp>") (clause_emissions gs) (gathered op.BuildMap op.MapAdd (clause_emissions gs) (emission key ▸ emission value))
+dict_value key value gs = comprehension (some_async gs) (codes "<dictcomp>") (clause_emissions gs) (collection_scope op.BuildMap op.MapAdd (clause_emissions gs) (emission key ▸ emission value))
 
 pub dict_goes : goal.comprehensions::compile_dict_comp-returns
 dict_goes t c = record {
@@ -211,20 +212,17 @@ dict_goes t c = record {
       let now = state c.args.em.now in
       let v = dict_value (expr_tree e.key.value) (expr_tree e.value.value) gs in
       goes_as _ _ _ _
-      (went _ v _ (stays e.location now c.requires.at)
-      ∙ ap (λ (y : Expr). dict_value (expr_tree y) (expr_tree e.value.value) gs now) (sym c.deref.ensures)
-      ∙ ap (λ (y : Expr). dict_value (expr_tree c.deref.result.now) (expr_tree y) gs now) (sym c.deref-2.ensures)
-      ∙ ap (λ (ys : List (ComprehensionOf Expr)). dict_value (expr_tree c.deref.result.now) (expr_tree c.deref-2.result.now) (generators expr_tree ys) now) (sym c.as_slice.ensures))
+      (went _ _ _ (step_stays e.location now c.requires.at)
+      ∙ ap (λ (y : Expr). run (dict_value (expr_tree y) (expr_tree e.value.value) gs) now) (sym c.deref.ensures)
+      ∙ ap (λ (y : Expr). run (dict_value (expr_tree c.deref.result.now) (expr_tree y) gs) now) (sym c.deref-2.ensures)
+      ∙ ap (λ (ys : List (ComprehensionOf Expr)). run (dict_value (expr_tree c.deref.result.now) (expr_tree c.deref-2.result.now) (generators expr_tree ys)) now) (sym c.as_slice.ensures))
       c.compile_comprehension.ensures.goes;
   same = search rules;
 }
 
 -- a generator, whose scope begins with nothing
-first_kept : (v : Emission) → v ≡ keep ▸ v
-first_kept v = refl
-
 abbrev generator_scope : tree.Expr → tree.Generators → Emission
-generator_scope elt gs = generated (clause_emissions gs) (as_element (emission elt))
+generator_scope elt gs = generator_body (clause_emissions gs) (as_element (emission elt))
 
 abbrev generator_value : (elt : tree.Expr) → tree.Generators → (scope : Emission) → Emission
 generator_value elt gs scope = comprehension (some_async gs || awaits elt) (codes "<genexpr>") (clause_emissions gs) scope
@@ -238,10 +236,10 @@ generator_goes t c = record {
       let now = state c.args.em.now in
       let v = generator_value elt gs (generator_scope elt gs) in
       goes_as _ _ _ _
-      (went _ v _ (stays e.location now c.requires.at)
-      ∙ ap (λ (y : Expr). generator_value (expr_tree y) gs (generator_scope (expr_tree y) gs) now) (sym c.deref.ensures)
-      ∙ ap (λ (ys : List (ComprehensionOf Expr)). generator_value (expr_tree c.deref.result.now) (generators expr_tree ys) (generator_scope (expr_tree c.deref.result.now) (generators expr_tree ys)) now) (sym c.as_slice.ensures)
-      ∙ ap (λ (w : Emission). generator_value (expr_tree c.deref.result.now) (generators expr_tree c.as_slice.result.now) w now) (first_kept (generator_scope (expr_tree c.deref.result.now) (generators expr_tree c.as_slice.result.now))))
+      (went _ _ _ (step_stays e.location now c.requires.at)
+      ∙ ap (λ (y : Expr). run (generator_value (expr_tree y) gs (generator_scope (expr_tree y) gs)) now) (sym c.deref.ensures)
+      ∙ ap (λ (ys : List (ComprehensionOf Expr)). run (generator_value (expr_tree c.deref.result.now) (generators expr_tree ys) (generator_scope (expr_tree c.deref.result.now) (generators expr_tree ys))) now) (sym c.as_slice.ensures)
+      ∙ scope_alike (some_async (generators expr_tree c.as_slice.result.now) || awaits (expr_tree c.deref.result.now)) (codes "<genexpr>") (clause_emissions (generators expr_tree c.as_slice.result.now)) (generator_scope (expr_tree c.deref.result.now) (generators expr_tree c.as_slice.result.now)) (keep ▸ generator_scope (expr_tree c.deref.result.now) (generators expr_tree c.as_slice.result.now)) now refl)
       c.compile_comprehension.ensures.goes;
   same = search rules;
 }

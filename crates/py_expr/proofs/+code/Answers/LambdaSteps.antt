@@ -7,6 +7,7 @@ use Rattle.py_tree.specs.View.{arguments, expr_tree}
 use Rattle.py_tree.specs.declared.expressions.ArgumentsOf.{ArgumentsOf}
 use Rattle.py_tree.specs.declared.expressions.Expr.{Expr}
 use Rattle.py_tree.specs.declared.expressions.ExprLambdaOf.{ExprLambdaOf}
+use Rattle.py_emission_parts.specs.Running.{run}
 use Rattle.py_emission_parts.specs.Emitting.{State}
 use Rattle.py_scope.specs.declared.table_type.SymbolTableType.TheVariants as kind
 use Rattle.py_emission_parts.specs.Children.{function_scope}
@@ -16,8 +17,8 @@ use Rattle.py_emit.specs.States.{Goes, state}
 use Rattle.py_emit.specs.declared.emitter.Emitter.{Emitter}
 use Rattle.py_emit.proofs.Joined.{goes_as, refuses_as}
 use Rattle.py_emit.specs.declared.context.Naming.TheVariants as naming
-use Rattle.py_emit.proofs.Within.{inner}
-use Rattle.py_expr_scopes.proofs.Scopes.{body_refused, defaults_refuse, lambda_done, left_gives, left_keeps, opening_refused, refused_gives, same_path, scope_as, scope_done, scope_refuses}
+use Rattle.py_emit.proofs.Within.{within_inner}
+use Rattle.py_expr_scopes.proofs.Scopes.{body_refused, defaults_refuse, lambda_done, left_gives, left_keeps, opening_refused, refused_gives, same_path, nested_scope_as, scope_done, scope_refuses}
 use Rattle.py_expr.proofs.+code.Goals as goal
 
 pub lambda_left : goal.functions::compile_lambda_scope-returns
@@ -39,7 +40,7 @@ lambda_left t c =
 pub lambda_inner : goal.functions::compile_lambda_scope-leave_scope-requires
 lambda_inner t c =
     let h = function_shape (arguments expr_tree c.args.params.now) c.args.name in
-    record { inner = inner kind.Function naming.AsAround h c.args.em.now c.enter_function.new.em c.compile_return.new.em c.in_ok-enter_function.ensures.rest (c.in_ok-compile_return.ensures.same ∙ c.in_ok-begin_function.ensures.same) }
+    record { inner = within_inner kind.Function naming.AsAround h c.args.em.now c.enter_function.new.em c.compile_return.new.em c.in_ok-enter_function.ensures.rest (c.in_ok-compile_return.ensures.same ∙ c.in_ok-begin_function.ensures.same) }
 
 pub lambda_not_begun : goal.functions::compile_lambda_scope-returns-in_err-begin_function
 lambda_not_begun t c =
@@ -72,10 +73,11 @@ lambda_refused t c =
 
 -- by the parts of the tree themselves
 module _ {A : Type 0} (r : Result A (LocatedError CodegenErrorType)) (s : State) (em : Emitter) (e : ExprLambdaOf Expr) (params : ArgumentsOf Expr) (body : Expr) (is_params : params ≡ e.args.value) (is_body : body ≡ e.body.value) where
-  by_parts : Goes r s (lambda_value (arguments expr_tree params) (default_emissions (arguments expr_tree params)) (emission_of_return (expr_tree body)) (state em)) → Goes r s (lambda_value (arguments expr_tree e.args.value) (default_emissions (arguments expr_tree e.args.value)) (emission_of_return (expr_tree e.body.value)) (state em))
+  by_parts : Goes r s (run (lambda_value (arguments expr_tree params) (default_emissions (arguments expr_tree params)) (emission_of_return (expr_tree body))) (state em))
+      → Goes r s (run (lambda_value (arguments expr_tree e.args.value) (default_emissions (arguments expr_tree e.args.value)) (emission_of_return (expr_tree e.body.value))) (state em))
   by_parts h =
-      subst (λ (b : Expr). Goes r s (lambda_value (arguments expr_tree e.args.value) (default_emissions (arguments expr_tree e.args.value)) (emission_of_return (expr_tree b)) (state em))) is_body
-      (subst (λ (p : ArgumentsOf Expr). Goes r s (lambda_value (arguments expr_tree p) (default_emissions (arguments expr_tree p)) (emission_of_return (expr_tree body)) (state em))) is_params h)
+      subst (λ (b : Expr). Goes r s (run (lambda_value (arguments expr_tree e.args.value) (default_emissions (arguments expr_tree e.args.value)) (emission_of_return (expr_tree b))) (state em))) is_body
+      (subst (λ (p : ArgumentsOf Expr). Goes r s (run (lambda_value (arguments expr_tree p) (default_emissions (arguments expr_tree p)) (emission_of_return (expr_tree body))) (state em))) is_params h)
 
 pub lambda_goes : goal.functions::compile_lambda-returns
 lambda_goes t c = record {
@@ -90,7 +92,7 @@ lambda_goes t c = record {
       let name = c.in_ok-name.name in
       by_parts c.make_lambda.result _ c.args.em.now c.args.e.now params body c.deref-params.ensures c.deref-body.ensures
       (goes_as _ _ _ _
-      (lambda_done p v d _ (state c.args.em.now) (state x) (state c.compile_lambda_scope.new.em) (object c.in_ok-code.code) c.in_ok-defaults.ensures.flags c.in_ok-defaults.ensures.emits.goes (λ k. scope_as p v name x y k c.in_ok-name.ensures.data c.in_ok-name.ensures.same ∙ c.in_ok-code.ensures.goes k))
+      (lambda_done p v d _ (state c.args.em.now) (state x) (state c.compile_lambda_scope.new.em) (object c.in_ok-code.code) c.in_ok-defaults.ensures.flags c.in_ok-defaults.ensures.emits.goes (λ k. nested_scope_as p v name x y k c.in_ok-name.ensures.data c.in_ok-name.ensures.same ∙ c.in_ok-code.ensures.goes k))
       c.make_lambda.ensures.goes);
   same = search rules;
 }
@@ -109,8 +111,8 @@ defaults_refused t c = record {
   same = search rules;
 }
 
-pub scope_refused : goal.functions::compile_lambda-returns-in_err-code
-scope_refused t c = record {
+pub lambda_step_scope_refused : goal.functions::compile_lambda-returns-in_err-code
+lambda_step_scope_refused t c = record {
   goes =
       let params = c.deref-params.result.now in
       let body = c.deref-body.result.now in
@@ -122,6 +124,6 @@ scope_refused t c = record {
       let e = c.in_err-code.field-0.0 in
       let r : c.from_residual-in_err-code.result ≡ Err e = grind arith in
       by_parts c.from_residual-in_err-code.result _ c.args.em.now c.args.e.now params body c.deref-params.ensures c.deref-body.ensures
-      (refuses_as _ e _ _ _ r refl (λ n. scope_refuses p v (default_emissions p) (state c.args.em.now) (state x) e.error e.location c.in_ok-defaults.ensures.emits.goes (λ k. scope_as p v name x y k c.in_ok-name.ensures.data c.in_ok-name.ensures.same ∙ c.in_err-code.ensures.goes k n)));
+      (refuses_as _ e _ _ _ r refl (λ n. scope_refuses p v (default_emissions p) (state c.args.em.now) (state x) e.error e.location c.in_ok-defaults.ensures.emits.goes (λ k. nested_scope_as p v name x y k c.in_ok-name.ensures.data c.in_ok-name.ensures.same ∙ c.in_err-code.ensures.goes k n)));
   same = search rules;
 }

@@ -1,7 +1,8 @@
 -- The maps that keywords give.
-use Rattle.std.proofs.Common.{rules, arith, [], Err, refl, ◌≡◌, ◌+◌, ◌∙◌, ap, drop, length, sym}
+use Rattle.std.proofs.Common.{rules, arith, [], Err, refl, ◌≡◌, ◌+◌, ◌∙◌, ap, drop, sym}
 use Rattle.py_tree.specs.View.{expr_tree, keywords}
 use Rattle.py_bytecode.specs.declared.instruction.Instruction.TheVariants as op
+use Rattle.py_emission_parts.specs.Running.{Action, run}
 use Rattle.py_emission_parts.specs.Elements.{groups}
 use Rattle.py_emission_parts.specs.Emitting.{Emission, emit_count}
 use Rattle.py_emission_parts.specs.EmissionParts.{Keywords, map_of}
@@ -9,15 +10,15 @@ use Rattle.py_emission.specs.Emission.{keyword_emissions}
 use Rattle.py_emit.specs.States.{state}
 use Rattle.py_emit.proofs.Joined.{first_refuses, goes_as, went}
 use Rattle.py_expr_parts.specs.Calls.{keyword_emission, map_rest}
-use Rattle.py_expr_parts.specs.Turns.{group_count, run_behind}
+use Rattle.py_expr_parts.specs.Turns.{group_count}
 use Rattle.py_expr_parts.proofs.Groups.{few_groups}
-use Rattle.py_expr_parts.proofs.KeywordMaps.{few_maps, joined_as, keywords_at, many_maps, maps_count, maps_rest, none_more}
+use Rattle.py_expr_parts.proofs.KeywordMaps.{few_maps, joined_as, keywords_at, many_maps, maps_count, maps_rest, keyword_map_none_more}
 use Rattle.py_expr.proofs.+code.Goals as goal
 
 pub maps_begin : goal.keywords::compile_maps-loop-keyword-init
 maps_begin t c =
     let es = keyword_emissions (keywords expr_tree c.args.keywords.now) in
-    (refl, ap (λ (f : Emission). f (state c.args.em.now)) (maps_rest [] es), maps_count [] es ∙ none_more (group_count 0 es), omega arith)
+    (refl, ap (λ (f : Action). f (state c.args.em.now)) (maps_rest [] es), maps_count [] es ∙ keyword_map_none_more (group_count 0 es), omega arith)
 
 pub maps_go_on : goal.keywords::compile_maps-loop-keyword-preserved
 maps_go_on t c =
@@ -34,9 +35,9 @@ maps_go_on t c =
     let last = ap (λ n. group_count n left) behind in (
       c.in_ok-maps.ensures.emits.same ∙ c.loop-keyword.invariant.0,
       c.loop-keyword.invariant.1
-          ∙ ap (λ (es : Keywords). map_rest c.loop-keyword.run es (state c.loop-keyword.em)) here
-          ∙ went _ (map_rest (run_behind c.loop-keyword.run e) left) _ c.in_ok-maps.ensures.emits.goes
-          ∙ ap (λ n. map_rest n left (state c.compile_keyword.new.em)) (sym behind),
+          ∙ ap (λ (es : Keywords). run (map_rest c.loop-keyword.run es) (state c.loop-keyword.em)) here
+          ∙ went _ _ _ c.in_ok-maps.ensures.emits.goes
+          ∙ ap (λ n. run (map_rest n left) (state c.compile_keyword.new.em)) (sym behind),
       omega (arith, all, next, many, last),
       omega (arith, most, few, many, behind),
     )
@@ -46,7 +47,7 @@ keyword_refused t c = record {
   goes =
       let r : c.from_residual.result ≡ Err c.in_err-maps.field-0.0 = grind arith in
       first_refuses _ _ _ _ _ _ r
-      (c.loop-keyword.invariant.1 ∙ ap (λ (es : Keywords). map_rest c.loop-keyword.run es (state c.loop-keyword.em)) (keywords_at c.args.keywords.now c.loop-keyword.keyword-index _ c.keyword-item.result c.keyword-item.is c.loop-keyword-test.true))
+      (c.loop-keyword.invariant.1 ∙ ap (λ (es : Keywords). run (map_rest c.loop-keyword.run es) (state c.loop-keyword.em)) (keywords_at c.args.keywords.now c.loop-keyword.keyword-index _ c.keyword-item.result c.keyword-item.is c.loop-keyword-test.true))
       c.in_err-maps.ensures.emits.goes;
   same = search rules;
 }
@@ -58,9 +59,9 @@ maps_joined t c = record {
       let n = c.in_ok-maps.ensures.count in
       let more = c.if-maps-gt1.true in
       goes_as _ _ _ _
-      (ap (λ (f : Emission). f (state c.args.em.now)) (many_maps vs (omega (arith, n, more)))
-      ∙ went _ (emit_count op.BuildMapForCall (length vs)) _ c.in_ok-maps.ensures.emits.goes
-      ∙ ap (λ m. emit_count op.BuildMapForCall m (state c.compile_maps.new.em)) (sym n))
+      (ap (λ (f : Emission). run f (state c.args.em.now)) (many_maps vs (omega (arith, n, more)))
+      ∙ went _ _ _ c.in_ok-maps.ensures.emits.goes
+      ∙ ap (λ m. run (emit_count op.BuildMapForCall m) (state c.compile_maps.new.em)) (sym n))
       c.emit_count.ensures.goes;
   same = search rules;
 }
@@ -71,7 +72,7 @@ map_alone t c = record {
       let vs = groups map_of [] (keyword_emissions (keywords expr_tree c.args.keywords.now)) in
       let n = c.in_ok-maps.ensures.count in
       let few = c.if-maps-gt1.false in
-      ap (λ (f : Emission). f (state c.args.em.now)) (few_maps vs (omega (arith, n, few))) ∙ c.in_ok-maps.ensures.emits.goes;
+      ap (λ (f : Action). f (state c.args.em.now)) (few_maps vs (omega (arith, n, few))) ∙ c.in_ok-maps.ensures.emits.goes;
   same = search rules;
 }
 
@@ -80,6 +81,6 @@ map_refused t c = record {
   goes =
       let r : c.from_residual.result ≡ Err c.in_err-maps.field-0.0 = grind arith in
       let j = joined_as (groups map_of [] (keyword_emissions (keywords expr_tree c.args.keywords.now))) in
-      first_refuses _ _ _ _ _ j.0 r (ap (λ (f : Emission). f (state c.args.em.now)) j.1) c.in_err-maps.ensures.emits.goes;
+      first_refuses _ _ _ _ _ _ r (ap (λ (f : Action). f (state c.args.em.now)) j.1) c.in_err-maps.ensures.emits.goes;
   same = search rules;
 }

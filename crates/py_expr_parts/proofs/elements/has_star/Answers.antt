@@ -1,6 +1,6 @@
 use Rattle.std.proofs.Common.{◌∙◌, sym}
 use Rattle.py_expr_parts.proofs.Groups.{starred_at}
-use Rattle.py_expr_parts.proofs.Turns.{if_not, if_so}
+use Rattle.py_expr_parts.proofs.Turns.{if_not, turn_if_so}
 use Rattle.py_expr_parts.proofs.elements.has_star.Goals as goal
 
 pub loop-elt-preserved : goal.loop-elt-preserved
@@ -13,4 +13,4 @@ pub returns-then-is_star : goal.returns-then-is_star
 returns-then-is_star c =
     sym (c.loop-elt.invariant
     ∙ starred_at c.args.elts.now c.loop-elt.elt-index _ c.elt-item.result c.is_star.result c.elt-item.is c.loop-elt-test.true c.is_star.ensures.element
-    ∙ if_so c.is_star.result _ _ c.if-is_star.true)
+    ∙ turn_if_so c.is_star.result _ _ c.if-is_star.true)

@@ -1,6 +1,7 @@
+use Rattle.py_emission_parts.specs.Running.{run}
 use Rattle.std.proofs.Common.{rules, ◌≡◌, ◌+◌, ◌∙◌, ap, sym, arith, codes}
 use Rattle.py_bytecode.specs.View.{object}
-use Rattle.py_emission_parts.specs.Children.{made}
+use Rattle.py_emission_parts.specs.Children.{made_function}
 use Rattle.py_emit.specs.States.{state}
 use Rattle.py_emit.specs.declared.emitter.Emitter.{Emitter}
 use Rattle.py_emit.proofs.Joined.{goes_as, went}
@@ -15,9 +16,9 @@ returns c = record {
       let n : flag_if 0x08 c.args.defaults.positional + flag_if 0x04 c.args.defaults.keyword ≡ c.function_flags.result.0 = omega (arith, f) in
       goes_as _ _ _ _
       (went _ _ _ c.in_ok-pass_annotations.ensures.goes
-      ∙ ap (λ m. made m (codes "<lambda>") o (state c.pass_annotations.new.em)) n
-      ∙ ap (λ x. made c.function_flags.result.0 x o (state c.pass_annotations.new.em)) (sym c.in_ok-name.ensures.data)
-      ∙ ap (λ (e : Emitter). made c.function_flags.result.0 c.in_ok-name.name o (state e)) (sym c.in_ok-name.ensures.same))
+      ∙ ap (λ m. run (made_function m (codes "<lambda>") o) (state c.pass_annotations.new.em)) n
+      ∙ ap (λ x. run (made_function c.function_flags.result.0 x o) (state c.pass_annotations.new.em)) (sym c.in_ok-name.ensures.data)
+      ∙ ap (λ (e : Emitter). run (made_function c.function_flags.result.0 c.in_ok-name.name o) (state e)) (sym c.in_ok-name.ensures.same))
       c.make_function.ensures.goes;
   same = search rules;
 }

@@ -10,10 +10,10 @@ use Rattle.py_interp.specs.Doing.{get_all, get_groups, of_all, values_of_all}
 use Rattle.py_interp.specs.Walks.{all_walks, walks}
 use Rattle.py_interp_exprs.specs.Options.{told_option}
 use Rattle.py_interp_exprs.specs.Starred.{is_attribute}
-use Rattle.py_interp_exprs.proofs.Callings.{packed, placed}
+use Rattle.py_interp_exprs.proofs.Callings.{packed, calling_placed}
 use Rattle.py_interp_exprs.proofs.Chains.{some_links}
 use Rattle.py_interp_exprs.proofs.Closings.{joined_not, joined_so, no_text}
-use Rattle.py_interp_exprs.proofs.ContinuationLemmas.{ended, goes, same}
+use Rattle.py_interp_exprs.proofs.ContinuationLemmas.{continuation_ended, continuation_goes, continuation_same}
 use Rattle.py_interp_exprs.proofs.Stars.{some_star_walk}
 use Rattle.py_interp_exprs.proofs.+walk.Goals as goal
 
@@ -22,7 +22,7 @@ display_grouped t c =
     let es = all_walks c.args.around (exprs expr_tree c.args.elts.now) in
     let w = world_of c.args.log.now in
     let which = some_star_walk c.args.around (exprs expr_tree c.args.elts.now) ∙ sym c.has_star.ensures ∙ c.if-has_star.true in
-    same value_of c.build.result _ _ _ (ap (λ b. choose b (of_all (get_groups [] [] es) c.args.unpack w) (of_all (get_all [] (values_of_all es)) c.args.whole w)) which) (goes value_of _ _ _ _ _ _ c.in_ok-groups.ensures c.build.ensures)
+    continuation_same value_of c.build.result _ _ _ (ap (λ b. choose b (of_all (get_groups [] [] es) c.args.unpack w) (of_all (get_all [] (values_of_all es)) c.args.whole w)) which) (continuation_goes value_of _ _ _ _ _ _ c.in_ok-groups.ensures c.build.ensures)
 
 pub display_grouped_ended : goal.displays::walk_display-returns-in_err-groups
 display_grouped_ended t c =
@@ -30,14 +30,14 @@ display_grouped_ended t c =
     let w = world_of c.args.log.now in
     let which = some_star_walk c.args.around (exprs expr_tree c.args.elts.now) ∙ sym c.has_star.ensures ∙ c.if-has_star.true in
     let r : c.from_residual.result ≡ Err c.in_err-groups.field-0.0 = grind arith in
-    ended _ _ _ _ _ _ _ r (ap (λ b. choose b (of_all (get_groups [] [] es) c.args.unpack w) (of_all (get_all [] (values_of_all es)) c.args.whole w)) which) c.in_err-groups.ensures
+    continuation_ended _ _ _ _ _ _ _ r (ap (λ b. choose b (of_all (get_groups [] [] es) c.args.unpack w) (of_all (get_all [] (values_of_all es)) c.args.whole w)) which) c.in_err-groups.ensures
 
 pub display_plain : goal.displays::walk_display-returns
 display_plain t c =
     let es = all_walks c.args.around (exprs expr_tree c.args.elts.now) in
     let w = world_of c.args.log.now in
     let which = some_star_walk c.args.around (exprs expr_tree c.args.elts.now) ∙ sym c.has_star.ensures ∙ c.if-has_star.false in
-    same value_of c.build-2.result _ _ _ (ap (λ b. choose b (of_all (get_groups [] [] es) c.args.unpack w) (of_all (get_all [] (values_of_all es)) c.args.whole w)) which) (goes value_of _ _ _ _ _ _ c.in_ok-values.ensures c.build-2.ensures)
+    continuation_same value_of c.build-2.result _ _ _ (ap (λ b. choose b (of_all (get_groups [] [] es) c.args.unpack w) (of_all (get_all [] (values_of_all es)) c.args.whole w)) which) (continuation_goes value_of _ _ _ _ _ _ c.in_ok-values.ensures c.build-2.ensures)
 
 pub display_ended : goal.displays::walk_display-returns-in_err-values
 display_ended t c =
@@ -45,21 +45,21 @@ display_ended t c =
     let w = world_of c.args.log.now in
     let which = some_star_walk c.args.around (exprs expr_tree c.args.elts.now) ∙ sym c.has_star.ensures ∙ c.if-has_star.false in
     let r : c.from_residual-in_err-values.result ≡ Err c.in_err-values.field-0.0 = grind arith in
-    ended _ _ _ _ _ _ _ r (ap (λ b. choose b (of_all (get_groups [] [] es) c.args.unpack w) (of_all (get_all [] (values_of_all es)) c.args.whole w)) which) c.in_err-values.ensures
+    continuation_ended _ _ _ _ _ _ _ r (ap (λ b. choose b (of_all (get_groups [] [] es) c.args.unpack w) (of_all (get_all [] (values_of_all es)) c.args.whole w)) which) c.in_err-values.ensures
 
 pub call_packs : goal.calls::walk_call-returns-then-is_packed
 call_packs t c =
     let a = c.args.around in
     let e = c.args.e.now in
-    goes value_of _ _ _ _ _ _ (ap (λ (x : Expr). (walks a (expr_tree x)).callee (world_of c.args.log.now)) (sym c.deref.ensures) ∙ c.in_ok-callee.ensures)
-    (same value_of c.walk_packed.result _ _ _ (packed a (expr_tree e.func.value) (exprs expr_tree e.args) (keywords expr_tree e.keywords) c.is_packed.result c.is_method-method.result (values_of c.in_ok-callee.callee.items) (world_of c.walk_callee.new.log) c.is_packed.ensures (c.is_method-method.ensures ∙ ap (λ (x : Expr). is_attribute (expr_tree x)) c.deref-2.ensures) c.if-is_packed.true) c.walk_packed.ensures)
+    continuation_goes value_of _ _ _ _ _ _ (ap (λ (x : Expr). (walks a (expr_tree x)).callee (world_of c.args.log.now)) (sym c.deref.ensures) ∙ c.in_ok-callee.ensures)
+    (continuation_same value_of c.walk_packed.result _ _ _ (packed a (expr_tree e.func.value) (exprs expr_tree e.args) (keywords expr_tree e.keywords) c.is_packed.result c.is_method-method.result (values_of c.in_ok-callee.callee.items) (world_of c.walk_callee.new.log) c.is_packed.ensures (c.is_method-method.ensures ∙ ap (λ (x : Expr). is_attribute (expr_tree x)) c.deref-2.ensures) c.if-is_packed.true) c.walk_packed.ensures)
 
 pub call_places : goal.calls::walk_call-returns
 call_places t c =
     let a = c.args.around in
     let e = c.args.e.now in
-    goes value_of _ _ _ _ _ _ (ap (λ (x : Expr). (walks a (expr_tree x)).callee (world_of c.args.log.now)) (sym c.deref.ensures) ∙ c.in_ok-callee.ensures)
-    (same value_of c.walk_placed.result _ _ _ (placed a (expr_tree e.func.value) (exprs expr_tree e.args) (keywords expr_tree e.keywords) c.is_packed.result c.is_method-method.result (values_of c.in_ok-callee.callee.items) (world_of c.walk_callee.new.log) c.is_packed.ensures (c.is_method-method.ensures ∙ ap (λ (x : Expr). is_attribute (expr_tree x)) c.deref-2.ensures) c.if-is_packed.false) c.walk_placed.ensures)
+    continuation_goes value_of _ _ _ _ _ _ (ap (λ (x : Expr). (walks a (expr_tree x)).callee (world_of c.args.log.now)) (sym c.deref.ensures) ∙ c.in_ok-callee.ensures)
+    (continuation_same value_of c.walk_placed.result _ _ _ (calling_placed a (expr_tree e.func.value) (exprs expr_tree e.args) (keywords expr_tree e.keywords) c.is_packed.result c.is_method-method.result (values_of c.in_ok-callee.callee.items) (world_of c.walk_callee.new.log) c.is_packed.ensures (c.is_method-method.ensures ∙ ap (λ (x : Expr). is_attribute (expr_tree x)) c.deref-2.ensures) c.if-is_packed.false) c.walk_placed.ensures)
 
 pub links_some : goal.comparisons::walk_compared-walk_links-requires
 links_some t c =
@@ -74,14 +74,14 @@ text_alone t c =
 pub parts_joined : goal.expressions::walk_joined-returns
 parts_joined t c =
     let es = exprs expr_tree c.args.parts.now in
-    same value_of c.build.result _ _ _
+    continuation_same value_of c.build.result _ _ _
     (joined_not (all_walks c.args.around es) (world_of c.args.log.now) (texts_of es) (sym (no_text c.in_ok-text.field-0 c.in_default.not-Some) ∙ c.in_ok-text.ensures.ok))
-    (goes value_of _ _ _ _ _ _ c.in_ok-values.ensures c.build.ensures)
+    (continuation_goes value_of _ _ _ _ _ _ c.in_ok-values.ensures c.build.ensures)
 
 pub parts_ended : goal.expressions::walk_joined-returns-in_err-values
 parts_ended t c =
     let es = exprs expr_tree c.args.parts.now in
     let r : c.from_residual-in_err-values.result ≡ Err c.in_err-values.field-0.0 = grind arith in
-    ended _ _ _ _ _ _ _ r
+    continuation_ended _ _ _ _ _ _ _ r
     (joined_not (all_walks c.args.around es) (world_of c.args.log.now) (texts_of es) (sym (no_text c.in_ok-text.field-0 c.in_default.not-Some) ∙ c.in_ok-text.ensures.ok))
     c.in_err-values.ensures

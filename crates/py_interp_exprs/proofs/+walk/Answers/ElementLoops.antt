@@ -5,7 +5,7 @@ use Rattle.py_answers.specs.Log.{world_of}
 use Rattle.py_answers.specs.Told.{values_of}
 use Rattle.py_interp.specs.Doing.{get_groups}
 use Rattle.py_interp.specs.Walks.{all_walks, walks}
-use Rattle.py_interp_exprs.proofs.ContinuationLemmas.{after, ended}
+use Rattle.py_interp_exprs.proofs.ContinuationLemmas.{continuation_after, continuation_ended}
 use Rattle.py_interp_exprs.proofs.Places.{walks_at}
 use Rattle.py_interp_exprs.proofs.Stars.{star_walk}
 use Rattle.py_interp_exprs.proofs.Turns.{plain_step, star_step}
@@ -24,12 +24,12 @@ groups_go_on t c =
     elim c.if-is_star.branch [
       | elements::walk_groups-then-is_star+in_ok-closed+in_ok-groups w ↦
           star_step _ (values_of c.loop-elt.groups.items) (values_of c.loop-elt.run.items) (walks a (expr_tree x)) rest _ (world_of c.loop-elt.log) c.loop-elt.invariant here (is ∙ w.if-is_star.true)
-          ∙ after _ _ _ _ w.in_ok-closed.ensures ∙ after _ _ _ _ w.in_ok-groups.ensures
+          ∙ continuation_after _ _ _ _ w.in_ok-closed.ensures ∙ continuation_after _ _ _ _ w.in_ok-groups.ensures
           ∙ ap (λ ys. get_groups (values_of w.in_ok-groups.groups.items) (values_of ys) rest (world_of w.walk_behind.new.log)) (sym w.new-run-then-is_star.ensures.items)
           ∙ (λ j. get_groups (values_of (sym w.groups-is j).items) (values_of (sym w.run-is j).items) rest (world_of (sym w.log-is j)))
       | elements::walk_groups-else-is_star+in_ok-run w ↦
           plain_step _ (values_of c.loop-elt.groups.items) (values_of c.loop-elt.run.items) (walks a (expr_tree x)) rest _ (world_of c.loop-elt.log) c.loop-elt.invariant here (is ∙ w.if-is_star.false)
-          ∙ after _ _ _ _ w.in_ok-run.ensures
+          ∙ continuation_after _ _ _ _ w.in_ok-run.ensures
           ∙ (λ j. get_groups (values_of (sym w.groups-is j).items) (values_of (sym w.run-is j).items) rest (world_of (sym w.log-is j)))
     ]
 
@@ -43,4 +43,4 @@ group_plain t c =
     let here = walks_at a xs i _ x c.elt-item.is c.loop-elt-test.true in
     let is = star_walk a (expr_tree x) ∙ sym c.is_star.ensures ∙ c.if-is_star.false in
     let r : c.from_residual-in_err-run.result ≡ Err c.in_err-run.field-0.0 = grind arith in
-    ended _ _ _ _ _ _ _ r (plain_step _ (values_of c.loop-elt.groups.items) (values_of c.loop-elt.run.items) (walks a (expr_tree x)) rest _ (world_of c.loop-elt.log) c.loop-elt.invariant here is) c.in_err-run.ensures
+    continuation_ended _ _ _ _ _ _ _ r (plain_step _ (values_of c.loop-elt.groups.items) (values_of c.loop-elt.run.items) (walks a (expr_tree x)) rest _ (world_of c.loop-elt.log) c.loop-elt.invariant here is) c.in_err-run.ensures

@@ -5,7 +5,7 @@ use Rattle.py_answers.specs.Log.{world_of}
 use Rattle.py_answers.specs.Told.{values_of}
 use Rattle.py_interp.specs.Doing.{values_in}
 use Rattle.py_interp.specs.Walks.{keyword_walks, walk_expr}
-use Rattle.py_interp_exprs.proofs.ContinuationLemmas.{after}
+use Rattle.py_interp_exprs.proofs.ContinuationLemmas.{continuation_after}
 use Rattle.py_interp_exprs.proofs.Places.{keyword_values_at}
 use Rattle.py_interp_exprs.proofs.Turns.{all_step}
 use Rattle.py_interp_exprs.proofs.+walk.Goals as goal
@@ -17,4 +17,4 @@ values_go_on t c =
     let i = c.loop-keyword.keyword-index in
     let x = c.keyword-item.result in
     all_step _ (values_of c.loop-keyword.values.items) (walk_expr a (expr_tree x.value)) (values_in (keyword_walks a (keywords expr_tree (drop (i + 1) xs)))) _ (world_of c.loop-keyword.log) c.loop-keyword.invariant (keyword_values_at a xs i _ x c.keyword-item.is c.loop-keyword-test.true)
-    ∙ after _ _ _ _ c.in_ok-values.ensures
+    ∙ continuation_after _ _ _ _ c.in_ok-values.ensures

@@ -7,7 +7,7 @@ use Rattle.py_answers.specs.Told.{value_of}
 use Rattle.py_interp.specs.Doing.{links}
 use Rattle.py_interp.specs.Walks.{all_walks}
 use Rattle.py_interp_exprs.proofs.Chains.{false_not, links_end, links_step, meets_not, meets_so}
-use Rattle.py_interp_exprs.proofs.ContinuationLemmas.{after, ended}
+use Rattle.py_interp_exprs.proofs.ContinuationLemmas.{continuation_after, continuation_ended}
 use Rattle.py_interp_exprs.proofs.+walk.Goals as goal
 
 pub links_go_on : goal.comparisons::walk_links-loop-i-preserved
@@ -19,8 +19,8 @@ links_go_on t c =
     let m = c.link_count-last.ensures.ops in
     let k = c.link_count-last.ensures.others in
     links_step _ a ops xs c.link_count-last.result i _ _ _ c.index-others-i.result (value_of c.loop-i.left) (world_of c.loop-i.log) c.loop-i.invariant refl c.index-others-i.is m k c.loop-i-test.true
-    ∙ after _ _ _ _ c.in_ok-right.ensures
-    ∙ after _ _ _ _ c.in_ok-asked.ensures
+    ∙ continuation_after _ _ _ _ c.in_ok-right.ensures
+    ∙ continuation_after _ _ _ _ c.in_ok-asked.ensures
     ∙ meets_not false c.in_ok-asked.asked.truth _ _ (false_not c.in_ok-asked.asked.truth ∙ c.if-not-asked.false)
     ∙ ap (λ v. links (drop (i + 1) ops) (all_walks a (exprs expr_tree (drop (i + 1) xs))) v (world_of c.compare_asked.new.log)) (sym c.in_ok-kept.ensures.ok)
 
@@ -33,23 +33,23 @@ links_decided t c =
     let m = c.link_count-last.ensures.ops in
     let k = c.link_count-last.ensures.others in
     links_step _ a ops xs c.link_count-last.result i _ _ _ c.index-others-i.result (value_of c.loop-i.left) (world_of c.loop-i.log) c.loop-i.invariant refl c.index-others-i.is m k c.loop-i-test.true
-    ∙ after _ _ _ _ c.in_ok-right.ensures
-    ∙ after _ _ _ _ c.in_ok-asked.ensures
+    ∙ continuation_after _ _ _ _ c.in_ok-right.ensures
+    ∙ continuation_after _ _ _ _ c.in_ok-asked.ensures
     ∙ meets_so false c.in_ok-asked.asked.truth _ _ (false_not c.in_ok-asked.asked.truth ∙ c.if-not-asked.true)
 
 pub right_ended : goal.comparisons::walk_links-returns-in_err-right
 right_ended t c =
     let r : c.from_residual.result ≡ Err c.in_err-right.field-0.0 = grind arith in
-    ended _ _ _ _ _ _ _ r
+    continuation_ended _ _ _ _ _ _ _ r
     (links_step _ c.args.around c.args.ops.now c.args.others.now c.link_count-last.result c.loop-i.i cmp.Lt _ _ c.index-others-i.result (value_of c.loop-i.left) (world_of c.loop-i.log) c.loop-i.invariant refl c.index-others-i.is c.link_count-last.ensures.ops c.link_count-last.ensures.others c.loop-i-test.true)
     c.in_err-right.ensures
 
 pub link_ended : goal.comparisons::walk_links-returns-in_err-asked
 link_ended t c =
     let r : c.from_residual-in_err-asked.result ≡ Err c.in_err-asked.field-0.0 = grind arith in
-    ended _ _ _ _ _ _ _ r
+    continuation_ended _ _ _ _ _ _ _ r
     (links_step _ c.args.around c.args.ops.now c.args.others.now c.link_count-last.result c.loop-i.i _ _ _ c.index-others-i.result (value_of c.loop-i.left) (world_of c.loop-i.log) c.loop-i.invariant refl c.index-others-i.is c.link_count-last.ensures.ops c.link_count-last.ensures.others c.loop-i-test.true
-    ∙ after _ _ _ _ c.in_ok-right.ensures)
+    ∙ continuation_after _ _ _ _ c.in_ok-right.ensures)
     c.in_err-asked.ensures
 
 -- there is a comparison and an operand, so there is a last
@@ -64,6 +64,6 @@ last_ended t c =
     let n = c.link_count-last.result in
     let some = some_link n (length ops) (length xs) c.link_count-last.ensures.all c.requires.ops c.requires.others in
     let r : c.from_residual-in_err-right-2.result ≡ Err c.in_err-right-2.field-0.0 = grind arith in
-    ended _ _ _ _ _ _ _ r
+    continuation_ended _ _ _ _ _ _ _ r
     (links_end _ c.args.around ops xs n c.loop-i.i cmp.Lt _ _ c.index-others-last.result (value_of c.loop-i.left) (world_of c.loop-i.log) c.loop-i.invariant refl c.index-others-last.is c.link_count-last.ensures.ops c.link_count-last.ensures.others some c.link_count-last.ensures.all c.loop-i-test.false c.loop-i.auto.i-end)
     c.in_err-right-2.ensures

@@ -8,8 +8,8 @@ use Rattle.py_answers.specs.Told.{values_of}
 use Rattle.py_interp.specs.Doing.{get_all, get_maps}
 use Rattle.py_interp.specs.Walks.{keyword_only_walks, keyword_walks, positional_walks, walk_expr}
 use Rattle.py_interp_exprs.proofs.DefaultPlaces.{keyword_none, keyword_some, positional_none, positional_some}
-use Rattle.py_interp_exprs.proofs.ContinuationLemmas.{after, ended}
-use Rattle.py_interp_exprs.proofs.Places.{keyword_of, keywords_at, one_more}
+use Rattle.py_interp_exprs.proofs.ContinuationLemmas.{continuation_after, continuation_ended}
+use Rattle.py_interp_exprs.proofs.Places.{keyword_of, keywords_at, suc_is_plus_one}
 use Rattle.py_interp_exprs.proofs.Turns.{all_step, map_step, named_step}
 use Rattle.py_interp_exprs.proofs.+walk.Goals as goal
 use Rattle.py_interp_exprs.proofs.+walk.Goals.{keywords::walk_maps-in-Some+in_ok-run-in-Some, keywords::walk_maps-in-None+in_ok-closed-in-None+in_ok-maps-in-None, functions::walk_positional-in-Some+in_ok-values, functions::walk_positional-in_default, functions::walk_keyword_only-in-Some+in_ok-run, functions::walk_keyword_only-in_default}
@@ -28,14 +28,14 @@ maps_go_on t c =
     elim c.match-keyword.branch [
       | keywords::walk_maps-in-Some+in_ok-run-in-Some w ↦ (
         named_step _ ms c.loop-keyword.count (values_of c.loop-keyword.run.items) w.in-Some.name e rest _ (world_of c.loop-keyword.log) c.loop-keyword.invariant.0 (here ∙ ap (λ (o : Option (List ℕ)). keyword_of o e ∷ rest) w.in-Some.is)
-            ∙ after _ _ _ _ w.in_ok-run-in-Some.ensures
-            ∙ ap (λ n. get_maps ms n (values_of w.in_ok-run-in-Some.run'.items) rest (world_of w.walk_named.new.log)) (one_more c.loop-keyword.count)
+            ∙ continuation_after _ _ _ _ w.in_ok-run-in-Some.ensures
+            ∙ ap (λ n. get_maps ms n (values_of w.in_ok-run-in-Some.run'.items) rest (world_of w.walk_named.new.log)) (suc_is_plus_one c.loop-keyword.count)
             ∙ (λ j. get_maps (values_of (sym w.maps-is j).items) (sym w.count-is j) (values_of (sym w.run-is j).items) rest (world_of (sym w.log-is j))),
         let h = w.count-is in omega (arith, most, h),
       )
       | keywords::walk_maps-in-None+in_ok-closed-in-None+in_ok-maps-in-None w ↦ (
         map_step _ ms c.loop-keyword.count (values_of c.loop-keyword.run.items) e rest _ (world_of c.loop-keyword.log) c.loop-keyword.invariant.0 (here ∙ ap (λ (o : Option (List ℕ)). keyword_of o e ∷ rest) w.in-None.is)
-            ∙ after _ _ _ _ w.in_ok-closed-in-None.ensures ∙ after _ _ _ _ w.in_ok-maps-in-None.ensures
+            ∙ continuation_after _ _ _ _ w.in_ok-closed-in-None.ensures ∙ continuation_after _ _ _ _ w.in_ok-maps-in-None.ensures
             ∙ ap (λ ys. get_maps (values_of w.in_ok-maps-in-None.maps.items) 0 (values_of ys) rest (world_of w.walk_behind.new.log)) (sym w.new-run-in-None.ensures.items)
             ∙ (λ j. get_maps (values_of (sym w.maps-is j).items) (sym w.count-is j) (values_of (sym w.run-is j).items) rest (world_of (sym w.log-is j))),
         let h = w.count-is in omega (arith, most, h),
@@ -54,7 +54,7 @@ positional_go_on t c =
     elim c.match-arg.branch [
       | functions::walk_positional-in-Some+in_ok-values w ↦
           all_step _ vs (walk_expr a (expr_tree w.deref.result.now)) rest _ w0 c.loop-arg.invariant (positional_some a xs i _ x c.arg-item.is c.loop-arg-test.true w.in-Some.default w.in-Some.is ∙ ap (λ (y : Expr). walk_expr a (expr_tree y) ∷ rest) (sym w.deref.ensures))
-          ∙ after _ _ _ _ w.in_ok-values.ensures
+          ∙ continuation_after _ _ _ _ w.in_ok-values.ensures
           ∙ (λ j. get_all (values_of (sym w.values-is j).items) rest (world_of (sym w.log-is j)))
       | functions::walk_positional-in_default w ↦
           c.loop-arg.invariant ∙ ap (λ es. get_all vs es w0) (positional_none a xs i _ x c.arg-item.is c.loop-arg-test.true w.in_default.is)
@@ -69,7 +69,7 @@ positional_ended t c =
     let x = c.arg-item.result in
     let rest = positional_walks a (args expr_tree (drop (i + 1) xs)) in
     let r : c.from_residual.result ≡ Err c.in_err-values.field-0.0 = grind arith in
-    ended _ _ _ _ _ _ _ r
+    continuation_ended _ _ _ _ _ _ _ r
     (all_step _ (values_of c.loop-arg.values.items) (walk_expr a (expr_tree c.deref.result.now)) rest _ (world_of c.loop-arg.log) c.loop-arg.invariant (positional_some a xs i _ x c.arg-item.is c.loop-arg-test.true c.in-Some.default c.in-Some.is ∙ ap (λ (y : Expr). walk_expr a (expr_tree y) ∷ rest) (sym c.deref.ensures)))
     c.in_err-values.ensures
 
@@ -85,8 +85,8 @@ keyword_only_goes_on t c =
     elim c.match-arg.branch [
       | functions::walk_keyword_only-in-Some+in_ok-run w ↦ (
         named_step _ [] c.loop-arg.count (values_of c.loop-arg.run.items) x.def.arg (walk_expr a (expr_tree w.deref.result.now)) rest _ w0 c.loop-arg.invariant.0 (keyword_some a xs i _ x c.arg-item.is c.loop-arg-test.true w.in-Some.default w.in-Some.is ∙ ap (λ (y : Expr). Single (x.def.arg, walk_expr a (expr_tree y)) ∷ rest) (sym w.deref.ensures))
-            ∙ after _ _ _ _ w.in_ok-run.ensures
-            ∙ ap (λ n. get_maps [] n (values_of w.in_ok-run.run'.items) rest (world_of w.walk_named.new.log)) (one_more c.loop-arg.count)
+            ∙ continuation_after _ _ _ _ w.in_ok-run.ensures
+            ∙ ap (λ n. get_maps [] n (values_of w.in_ok-run.run'.items) rest (world_of w.walk_named.new.log)) (suc_is_plus_one c.loop-arg.count)
             ∙ (λ j. get_maps [] (sym w.count-is j) (values_of (sym w.run-is j).items) rest (world_of (sym w.log-is j))),
         let h = w.count-is in omega (arith, most, h),
       )
@@ -105,6 +105,6 @@ keyword_only_ended t c =
     let x = c.arg-item.result in
     let rest = keyword_only_walks a (args expr_tree (drop (i + 1) xs)) in
     let r : c.from_residual.result ≡ Err c.in_err-run.field-0.0 = grind arith in
-    ended _ _ _ _ _ _ _ r
+    continuation_ended _ _ _ _ _ _ _ r
     (named_step _ [] c.loop-arg.count (values_of c.loop-arg.run.items) x.def.arg (walk_expr a (expr_tree c.deref.result.now)) rest _ (world_of c.loop-arg.log) c.loop-arg.invariant.0 (keyword_some a xs i _ x c.arg-item.is c.loop-arg-test.true c.in-Some.default c.in-Some.is ∙ ap (λ (y : Expr). Single (x.def.arg, walk_expr a (expr_tree y)) ∷ rest) (sym c.deref.ensures)))
     c.in_err-run.ensures

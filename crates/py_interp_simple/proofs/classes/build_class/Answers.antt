@@ -1,16 +1,16 @@
 use Rattle.py_tree.specs.View.{expr_tree, exprs, keywords}
 use Rattle.py_answers.specs.Log.{world_of}
 use Rattle.py_answers.specs.Told.{value_of}
-use Rattle.py_interp_exprs.proofs.ContinuationLemmas.{goes, same}
+use Rattle.py_interp_exprs.proofs.ContinuationLemmas.{continuation_goes, continuation_same}
 use Rattle.py_interp_simple.proofs.ClassCalls.{packs, places}
 use Rattle.py_interp_simple.proofs.classes.build_class.Goals as goal
 
 pub returns-then-is_packed : goal.returns-then-is_packed
 returns-then-is_packed c =
-    same value_of c.build_packed.result _ _ _ (packs c.args.around c.args.name.now (exprs expr_tree c.args.bases.now) (keywords expr_tree c.args.keywords.now) c.is_packed.result (world_of c.args.log.now) c.is_packed.ensures c.if-is_packed.true)
-    (goes value_of c.build_packed.result _ _ _ _ _ c.in_ok-builder.ensures c.build_packed.ensures)
+    continuation_same value_of c.build_packed.result _ _ _ (packs c.args.around c.args.name.now (exprs expr_tree c.args.bases.now) (keywords expr_tree c.args.keywords.now) c.is_packed.result (world_of c.args.log.now) c.is_packed.ensures c.if-is_packed.true)
+    (continuation_goes value_of c.build_packed.result _ _ _ _ _ c.in_ok-builder.ensures c.build_packed.ensures)
 
 pub returns : goal.returns
 returns c =
-    same value_of c.build_placed.result _ _ _ (places c.args.around c.args.name.now (exprs expr_tree c.args.bases.now) (keywords expr_tree c.args.keywords.now) c.is_packed.result (world_of c.args.log.now) c.is_packed.ensures c.if-is_packed.false)
-    (goes value_of c.build_placed.result _ _ _ _ _ c.in_ok-builder.ensures c.build_placed.ensures)
+    continuation_same value_of c.build_placed.result _ _ _ (places c.args.around c.args.name.now (exprs expr_tree c.args.bases.now) (keywords expr_tree c.args.keywords.now) c.is_packed.result (world_of c.args.log.now) c.is_packed.ensures c.if-is_packed.false)
+    (continuation_goes value_of c.build_placed.result _ _ _ _ _ c.in_ok-builder.ensures c.build_placed.ensures)

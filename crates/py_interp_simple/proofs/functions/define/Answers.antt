@@ -6,7 +6,7 @@ use Rattle.py_answers.specs.Log.{world_of}
 use Rattle.py_answers.specs.Told.{value_of}
 use Rattle.py_interp.specs.Acting.{call_hidden}
 use Rattle.py_interp.specs.Walks.{default_walks}
-use Rattle.py_interp_exprs.proofs.ContinuationLemmas.{same}
+use Rattle.py_interp_exprs.proofs.ContinuationLemmas.{continuation_same}
 use Rattle.py_interp_simple.proofs.FunctionDefinitionLemmas.{function_hidden}
 use Rattle.py_interp_simple.proofs.functions.define.Goals as goal
 
@@ -15,7 +15,7 @@ returns c =
     let a = c.args.around in
     let s = c.args.s.now in
     let w = world_of c.args.log.now in
-    same value_of c.call_with_defaults.result _ _ _
+    continuation_same value_of c.call_with_defaults.result _ _ _
     (function_hidden a s.name w (arguments expr_tree s.args.value) (stmts stmt_tree s.body) (opt_box expr_tree s.returns) s.type_params c.is_empty.result c.is_empty.ensures c.if-is_empty.false
     ∙ ap (λ (p : ArgumentsOf Expr). call_hidden s.name (default_walks a (arguments expr_tree p)) w) (sym c.deref.ensures))
     c.call_with_defaults.ensures

@@ -2,10 +2,10 @@ use Rattle.std.proofs.Common.{◌≡◌, ◌+◌, ◌++◌, ◌∷◌, ◌∙◌
 use Rattle.py_bytecode.specs.declared.instruction.Instruction.TheVariants as op
 use Rattle.py_answers.specs.Log.{operation_of, world_of}
 use Rattle.py_answers.specs.Told.{value_of, values_of}
-use Rattle.py_emission_parts.specs.TableParts.{counted}
+use Rattle.py_emission_parts.specs.TableParts.{counted_operation}
 use Rattle.py_interp.specs.Doing.{does}
-use Rattle.py_interp_values.proofs.Lengths.{lengths}
-use Rattle.py_interp_exprs.proofs.ContinuationLemmas.{same}
+use Rattle.py_interp.proofs.Lengths.{lengths}
+use Rattle.py_interp_exprs.proofs.ContinuationLemmas.{continuation_same}
 use Rattle.py_interp_simple.proofs.hidden.call_with.Goals as goal
 
 pub returns : goal.returns
@@ -19,6 +19,6 @@ returns c =
     let told = lengths c.append.new.values.items in
     let both = ap length joined ∙ length-append p q in
     let n : c.len.result ≡ length p + length q = omega (arith, long, told, both, c.append.new.values.ok.0) in
-    let o = c.in_ok-operation.ensures.ok ∙ ap (counted op.CallFunctionPositional) n in
+    let o = c.in_ok-operation.ensures.ok ∙ ap (counted_operation op.CallFunctionPositional) n in
     let v = c.in_ok-append-2.ensures.ok ∙ ap (λ l. l ++ values_of c.append.new.values.items) c.in_ok-operands.ensures.ok ∙ ap (λ l. f ∷ l) joined in
-    same value_of c.does.result _ _ _ (ap (λ x. does x (f ∷ (p ++ q)) w) (sym o) ∙ ap (λ l. does (operation_of c.in_ok-operation.operation) l w) (sym v)) c.does.ensures
+    continuation_same value_of c.does.result _ _ _ (ap (λ x. does x (f ∷ (p ++ q)) w) (sym o) ∙ ap (λ l. does (operation_of c.in_ok-operation.operation) l w) (sym v)) c.does.ensures

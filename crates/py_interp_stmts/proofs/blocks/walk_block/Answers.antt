@@ -1,6 +1,6 @@
 use Rattle.std.proofs.Common.{◌≡◌, ◌∙◌, Err, sym, arith}
 use Rattle.py_answers.specs.Log.{world_of}
-use Rattle.py_interp_simple.proofs.Endings.{do_halted, followed, left, same}
+use Rattle.py_interp_simple.proofs.Endings.{do_halted, followed, left, ending_same}
 use Rattle.py_interp_stmts.proofs.Lasts.{last_behind}
 use Rattle.py_interp_stmts.proofs.blocks.walk_block.Goals as goal
 
@@ -16,7 +16,7 @@ returns-then-not-is_normal c =
 
 pub returns : goal.returns
 returns c =
-    same _ _ _ _ _
+    ending_same _ _ _ _ _
     (last_behind c.args.around c.args.body.now c.in-Some.before.now c.in-Some.last.now (world_of c.args.log.now) c.in-Some.ensures.cases.0
     ∙ followed c.in_ok-flow.flow _ _ _ c.in_ok-flow.ensures (sym c.is_normal.ensures ∙ c.if-not-is_normal.false))
     c.walk_last.ensures

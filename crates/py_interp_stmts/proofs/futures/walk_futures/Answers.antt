@@ -2,15 +2,15 @@ use Rattle.std.proofs.Common.{◌≡◌, ◌+◌, ◌∙◌, Err, ap, drop, sym,
 use Rattle.py_tree.specs.View.{stmt_tree, stmts}
 use Rattle.py_answers.specs.Log.{world_of}
 use Rattle.py_interp.specs.Statements.{behind_futures}
-use Rattle.py_interp_simple.proofs.Endings.{do_halted, done}
+use Rattle.py_interp_simple.proofs.Endings.{do_halted, ending_done}
 use Rattle.py_interp_stmts.proofs.FutureImportLemmas.{future_from}
-use Rattle.py_interp_stmts.specs.Opened.{opened}
+use Rattle.py_interp_stmts.specs.Opened.{opened_rest}
 use Rattle.py_interp_stmts.proofs.futures.walk_futures.Goals as goal
 
 pub returns-in_err-import_names-clause-opens : goal.returns-in_err-import_names-clause-opens
 returns-in_err-import_names-clause-opens c =
     let r : c.from_residual.result ≡ Err c.in_err-import_names.field-0.0 = grind arith in
-    λ follow. do_halted (opened follow c.args.body.now) _ _ _ _ _ _ r
+    λ follow. do_halted (opened_rest follow c.args.body.now) _ _ _ _ _ _ r
     (c.loop-s.invariant.1 follow ∙ future_from follow c.loop-s.around c.args.body.now c.loop-s.count c.in-Some.s.now (world_of c.loop-s.log) c.in-Some.ensures.is c.in-Some.ensures.within)
     c.in_err-import_names.ensures
 
@@ -20,6 +20,6 @@ loop-s-preserved c = (
   λ follow.
       c.loop-s.invariant.1 follow
       ∙ future_from follow c.loop-s.around c.args.body.now c.loop-s.count c.in-Some.s.now (world_of c.loop-s.log) c.in-Some.ensures.is c.in-Some.ensures.within
-      ∙ done _ _ _ c.in_ok-import_names.ensures
+      ∙ ending_done _ _ _ c.in_ok-import_names.ensures
       ∙ ap (λ a. behind_futures follow a (stmts stmt_tree (drop (c.loop-s.count + 1) c.args.body.now)) (world_of c.import_names.new.log)) (sym c.after_future-around.ensures),
 )

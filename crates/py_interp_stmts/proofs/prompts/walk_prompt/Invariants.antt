@@ -2,12 +2,12 @@ use Rattle.std.proofs.Common.{◌≡◌, length}
 use Rattle.py_tree.specs.View.{stmt_tree, stmts}
 use Rattle.py_answers.specs.Log.{world_of}
 use Rattle.py_interp.specs.Statements.{prompt_walk}
-use Rattle.py_interp_stmts.specs.Prompted.{prompted}
+use Rattle.py_interp_stmts.specs.Prompted.{prompt_rest}
 use Rattle.py_interp_stmts.proofs.prompts.walk_prompt.Given as goal
 
 abbrev pub invariant-loop-statement : goal.invariant-loop-statement
 invariant-loop-statement l =
-    prompt_walk l.fn.around (stmts stmt_tree l.fn.body) (world_of l.initial.log) ≡ prompted l.prompt.opening l.prompt.around (stmts stmt_tree l.left) (world_of l.log)
+    prompt_walk l.fn.around (stmts stmt_tree l.fn.body) (world_of l.initial.log) ≡ prompt_rest l.prompt.opening l.prompt.around (stmts stmt_tree l.left) (world_of l.log)
 
 abbrev pub decreases-loop-statement : goal.decreases-loop-statement
 decreases-loop-statement l = length l.left

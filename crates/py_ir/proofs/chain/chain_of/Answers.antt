@@ -7,13 +7,15 @@ use Rattle.py_ir.specs.Chain.{Blk, blk, plain}
 use Rattle.py_ir.proofs.ChainOrderLemmas.{Following, blk_plain, inside_now, fewer, follow, breaks}
 use Rattle.py_ir.proofs.chain.chain_of.Goals as goal
 
-next_is : (blocks : List Block) (b : ℕ) (block : Block) (o : Option ℕ) (n : ℕ) → b < length blocks → block ≡ get_or blocks b block → o ≡ (plain block).next → o ≡ Some n → (blk (map plain blocks) b).next ≡ Some n
+next_is : (blocks : List Block) (b : ℕ) (block : Block) (o : Option ℕ) (n : ℕ) → b < length blocks → block ≡ get_or blocks b block → o ≡ (plain block).next
+    → o ≡ Some n → (blk (map plain blocks) b).next ≡ Some n
 next_is blocks b block o n lt e r s = ap (λ (x : Blk). x.next) (blk_plain blocks b block lt) ∙ ap (λ (x : Block). (plain x).next) (sym e) ∙ sym r ∙ s
 
 within : (blocks : List Block) (cs : List ℕ) (block : ℕ) (met : List Bool) → Following (map plain blocks) cs block met → block < length blocks
 within blocks cs block met h = let w = inside_now (map plain blocks) cs block met h in let m = length-map blocks plain in omega (arith, w, m)
 
-read_met : (blocks : List Block) (cs : List ℕ) (block : ℕ) (met : List Bool) (n : ℕ) (r v : Bool) → Following (map plain blocks) cs block met → n < length blocks → r ≡ get_or (set met block true) n r → r ≡ v → get_or (set met block true) n false ≡ v
+read_met : (blocks : List Block) (cs : List ℕ) (block : ℕ) (met : List Bool) (n : ℕ) (r v : Bool) → Following (map plain blocks) cs block met
+    → n < length blocks → r ≡ get_or (set met block true) n r → r ≡ v → get_or (set met block true) n false ≡ v
 read_met blocks cs block met n r v h lt e q = get_or_default (set met block true) n false r (let m = length-map blocks plain in let s = length-set met block true in omega (arith, m, s, h.long, lt)) ∙ sym e ∙ q
 
 pub returns-then-next-blocks-clause-refused : goal.returns-then-next-blocks-clause-refused

@@ -1,13 +1,13 @@
 use Rattle.std.proofs.Common.{◌≡◌, ◌+◌, ◌-◌, arith, length-set}
 use Rattle.std.proofs.lemmas.List.{drop-set}
-use Rattle.py_listing.proofs.Places.{short}
+use Rattle.py_listing.proofs.Places.{place_short}
 use Rattle.py_listing.proofs.numbers.write_marked.Goals as goal
 
 pub write_digits-requires : goal.write_digits-requires
-write_digits-requires c = (omega (arith, short c.args.number c.ranges.number.fits), omega (arith, length-set c.args.buffer.now (c.args.end - 1) c.args.mark))
+write_digits-requires c = (omega (arith, place_short c.args.number c.ranges.number.fits), omega (arith, length-set c.args.buffer.now (c.args.end - 1) c.args.mark))
 
 pub returns-clause-room : goal.returns-clause-room
-returns-clause-room c = omega (arith, short c.args.number c.ranges.number.fits)
+returns-clause-room c = omega (arith, place_short c.args.number c.ranges.number.fits)
 
 pub returns-clause-written : goal.returns-clause-written
 returns-clause-written c =

@@ -1,10 +1,10 @@
 use Rattle.std.proofs.Common.{◌≡◌, ◌+◌, ◌*◌, drop}
 use Rattle.py_tree.specs.View.{stmt_tree, stmts}
-use Rattle.py_emission.specs.Predicates.{annotated}
+use Rattle.py_emission.specs.Predicates.{any_annotates}
 use Rattle.py_node_values.proofs.annotations.+annotations.Given as goal
 
 abbrev pub invariant-has_annotation-loop-statement : goal.invariant-has_annotation-loop-statement
-invariant-has_annotation-loop-statement l = annotated (stmts stmt_tree l.body) ≡ annotated (stmts stmt_tree (drop l.statement-index l.body))
+invariant-has_annotation-loop-statement l = any_annotates (stmts stmt_tree l.body) ≡ any_annotates (stmts stmt_tree (drop l.statement-index l.body))
 
 abbrev pub decreases-annotates : goal.decreases-annotates
 decreases-annotates l = 4 * goal.size-annotates l

@@ -1,7 +1,7 @@
 use Rattle.std.proofs.Common.{◌≡◌, ◌<◌, ◌≤◌, ◌+◌, refl, sym, ap, ◌∙◌, subst, arith, ◌++◌, [], ◌∷◌, string_bytes, get_or, length, take, flat_map, chars, slice_range, IsCharBoundary}
 use Rattle.std.proofs.lemmas.Grind.{common_steps}
 use Rattle.std.proofs.lemmas.Str.{IsCharBoundary-start, IsCharBoundary-after_ascii}
-use Rattle.py_quote.proofs.Quoted.{quoted_byte, run_ends, run_goes_on, run_is_last}
+use Rattle.py_quote.proofs.Quoted.{quoted_byte, quoted_run_ends, run_goes_on, run_is_last}
 use Rattle.py_quote.specs.Quote.{quote_char}
 use Rattle.py_quote.proofs.quote.push_quote.Goals as goal
 use Rattle.py_quote.proofs.quote.push_quote.Goals.{then-is_escaped+in_ok-push_str+in_ok-push_quoted, else-is_escaped}
@@ -23,7 +23,7 @@ loop-at-preserved c =
           subst (λ s. (s ≤ at + 1) × IsCharBoundary text s × (string_bytes c.if-is_escaped.out ++ slice_range text s (at + 1) ≡ old ++ flat_map quoted_byte (take (at + 1) text))) (sym w.start-is) (
             omega arith,
             IsCharBoundary-after_ascii text at c.utf8.text within low,
-            run_ends text old (string_bytes c.loop-at.out) (string_bytes w.push_str.new.self) (string_bytes c.if-is_escaped.out) c.loop-at.start at within low c.loop-at.invariant.2
+            quoted_run_ends text old (string_bytes c.loop-at.out) (string_bytes w.push_str.new.self) (string_bytes c.if-is_escaped.out) c.loop-at.start at within low c.loop-at.invariant.2
                 (w.in_ok-push_str.ensures.bytes ∙ ap (λ t. string_bytes c.loop-at.out ++ t) w.range.ensures.value)
                 (ap (λ o. string_bytes o) w.out-is ∙ w.in_ok-push_quoted.ensures ∙ ap (λ b. string_bytes w.push_str.new.self ++ quote_char b) byte),
           )

@@ -1,7 +1,7 @@
 use Rattle.std.proofs.Common.{◌≡◌, true, false, Err, sym, codes}
-use Rattle.py_run.specs.Statuses.{Misread, answered}
+use Rattle.py_run.specs.Statuses.{Misread, due_answer}
 use Rattle.py_run.specs.Words.{command_view, takes_input}
-use Rattle.py_run.proofs.Made.{tells}
+use Rattle.py_run.proofs.Made.{made_tells}
 use Rattle.py_run.proofs.Verdicts.{all_read, alone_due, alone_form, alone_reads, fault_form, has_form, reads, too_long as too_long_due}
 use Rattle.py_run.proofs.preparing.prepare.Goals as goal
 
@@ -22,7 +22,7 @@ returns-then-not-takes_input-clause-reads g c =
 pub returns-in-Ok-clause-form : goal.returns-in-Ok-clause-form
 returns-in-Ok-clause-form g c =
     let input : takes_input (command_view c.in-Some.command) ≡ true = cc in
-    has_form c.args.words.now (command_view c.in-Some.command) c.answered-in-Ok.result (answered (command_view c.in-Some.command) c.in-Ok.bytes.items) (sym c.in-Some.ensures.form) input (rw c.as_slice.ensures.value at c.answered-in-Ok.ensures)
+    has_form c.args.words.now (command_view c.in-Some.command) c.answered-in-Ok.result (due_answer (command_view c.in-Some.command) c.in-Ok.bytes.items) (sym c.in-Some.ensures.form) input (rw c.as_slice.ensures.value at c.answered-in-Ok.ensures)
 
 pub returns-in-Ok-clause-due : goal.returns-in-Ok-clause-due
 returns-in-Ok-clause-due g c =
@@ -38,13 +38,13 @@ pub returns-in-Err-TooLong-clause-form : goal.returns-in-Err-TooLong-clause-form
 returns-in-Err-TooLong-clause-form g c =
     let command = command_view c.in-Some.command in
     let input : takes_input command ≡ true = cc in
-    has_form c.args.words.now command c.too_long.result (Misread (codes "too long")) (sym c.in-Some.ensures.form) input (tells command c.too_long.result (codes "too long") c.too_long.ensures)
+    has_form c.args.words.now command c.too_long.result (Misread (codes "too long")) (sym c.in-Some.ensures.form) input (made_tells command c.too_long.result (codes "too long") c.too_long.ensures)
 
 pub returns-in-Err-TooLong-clause-due : goal.returns-in-Err-TooLong-clause-due
 returns-in-Err-TooLong-clause-due g c =
     let command = command_view c.in-Some.command in
     let input : takes_input command ≡ true = cc in
-    too_long_due c.args.words.now command _ c.too_long.result (sym c.in-Some.ensures.form) input (c.in-Err-TooLong.ensures.long (λ i. Err (c.in-Err-TooLong.field-0-is i))) (tells command c.too_long.result (codes "too long") c.too_long.ensures)
+    too_long_due c.args.words.now command _ c.too_long.result (sym c.in-Some.ensures.form) input (c.in-Err-TooLong.ensures.long (λ i. Err (c.in-Err-TooLong.field-0-is i))) (made_tells command c.too_long.result (codes "too long") c.too_long.ensures)
 
 pub returns-in-Err-TooLong-clause-unread : goal.returns-in-Err-TooLong-clause-unread
 returns-in-Err-TooLong-clause-unread g c =

@@ -7,12 +7,12 @@ use Rattle.py_name_uses.specs.Steps.{◌▸◌, Step}
 use Rattle.py_scan.specs.Scan.{scan_expr, scan_type_params}
 use Rattle.py_scan.proofs.Generic.{entered_as, generic_leaves, generic_refuses, goes_as, refuses_as}
 use Rattle.py_scan.proofs.InductionStatements.{alias_value_closed}
-use Rattle.py_scan.proofs.OpenScopeLemmas.{stays, step_open}
+use Rattle.py_scan.proofs.OpenScopeLemmas.{open_scope_stays, step_open}
 use Rattle.py_scan.proofs.simple.scan_generic_alias.Goals as goal
 
 pub leave_type_params-requires : goal.leave_type_params-requires
 leave_type_params-requires c =
-    step_open _ (alias_value_closed stays (type_params c.args.s.now.type_params) (expr_tree c.args.s.now.value.value))
+    step_open _ (alias_value_closed open_scope_stays (type_params c.args.s.now.type_params) (expr_tree c.args.s.now.value.value))
     c.args.generic (state c.enter_type_params.new.scan) (state c.scan_alias_value.new.scan) c.in_ok-enter_type_params.ensures.open c.in_ok-scan_alias_value.ensures.goes
 
 pub returns-in_err-scan_alias_value-clause-goes : goal.returns-in_err-scan_alias_value-clause-goes

@@ -5,7 +5,7 @@ use Rattle.py_scan.specs.Scan.{scan_class_parts, scan_handed_function, scan_stmt
 use Rattle.py_name_uses.specs.Steps.{Step}
 use Rattle.py_scan.proofs.Generic.{entered_as, generic_leaves, generic_refuses, goes_as, refuses_as}
 use Rattle.py_scan.proofs.InductionStatements.{class_parts_closed, handed_function_closed, stmts_closed}
-use Rattle.py_scan.proofs.OpenScopeLemmas.{first_names_within, parameters_within, stays, step_open, stmts_within}
+use Rattle.py_scan.proofs.OpenScopeLemmas.{first_names_within, parameters_within, open_scope_stays, step_open, stmts_within}
 use Rattle.py_scan.proofs.statements.+scan.Goals as goal
 
 pub scan_class_body-leave-requires : goal.scan_class_body-leave-requires
@@ -28,7 +28,7 @@ scan_function_body-leave-requires t c =
 pub scan_generic_function-leave_type_params-requires : goal.scan_generic_function-leave_type_params-requires
 scan_generic_function-leave_type_params-requires t c =
     let function = c.args.function.now in
-    step_open _ (handed_function_closed stays c.args.generic function.location function.name.now (arguments expr_tree function.args.now) (scan_stmts (stmts stmt_tree function.body.now)) (opt_box expr_tree function.returns.now) (type_params function.type_params.now) (stmts_closed stays (stmts stmt_tree function.body.now)))
+    step_open _ (handed_function_closed open_scope_stays c.args.generic function.location function.name.now (arguments expr_tree function.args.now) (scan_stmts (stmts stmt_tree function.body.now)) (opt_box expr_tree function.returns.now) (type_params function.type_params.now) (stmts_closed open_scope_stays (stmts stmt_tree function.body.now)))
     c.args.generic (state c.enter_type_params.new.scan) (state c.scan_handed_function.new.scan) c.in_ok-enter_type_params.ensures.open c.in_ok-scan_handed_function.ensures.goes
 
 pub scan_generic_function-returns-in_err-scan_handed_function-clause-goes : goal.scan_generic_function-returns-in_err-scan_handed_function-clause-goes
@@ -51,7 +51,7 @@ scan_generic_function-returns-clause-goes t c =
 pub scan_generic_class-leave_type_params-requires : goal.scan_generic_class-leave_type_params-requires
 scan_generic_class-leave_type_params-requires t c =
     let s = c.args.s.now in
-    step_open _ (class_parts_closed stays s.location s.name (exprs expr_tree s.bases) (keywords expr_tree s.keywords) (scan_stmts (stmts stmt_tree s.body)) (type_params s.type_params) (stmts_closed stays (stmts stmt_tree s.body)))
+    step_open _ (class_parts_closed open_scope_stays s.location s.name (exprs expr_tree s.bases) (keywords expr_tree s.keywords) (scan_stmts (stmts stmt_tree s.body)) (type_params s.type_params) (stmts_closed open_scope_stays (stmts stmt_tree s.body)))
     c.args.generic (state c.enter_type_params.new.scan) (state c.scan_class_parts.new.scan) c.in_ok-enter_type_params.ensures.open c.in_ok-scan_class_parts.ensures.goes
 
 pub scan_generic_class-returns-in_err-scan_class_parts-clause-goes : goal.scan_generic_class-returns-in_err-scan_class_parts-clause-goes

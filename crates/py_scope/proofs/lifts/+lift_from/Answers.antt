@@ -2,33 +2,33 @@ use Rattle.std.proofs.Common.{rules, refl, sym, ap, ◌∙◌, ◌<◌, length, 
 use Rattle.py_scope.specs.declared.table_type.SymbolTableType.TheVariants.{Module, Class, Function}
 use Rattle.py_scope.specs.Lifts.{iterated_opt}
 use Rattle.py_scope.specs.declared.rows.Holds.TheVariants.{LiftedModule}
-use Rattle.py_scope.specs.Outward.{enclosing, parents}
-use Rattle.py_scope.proofs.LiftLemmas.{lifted_is, refusal_is, stops_still, holder_here, still_there, held_through, goes_through, allowed_through, refused_through}
+use Rattle.py_scope.specs.Outward.{enclosing_scopes, parents}
+use Rattle.py_scope.proofs.LiftLemmas.{lift_lifted_is, refusal_is, stops_still, holder_here, still_there, held_through, goes_through, allowed_through, refused_through}
 use Rattle.py_scope.proofs.lifts.+lift_from.Goals as goal
 
 pub returns-in-Module-clause-held : goal.returns-in-Module-clause-held
-returns-in-Module-clause-held t c = sym (lifted_is c.args.rows.now.items c.args.name.now c.args.at c.index-row.result.now Module c.requires.within c.index-row.ensures c.in-Module.is (enclosing (parents c.args.rows.now.items) c.args.at))
+returns-in-Module-clause-held t c = sym (lift_lifted_is c.args.rows.now.items c.args.name.now c.args.at c.index-row.result.now Module c.requires.within c.index-row.ensures c.in-Module.is (enclosing_scopes (parents c.args.rows.now.items) c.args.at))
 
 pub returns-in-Module-clause-allowed : goal.returns-in-Module-clause-allowed
-returns-in-Module-clause-allowed t c = refusal_is c.args.rows.now.items c.args.name.now c.args.at c.index-row.result.now Module c.requires.within c.index-row.ensures c.in-Module.is (enclosing (parents c.args.rows.now.items) c.args.at)
+returns-in-Module-clause-allowed t c = refusal_is c.args.rows.now.items c.args.name.now c.args.at c.index-row.result.now Module c.requires.within c.index-row.ensures c.in-Module.is (enclosing_scopes (parents c.args.rows.now.items) c.args.at)
 
 pub returns-in-Module-clause-lifted : goal.returns-in-Module-clause-lifted
-returns-in-Module-clause-lifted t c = stops_still c.args.rows.now.items c.args.name.now c.args.at c.index-row.result.now Module c.requires.within c.index-row.ensures c.in-Module.is (enclosing (parents c.args.rows.now.items) c.args.at) (λ b x. refl)
+returns-in-Module-clause-lifted t c = stops_still c.args.rows.now.items c.args.name.now c.args.at c.index-row.result.now Module c.requires.within c.index-row.ensures c.in-Module.is (enclosing_scopes (parents c.args.rows.now.items) c.args.at) (λ b x. refl)
 
 pub returns-in-Class-clause-refused : goal.returns-in-Class-clause-refused
-returns-in-Class-clause-refused t c = refusal_is c.args.rows.now.items c.args.name.now c.args.at c.index-row.result.now Class c.requires.within c.index-row.ensures c.in-Class.is (enclosing (parents c.args.rows.now.items) c.args.at)
+returns-in-Class-clause-refused t c = refusal_is c.args.rows.now.items c.args.name.now c.args.at c.index-row.result.now Class c.requires.within c.index-row.ensures c.in-Class.is (enclosing_scopes (parents c.args.rows.now.items) c.args.at)
 
 pub returns-in_ok-held-in-Function-clause-held : goal.returns-in_ok-held-in-Function-clause-held
 returns-in_ok-held-in-Function-clause-held t c =
-    (holder_here c.args.rows.now.items c.args.name.now c.args.at c.index-row.result.now c.index_mut.result.now c.hold.new.row c.in_ok-held-in-Function.held (enclosing (parents c.args.rows.now.items) c.args.at)
+    (holder_here c.args.rows.now.items c.args.name.now c.args.at c.index-row.result.now c.index_mut.result.now c.hold.new.row c.in_ok-held-in-Function.held (enclosing_scopes (parents c.args.rows.now.items) c.args.at)
     c.requires.within c.index-row.ensures c.in-Function.is c.index_mut.ensures.value c.in_ok-held-in-Function.ensures.ok.0 c.in_ok-held-in-Function.ensures.ok.1).0
 
 pub returns-in_ok-held-in-Function-clause-allowed : goal.returns-in_ok-held-in-Function-clause-allowed
-returns-in_ok-held-in-Function-clause-allowed t c = refusal_is c.args.rows.now.items c.args.name.now c.args.at c.index-row.result.now Function c.requires.within c.index-row.ensures c.in-Function.is (enclosing (parents c.args.rows.now.items) c.args.at)
+returns-in_ok-held-in-Function-clause-allowed t c = refusal_is c.args.rows.now.items c.args.name.now c.args.at c.index-row.result.now Function c.requires.within c.index-row.ensures c.in-Function.is (enclosing_scopes (parents c.args.rows.now.items) c.args.at)
 
 pub returns-in_ok-held-in-Function-clause-lifted : goal.returns-in_ok-held-in-Function-clause-lifted
 returns-in_ok-held-in-Function-clause-lifted t c =
-    (holder_here c.args.rows.now.items c.args.name.now c.args.at c.index-row.result.now c.index_mut.result.now c.hold.new.row c.in_ok-held-in-Function.held (enclosing (parents c.args.rows.now.items) c.args.at)
+    (holder_here c.args.rows.now.items c.args.name.now c.args.at c.index-row.result.now c.index_mut.result.now c.hold.new.row c.in_ok-held-in-Function.held (enclosing_scopes (parents c.args.rows.now.items) c.args.at)
     c.requires.within c.index-row.ensures c.in-Function.is c.index_mut.ensures.value c.in_ok-held-in-Function.ensures.ok.0 c.in_ok-held-in-Function.ensures.ok.1).1
 
 pub index_mut-requires-in-Comprehension : goal.index_mut-requires-in-Comprehension

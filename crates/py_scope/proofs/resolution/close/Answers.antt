@@ -1,6 +1,6 @@
 use Rattle.std.proofs.Common.{◌≡◌, refl, sym, ap, ◌∙◌, subst, ◌<◌, ◌++◌, ◌∷◌, [], length, slice_index_or, append_assoc, arith}
 use Rattle.std.proofs.lemmas.Option.{slice_get_read}
-use Rattle.py_scope.specs.Outward.{enclosing, parents, parent_of}
+use Rattle.py_scope.specs.Outward.{enclosing_scopes, parents, parent_of}
 use Rattle.py_scope.proofs.Chains.{outward}
 use Rattle.py_scope.proofs.resolution.close.Goals as goal
 
@@ -13,7 +13,7 @@ loop-at-preserved c =
     let inside = c.loop-at.invariant.within in
     record {
       within = omega (arith, up, below, inside);
-      so_far = ap (λ ls. ls ++ enclosing (parents rows) (slice_index_or rows at c.index-rows-at.result).parent) c.in_ok-push-2.ensures.items
-          ∙ append_assoc c.loop-at.left.items ((slice_index_or rows at c.index-rows-at.result).parent ∷ []) (enclosing (parents rows) (slice_index_or rows at c.index-rows-at.result).parent)
+      so_far = ap (λ ls. ls ++ enclosing_scopes (parents rows) (slice_index_or rows at c.index-rows-at.result).parent) c.in_ok-push-2.ensures.items
+          ∙ append_assoc c.loop-at.left.items ((slice_index_or rows at c.index-rows-at.result).parent ∷ []) (enclosing_scopes (parents rows) (slice_index_or rows at c.index-rows-at.result).parent)
           ∙ ap (λ es. c.loop-at.left.items ++ es) (sym (outward (parents rows) at (slice_index_or rows at c.index-rows-at.result).parent up (subst (λ v. v < at) up below))) ∙ c.loop-at.invariant.so_far;
     }

@@ -1,10 +1,10 @@
 use Rattle.std.proofs.Common.{sym, ap, ◌∙◌, ◌≢◌, ◌++◌, ◌∷◌, [], length, replicate, Some, arith}
 use Rattle.std.specs.Option.{option_to_list}
 use Rattle.std.proofs.lemmas.Bool.{eqb-true, eqb-false}
-use Rattle.py_scope.specs.Scanned.{changed}
+use Rattle.py_scope.specs.Scanned.{changed_at}
 use Rattle.py_scope.specs.Tables.{table_of}
 use Rattle.py_scope.specs.Making.{symbols_with}
-use Rattle.py_scope.proofs.Told.{told_first, told_same, told_once, told_done, told_parent, told_next}
+use Rattle.py_scope.proofs.Told.{told_first, told_same, told_once, scope_told_done, told_parent, told_next}
 use Rattle.py_scope.proofs.tables.nest.Goals as goal
 
 pub loop-row-init : goal.loop-row-init
@@ -25,7 +25,7 @@ table_of-requires-clause-once c =
 
 pub returns-then-is_empty : goal.returns-then-is_empty
 returns-then-is_empty c =
-    told_done c.args.rows.items c.requires.numbered c.loop-row.rows.items c.loop-row.kinds.items c.loop-row.waiting.items c.loop-row.invariant
+    scope_told_done c.args.rows.items c.requires.numbered c.loop-row.rows.items c.loop-row.kinds.items c.loop-row.waiting.items c.loop-row.invariant
     c.pop.new.self.items c.in-Some.row c.pop-in-Some-2.new.self.items c.unwrap-in-Some.result c.pop-in-Some.new.self.items c.unwrap.result
     c.in-Some.ensures.items (c.pop-in-Some-2.ensures.items ∙ ap (λ o. c.pop-in-Some-2.new.self.items ++ option_to_list o) c.unwrap-in-Some.ensures) (c.pop-in-Some.ensures.items ∙ ap (λ o. c.pop-in-Some.new.self.items ++ option_to_list o) c.unwrap.ensures)
     (let e = eqb-true _ 0 (sym c.if-is_empty.ensures) in omega (arith, e, c.pop-in-Some.new.self.ok.0))
@@ -45,4 +45,4 @@ loop-row-preserved c =
     c.in-Some.ensures.items (c.pop-in-Some-2.ensures.items ∙ ap (λ o. c.pop-in-Some-2.new.self.items ++ option_to_list o) c.unwrap-in-Some.ensures) (c.pop-in-Some.ensures.items ∙ ap (λ o. c.pop-in-Some.new.self.items ++ option_to_list o) c.unwrap.ensures)
     (let e = eqb-false _ 0 (sym c.if-is_empty.ensures) in let d : length c.pop-in-Some.new.self.items ≢ 0 = λ q. e (omega (arith, q, c.pop-in-Some.new.self.ok.0)) in omega (arith, d))
     c.wait.new.waiting.items
-    (c.in_ok-wait.ensures ∙ ap (λ t. changed (λ ts. ts ++ t ∷ []) c.in-Some.row.parent c.pop-in-Some.new.self.items) (c.in_ok-table.ensures ∙ ap (table_of c.in-Some.row (symbols_with c.in-Some.row.entries c.unwrap-in-Some.result)) c.reversed-sub_tables.ensures))
+    (c.in_ok-wait.ensures ∙ ap (λ t. changed_at (λ ts. ts ++ t ∷ []) c.in-Some.row.parent c.pop-in-Some.new.self.items) (c.in_ok-table.ensures ∙ ap (table_of c.in-Some.row (symbols_with c.in-Some.row.entries c.unwrap-in-Some.result)) c.reversed-sub_tables.ensures))

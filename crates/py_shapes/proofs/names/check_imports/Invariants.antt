@@ -1,6 +1,6 @@
 use Rattle.std.proofs.Common.{drop, ◌≡◌}
-use Rattle.py_shapes.specs.Valid.{checked, imports_shapes}
+use Rattle.py_shapes.specs.Valid.{first_malformed, imports_shapes}
 use Rattle.py_shapes.proofs.names.check_imports.Given as goal
 
 abbrev pub invariant-loop-alias : goal.invariant-loop-alias
-invariant-loop-alias l = checked (imports_shapes (drop l.alias-index l.names)) ≡ checked (imports_shapes l.names)
+invariant-loop-alias l = first_malformed (imports_shapes (drop l.alias-index l.names)) ≡ first_malformed (imports_shapes l.names)

@@ -1,4 +1,4 @@
--- The loop around stands around still, after many steps.
+-- The enclosing loop stands around still, after many steps.
 use Rattle.std.proofs.Common.{sym, subst, ◌∙◌, rules}
 use Rattle.py_emit.specs.States.{AreMade, Rest, rest}
 use Rattle.py_stmt.proofs.+code.Goals as goal

@@ -4,32 +4,36 @@ use Rattle.py_tree.specs.View.{arguments, expr_tree}
 use Rattle.py_tree.specs.declared.expressions.ArgumentsOf.{ArgumentsOf}
 use Rattle.py_tree.specs.declared.expressions.Expr.{Expr}
 use Rattle.py_scope.specs.declared.table_type.SymbolTableType.TheVariants as kind
-use Rattle.py_emission_parts.specs.Children.{code_head, made}
+use Rattle.py_emission_parts.specs.Children.{made_function}
+use Rattle.py_emission_parts.specs.Running.{code_head, run}
 use Rattle.py_emission_parts.specs.Emitting.{Emission, ◌▸◌}
 use Rattle.py_emission_parts.specs.TypeParameters.{hidden_shape}
 use Rattle.py_emission_parts.specs.Within.{hidden_name}
 use Rattle.py_bytecode.specs.View.{object}
-use Rattle.py_emit.specs.States.{Rest, entered, entered_rest, rest, state}
+use Rattle.py_emit.specs.States.{Rest, nested_context, entered_rest, rest, state}
 use Rattle.py_emit.specs.declared.context.Naming.TheVariants as naming
 use Rattle.py_emit.specs.declared.emitter.Emitter.{Emitter}
 use Rattle.py_emit.proofs.Joined.{first_refuses, goes_as, refuses_as, went}
-use Rattle.py_emit.proofs.Within.{inner}
+use Rattle.py_emit.proofs.Within.{within_inner}
 use Rattle.py_expr_scopes.specs.declared.functions.Defaults.{Defaults}
 use Rattle.py_expr_scopes.proofs.Scopes.{left_gives, left_keeps, refused_gives, same_path}
 use Rattle.py_stmt.specs.Classes.{built_emission}
 use Rattle.py_stmt.specs.Functions.{hidden_function, hidden_value}
 use Rattle.py_stmt_simple.specs.Functions.{params_of}
 use Rattle.py_stmt_parts.specs.Generics.{defaults_of, handed_by}
-use Rattle.py_stmt_simple.specs.Generics.{hidden_called, returned}
+use Rattle.py_stmt_simple.specs.Generics.{hidden_called, returned_value}
 use Rattle.py_stmt.proofs.TypeParameterFunctionLemmas.{generic_is}
 use Rattle.py_stmt.proofs.+code.Goals as goal
 
 -- what is kept on entering, by the name and the count as they are meant
-shaped : (first : Emitter) (name other : List ℕ) (n m : ℕ) (r : Rest) → r ≡ entered_rest first.scope (code_head (entered kind.TypeParams naming.AsAround (state first)) (hidden_shape n name) (state first).location) (rest first) → name ≡ other → n ≡ m → r ≡ entered_rest first.scope (code_head (entered kind.TypeParams naming.AsAround (state first)) (hidden_shape m other) (state first).location) (rest first)
-shaped first name other n m r is same many = is ∙ (λ i. entered_rest first.scope (code_head (entered kind.TypeParams naming.AsAround (state first)) (hidden_shape (many i) (same i)) (state first).location) (rest first))
+hidden_shaped : (first : Emitter) (name other : List ℕ) (n m : ℕ) (r : Rest)
+    → r ≡ entered_rest first.scope (code_head (nested_context kind.TypeParams naming.AsAround (state first)) (hidden_shape n name) (state first).location) (rest first)
+    → name ≡ other → n ≡ m
+    → r ≡ entered_rest first.scope (code_head (nested_context kind.TypeParams naming.AsAround (state first)) (hidden_shape m other) (state first).location) (rest first)
+hidden_shaped first name other n m r is same many = is ∙ (λ i. entered_rest first.scope (code_head (nested_context kind.TypeParams naming.AsAround (state first)) (hidden_shape (many i) (same i)) (state first).location) (rest first))
 
-pub scope_left : goal.functions::compile_hidden_scope-returns
-scope_left t c =
+pub hidden_scope_left : goal.functions::compile_hidden_scope-returns
+hidden_scope_left t c =
     let s = c.args.s.now in
     let d = c.args.defaults in
     let h = hidden_shape (length (handed_by d)) s.name in
@@ -37,30 +41,30 @@ scope_left t c =
     let entry = c.enter_hidden.new.em in
     let last = c.return_value.new.em in
     let begins = c.in_ok-enter_hidden.ensures.state in
-    let into = shaped first _ s.name _ (length (handed_by d)) (rest entry) c.in_ok-enter_hidden.ensures.rest c.as_str.ensures c.handed_count.ensures in
+    let into = hidden_shaped first _ s.name _ (length (handed_by d)) (rest entry) c.in_ok-enter_hidden.ensures.rest c.as_str.ensures c.handed_count.ensures in
     let same = c.in_ok-return_value.ensures.same in
     record {
-      goes = left_gives kind.TypeParams naming.AsAround h first entry begins last c.leave_scope.new.self into same (returned (hidden_value d s)) c.leave_scope.result c.in_ok-return_value.ensures.goes c.leave_scope.ensures.code c.leave_scope.ensures.state c.leave_scope.ensures.err;
+      goes = left_gives kind.TypeParams naming.AsAround h first entry begins last c.leave_scope.new.self into same (returned_value (hidden_value d s)) c.leave_scope.result c.in_ok-return_value.ensures.goes c.leave_scope.ensures.code c.leave_scope.ensures.state c.leave_scope.ensures.err;
       same = left_keeps kind.TypeParams naming.AsAround h first entry begins last c.leave_scope.new.self into same c.leave_scope.result c.leave_scope.ensures.rest c.leave_scope.ensures.err;
     }
 
-pub scope_inner : goal.functions::compile_hidden_scope-leave_scope-requires
-scope_inner t c = record { inner = inner kind.TypeParams naming.AsAround (hidden_shape c.handed_count.result c.as_str.result.now) c.args.em.now c.enter_hidden.new.em c.return_value.new.em c.in_ok-enter_hidden.ensures.rest c.in_ok-return_value.ensures.same }
+pub hidden_scope_inner : goal.functions::compile_hidden_scope-leave_scope-requires
+hidden_scope_inner t c = record { inner = within_inner kind.TypeParams naming.AsAround (hidden_shape c.handed_count.result c.as_str.result.now) c.args.em.now c.enter_hidden.new.em c.return_value.new.em c.in_ok-enter_hidden.ensures.rest c.in_ok-return_value.ensures.same }
 
-pub scope_refused : goal.functions::compile_hidden_scope-returns-in_err-return_value
-scope_refused t c =
+pub hidden_scope_refused : goal.functions::compile_hidden_scope-returns-in_err-return_value
+hidden_scope_refused t c =
     let s = c.args.s.now in
     let d = c.args.defaults in
     let h = hidden_shape (length (handed_by d)) s.name in
     let first = c.args.em.now in
     let entry = c.enter_hidden.new.em in
     let begins = c.in_ok-enter_hidden.ensures.state in
-    let into = shaped first _ s.name _ (length (handed_by d)) (rest entry) c.in_ok-enter_hidden.ensures.rest c.as_str.ensures c.handed_count.ensures in
+    let into = hidden_shaped first _ s.name _ (length (handed_by d)) (rest entry) c.in_ok-enter_hidden.ensures.rest c.as_str.ensures c.handed_count.ensures in
     let x = c.in_err-return_value.field-0.0 in
     let out = c.from_residual-in_err-return_value.result in
     let r : out ≡ Err x = grind arith in
     record {
-      goes = refused_gives kind.TypeParams naming.AsAround h first entry begins (returned (hidden_value d s)) out x _ r c.in_err-return_value.ensures.goes;
+      goes = refused_gives kind.TypeParams naming.AsAround h first entry begins (returned_value (hidden_value d s)) out x _ r c.in_err-return_value.ensures.goes;
       same = same_path kind.TypeParams naming.AsAround h first entry begins entry entry into refl out x _ r c.in_err-return_value.ensures.same;
     }
 
@@ -70,8 +74,8 @@ around_goes t c = record {
   goes =
       let s = c.args.s.now in
       goes_as _ _ _ _
-      (c.in_ok-code.ensures.goes (made 0 (hidden_name s.name))
-      ∙ ap (λ x. made 0 (hidden_name x) (object c.in_ok-code.code) (state c.compile_hidden_scope.new.em)) (sym c.as_str.ensures))
+      (c.in_ok-code.ensures.goes (made_function 0 (hidden_name s.name))
+      ∙ ap (λ x. run (made_function 0 (hidden_name x) (object c.in_ok-code.code)) (state c.compile_hidden_scope.new.em)) (sym c.as_str.ensures))
       c.make_hidden.ensures.goes;
   same = search rules;
 }
@@ -81,7 +85,7 @@ around_refused t c = record {
   goes =
       let s = c.args.s.now in
       let r : c.from_residual.result ≡ Err c.in_err-code.field-0.0 = grind arith in
-      refuses_as _ _ _ _ _ r refl (c.in_err-code.ensures.goes (made 0 (hidden_name s.name)));
+      refuses_as _ _ _ _ _ r refl (c.in_err-code.ensures.goes (made_function 0 (hidden_name s.name)));
   same = search rules;
 }
 
@@ -94,10 +98,10 @@ generic_goes t c = record {
       let is = c.given_defaults-defaults.ensures ∙ ap (λ (p : ArgumentsOf Expr). defaults_of (arguments expr_tree p)) c.deref.ensures in
       let whole : Defaults → Emission = λ e. hidden_function e s ▸ hidden_called (params_of s) (length (handed_by e)) in
       goes_as _ _ _ _
-      (ap (λ (f : Emission). f (state c.args.em.now)) (generic_is s ∙ ap whole (sym is))
-      ∙ went _ (hidden_called (params_of s) (length (handed_by d))) _ c.in_ok-make_around.ensures.goes
-      ∙ ap (λ (p : ArgumentsOf Expr). hidden_called (arguments expr_tree p) (length (handed_by d)) (state c.make_around.new.em)) (sym c.deref-2.ensures)
-      ∙ ap (λ n. hidden_called (arguments expr_tree c.deref-2.result.now) n (state c.make_around.new.em)) (sym c.handed_count.ensures))
+      (ap (λ (v : Emission). run v (state c.args.em.now)) (generic_is s ∙ ap whole (sym is))
+      ∙ went _ (run (hidden_called (params_of s) (length (handed_by d)))) _ c.in_ok-make_around.ensures.goes
+      ∙ ap (λ (p : ArgumentsOf Expr). run (hidden_called (arguments expr_tree p) (length (handed_by d))) (state c.make_around.new.em)) (sym c.deref-2.ensures)
+      ∙ ap (λ n. run (hidden_called (arguments expr_tree c.deref-2.result.now) n) (state c.make_around.new.em)) (sym c.handed_count.ensures))
       c.call_hidden.ensures.goes;
   same = search rules;
 }
@@ -110,7 +114,7 @@ generic_refused t c = record {
       let is = c.given_defaults-defaults.ensures ∙ ap (λ (p : ArgumentsOf Expr). defaults_of (arguments expr_tree p)) c.deref.ensures in
       let whole : Defaults → Emission = λ e. hidden_function e s ▸ hidden_called (params_of s) (length (handed_by e)) in
       let r : c.from_residual.result ≡ Err c.in_err-make_around.field-0.0 = grind arith in
-      first_refuses _ _ _ _ _ (hidden_called (params_of s) (length (handed_by d))) r (ap (λ (f : Emission). f (state c.args.em.now)) (generic_is s ∙ ap whole (sym is))) c.in_err-make_around.ensures.goes;
+      first_refuses _ _ _ _ _ (run (hidden_called (params_of s) (length (handed_by d)))) r (ap (λ (v : Emission). run v (state c.args.em.now)) (generic_is s ∙ ap whole (sym is))) c.in_err-make_around.ensures.goes;
   same = search rules;
 }
 
@@ -124,15 +128,15 @@ class_left t c =
     let entry = c.enter_hidden.new.em in
     let last = c.return_built.new.em in
     let begins = c.in_ok-enter_hidden.ensures.state in
-    let into = shaped first _ s.name 0 0 (rest entry) c.in_ok-enter_hidden.ensures.rest c.as_str.ensures refl in
+    let into = hidden_shaped first _ s.name 0 0 (rest entry) c.in_ok-enter_hidden.ensures.rest c.as_str.ensures refl in
     let same = c.in_ok-return_built.ensures.same in
     record {
-      goes = left_gives kind.TypeParams naming.AsAround h first entry begins last c.leave_scope.new.self into same (returned v) c.leave_scope.result c.in_ok-return_built.ensures.goes c.leave_scope.ensures.code c.leave_scope.ensures.state c.leave_scope.ensures.err;
+      goes = left_gives kind.TypeParams naming.AsAround h first entry begins last c.leave_scope.new.self into same (returned_value v) c.leave_scope.result c.in_ok-return_built.ensures.goes c.leave_scope.ensures.code c.leave_scope.ensures.state c.leave_scope.ensures.err;
       same = left_keeps kind.TypeParams naming.AsAround h first entry begins last c.leave_scope.new.self into same c.leave_scope.result c.leave_scope.ensures.rest c.leave_scope.ensures.err;
     }
 
 pub class_inner : goal.classes::compile_hidden_scope-leave_scope-requires
-class_inner t c = record { inner = inner kind.TypeParams naming.AsAround (hidden_shape 0 c.as_str.result.now) c.args.em.now c.enter_hidden.new.em c.return_built.new.em c.in_ok-enter_hidden.ensures.rest c.in_ok-return_built.ensures.same }
+class_inner t c = record { inner = within_inner kind.TypeParams naming.AsAround (hidden_shape 0 c.as_str.result.now) c.args.em.now c.enter_hidden.new.em c.return_built.new.em c.in_ok-enter_hidden.ensures.rest c.in_ok-return_built.ensures.same }
 
 pub class_refused : goal.classes::compile_hidden_scope-returns-in_err-return_built
 class_refused t c =
@@ -142,12 +146,12 @@ class_refused t c =
     let first = c.args.em.now in
     let entry = c.enter_hidden.new.em in
     let begins = c.in_ok-enter_hidden.ensures.state in
-    let into = shaped first _ s.name 0 0 (rest entry) c.in_ok-enter_hidden.ensures.rest c.as_str.ensures refl in
+    let into = hidden_shaped first _ s.name 0 0 (rest entry) c.in_ok-enter_hidden.ensures.rest c.as_str.ensures refl in
     let x = c.in_err-return_built.field-0.0 in
     let out = c.from_residual-in_err-return_built.result in
     let r : out ≡ Err x = grind arith in
     record {
-      goes = refused_gives kind.TypeParams naming.AsAround h first entry begins (returned v) out x _ r c.in_err-return_built.ensures.goes;
+      goes = refused_gives kind.TypeParams naming.AsAround h first entry begins (returned_value v) out x _ r c.in_err-return_built.ensures.goes;
       same = same_path kind.TypeParams naming.AsAround h first entry begins entry entry into refl out x _ r c.in_err-return_built.ensures.same;
     }
 
@@ -156,8 +160,8 @@ class_around_goes t c = record {
   goes =
       let s = c.args.s.now in
       goes_as _ _ _ _
-      (c.in_ok-code.ensures.goes (made 0 (hidden_name s.name))
-      ∙ ap (λ x. made 0 (hidden_name x) (object c.in_ok-code.code) (state c.compile_hidden_scope.new.em)) (sym c.as_str.ensures))
+      (c.in_ok-code.ensures.goes (made_function 0 (hidden_name s.name))
+      ∙ ap (λ x. run (made_function 0 (hidden_name x) (object c.in_ok-code.code)) (state c.compile_hidden_scope.new.em)) (sym c.as_str.ensures))
       c.make_hidden.ensures.goes;
   same = search rules;
 }
@@ -167,6 +171,6 @@ class_around_refused t c = record {
   goes =
       let s = c.args.s.now in
       let r : c.from_residual.result ≡ Err c.in_err-code.field-0.0 = grind arith in
-      refuses_as _ _ _ _ _ r refl (c.in_err-code.ensures.goes (made 0 (hidden_name s.name)));
+      refuses_as _ _ _ _ _ r refl (c.in_err-code.ensures.goes (made_function 0 (hidden_name s.name)));
   same = search rules;
 }

@@ -5,19 +5,18 @@ use Rattle.py_tree.specs.declared.statements.Stmt.{Stmt}
 use Rattle.py_tree.specs.Tree as tree
 use Rattle.py_tree.specs.View.{expr_tree, stmt_tree, stmts}
 use Rattle.py_tree.proofs.View.{tree_For}
-use Rattle.py_emission_parts.specs.Emitting.{Emission, ◌▸◌, begin, located}
+use Rattle.py_emission_parts.specs.Emitting.{keep}
+use Rattle.py_emission_parts.specs.Running.{Action, ◌▹◌, begin, run}
 use Rattle.py_emission.specs.Emission.{emission, emission_of_store}
 use Rattle.py_emission.specs.ControlEmissions.{for_each}
 use Rattle.py_emission.specs.EmissionStmts.{emission_of_stmt, emission_of_stmts}
 use Rattle.py_emit.specs.States.{state}
 use Rattle.py_emit.proofs.Joined.{first_refuses, goes_as, went}
-use Rattle.py_expr_scopes.proofs.KeptExpressions.{apart, begin_opens, block_opens}
-use Rattle.py_expr_parts.proofs.Steps.{begin_goes, stays}
+use Rattle.py_expr_scopes.proofs.OpenBlocks.{open_block_apart, begin_opens, block_opens, opens}
+use Rattle.py_expr_parts.proofs.Steps.{step_stays}
 use Rattle.py_stmt_simple.specs.Parts.{each_begun}
-use Rattle.py_stmt.specs.Parts.{each_by_parts, each_ended, each_turn}
-use Rattle.py_stmt_simple.proofs.OpenBlockLemmas.{each_begun_opens}
-use Rattle.py_stmt.proofs.OpenBlockLemmas.{each_ended_opens, each_turn_opens}
-use Rattle.py_stmt.proofs.Parts.{each_parts, three_blocks}
+use Rattle.py_stmt.specs.Parts.{each_ended, each_turn}
+use Rattle.py_stmt.proofs.Parts.{three_made}
 use Rattle.py_stmt.proofs.+code.Goals as goal
 
 pub for_goes : goal.statements::compile_entered-returns-in-For
@@ -31,9 +30,8 @@ for_goes t c = record {
       let orelse = emission_of_stmts (stmts stmt_tree x.orelse) in
       let is = ap stmt_tree c.in-For.is ∙ tree_For x in
       goes_as _ _ _ _
-      (ap (λ (y : tree.Stmt). emission_of_stmt y s) is
-      ∙ went _ (for_each iter store body orelse) _ (stays x.location s (c.requires.at ∙ ap tree.stmt_location is))
-      ∙ ap (λ (f : Emission). f s) (each_parts iter store body orelse))
+      (ap (λ (y : tree.Stmt). run (emission_of_stmt y) s) is
+      ∙ went _ (run (for_each iter store body orelse)) _ (step_stays x.location s (c.requires.at ∙ ap tree.stmt_location is)))
       c.compile_for.ensures.goes;
   same = search rules;
 }
@@ -42,18 +40,18 @@ pub turn_begins : goal.loops::compile_for-switch_to_block-requires
 turn_begins t c =
     let a = block_opens _ _ _ c.in_ok-other.ensures.ok c.in_ok-start.ensures.made in
     let e = block_opens _ _ _ c.in_ok-end.ensures.ok a in
-    record { made = each_begun_opens (expr_tree c.deref.result.now) _ _ _ c.in_ok-begin_each.ensures.goes e; below = c.in_ok-start.ensures.below }
+    record { made = opens (each_begun (emission (expr_tree c.deref.result.now))) _ _ _ c.in_ok-begin_each.ensures.goes e; below = c.in_ok-start.ensures.below }
 
 pub other_begins : goal.loops::compile_for-switch_to_block-requires-2
 other_begins t c =
     let start = c.in_ok-start.start.0 in
     let other = c.in_ok-other.other.0 in
     let end = c.in_ok-end.end.0 in
-    let first = apart _ _ _ c.in_ok-start.ensures.made c.in_ok-other.ensures.number in
+    let first = open_block_apart _ _ _ c.in_ok-start.ensures.made c.in_ok-other.ensures.number in
     let a = block_opens _ _ _ c.in_ok-end.ensures.ok c.in_ok-other.ensures.made in
-    let e = each_begun_opens (expr_tree c.deref.result.now) _ _ _ c.in_ok-begin_each.ensures.goes a in
+    let e = opens (each_begun (emission (expr_tree c.deref.result.now))) _ _ _ c.in_ok-begin_each.ensures.goes a in
     let g = begin_opens _ _ _ start (λ e. first (sym e)) c.switch_to_block.ensures.state e in
-    record { made = each_turn_opens (expr_tree c.args.s.now.target.value) (stmts stmt_tree c.args.s.now.body) start other end _ _ _ c.in_ok-compile_turn.ensures.goes g; below = c.in_ok-other.ensures.below }
+    record { made = opens (each_turn (emission_of_store (expr_tree c.args.s.now.target.value)) (emission_of_stmts (stmts stmt_tree c.args.s.now.body)) start other end) _ _ _ c.in_ok-compile_turn.ensures.goes g; below = c.in_ok-other.ensures.below }
 
 pub end_begins : goal.loops::compile_for-switch_to_block-requires-3
 end_begins t c =
@@ -61,13 +59,13 @@ end_begins t c =
     let other = c.in_ok-other.other.0 in
     let end = c.in_ok-end.end.0 in
     let a = block_opens _ _ _ c.in_ok-other.ensures.ok c.in_ok-start.ensures.made in
-    let first = apart _ _ _ a c.in_ok-end.ensures.number in
-    let second = apart _ _ _ c.in_ok-other.ensures.made c.in_ok-end.ensures.number in
-    let e = each_begun_opens (expr_tree c.deref.result.now) _ _ _ c.in_ok-begin_each.ensures.goes c.in_ok-end.ensures.made in
+    let first = open_block_apart _ _ _ a c.in_ok-end.ensures.number in
+    let second = open_block_apart _ _ _ c.in_ok-other.ensures.made c.in_ok-end.ensures.number in
+    let e = opens (each_begun (emission (expr_tree c.deref.result.now))) _ _ _ c.in_ok-begin_each.ensures.goes c.in_ok-end.ensures.made in
     let g = begin_opens _ _ _ start (λ e. first (sym e)) c.switch_to_block.ensures.state e in
-    let j = each_turn_opens (expr_tree c.args.s.now.target.value) (stmts stmt_tree c.args.s.now.body) start other end _ _ _ c.in_ok-compile_turn.ensures.goes g in
+    let j = opens (each_turn (emission_of_store (expr_tree c.args.s.now.target.value)) (emission_of_stmts (stmts stmt_tree c.args.s.now.body)) start other end) _ _ _ c.in_ok-compile_turn.ensures.goes g in
     let m = begin_opens _ _ _ other (λ e. second (sym e)) c.switch_to_block-2.ensures.state j in
-    record { made = each_ended_opens (stmts stmt_tree c.as_slice.result.now) _ _ _ c.in_ok-end_each.ensures.goes m; below = c.in_ok-end.ensures.below }
+    record { made = opens (each_ended (emission_of_stmts (stmts stmt_tree c.as_slice.result.now))) _ _ _ c.in_ok-end_each.ensures.goes m; below = c.in_ok-end.ensures.below }
 
 pub turn_refused : goal.loops::compile_for-returns-in_err-compile_turn
 turn_refused t c = record {
@@ -79,16 +77,15 @@ turn_refused t c = record {
       let store = emission_of_store (expr_tree c.args.s.now.target.value) in
       let body = emission_of_stmts (stmts stmt_tree c.args.s.now.body) in
       let orelse = emission_of_stmts (stmts stmt_tree c.args.s.now.orelse) in
-      let rest = begin other ▸ each_ended orelse ▸ begin end in
-      let turn = each_turn store body start other end in
+      let rest : Action = begin other ▹ run (each_ended orelse) ▹ begin end ▹ run keep in
+      let turn : Action = run (each_turn store body start other end) in
       let r : c.from_residual-in_err-compile_turn.result ≡ Err c.in_err-compile_turn.field-0.0 = grind arith in
       first_refuses _ _ _ _ _ rest r
-      (ap (λ (x : Expr). each_by_parts (emission (expr_tree x)) store body orelse (state c.args.em.now)) (sym c.deref.ensures)
-      ∙ three_blocks (λ x y z. each_begun iter ▸ begin x ▸ each_turn store body x y z ▸ begin y ▸ each_ended orelse ▸ begin z) (state c.args.em.now) _ _ _ start other end
+      (ap (λ (x : Expr). run (for_each (emission (expr_tree x)) store body orelse) (state c.args.em.now)) (sym c.deref.ensures)
+      ∙ three_made (λ x y z. each_begun iter) (λ x y z. each_turn store body x y z) (λ x y z. each_ended orelse) (λ x y z. keep) (state c.args.em.now) _ _ _ start other end
       c.in_ok-start.ensures.ok c.in_ok-start.ensures.number c.in_ok-other.ensures.ok c.in_ok-other.ensures.number c.in_ok-end.ensures.ok c.in_ok-end.ensures.number
-      ∙ went _ (begin start ▸ turn ▸ rest) _ c.in_ok-begin_each.ensures.goes
-      ∙ went _ (turn ▸ rest) _ (begin_goes start _)
-      ∙ ap (turn ▸ rest) (sym c.switch_to_block.ensures.state))
+      ∙ went _ (begin start ▹ turn ▹ rest) _ c.in_ok-begin_each.ensures.goes
+      ∙ ap (turn ▹ rest) (sym c.switch_to_block.ensures.state))
       c.in_err-compile_turn.ensures.goes;
   same = search rules;
 }
@@ -103,19 +100,18 @@ end_refused t c = record {
       let store = emission_of_store (expr_tree c.args.s.now.target.value) in
       let body = emission_of_stmts (stmts stmt_tree c.args.s.now.body) in
       let orelse = emission_of_stmts (stmts stmt_tree c.as_slice.result.now) in
-      let last = each_ended orelse ▸ begin end in
-      let turn = each_turn store body start other end in
+      let out : Action = begin end ▹ run keep in
+      let last : Action = run (each_ended orelse) ▹ out in
+      let turn : Action = run (each_turn store body start other end) in
       let r : c.from_residual-in_err-end_each.result ≡ Err c.in_err-end_each.field-0.0 = grind arith in
-      first_refuses _ _ _ _ _ (begin end) r
-      (ap (λ (x : Expr). each_by_parts (emission (expr_tree x)) store body (emission_of_stmts (stmts stmt_tree c.args.s.now.orelse)) (state c.args.em.now)) (sym c.deref.ensures)
-      ∙ ap (λ (xs : List Stmt). each_by_parts iter store body (emission_of_stmts (stmts stmt_tree xs)) (state c.args.em.now)) (sym c.as_slice.ensures)
-      ∙ three_blocks (λ x y z. each_begun iter ▸ begin x ▸ each_turn store body x y z ▸ begin y ▸ each_ended orelse ▸ begin z) (state c.args.em.now) _ _ _ start other end
+      first_refuses _ _ _ _ _ out r
+      (ap (λ (x : Expr). run (for_each (emission (expr_tree x)) store body (emission_of_stmts (stmts stmt_tree c.args.s.now.orelse))) (state c.args.em.now)) (sym c.deref.ensures)
+      ∙ ap (λ (xs : List Stmt). run (for_each iter store body (emission_of_stmts (stmts stmt_tree xs))) (state c.args.em.now)) (sym c.as_slice.ensures)
+      ∙ three_made (λ x y z. each_begun iter) (λ x y z. each_turn store body x y z) (λ x y z. each_ended orelse) (λ x y z. keep) (state c.args.em.now) _ _ _ start other end
       c.in_ok-start.ensures.ok c.in_ok-start.ensures.number c.in_ok-other.ensures.ok c.in_ok-other.ensures.number c.in_ok-end.ensures.ok c.in_ok-end.ensures.number
-      ∙ went _ (begin start ▸ turn ▸ begin other ▸ last) _ c.in_ok-begin_each.ensures.goes
-      ∙ went _ (turn ▸ begin other ▸ last) _ (begin_goes start _)
-      ∙ ap (turn ▸ begin other ▸ last) (sym c.switch_to_block.ensures.state)
-      ∙ went _ (begin other ▸ last) _ c.in_ok-compile_turn.ensures.goes
-      ∙ went _ last _ (begin_goes other _)
+      ∙ went _ (begin start ▹ turn ▹ begin other ▹ last) _ c.in_ok-begin_each.ensures.goes
+      ∙ ap (turn ▹ begin other ▹ last) (sym c.switch_to_block.ensures.state)
+      ∙ went _ (begin other ▹ last) _ c.in_ok-compile_turn.ensures.goes
       ∙ ap last (sym c.switch_to_block-2.ensures.state))
       c.in_err-end_each.ensures.goes;
   same = search rules;

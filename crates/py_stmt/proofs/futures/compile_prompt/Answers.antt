@@ -5,13 +5,14 @@ use Rattle.py_emission.specs.EmissionMods.{emission_of_single}
 use Rattle.py_emit.specs.States.{state}
 use Rattle.py_emit.specs.declared.context.EmitContext.{EmitContext}
 use Rattle.py_stmt_parts.proofs.FutureImportLemmas.{flag, flag_is, restored_last, slice_rest}
+use Rattle.py_emission_parts.specs.Running.{run}
 use Rattle.py_stmt.proofs.futures.compile_prompt.Goals as goal
 
 pub returns : goal.returns
 returns c = record {
   goes =
       let mid = state c.compile_openings.new.em in
-      let all = ap (λ (xs : List Stmt). emission_of_single (stmts stmt_tree xs) mid) (sym (slice_rest c.args.body.now c.in_ok-opening.opening.count)) ∙ c.in_ok-compile_single.ensures.goes in
+      let all = ap (λ (xs : List Stmt). run (emission_of_single (stmts stmt_tree xs)) mid) (sym (slice_rest c.args.body.now c.in_ok-opening.opening.count)) ∙ c.in_ok-compile_single.ensures.goes in
       c.in_ok-opening.ensures.opens
       ∙ restored_last _ c.in_ok-opening.opening.postponed c.context-before.result.future_annotations (flag (state c.args.em.now)) (state c.compile_single.new.em) (state c.restore.new.em) all c.restore.ensures.state (ap (λ (x : EmitContext). x.future_annotations) c.context-before.ensures ∙ sym (flag_is c.args.em.now));
   same = search rules;

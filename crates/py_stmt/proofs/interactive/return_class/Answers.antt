@@ -1,7 +1,8 @@
 use Rattle.std.proofs.Common.{rules, ◌≡◌, Err, sym, ap, ◌∙◌, arith}
 use Rattle.py_tree.specs.View.{expr_tree, exprs}
-use Rattle.py_emission_parts.specs.Children.{decorated}
-use Rattle.py_emission_parts.specs.Emitting.{◌▸◌, go_on}
+use Rattle.py_emission_parts.specs.Children.{decorated_value}
+use Rattle.py_emission_parts.specs.Emitting.{◌▸◌}
+use Rattle.py_emission_parts.specs.Running.{on_done, run}
 use Rattle.py_emission_parts.specs.EmissionParts.{values}
 use Rattle.py_emission.specs.Emission.{all_emissions}
 use Rattle.py_emission.specs.EmissionMods.{stored_and_returned}
@@ -15,8 +16,8 @@ pub returns-in_err-compile_decorated : goal.returns-in_err-compile_decorated
 returns-in_err-compile_decorated c = record {
   goes =
       let s = c.args.s.now in
-      let w = decorated (values (all_emissions (exprs expr_tree s.decorator_list))) (class_emission s) ▸ stored_and_returned s.name in
+      let w = decorated_value (values (all_emissions (exprs expr_tree s.decorator_list))) (class_emission s) ▸ stored_and_returned s.name in
       let r : c.from_residual.result ≡ Err c.in_err-compile_decorated.field-0.0 = grind arith in
-      first_refuses _ _ _ _ _ (stored_and_returned s.name) r (ap (λ o. go_on o w) (move_goes s.location (state c.args.em.now)) ∙ ap w (sym c.set_location.ensures.state)) c.in_err-compile_decorated.ensures.goes;
+      first_refuses _ _ _ _ _ (run (stored_and_returned s.name)) r (ap (λ o. on_done o (run w)) (move_goes s.location (state c.args.em.now)) ∙ ap (run w) (sym c.set_location.ensures.state)) c.in_err-compile_decorated.ensures.goes;
   same = search rules;
 }

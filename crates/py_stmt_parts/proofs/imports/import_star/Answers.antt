@@ -6,6 +6,7 @@ use Rattle.py_base.specs.declared.errors.CodegenErrorType.{CodegenErrorType}
 use Rattle.py_base.specs.declared.errors.CodegenErrorType.TheVariants as error
 use Rattle.py_emission_parts.specs.Context.{is_function}
 use Rattle.py_emission_parts.specs.Emitting.{◌▸◌, by_context, emit, refuse}
+use Rattle.py_emission_parts.specs.Running.{run}
 use Rattle.py_emission.specs.EmissionImports.{emission_of_module}
 use Rattle.py_emission.specs.Imports.{asked_all}
 use Rattle.py_emit.specs.States.{state}
@@ -19,7 +20,7 @@ returns-then-is_function c = record {
       let s = state c.args.em.now in
       let i = c.args.s.now in
       let within : is_function s.around.context.typ ≡ true = ap is_function (sym c.scope_type.ensures) ∙ sym c.is_function.ensures ∙ c.if-is_function.true in
-      λ n. ap (λ b. (if b then refuse error.FunctionImportStar else emission_of_module i.«module» i.level asked_all ▸ emit op.ImportStar 0) s) within
+      λ n. ap (λ b. run (if b then refuse error.FunctionImportStar else emission_of_module i.«module» i.level asked_all ▸ emit op.ImportStar 0) s) within
       ∙ refused_as error.FunctionImportStar s c.refuse-error.result (ap (λ (x : LocatedError CodegenErrorType). x.error) c.refuse-error.ensures.told) (ap (λ (x : LocatedError CodegenErrorType). x.location) c.refuse-error.ensures.told);
   same = search rules;
 }

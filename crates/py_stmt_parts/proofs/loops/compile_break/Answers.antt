@@ -1,6 +1,7 @@
 use Rattle.std.proofs.Common.{rules, ◌≡◌, None, ◌∙◌, ap, sym}
 use Rattle.py_base.specs.declared.location.LocatedError.{LocatedError}
 use Rattle.py_bytecode.specs.declared.instruction.Instruction.TheVariants as op
+use Rattle.py_emission_parts.specs.Running.{run}
 use Rattle.py_emission.specs.EmissionStmts.{leave_loop}
 use Rattle.py_base.specs.declared.errors.CodegenErrorType.{CodegenErrorType}
 use Rattle.py_base.specs.declared.errors.CodegenErrorType.TheVariants as error
@@ -14,7 +15,7 @@ unfolding rest
 returns-in-None c = record {
   goes =
       let none : (rest c.args.em.now).context.loop_blocks ≡ None = ap (λ (x : EmitContext). x.loop_blocks) (sym c.context.ensures) ∙ c.in-None.is in
-      λ n. ap (λ x. leave_loop op.Break (λ y. y.on_break) error.InvalidBreak (loop_blocks x) (state c.args.em.now)) none
+      λ n. ap (λ x. run (leave_loop op.Break (λ y. y.on_break) error.InvalidBreak (loop_blocks x)) (state c.args.em.now)) none
       ∙ refused_as error.InvalidBreak (state c.args.em.now) c.refuse-error.result (ap (λ (x : LocatedError CodegenErrorType). x.error) c.refuse-error.ensures.told) (ap (λ (x : LocatedError CodegenErrorType). x.location) c.refuse-error.ensures.told);
   same = search rules;
 }

@@ -1,5 +1,4 @@
 use Rattle.std.proofs.Common.{rules, ◌≡◌, ◌∙◌, Err, ap, subst, arith}
-use Rattle.py_emission_parts.specs.Emitting.{Emission}
 use Rattle.py_emit.specs.States.{state}
 use Rattle.py_emit.proofs.Joined.{first_refuses, went}
 use Rattle.py_stmt_parts.specs.Managing.{AllOpen, left_all}
@@ -20,7 +19,7 @@ loop-end-preserved c =
       others_open at c.pop.new.self c.in-Some.end _ _ c.in_ok-leave_item.ensures.goes (subst (λ bs. AllOpen bs now) c.in-Some.ensures c.loop-end.invariant.1),
       c.loop-end.invariant.2
           ∙ ap (λ bs. left_all at bs now) c.in-Some.ensures
-          ∙ ap (λ (f : Emission). f now) (left_push at c.pop.new.self c.in-Some.end)
+          ∙ left_push at c.pop.new.self c.in-Some.end now
           ∙ went _ _ _ c.in_ok-leave_item.ensures.goes,
     )
 
@@ -30,6 +29,6 @@ returns-in_err-leave_item c = record {
       let at = c.args.location.now in
       let now = state c.loop-end.em in
       let r : c.from_residual.result ≡ Err c.in_err-leave_item.field-0.0 = grind arith in
-      first_refuses _ _ _ _ _ _ r (c.loop-end.invariant.2 ∙ ap (λ bs. left_all at bs now) c.in-Some.ensures ∙ ap (λ (f : Emission). f now) (left_push at c.pop.new.self c.in-Some.end)) c.in_err-leave_item.ensures.goes;
+      first_refuses _ _ _ _ _ _ r (c.loop-end.invariant.2 ∙ ap (λ bs. left_all at bs now) c.in-Some.ensures ∙ left_push at c.pop.new.self c.in-Some.end now) c.in_err-leave_item.ensures.goes;
   same = search rules;
 }

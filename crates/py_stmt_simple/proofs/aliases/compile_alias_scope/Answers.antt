@@ -5,9 +5,9 @@ use Rattle.py_emission_parts.specs.TypeParameters.{generic_alias, hidden_shape}
 use Rattle.py_emission.specs.Emission.{emission}
 use Rattle.py_emission.specs.EmissionDefs.{emission_of_params}
 use Rattle.py_emit.specs.declared.context.Naming.TheVariants as naming
-use Rattle.py_emit.proofs.Within.{inner}
+use Rattle.py_emit.proofs.Within.{within_inner}
 use Rattle.py_expr_scopes.proofs.Scopes.{left_gives, left_keeps, refused_gives, same_path}
-use Rattle.py_stmt_simple.specs.Generics.{returned}
+use Rattle.py_stmt_simple.specs.Generics.{returned_value}
 use Rattle.py_stmt_simple.proofs.aliases.compile_alias_scope.Goals as goal
 
 pub returns : goal.returns
@@ -22,12 +22,12 @@ returns c =
     let into = c.in_ok-enter_hidden.ensures.rest in
     let same = c.in_ok-return_alias.ensures.same in
     record {
-      goes = left_gives kind.TypeParams naming.AsAround h first entry begins last c.leave_scope.new.self into same (returned v) c.leave_scope.result c.in_ok-return_alias.ensures.goes c.leave_scope.ensures.code c.leave_scope.ensures.state c.leave_scope.ensures.err;
+      goes = left_gives kind.TypeParams naming.AsAround h first entry begins last c.leave_scope.new.self into same (returned_value v) c.leave_scope.result c.in_ok-return_alias.ensures.goes c.leave_scope.ensures.code c.leave_scope.ensures.state c.leave_scope.ensures.err;
       same = left_keeps kind.TypeParams naming.AsAround h first entry begins last c.leave_scope.new.self into same c.leave_scope.result c.leave_scope.ensures.rest c.leave_scope.ensures.err;
     }
 
 pub leave_scope-requires : goal.leave_scope-requires
-leave_scope-requires c = record { inner = inner kind.TypeParams naming.AsAround (hidden_shape 0 c.args.name.now) c.args.em.now c.enter_hidden.new.em c.return_alias.new.em c.in_ok-enter_hidden.ensures.rest c.in_ok-return_alias.ensures.same }
+leave_scope-requires c = record { inner = within_inner kind.TypeParams naming.AsAround (hidden_shape 0 c.args.name.now) c.args.em.now c.enter_hidden.new.em c.return_alias.new.em c.in_ok-enter_hidden.ensures.rest c.in_ok-return_alias.ensures.same }
 
 pub returns-in_err-return_alias : goal.returns-in_err-return_alias
 returns-in_err-return_alias c =
@@ -41,6 +41,6 @@ returns-in_err-return_alias c =
     let out = c.from_residual-in_err-return_alias.result in
     let r : out ≡ Err x = grind arith in
     record {
-      goes = refused_gives kind.TypeParams naming.AsAround h first entry begins (returned v) out x _ r c.in_err-return_alias.ensures.goes;
+      goes = refused_gives kind.TypeParams naming.AsAround h first entry begins (returned_value v) out x _ r c.in_err-return_alias.ensures.goes;
       same = same_path kind.TypeParams naming.AsAround h first entry begins entry entry c.in_ok-enter_hidden.ensures.rest refl out x _ r c.in_err-return_alias.ensures.same;
     }

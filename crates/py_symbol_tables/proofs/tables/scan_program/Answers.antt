@@ -5,7 +5,7 @@ use Rattle.py_limits.specs.Nesting.{nesting}
 use Rattle.py_limits.specs.Size.{size_of}
 use Rattle.py_shapes.specs.Valid.{stmts_shapes}
 use Rattle.py_symbol_tables.specs.Tables.{body_faults}
-use Rattle.py_symbol_tables.proofs.Firsts.{at_least, below, deep_first, large_first, malformed_first}
+use Rattle.py_symbol_tables.proofs.Firsts.{at_least, first_below, deep_first, large_first, malformed_first}
 use Rattle.py_symbol_tables.proofs.tables.scan_program.Goals as goal
 
 pub returns-then-is_none-clause-first : goal.returns-then-is_none-clause-first
@@ -20,7 +20,7 @@ returns-then-is_none-2-clause-first c =
     let d = nesting (tree.Module t) in
     let z = size_of (tree.Module t) in
     let e = c.too_large-then-is_none-2 in
-    large_first d z (stmts_shapes None t) (body_faults t) e.result e.ensures.error e.ensures.location (below c.depth_of_body.result 1024 d c.if-is_none.ensures c.depth_of_body.ensures) (at_least c.size_of_body.result 4194304 z c.if-is_none-2.ensures c.size_of_body.ensures)
+    large_first d z (stmts_shapes None t) (body_faults t) e.result e.ensures.error e.ensures.location (first_below c.depth_of_body.result 1024 d c.if-is_none.ensures c.depth_of_body.ensures) (at_least c.size_of_body.result 4194304 z c.if-is_none-2.ensures c.size_of_body.ensures)
 
 pub returns-in-Some-clause-first : goal.returns-in-Some-clause-first
 returns-in-Some-clause-first c =
@@ -28,4 +28,4 @@ returns-in-Some-clause-first c =
     let d = nesting (tree.Module t) in
     let z = size_of (tree.Module t) in
     let e = c.malformed in
-    malformed_first d z (stmts_shapes None t) (body_faults t) e.result c.in-Some.shape e.ensures.error e.ensures.location (below c.depth_of_body.result 1024 d c.if-is_none.ensures c.depth_of_body.ensures) (below c.size_of_body.result 4194304 z c.if-is_none-2.ensures c.size_of_body.ensures) (sym c.valid_body.ensures ∙ c.in-Some.is)
+    malformed_first d z (stmts_shapes None t) (body_faults t) e.result c.in-Some.shape e.ensures.error e.ensures.location (first_below c.depth_of_body.result 1024 d c.if-is_none.ensures c.depth_of_body.ensures) (first_below c.size_of_body.result 4194304 z c.if-is_none-2.ensures c.size_of_body.ensures) (sym c.valid_body.ensures ∙ c.in-Some.is)

@@ -1,6 +1,6 @@
 use Rattle.std.proofs.Common.{◌≡◌}
 use Rattle.py_bytecode.specs.View.{object}
-use Rattle.py_dataflow.specs.Known.{missing, unknown}
+use Rattle.py_dataflow.specs.Known.{missing_marks, unknown}
 use Rattle.py_dataflow.specs.Shown.{Grows}
 use Rattle.py_verify.specs.Stepping.{IsWorking}
 use Rattle.py_verify.proofs.walk.spread.Given as goal
@@ -13,4 +13,4 @@ invariant-loop l = record {
 }
 
 abbrev pub decreases-loop : goal.decreases-loop
-decreases-loop l = missing l.progress.states.items
+decreases-loop l = missing_marks l.progress.states.items

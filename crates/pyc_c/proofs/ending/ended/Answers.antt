@@ -7,7 +7,7 @@ use Rattle.pyc_c.proofs.Ended.{Ran, at_front, no_memory, no_room, ran_writes}
 use Rattle.pyc_c.proofs.ending.ended.Goals as goal
 
 pub returns-in_default-clause-run : goal.returns-in_default-clause-run
-returns-in_default-clause-run c = no_memory c.args.words.now c.args.rows.now c.args.text.now
+returns-in_default-clause-run c = no_memory c.args.words.now c.args.input.now c.args.text.now
 
 pub returns-in-Some-clause-run : goal.returns-in-Some-clause-run
 returns-in-Some-clause-run c =
@@ -25,9 +25,9 @@ returns-in-Some-clause-run c =
       room = c.run-report.ensures.room;
       line_room = c.run-report.ensures.line_room;
     } in
-    at_front words c.args.rows.now r.status c.in-Some.put c.args.text.now c.put_front.new.text c.written.result.now
+    at_front words c.args.input.now r.status c.in-Some.put c.args.text.now c.put_front.new.room c.written.result.now
     ran.form (subst (λ xs. IfSome (due_of words (Some xs)) (IsDue r.status)) c.in-Ok.ensures.source ran.is_due)
-    (ran_writes words c.args.rows.now c.in-Ok.devices.source r (length c.args.text.now) c.in-Ok.devices.out c.in-Ok.devices.err c.run-report.new.out c.run-report.new.err c.written.result.now
+    (ran_writes words c.args.input.now c.in-Ok.devices.source r (length c.args.text.now) c.in-Ok.devices.out c.in-Ok.devices.err c.run-report.new.out c.run-report.new.err c.written.result.now
     c.requires c.in-Ok.ensures.source c.in-Ok.ensures.out c.in-Ok.ensures.err ran c.written.ensures)
     c.in-Some.ensures.put.0 c.in-Some.ensures.put.2
 
@@ -47,8 +47,8 @@ returns-clause-run c =
       room = c.run-report.ensures.room;
       line_room = c.run-report.ensures.line_room;
     } in
-    subst (λ xs. IsRun words c.args.rows.now status.WriteFault 0 c.args.text.now xs) (sym c.in-None.ensures.none)
-    (no_room words c.args.rows.now r.status c.args.text.now c.written.result.now
-    (ran_writes words c.args.rows.now c.in-Ok.devices.source r (length c.args.text.now) c.in-Ok.devices.out c.in-Ok.devices.err c.run-report.new.out c.run-report.new.err c.written.result.now
+    subst (λ xs. IsRun words c.args.input.now status.WriteFault 0 c.args.text.now xs) (sym c.in-None.ensures.none)
+    (no_room words c.args.input.now r.status c.args.text.now c.written.result.now
+    (ran_writes words c.args.input.now c.in-Ok.devices.source r (length c.args.text.now) c.in-Ok.devices.out c.in-Ok.devices.err c.run-report.new.out c.run-report.new.err c.written.result.now
     c.requires c.in-Ok.ensures.source c.in-Ok.ensures.out c.in-Ok.ensures.err ran c.written.ensures)
     c.in-None.ensures.long)

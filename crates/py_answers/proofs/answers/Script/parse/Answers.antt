@@ -1,7 +1,7 @@
 use Rattle.std.proofs.Common.{◌≡◌, ◌<◌, ◌≤◌, ◌^◌, ap, map, sym, length, arith, rules, ◌∙◌}
-use Rattle.py_answers.specs.Scripts.{all_counted, spelled}
+use Rattle.py_answers.specs.Scripts.{all_counted, answer_text}
 use Rattle.py_answers.proofs.Found.{spells_none, spells_them}
-use Rattle.py_answers.proofs.ScriptTextLemmas.{counts_more, is_script, length_texts, not_spelled_at, some_text, texts, too_many, written_more, written_whole}
+use Rattle.py_answers.proofs.ScriptTextLemmas.{counts_more, is_script, length_texts, not_spelled_at, some_text, texts, script_text_too_many, written_more, written_whole}
 use Rattle.py_answers.proofs.answers.Script.parse.Goals as goal
 
 pub returns-then-len-ge-MOST-clause-none : goal.returns-then-len-ge-MOST-clause-none
@@ -9,10 +9,10 @@ returns-then-len-ge-MOST-clause-none c =
     let long = length_texts c.in_ok-pieces.pieces.items in
     let many = c.if-len-ge-MOST.true in
     let len = c.len.ensures in
-    too_many c.args.text.now (texts c.in_ok-pieces.pieces.items) c.in_ok-pieces.ensures (omega (arith, long, many, len)) (some_text c.is_empty.result c.args.text.now c.is_empty.ensures c.if-is_empty.false)
+    script_text_too_many c.args.text.now (texts c.in_ok-pieces.pieces.items) c.in_ok-pieces.ensures (omega (arith, long, many, len)) (some_text c.is_empty.result c.args.text.now c.is_empty.ensures c.if-is_empty.false)
 
 pub loop-piece-init : goal.loop-piece-init
-loop-piece-init c = record { written = ap (map spelled) c.new-answers.ensures.items; counts = ap all_counted c.new-answers.ensures.items }
+loop-piece-init c = record { written = ap (map answer_text) c.new-answers.ensures.items; counts = ap all_counted c.new-answers.ensures.items }
 
 pub returns-in_default-clause-none : goal.returns-in_default-clause-none
 returns-in_default-clause-none c =

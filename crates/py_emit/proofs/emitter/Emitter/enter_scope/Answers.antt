@@ -2,9 +2,9 @@ use Rattle.std.proofs.Common.{◌≡◌, suc, Some, sym, subst, arith}
 use Rattle.std.specs.Prelude.{OnOk}
 use Rattle.py_scope.specs.Flat.{typ_at}
 use Rattle.py_scope.specs.declared.table_type.SymbolTableType.{SymbolTableType}
-use Rattle.py_emission_parts.specs.Children.{code_head}
+use Rattle.py_emission_parts.specs.Running.{code_head}
 use Rattle.py_emission_parts.specs.Context.{inside}
-use Rattle.py_emission_parts.specs.Emitting.{begun}
+use Rattle.py_emission_parts.specs.Emitting.{initial_state}
 use Rattle.py_emit.specs.States.{entered_rest, rest, shape_of, state}
 use Rattle.py_emit.proofs.TableDropLemmas.{typ_is}
 use Rattle.py_emit.proofs.emitter.Emitter.enter_scope.Goals as goal
@@ -19,7 +19,7 @@ pub returns-clause-state : goal.returns-clause-state
 returns-clause-state g c =
     let e = c.args.self.now in
     let here = subst (λ n. typ_at e.scopes n ≡ Some c.typ-typ.result) c.next_scope-number.ensures c.typ-typ.ensures in
-    subst (λ (typ : SymbolTableType). OnOk c.open_scope.result (state c.open_scope.new.self ≡ begun (inside typ e.next (state e).around.context) e.location (suc e.next)))
+    subst (λ (typ : SymbolTableType). OnOk c.open_scope.result (state c.open_scope.new.self ≡ initial_state (inside typ e.next (state e).around.context) e.location (suc e.next)))
     (sym (typ_is e.scopes e.next c.typ-typ.result here))
     c.open_scope.ensures.state
 

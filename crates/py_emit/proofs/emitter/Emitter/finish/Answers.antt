@@ -1,11 +1,11 @@
-use Rattle.py_emit.proofs.States.{unrefused}
+use Rattle.py_emit.proofs.States.{state_unrefused}
 use Rattle.py_emit.proofs.Sealed.{emitter_sealed}
 use Rattle.py_emit.proofs.emitter.Emitter.finish.Goals as goal
 
 pub only_starved-requires : goal.only_starved-requires
 only_starved-requires c =
     let w = c.laid_out.ensures.whole in
-    unrefused c.args.self c.requires w.chain w.is_chain (c.has_short_tables.ensures c.if-not-has_short_tables.false) c.in-Err.error c.in-Err.ensures.refused
+    state_unrefused c.args.self c.requires w.chain w.is_chain (c.has_short_tables.ensures c.if-not-has_short_tables.false) c.in-Err.error c.in-Err.ensures.refused
 
 pub returns-in-Ok-clause-sealed : goal.returns-in-Ok-clause-sealed
 returns-in-Ok-clause-sealed c = emitter_sealed c.args.self c.in-Ok.code c.in-Ok.ensures.clear c.in-Ok.ensures.code

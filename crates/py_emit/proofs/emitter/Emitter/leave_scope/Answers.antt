@@ -1,6 +1,6 @@
 use Rattle.std.proofs.Common.{◌≢◌, ◌<◌, List, [], ◌∷◌, ◌++◌, length, refl, sym, ap, ◌∙◌, arith}
 use Rattle.std.specs.Option.{option_to_list}
-use Rattle.py_emission_parts.specs.Sealed.{sealed}
+use Rattle.py_emission_parts.specs.Sealed.{assembled_object}
 use Rattle.py_emit.specs.States.{head_of, left_rest, rest, source_of, state_of}
 use Rattle.py_emit.specs.declared.scopes.OpenScope.{OpenScope}
 use Rattle.py_emit.proofs.Sealed.{scope_sealed}
@@ -22,7 +22,7 @@ unfolding rest
 returns-in-Ok-clause-code c =
     let e = c.args.self.now in
     scope_sealed (source_of e) c.replace-scope.result e.location e.next c.in-Ok.code c.in-Ok.ensures.clear c.in-Ok.ensures.code
-    ∙ ap (λ (o : OpenScope). sealed e.opts.optimize (head_of o.code) (state_of (source_of e) o e.location e.next)) c.replace-scope.ensures.value
+    ∙ ap (λ (o : OpenScope). assembled_object e.opts.optimize (head_of o.code) (state_of (source_of e) o e.location e.next)) c.replace-scope.ensures.value
 
 pub returns-in-Ok-clause-state : goal.returns-in-Ok-clause-state
 unfolding rest

@@ -1,6 +1,6 @@
 use Rattle.std.proofs.Common.{◌≡◌, suc, [], ◌∷◌, ◌++◌, ap, ◌∙◌, arith}
-use Rattle.py_emission_parts.specs.Emitting.{begun}
-use Rattle.py_emit.specs.States.{entered, head_of, rest, shape_of, source_of, state, state_of}
+use Rattle.py_emission_parts.specs.Emitting.{initial_state}
+use Rattle.py_emit.specs.States.{nested_context, head_of, rest, shape_of, source_of, state, state_of}
 use Rattle.py_emit.specs.declared.scopes.OpenScope.{OpenScope}
 use Rattle.py_emit.proofs.Within.{head_within}
 use Rattle.py_emit.proofs.emitter.Emitter.open_scope.Goals as goal
@@ -12,7 +12,7 @@ returns-clause-state c =
     let n : c.in-Some.next ≡ suc e.next = omega (arith, h) in
     ap (λ (o : OpenScope). state_of (source_of e) o e.location c.in-Some.next) c.replace-around.ensures.after
     ∙ c.in-Ok.ensures.state e.location c.in-Some.next
-    ∙ ap (begun (entered c.args.typ c.args.naming (state e)) e.location) n
+    ∙ ap (initial_state (nested_context c.args.typ c.args.naming (state e)) e.location) n
 
 pub returns-clause-rest : goal.returns-clause-rest
 unfolding rest

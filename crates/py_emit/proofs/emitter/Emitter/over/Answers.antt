@@ -1,7 +1,7 @@
 use Rattle.std.proofs.Common.{◌≡◌, [], false, None, refl, ap, ◌∙◌, rules}
 use Rattle.py_scope.specs.declared.table_type.SymbolTableType.TheVariants as kind
 use Rattle.py_emission_parts.specs.Context.{outermost}
-use Rattle.py_emission_parts.specs.Emitting.{begun}
+use Rattle.py_emission_parts.specs.Emitting.{initial_state}
 use Rattle.py_emission_parts.specs.Sealed.{Head}
 use Rattle.py_emit.specs.States.{Source, no_context, rest}
 use Rattle.py_emit.specs.declared.scopes.OpenScope.{OpenScope}
@@ -17,7 +17,7 @@ returns-clause-state c =
     let empty : c.from_string.result ≡ [] = search (rules, c.from_string.ensures, c.new.ensures) in
     let d = c.default.ensures in
     begun_state x o _ _ c.default.result 1 f refl (context_outermost x o refl empty refl refl refl (ap (λ (h : Head). h.cellvars) f.head) (ap (λ (h : Head). h.freevars) f.head)) refl
-    ∙ (λ i. begun (outermost x.opts.optimize x.path x.scopes) (record { row = d.row i; column = d.column i }) 1)
+    ∙ (λ i. initial_state (outermost x.opts.optimize x.path x.scopes) (record { row = d.row i; column = d.column i }) 1)
 
 pub returns-clause-rest : goal.returns-clause-rest
 unfolding rest

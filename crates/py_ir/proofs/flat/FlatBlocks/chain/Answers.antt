@@ -7,7 +7,7 @@ use Rattle.py_ir.specs.BlockList.{BlockList, IsWhole}
 use Rattle.py_ir.specs.Chain.{IsChain, plain}
 use Rattle.py_ir.specs.Spans.{blks_of}
 use Rattle.py_ir.proofs.SpanLemmas.{length-blks}
-use Rattle.py_ir.proofs.BlockPlacementLemmas.{whole}
+use Rattle.py_ir.proofs.BlockPlacementLemmas.{block_placement_whole}
 use Rattle.py_ir.proofs.Listed.{Going, going_first, going_inside, going_fewer, span_ends, span_leads}
 use Rattle.py_ir.proofs.flat.FlatBlocks.chain.Goals as goal
 
@@ -41,7 +41,7 @@ loop-chain-preserved c =
     (span_leads c.self.inside.items.items c.self.inside.spans.items c.loop-chain.chain.items c.loop-chain.block c.index.result.now c.loop-chain.invariant c.index.ensures (sym c.eq.ensures ∙ c.if-eq.false))
 
 pub returns-then-eq-clause-whole : goal.returns-then-eq-clause-whole
-returns-then-eq-clause-whole c = subst IsWhole c.self.view_is (whole c.self.inside.items.items c.self.inside.spans.items c.self.inside.current.0 c.self.invariant c.self.inside.current refl)
+returns-then-eq-clause-whole c = subst IsWhole c.self.view_is (block_placement_whole c.self.inside.items.items c.self.inside.spans.items c.self.inside.current.0 c.self.invariant c.self.inside.current refl)
 
 pub returns-in_err-push-clause-whole : goal.returns-in_err-push-clause-whole
-returns-in_err-push-clause-whole c = subst IsWhole c.self.view_is (whole c.self.inside.items.items c.self.inside.spans.items c.self.inside.current.0 c.self.invariant c.self.inside.current refl)
+returns-in_err-push-clause-whole c = subst IsWhole c.self.view_is (block_placement_whole c.self.inside.items.items c.self.inside.spans.items c.self.inside.current.0 c.self.invariant c.self.inside.current refl)

@@ -2,7 +2,7 @@ use Rattle.std.proofs.Common.{◌≡◌, ◌<◌, length, sym, subst, arith, ref
 use Rattle.py_ir.specs.BlockList.{IsWhole}
 use Rattle.std.proofs.lemmas.Grind.{common_steps}
 use Rattle.py_ir.specs.Spans.{Follows}
-use Rattle.py_ir.proofs.BlockPlacementLemmas.{new_follows, whole}
+use Rattle.py_ir.proofs.BlockPlacementLemmas.{new_follows, block_placement_whole}
 use Rattle.py_ir.proofs.flat.FlatBlocks.new_block.Goals as goal
 
 pub invariant_of-self-2 : goal.invariant_of-self-2
@@ -12,10 +12,10 @@ invariant_of-self-2 c =
     subst (λ ss. Follows c.self.inside.items.items ss c.self.inside.current.0) (sym c.in_ok-push.ensures.items) (new_follows c.self.inside.items.items c.self.inside.spans.items c.self.inside.current.0 c.self.invariant few)
 
 pub returns-then-count-ge4294967295-clause-whole : goal.returns-then-count-ge4294967295-clause-whole
-returns-then-count-ge4294967295-clause-whole c = subst IsWhole c.self.view_is (whole c.self.inside.items.items c.self.inside.spans.items c.self.inside.current.0 c.self.invariant c.self.inside.current refl)
+returns-then-count-ge4294967295-clause-whole c = subst IsWhole c.self.view_is (block_placement_whole c.self.inside.items.items c.self.inside.spans.items c.self.inside.current.0 c.self.invariant c.self.inside.current refl)
 
 pub returns-in_err-push-clause-whole : goal.returns-in_err-push-clause-whole
-returns-in_err-push-clause-whole c = subst IsWhole c.self.view_is (whole c.self.inside.items.items c.self.inside.spans.items c.self.inside.current.0 c.self.invariant c.self.inside.current refl)
+returns-in_err-push-clause-whole c = subst IsWhole c.self.view_is (block_placement_whole c.self.inside.items.items c.self.inside.spans.items c.self.inside.current.0 c.self.invariant c.self.inside.current refl)
 
 pub returns-clause-whole : goal.returns-clause-whole
-returns-clause-whole c = subst IsWhole c.self.view_is (whole c.self.inside.items.items c.self.inside.spans.items c.self.inside.current.0 c.self.invariant c.self.inside.current refl)
+returns-clause-whole c = subst IsWhole c.self.view_is (block_placement_whole c.self.inside.items.items c.self.inside.spans.items c.self.inside.current.0 c.self.invariant c.self.inside.current refl)

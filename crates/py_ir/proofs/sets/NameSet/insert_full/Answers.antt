@@ -4,7 +4,7 @@ use Rattle.std.specs.List.{position_or_len}
 use Rattle.std.specs.Option.{option_map}
 use Rattle.std.specs.String.{string_eq}
 use Rattle.std.proofs.lemmas.Option.{slice_get-map}
-use Rattle.py_bytecode.specs.Equality.{entered, text_eq}
+use Rattle.py_bytecode.specs.Equality.{insert_if_new, text_eq}
 use Rattle.py_bytecode.proofs.Entered.{entered_mapped, place_mapped}
 use Rattle.py_ir.proofs.sets.NameSet.insert_full.Goals.{in-Ok, in-Err}
 use Rattle.py_ir.proofs.sets.NameSet.insert_full.Goals as goal
@@ -15,7 +15,7 @@ returns-clause-ok c =
       | in-Ok w ↦ rw w.result-is
           (ap (map string_bytes) w.in-Ok.ensures.keys
           ∙ entered_mapped string_bytes string_eq text_eq (λ x y. refl) c.self.inside.set.keys c.into_string.result
-          ∙ (λ j. entered text_eq (c.self.view_is j) (c.into_string.ensures j)))
+          ∙ (λ j. insert_if_new text_eq (c.self.view_is j) (c.into_string.ensures j)))
       | in-Err w ↦ rw w.result-is tt
     ]
 

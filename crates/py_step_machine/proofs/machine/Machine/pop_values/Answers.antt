@@ -4,7 +4,7 @@ use Rattle.std.proofs.lemmas.Result.{err_from_is_err_and}
 use Rattle.py_answers.specs.Told.{values_of}
 use Rattle.py_step_machine.specs.State.{state_of}
 use Rattle.py_step_machine.proofs.ProgramStopLemmas.{halts_same}
-use Rattle.py_step_machine.proofs.TakenValueLemmas.{all_taken, taken, taken_halts, turned}
+use Rattle.py_step_machine.proofs.TakenValueLemmas.{all_taken, taken_value_taken, taken_halts, taken_value_turned}
 use Rattle.py_step_machine.proofs.machine.Machine.pop_values.Goals as goal
 
 pub loop-left-init : goal.loop-left-init
@@ -17,8 +17,8 @@ returns-in_err-operand c =
 
 pub loop-left-preserved : goal.loop-left-preserved
 loop-left-preserved c =
-    rw (c.in_ok-push.ensures.items, turned c.loop-left.operands.items c.in_ok-operand.operand)
-    (sym (taken c.loop-left.left c.loop-left-test.true (values_of (reverse c.loop-left.operands.items)) _ _ _ c.in_ok-operand.ensures) ∙ c.loop-left.invariant)
+    rw (c.in_ok-push.ensures.items, taken_value_turned c.loop-left.operands.items c.in_ok-operand.operand)
+    (sym (taken_value_taken c.loop-left.left c.loop-left-test.true (values_of (reverse c.loop-left.operands.items)) _ _ _ c.in_ok-operand.ensures) ∙ c.loop-left.invariant)
 
 pub returns : goal.returns
 returns c =

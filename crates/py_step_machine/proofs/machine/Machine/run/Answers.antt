@@ -3,7 +3,7 @@ use Rattle.std.proofs.lemmas.Result.{err_from_is_err_and}
 use Rattle.py_bytecode.specs.View.{object}
 use Rattle.py_step_machine.specs.State.{state_of}
 use Rattle.py_step_machine.proofs.ProgramStopLemmas.{fails_same}
-use Rattle.py_step_machine.proofs.RunViewLemmas.{run_ends, run_fails, run_on}
+use Rattle.py_step_machine.proofs.RunViewLemmas.{run_view_run_ends, run_fails, run_on}
 use Rattle.py_step_machine.proofs.machine.Machine.run.Goals as goal
 
 pub returns-in_err-place : goal.returns-in_err-place
@@ -17,4 +17,4 @@ loop-left-preserved c = sym (run_on (object c.args.code.now) c.loop-left.left c.
 pub returns : goal.returns
 returns c =
     let none : c.loop-left.left ≡ 0 = omega arith in
-    sym c.loop-left.invariant ∙ run_ends (object c.args.code.now) c.loop-left.left none c.loop-left.place (state_of c.loop-left.self)
+    sym c.loop-left.invariant ∙ run_view_run_ends (object c.args.code.now) c.loop-left.left none c.loop-left.place (state_of c.loop-left.self)

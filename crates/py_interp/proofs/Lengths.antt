@@ -1,0 +1,12 @@
+-- As many values are told as there are.
+use Rattle.std.proofs.Common.{◌≡◌, refl, ap, suc, List, [], ◌∷◌, ◌++◌, length}
+use Rattle.py_answers.specs.declared.trace.StepValue.{StepValue}
+use Rattle.py_answers.specs.Told.{value_of, values_of}
+
+pub lengths : (xs : List StepValue) → length (values_of xs) ≡ length xs
+lengths [] = refl
+lengths (x ∷ xs) = ap suc (lengths xs)
+
+pub length_behind : (xs ys : List StepValue) → values_of (xs ++ ys) ≡ values_of xs ++ values_of ys
+length_behind [] ys = refl
+length_behind (x ∷ xs) ys = ap (λ l. value_of x ∷ l) (length_behind xs ys)

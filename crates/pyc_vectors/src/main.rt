@@ -1,0 +1,28 @@
+//! Runs of the program over devices in memory, and calls of std's readers and writers that fail. Each line of standard input
+//! is a case; on standard output what comes of it stands in its place. A line that begins with `#` is copied: it tells what
+//! follows.
+#![tactic(auto)]
+
+mod answers;
+mod bytes;
+mod cases;
+mod devices;
+mod interrupted;
+
+use answers::answer;
+use std::io::{self, BufRead, BufReader, BufWriter, Write};
+
+/// Answers each line that is a case.
+fn main(rt: HostRuntime) -> io::Result<()> {
+    let alloc = rt.alloc();
+    let mut out = BufWriter::new(alloc, io::writer(&rt))?;
+    for line in BufReader::new(alloc, rt.reader())?.lines(alloc) {
+        let line = line?;
+        if line.starts_with('#') {
+            writeln!(out, "{line}")?;
+        } else {
+            write!(out, "{}", answer(alloc, line.as_str())?)?;
+        }
+    }
+    out.flush()
+}
