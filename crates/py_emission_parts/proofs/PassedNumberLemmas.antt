@@ -2,9 +2,9 @@
 use Rattle.std.proofs.Common.{◌≡◌, ◌⊎◌, ℕ, suc, ◌≤◌, Some, true, inl, inr, refl, sym, subst, arith}
 use Rattle.py_bytecode.specs.Objects.{Object}
 use Rattle.py_emission_parts.specs.Emitting.{State, Outcome, Done, TooWide, Refused, Emission, Then, One, Two, Three, ByContext, ByLoops, InLoop, Postpones, Retold, Within, initial_state, with_block, with_loops, with_postponed, with_step}
-use Rattle.py_emission_parts.specs.Running.{Action, begins, behind_child, code_head, on_done, on_sealed, retold_in, run}
+use Rattle.py_emission_parts.specs.Running.{Action, begins, behind_child, code_head, ended, on_done, on_sealed, retold_in, run}
 use Rattle.py_emission_parts.specs.Sealed.{Head, assembled_object}
-use Rattle.py_emission_parts.proofs.EmissionLawLemmas.{EmissionLawHolds}
+use Rattle.py_emission_parts.proofs.EmissionLawLemmas.{EmissionLawHolds, ended_done}
 use Rattle.py_emission_parts.proofs.GrowthLemmas.{numbers_grow}
 
 -- this state is passed first, or one of those after it, where it is done
@@ -38,7 +38,7 @@ Passes (Retold a) s t = Passes a s t
 Passes (Within within h body k) s t =
     let c = within s.around.context s.next in
     Passes body (initial_state c s.location (suc s.next)) t
-    ⊎ Behind (run body (initial_state c s.location (suc s.next))) (λ m. Passes (k (assembled_object c.level (code_head c h s.location) m)) (behind_child s m) t)
+    ⊎ Behind (ended s.around.context.scopes s.next (run body (initial_state c s.location (suc s.next)))) (λ m. Passes (k (assembled_object c.level (code_head c h s.location) m)) (behind_child s m) t)
 Passes other s t = t ≡ s
 
 -- one part after another
@@ -118,8 +118,8 @@ passed_numbers (Within within h body k) s r t e p =
     let c = within s.around.context s.next in
     let b = initial_state c s.location (suc s.next) in
     let d = code_head c h s.location in
-    sealed_parts c.level d s (run body b) (λ o. run (k o)) r t (Passes body b t) (λ m. Passes (k (assembled_object c.level d m)) (behind_child s m) t) e
-    (λ m x q. passed_numbers body b m t x q) (λ m x. numbers_grow (k (assembled_object c.level d m)) (behind_child s m) r x) (λ m x q. passed_numbers (k (assembled_object c.level d m)) (behind_child s m) r t x q) p
+    sealed_parts c.level d s (ended s.around.context.scopes s.next (run body b)) (λ o. run (k o)) r t (Passes body b t) (λ m. Passes (k (assembled_object c.level d m)) (behind_child s m) t) e
+    (λ m x q. passed_numbers body b m t (ended_done s.around.context.scopes s.next (run body b) m x).0 q) (λ m x. numbers_grow (k (assembled_object c.level d m)) (behind_child s m) r x) (λ m x q. passed_numbers (k (assembled_object c.level d m)) (behind_child s m) r t x q) p
 passed_numbers (Two f g h) s r t e p =
     let n = s.blocks in
     let m = suc n in

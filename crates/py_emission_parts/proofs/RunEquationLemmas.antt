@@ -15,7 +15,9 @@ use Rattle.py_emission_parts.specs.Children.{child, load_cell}
 use Rattle.py_emission_parts.specs.Comprehensions.{as_element}
 use Rattle.py_emission_parts.specs.Context.{Context, cell_place, mangled_by}
 use Rattle.py_emission_parts.specs.Emitting.{Put, State, Done, TooWide, Refused, LoopBlocks, Emission, ◌▸◌, add_constant, add_varname, initial_state, by_context, by_level, by_loops, emit, emit_constant, emit_count, emit_mangled, emit_name, emit_varname, generator_mark, in_loop, jump, keep, with_location, move, one_block, pass_over, place_in, postponed_part, refuse, three_blocks, two_blocks, with_block, with_constant, with_loops, with_name, with_postponed, with_step, with_varname}
-use Rattle.py_emission_parts.specs.Running.{Action, ◌▹◌, begin, code_head, on_done, on_sealed, put, retold_in, run}
+use Rattle.py_emission_parts.specs.Refused.{mismatch}
+use Rattle.py_emission_parts.specs.Tables.{are_whole}
+use Rattle.py_emission_parts.specs.Running.{Action, ◌▹◌, begin, code_head, ended, on_done, on_sealed, put, retold_in, run}
 use Rattle.py_emission_parts.specs.Within.{Shape}
 
 -- a block is made, which begins later
@@ -72,8 +74,8 @@ generating_is : (s : State) → run generator_mark s ≡ Done (record s { genera
 unfolding generator_mark
 generating_is s = refl
 
-passed_is : (n : ℕ) (s : State) → run (pass_over n) s ≡ Done (record s { next = s.next + n })
-unfolding pass_over
+passed_is : (n : ℕ) (s : State) → run (pass_over n) s ≡ (if are_whole s.around.context.scopes s.next n then Done (record s { next = s.next + n }) else run (refuse mismatch) s)
+unfolding pass_over refuse
 passed_is n s = refl
 
 move_is : (at : SourceLocation) (s : State) → run (move at) s ≡ Done (with_location at s)
@@ -118,7 +120,7 @@ unfolding load_cell by_context
 run_equation_cell_is x s = run_equation_chosen (list_any (text_eq x) (s.around.context.cells ++ s.around.context.frees)) (emit op.LoadClosure (cell_place s.around.context x)) (refuse error.MissingCell) s
 
 child_is : (within : Context → (number : ℕ) → Context) (h : Shape) (body : Emission) (k : Object → Emission) (s : State) →
-    run (child within h body k) s ≡ (let c = within s.around.context s.next in on_sealed c.level (code_head c h s.location) s (run body (initial_state c s.location (suc s.next))) (λ o. run (k o)))
+    run (child within h body k) s ≡ (let c = within s.around.context s.next in on_sealed c.level (code_head c h s.location) s (ended s.around.context.scopes s.next (run body (initial_state c s.location (suc s.next)))) (λ o. run (k o)))
 unfolding child
 child_is within h body k s = refl
 

@@ -14,3 +14,4 @@ pub mod Classes
 pub mod TypeParameters
 pub mod Within
 pub mod Refused
+pub mod Tables

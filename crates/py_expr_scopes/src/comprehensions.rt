@@ -12,6 +12,7 @@ ghost use Rattle.py_emit.specs.States.{Emits, IsStarved, nested_context, entered
 ghost use Rattle.py_expr_scopes.specs.Comprehensions.{added_element, collection, final_return, is_awaited, name_of};
 
 use crate::awaits::contains_await;
+use crate::functions::enter_next;
 use bitflags::Flags;
 use py_base::{CodegenError, CodegenErrorType, LocatedError};
 use py_bytecode::{CodeFlags, CodeObject, ConstantData, Instruction, MakeFunctionFlags};
@@ -100,7 +101,7 @@ pub fn enter_comprehension(em: &mut Emitter, name: Text) -> Result<(), CodegenEr
         kwonlyarg_count: 0,
         obj_name: name,
     };
-    em.open_scope(head, SymbolTableType::Comprehension, Naming::AsAround)
+    enter_next(em, head, SymbolTableType::Comprehension, Naming::AsAround)
 }
 
 /// Emits the empty collection, where there is one.

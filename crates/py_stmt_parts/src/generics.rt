@@ -19,7 +19,7 @@ use py_base::{CodegenError, CodegenErrorType};
 use py_bytecode::{CodeFlags, CodeObject, ConstantData, Instruction, MakeFunctionFlags};
 use py_emit::{Emitter, NameUsage, Naming, ScopeHead, emit};
 use py_expr_parts::expressions::refuse_unsupported;
-use py_expr_scopes::functions::Defaults;
+use py_expr_scopes::functions::{Defaults, enter_next};
 use py_name_uses::type_params::has_default;
 use py_scope::SymbolTableType;
 use py_tree::{Arguments, SourceLocation, Text, TypeParam};
@@ -152,7 +152,7 @@ pub fn enter_hidden(em: &mut Emitter, name: &str, count: u32) -> Result<(), Code
         kwonlyarg_count: 0,
         obj_name,
     };
-    em.open_scope(head, SymbolTableType::TypeParams, Naming::AsAround)
+    enter_next(em, head, SymbolTableType::TypeParams, Naming::AsAround)
 }
 
 /// Makes a function of the code of a type-parameter scope, under the name of the scope.

@@ -1,4 +1,6 @@
 -- Emissions that are not too wide and miss no cell: how much they take in the tables, where the next scope then has its number, and what stands around.
+use Rattle.py_emission_parts.specs.Refused.{mismatch}
+use Rattle.py_emission_parts.specs.Tables.{are_whole}
 use Rattle.std.proofs.Common.{◌≡◌, refl, sym, ap, ◌∙◌, subst, ℕ, ◌+◌, ◌<◌, ◌≤◌, ◌^◌, List, [], ◌∷◌, ◌++◌, length, Bool, true, false, not, Option, Some, None, arith, length-append}
 use Rattle.std.specs.Prelude.{cond, nat_lt, if◌then◌else◌}
 use Rattle.std.specs.List.{list_any, position_or_len}
@@ -286,7 +288,12 @@ postponing_fits {c} {k} {l} {w} {a} y = record {
 -- scopes that are passed over
 pub pass_fits : {c : Around} {k : ℕ} (n : ℕ) → EmissionFits c k (k + n) 0 (pass_over n)
 unfolding pass_over fit_taken
-pass_fits n = record { fits = λ s h r. (record { around = h.around; next = ap (λ j. j + n) h.next; short = h.short }, omega arith) }
+pass_fits {c} {k} n = record { fits = λ s h r. go s h (are_whole s.around.context.scopes s.next n) }
+  where
+    go : (s : State) → FitStands c k s → (b : Bool) → FitsIn c (k + n) (fit_taken s + 0) (if b then Done (record s { next = s.next + n }) else Refused mismatch (Some s.location))
+    unfolding fit_taken
+    go s h true = (record { around = h.around; next = ap (λ j. j + n) h.next; short = h.short }, omega arith)
+    go s h false = tt
 
 -- as many as annotations that are postponed have
 pub scopes_fit : {c : Around} {k : ℕ} (count : (postponed : Bool) → ℕ) → EmissionFits c k (k + count c.context.postponed) 0 (pass_scopes count)

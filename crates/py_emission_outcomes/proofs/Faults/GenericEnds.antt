@@ -22,7 +22,7 @@ use Rattle.py_emission_parts.specs.Emitting.{Around, Emission, ◌▸◌, emit}
 use Rattle.py_emission_parts.specs.EmissionParts.{in_turn}
 use Rattle.py_emission_parts.specs.Refused.{no_assignment}
 use Rattle.py_emission_parts.specs.TypeParameters.{generic_alias, hidden, hidden_shape, kept_as, load_handed, no_defaults}
-use Rattle.py_emission_outcomes.proofs.Faults.RefusalLemmas.{RefusalEndsAs, Passes, accessed_passes, child_ends, constant_passes, count_passes, emit_passes, ends_so, ends_there, refusal_in_function, last_ends, moved_ends, nothing_passes, refusal_outside, own_context_ends, refusal_ends, then_ends, unless_debug_last, varname_passes}
+use Rattle.py_emission_outcomes.proofs.Faults.RefusalLemmas.{RefusalEndsAs, Passes, accessed_passes, child_ends, constant_passes, count_passes, emit_passes, ends_so, ends_there, refusal_in_function, last_ends, moved_ends, nothing_passes, refusal_outside, own_context_ends, refusal_ends, then_ends, unless_debug_last, varname_passes, hidden_scopes}
 use Rattle.py_emission_outcomes.proofs.Faults.RefusingDefaults.{defaults_end, made_passes}
 use Rattle.py_emission_outcomes.proofs.Faults.RefusingDisplays.{last_append}
 use Rattle.py_emission_outcomes.proofs.Faults.RefusingExprs.{refusing_expr_both_none, defaults_ending, expr_ends}
@@ -81,7 +81,7 @@ module _ (c : Around) where
       → RefusalEndsAs c (hidden name d value) p q (fs ++ gs)
   hidden_ends {value = value} {fs = fs} name d x y =
       let count = length (passed_defaults d.positional d.keyword) in
-      let own = child_ends hidden_inside (hidden_shape count name) (value ▸ emit op.ReturnValue 0) (made_function 0 (hidden_name name)) (λ n. last_ends (x n) (emit_passes op.ReturnValue 0)) (λ o. made_passes 0 (hidden_name name) o) in
+      let own = child_ends hidden_inside hidden_scopes (hidden_shape count name) (value ▸ emit op.ReturnValue 0) (made_function 0 (hidden_name name)) (λ n. last_ends (x n) (emit_passes op.ReturnValue 0)) (λ o. made_passes 0 (hidden_name name) o) in
       then_ends (ends_so (append-nil fs) own) (last_ends y (count_passes op.CallFunctionPositional count))
 
   -- without defaults

@@ -19,7 +19,7 @@ use Rattle.py_emission_parts.specs.Context.{Context, inside}
 use Rattle.py_emission_parts.specs.Emitting.{Around, Emission, Outcome, ◌▸◌}
 use Rattle.py_emission_parts.specs.Running.{retold_in, run}
 use Rattle.py_emission.specs.Emission.{all_emissions, clause_emissions, emissions, stores}
-use Rattle.py_emission_outcomes.proofs.Faults.RefusalLemmas.{RefusalEnds, RefusalEndsAs, GoesOn, Misses, Stops, Wide, child_ends, constant_passes, count_passes, emit_passes, ends_so, generating_passes, guarded_ends, refusal_in_function, jump_passes, last_ends, nothing_passes, refusal_outside, then_ends, two_blocks_end, varname_passes}
+use Rattle.py_emission_outcomes.proofs.Faults.RefusalLemmas.{RefusalEnds, RefusalEndsAs, GoesOn, Misses, Stops, Wide, child_ends, constant_passes, count_passes, emit_passes, ends_so, generating_passes, guarded_ends, refusal_in_function, jump_passes, last_ends, nothing_passes, refusal_outside, then_ends, two_blocks_end, varname_passes, Parts, comprehension_scopes}
 use Rattle.py_emission_outcomes.proofs.Faults.RefusingTests.{AllEnding, EndsWell}
 use Rattle.py_emission_outcomes.proofs.Faults.RefusingTargets.{Storing}
 use Rattle.py_emission_outcomes.proofs.Faults.RefusingDefaults.{made_passes}
@@ -28,6 +28,7 @@ use Rattle.py_emission_outcomes.proofs.Faults.RefusingDefaults.{made_passes}
 retold_so : (c : Around) (fs : List Fault) (q : SourceLocation) (o : Outcome) → RefusalEnds c fs q o → RefusalEnds c (retold_faults fs) q (retold_in o)
 retold_so c fs q o (Wide e) = Wide (ap retold_in e)
 retold_so c fs q o (Misses at e) = Misses at (ap retold_in e)
+retold_so c fs q o (Parts at h e) = Parts at h (ap retold_in e)
 retold_so c fs q o (Stops e at rest f g) = Stops (retold e) at (retold_faults rest) (ap retold_in f) (ap retold_faults g)
 retold_so c fs q o (GoesOn r at z f g) = GoesOn r at z (ap retold_in f) (ap retold_faults g)
 
@@ -117,7 +118,7 @@ module _ (c : Around) where
   unfolding called_at_once
   called_ends at awaited name tree.no_generators fs ws some x y = absurd cc
   called_ends {scope = scope} {m = m} at awaited name (tree.more_generators target iter ifs is_async gs) fs ws some x y =
-      let scope_made = ends_so (append-nil (fs ++ ws)) (child_ends comprehension_inside (comprehension_shape name) scope (made_function 0 name) y (made_passes 0 name)) in
+      let scope_made = ends_so (append-nil (fs ++ ws)) (child_ends comprehension_inside comprehension_scopes (comprehension_shape name) scope (made_function 0 name) y (made_passes 0 name)) in
       let called = last_ends (x.0.value m) (then_ends (emit_passes op.GetIter 0) (count_passes op.CallFunctionPositional 1)) in
       guarded_ends awaited error.NotImplementedYet (ends_so (append_assoc fs ws (faults_in (refusal_in_function c) iter).value) (then_ends scope_made called))
 

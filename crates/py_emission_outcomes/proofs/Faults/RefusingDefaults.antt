@@ -20,7 +20,7 @@ use Rattle.py_emission_parts.specs.Refused.{no_assignment}
 use Rattle.py_emission.specs.Emission.{default_emissions, emissions, keyword_only_emissions, lambda_value, positional_emissions}
 use Rattle.py_emission.specs.Parameters.{function_shape, parameters}
 use Rattle.py_emission_proof.proofs.Additions.EmissionSequenceLemmas.{emission_sequence_grouped as grouped_on, on_each}
-use Rattle.py_emission_outcomes.proofs.Faults.RefusalLemmas.{RefusalEndsAs, Passes, alike_ends, cell_passes, child_ends, constant_added, constant_passes, count_passes, emit_passes, ends_so, ends_there, refusal_in_function, last_ends, nothing_passes, refusal_outside, scopes_passed, then_ends, unless_debug_last, refusal_varname_added}
+use Rattle.py_emission_outcomes.proofs.Faults.RefusalLemmas.{RefusalEndsAs, Passes, alike_ends, cell_passes, child_ends, constant_added, constant_passes, count_passes, emit_passes, ends_so, ends_there, refusal_in_function, last_ends, nothing_passes, refusal_outside, scopes_passed, then_ends, unless_debug_last, refusal_varname_added, lambda_scopes}
 use Rattle.py_emission_outcomes.proofs.Faults.RefusingTests.{EndsWell}
 use Rattle.py_emission_outcomes.proofs.Faults.RefusingDisplays.{OptEnding, last_append}
 
@@ -128,4 +128,4 @@ module _ (c : Around) where
       scope_ends (parameters params) (subst (λ b. RefusalEndsAs (refusal_outside (lambda_inside c.context n)) (emissions body).returned m (expr_end body) (faults_in b body).value) (lambda_is_function c.context n) ((y n).returned m)) in
       let follow : (o : Object) → Passes c (pass_scopes (λ postponed. scopes_in_annotations postponed params) ▸ made_function (flags_of_defaults (default_emissions params)) (codes "<lambda>") o) (expr_end body) = λ o.
       then_ends (scopes_passed (λ postponed. scopes_in_annotations postponed params)) (made_passes (flags_of_defaults (default_emissions params)) (codes "<lambda>") o) in
-      then_ends (defaults_end at params x) (ends_so (append-nil fs) (child_ends lambda_inside (function_shape params (codes "<lambda>")) (function_scope (parameters params) (emissions body).returned) (λ o. pass_scopes (λ postponed. scopes_in_annotations postponed params) ▸ made_function (flags_of_defaults (default_emissions params)) (codes "<lambda>") o) within follow))
+      then_ends (defaults_end at params x) (ends_so (append-nil fs) (child_ends lambda_inside lambda_scopes (function_shape params (codes "<lambda>")) (function_scope (parameters params) (emissions body).returned) (λ o. pass_scopes (λ postponed. scopes_in_annotations postponed params) ▸ made_function (flags_of_defaults (default_emissions params)) (codes "<lambda>") o) within follow))

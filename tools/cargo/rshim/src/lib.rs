@@ -7,6 +7,7 @@
 pub mod alloc;
 pub mod env;
 pub mod io;
+pub mod marker;
 pub mod reserve;
 pub mod sync;
 mod string;

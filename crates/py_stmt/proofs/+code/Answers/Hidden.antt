@@ -44,8 +44,8 @@ hidden_scope_left t c =
     let into = hidden_shaped first _ s.name _ (length (handed_by d)) (rest entry) c.in_ok-enter_hidden.ensures.rest c.as_str.ensures c.handed_count.ensures in
     let same = c.in_ok-return_value.ensures.same in
     record {
-      goes = left_gives kind.TypeParams naming.AsAround h first entry begins last c.leave_scope.new.self into same (returned_value (hidden_value d s)) c.leave_scope.result c.in_ok-return_value.ensures.goes c.leave_scope.ensures.code c.leave_scope.ensures.state c.leave_scope.ensures.err;
-      same = left_keeps kind.TypeParams naming.AsAround h first entry begins last c.leave_scope.new.self into same c.leave_scope.result c.leave_scope.ensures.rest c.leave_scope.ensures.err;
+      goes = left_gives kind.TypeParams naming.AsAround h first entry begins last c.leave_scope.new.self into same (returned_value (hidden_value d s)) c.leave_scope.result c.in_ok-return_value.ensures.goes c.leave_scope.ensures.code c.leave_scope.ensures.even c.leave_scope.ensures.state c.leave_scope.ensures.parted;
+      same = left_keeps kind.TypeParams naming.AsAround h first entry begins last c.leave_scope.new.self into same c.leave_scope.result c.leave_scope.ensures.rest c.leave_scope.ensures.told;
     }
 
 pub hidden_scope_inner : goal.functions::compile_hidden_scope-leave_scope-requires
@@ -131,8 +131,8 @@ class_left t c =
     let into = hidden_shaped first _ s.name 0 0 (rest entry) c.in_ok-enter_hidden.ensures.rest c.as_str.ensures refl in
     let same = c.in_ok-return_built.ensures.same in
     record {
-      goes = left_gives kind.TypeParams naming.AsAround h first entry begins last c.leave_scope.new.self into same (returned_value v) c.leave_scope.result c.in_ok-return_built.ensures.goes c.leave_scope.ensures.code c.leave_scope.ensures.state c.leave_scope.ensures.err;
-      same = left_keeps kind.TypeParams naming.AsAround h first entry begins last c.leave_scope.new.self into same c.leave_scope.result c.leave_scope.ensures.rest c.leave_scope.ensures.err;
+      goes = left_gives kind.TypeParams naming.AsAround h first entry begins last c.leave_scope.new.self into same (returned_value v) c.leave_scope.result c.in_ok-return_built.ensures.goes c.leave_scope.ensures.code c.leave_scope.ensures.even c.leave_scope.ensures.state c.leave_scope.ensures.parted;
+      same = left_keeps kind.TypeParams naming.AsAround h first entry begins last c.leave_scope.new.self into same c.leave_scope.result c.leave_scope.ensures.rest c.leave_scope.ensures.told;
     }
 
 pub class_inner : goal.classes::compile_hidden_scope-leave_scope-requires
