@@ -124,7 +124,7 @@ fn number_towards<L: Ledger>(
     ensures few { steps.new ≤ steps.old + (number - first) }
 {
     let mut next = first;
-    for _ in first..number {
+    for taken in first..number {
         next = next_towards(scopes, next, number, steps);
     }
     next

@@ -24,7 +24,7 @@ use Rattle.py_meaning.specs.Scanned.{scan_faults}
 use Rattle.py_meaning.specs.ExprFaults.{Fault, expr_faults}
 use Rattle.py_meaning.specs.Faults.{compile_faults, faults, faults_behind, first_setting, future_faults, interactive_faults, malformed_faults, prompt_faults, setting_after, stmts_faults, too_deep, too_large, whole}
 use Rattle.py_scope_tree.specs.Owners.{Grove, Bare, owners_in}
-use Rattle.py_scope_tree.specs.StmtOwners.{in_whole, owners_at_prompt, owners_behind, owners_entered, owners_in_stmts, owners_of}
+use Rattle.py_scope_tree.specs.StmtOwners.{in_whole, owners_at_prompt, owners_behind, owners_entered, owners_in_stmts, owners_of, grove_of}
 use Rattle.py_scope_tree.specs.Entered.{ScanEntersOwners, ScansTo, told_node}
 use Rattle.py_scope_tree.proofs.ScanEntryLemmas.{Came, EndsEntering, Enters, ScanEntryLeads, came_same, leads_so, nothing_enters, skipped_enters, then_leads}
 use Rattle.py_scope_tree.proofs.EnteringNames.{aliases_enter}
@@ -153,6 +153,17 @@ scan_came (tree.Expression value) m level s h e =
     let x = parts_none (tree.Expression value) m level h in
     (owners_in false value, refl, came_so s (false, expr_enters None false Load value x.0) e)
 scan_came (tree.FunctionType argtypes returns) m level s h e = absurd e
+
+-- the same by the scope forest of the tree
+pub scan_grove : (t : tree.Mod) (m : Mode) (level : ℕ) (s : State) → faults t m level ≡ [] → ScansTo t s → (q : Bool) × Came q (grove_of t m) begun_state s
+scan_grove (tree.Module stmts) m level s h e = let x = parts_none (tree.Module stmts) m level h in came_so s (file_writes level stmts x.0 x.2) e
+scan_grove (tree.Interactive stmts) m level s h e =
+    let x = parts_none (tree.Interactive stmts) m level h in
+    came_so s (interactive_writes m level stmts (entering_part_both_none (valid.when (not (is_prompt m)) WrongMode) (stmts_shapes None stmts) x.0).1 x.2) e
+scan_grove (tree.Expression value) m level s h e =
+    let x = parts_none (tree.Expression value) m level h in
+    came_so s (false, expr_enters None false Load value x.0) e
+scan_grove (tree.FunctionType argtypes returns) m level s h e = absurd e
 
 pub scan_enters_owners : ScanEntersOwners
 scan_enters_owners t m level s h e = let x = scan_came t m level s h e in x.2.1.rows ∙ ap (map told_node) (sym x.1)

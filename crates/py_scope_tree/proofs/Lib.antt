@@ -10,6 +10,7 @@ mod EnteringStatements
 pub mod EnteringPrograms
 mod ScopeListLemmas
 pub mod ListedTables
+mod GroveSizeLemmas
 pub mod OwnerTables
 mod OwnerSamples
 mod Lengths

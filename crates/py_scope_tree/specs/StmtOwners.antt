@@ -120,3 +120,10 @@ owners_of (tree.Module stmts) m = in_whole (owners_behind false (after_doc stmts
 owners_of (tree.Interactive stmts) m = in_whole (owners_entered m stmts)
 owners_of (tree.Expression value) m = in_whole (owners_in false value)
 owners_of other m = in_whole Bare
+
+-- the same nodes as they stand in one another
+abbrev pub grove_of : tree.Mod → Mode → Grove
+grove_of (tree.Module stmts) m = owners_behind false (after_doc stmts)
+grove_of (tree.Interactive stmts) m = owners_entered m stmts
+grove_of (tree.Expression value) m = owners_in false value
+grove_of other m = Bare

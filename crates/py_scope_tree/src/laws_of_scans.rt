@@ -1,5 +1,5 @@
 //! Laws of the scopes that a scan enters. Their bodies do nothing.
-ghost use Rattle.py_scope_tree.specs.Entered.{FaultlessScansEnd, ScanEntersOwners, TableHasOwners};
+ghost use Rattle.py_scope_tree.specs.Entered.{FaultlessScansEnd, ScanEntersOwners, TableHasGroves, TableHasOwners};
 
 /// The scan of a tree without faults ends in a state. So no law or clause that speaks of the state to which a scan of such a tree comes speaks of none.
 pub fn faultless_scans_end()
@@ -14,4 +14,9 @@ pub fn scan_enters_owners()
 /// The scopes of the table of such a tree are those of its nodes, in their order.
 pub fn table_has_owners()
     ensures { TableHasOwners }
+{}
+
+/// They stand in one another as these nodes do: each ends after its own number, one, and as many as are nested in it.
+pub fn table_has_groves()
+    ensures { TableHasGroves }
 {}

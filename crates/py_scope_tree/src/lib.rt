@@ -8,4 +8,6 @@ mod laws_of_scans;
 
 pub use laws::each_scope_is_its_own;
 pub use laws_of_cells::{cells_stand, free_names_stand, scopes_stand, tables_follow};
-pub use laws_of_scans::{faultless_scans_end, scan_enters_owners, table_has_owners};
+pub use laws_of_scans::{
+    faultless_scans_end, scan_enters_owners, table_has_groves, table_has_owners,
+};
