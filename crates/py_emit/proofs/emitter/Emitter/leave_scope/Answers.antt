@@ -1,5 +1,7 @@
 use Rattle.std.proofs.Common.{◌≢◌, ◌<◌, List, [], ◌∷◌, ◌++◌, length, refl, sym, ap, ◌∙◌, arith}
 use Rattle.std.specs.Option.{option_to_list}
+use Rattle.py_base.specs.declared.errors.CodegenErrorType.{CodegenErrorType}
+use Rattle.py_base.specs.declared.location.LocatedError.{LocatedError}
 use Rattle.py_emission_parts.specs.Sealed.{assembled_object}
 use Rattle.py_emit.specs.States.{head_of, is_even, left_rest, rest, source_of, state_of}
 use Rattle.py_emit.specs.declared.scopes.OpenScope.{OpenScope}
@@ -46,3 +48,15 @@ returns-in-Ok-clause-even c outer o h =
     let q = last_alike c.pop.new.self.items outer c.in-Some.around o (sym (c.pop.ensures.items ∙ ap (λ r. c.pop.new.self.items ++ option_to_list r) c.in-Some.is) ∙ h) in
     (λ i. is_even e.scopes (sym (c.replace-scope.ensures.after ∙ q.1) i).next (sym c.replace-scope.ensures.value i).next)
     ∙ sym c.is_even.ensures ∙ c.if-not-is_even.false
+
+pub returns-then-not-is_even-clause-parted : goal.returns-then-not-is_even-clause-parted
+unfolding rest
+returns-then-not-is_even-clause-parted c some outer o h =
+    let e = c.args.self.now in
+    let q = last_alike c.pop.new.self.items outer c.in-Some.around o (sym (c.pop.ensures.items ∙ ap (λ r. c.pop.new.self.items ++ option_to_list r) c.in-Some.is) ∙ h) in
+    record {
+      error_is = ap (λ (r : LocatedError CodegenErrorType). r.error) c.error.ensures.told;
+      location_is = ap (λ (r : LocatedError CodegenErrorType). r.location) c.error.ensures.told;
+      uneven = (λ i. is_even e.scopes (sym (c.replace-scope.ensures.after ∙ q.1) i).next (sym c.replace-scope.ensures.value i).next)
+        ∙ sym c.is_even.ensures ∙ c.if-not-is_even.true;
+    }
