@@ -2,6 +2,7 @@
 use Rattle.std.proofs.Common.{◌≡◌, ℕ, zero, suc, ◌+◌, ◌-◌, ◌<◌, ◌≤◌, List, [], ◌∷◌, length, Bool, Option, Some, None, refl, ap, arith}
 use Rattle.std.proofs.lemmas.Bool.{le-ltb, lt-ltb}
 use Rattle.std.specs.Prelude.{if◌then◌else◌, nat_eq, option_map}
+use Rattle.py_base.proofs.Numbers.{nat_eq_false}
 use Rattle.py_scope.specs.declared.flat.ScopeEntry.{ScopeEntry}
 use Rattle.py_scope.specs.declared.table_type.SymbolTableType.{SymbolTableType}
 use Rattle.py_scope.specs.declared.table_type.SymbolTableType.TheVariants as kind
@@ -45,7 +46,7 @@ beyond_none es k l = ap (λ (o : Option ScopeEntry). elim (option_map (λ (e : S
 -- where there is a table there are tables
 pub bare_is : (es : List ScopeEntry) → nat_eq (length es) 0 ≡ is_bare es
 bare_is [] = refl
-bare_is (e ∷ es) = refl
+bare_is (e ∷ es) = nat_eq_false (suc (length es)) 0 (λ h. omega (arith, h))
 
 -- tables lead no further than to where they are to
 pub led : (es : List ScopeEntry) (n k m : ℕ) → m ≤ k → leads_to es n k m ≡ nat_eq k m

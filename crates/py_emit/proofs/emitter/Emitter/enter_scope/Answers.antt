@@ -28,3 +28,7 @@ returns-clause-rest g c =
     subst (λ (typ : SymbolTableType). OnOk c.open_scope.result (rest c.open_scope.new.self ≡ entered_rest naming.AsAround e.scope (code_head (inside typ e.scope.next (state e).around.context) (shape_of c.args.head) e.location) (rest e)))
     (sym (typ_is e.scopes e.scope.next c.typ-typ.result here))
     c.open_scope.ensures.rest
+
+pub returns-clause-steps : goal.returns-clause-steps
+unfolding rest
+returns-clause-steps g c = c.open_scope.ensures.step c.requires.left.1

@@ -58,5 +58,5 @@ returns-then-not-is_even-clause-parted c some outer o h =
       error_is = ap (λ (r : LocatedError CodegenErrorType). r.error) c.error.ensures.told;
       location_is = ap (λ (r : LocatedError CodegenErrorType). r.location) c.error.ensures.told;
       uneven = (λ i. is_even e.scopes (sym (c.replace-scope.ensures.after ∙ q.1) i).next (sym c.replace-scope.ensures.value i).next)
-        ∙ sym c.is_even.ensures ∙ c.if-not-is_even.true;
+          ∙ sym c.is_even.ensures ∙ c.if-not-is_even.true;
     }
