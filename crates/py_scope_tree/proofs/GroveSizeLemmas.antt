@@ -33,12 +33,12 @@ length_sizes (Grown o within behind) =
 -- the number after each, where the first has this number
 abbrev ended_from : (number : ℕ) → List ℕ → List ℕ
 ended_from k [] = []
-ended_from k (x ∷ xs) = k + x ∷ ended_from (suc k) xs
+ended_from k (x ∷ xs) = (k + x) ∷ ended_from (suc k) xs
 
 ended_append : (k : ℕ) (xs ys : List ℕ) → ended_from k (xs ++ ys) ≡ ended_from k xs ++ ended_from (k + length xs) ys
 ended_append k [] ys = ap (λ j. ended_from j ys) (omega arith)
 ended_append k (x ∷ xs) ys =
-    ap (λ zs. k + x ∷ zs) (ended_append (suc k) xs ys ∙ ap (λ j. ended_from (suc k) xs ++ ended_from j ys) (omega arith))
+    ap (λ zs. (k + x) ∷ zs) (ended_append (suc k) xs ys ∙ ap (λ j. ended_from (suc k) xs ++ ended_from j ys) (omega arith))
 
 length_ended : (k : ℕ) (xs : List ℕ) → length (ended_from k xs) ≡ length xs
 length_ended k [] = refl
@@ -50,8 +50,8 @@ ends_sized n Bare = refl
 ends_sized n (Grown o within behind) =
     let l = length_sizes within in
     (λ i. (let e : n + suc (size within) ≡ suc n + size within = omega arith in e i) ∷ ended_append (suc n) (grove_sizes within) (grove_sizes behind) i)
-    ∙ (λ i. suc n + size within ∷ (ends_sized (suc n) within i ++ ended_from (suc n + l i) (grove_sizes behind)))
-    ∙ ap (λ xs. suc n + size within ∷ (ends_of (suc n) within ++ xs)) (ends_sized (suc n + size within) behind)
+    ∙ (λ i. (suc n + size within) ∷ (ends_sized (suc n) within i ++ ended_from (suc n + l i) (grove_sizes behind)))
+    ∙ ap (λ xs. (suc n + size within) ∷ (ends_of (suc n) within ++ xs)) (ends_sized (suc n + size within) behind)
 
 -- how many scopes each of these has with those within it: of each scope those of it and of those in it, numbered from n on
 abbrev size_spans : (n : ℕ) → List ℕ → List (List ℕ)
@@ -172,7 +172,7 @@ tables_end n (r ∷ rs) (s ∷ ss) l =
     ((λ k. ap (map end_in_table) (flat_of x k) ∙ first k (children_end n rs (tables_from (suc n) rs ss) (size_spans (suc n) (map parent_in rs)) rest (suc k))), rest)
   where
     first : (k : ℕ) → ends_of_all (children_of n rs (tables_from (suc n) rs ss)) (suc k) ≡ ended_from (suc k) (sizes_in n (suc n) (map parent_in rs))
-        → ◌≡◌ {A = List ℕ} (suc k + length (all_flat (map {B = ListedTableFlat} flat_table (children_of n rs (tables_from (suc n) rs ss))) (suc k)) ∷ ends_of_all (children_of n rs (tables_from (suc n) rs ss)) (suc k))
+        → ◌≡◌ {A = List ℕ} ((suc k + length (all_flat (map {B = ListedTableFlat} flat_table (children_of n rs (tables_from (suc n) rs ss))) (suc k))) ∷ ends_of_all (children_of n rs (tables_from (suc n) rs ss)) (suc k))
         (ended_from k (suc (length (sizes_in n (suc n) (map parent_in rs))) ∷ sizes_in n (suc n) (map parent_in rs)))
     first k e =
         let flat = all_flat (map {B = ListedTableFlat} flat_table (children_of n rs (tables_from (suc n) rs ss))) (suc k) in

@@ -100,7 +100,7 @@ end_in_table e = e.next
 -- that of each node of a scope forest, where the first has this number: its own, one, and as many as are nested in it
 abbrev pub ends_of : (number : ℕ) → Grove → List ℕ
 ends_of n Bare = []
-ends_of n (Grown o within behind) = suc n + size within ∷ (ends_of (suc n) within ++ ends_of (suc n + size within) behind)
+ends_of n (Grown o within behind) = (suc n + size within) ∷ (ends_of (suc n) within ++ ends_of (suc n + size within) behind)
 
 -- and that of a whole tree with this scope forest in it
 abbrev pub ends_of_whole : Grove → List ℕ

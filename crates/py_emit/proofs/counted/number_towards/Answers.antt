@@ -17,7 +17,7 @@ loop-taken-preserved g c =
     let one : m - j ≡ suc (m - (j + 1)) = omega (arith, t) in
     record {
       led = i.led ∙ ap (λ n. leads_to es n c.loop-taken.next m) one ∙ sym (c.next_towards-next.ensures.number (m - (j + 1)));
-      few = (let s = i.few in let a = c.loop-taken.auto.taken in omega (arith, f, s, t, a));
+      few = (let s = i.few in omega (arith, f, s, t));
     }
 
 pub returns-clause-number : goal.returns-clause-number
@@ -29,8 +29,4 @@ returns-clause-number g c count h =
     sym (ap (λ n. leads_to es n c.loop-taken.next m) none) ∙ sym c.loop-taken.invariant.led ∙ ap (λ n. leads_to es n c.args.first m) all
 
 pub returns-clause-few : goal.returns-clause-few
-returns-clause-few g c =
-    let s = c.loop-taken.invariant.few in
-    let e = c.loop-taken.auto.taken-end in
-    let t = c.loop-taken-test.false in
-    omega (arith, s, e, t)
+returns-clause-few g c = let s = c.loop-taken.invariant.few in omega (arith, s)
