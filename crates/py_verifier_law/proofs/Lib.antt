@@ -1,3 +1,5 @@
+mod ClosureLemmas
 mod FormLemmas
 mod Forms
+mod RoomLemmas
 mod Throughout
