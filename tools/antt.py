@@ -692,12 +692,14 @@ class Project:
         return sorted(path.name for path in (self.root / "crates").iterdir() if path.is_dir())
 
     def paths(self, crate: str, folder: str) -> List[str]:
-        """The files of a folder of a crate: of proofs/ those that no function has of its own."""
+        """The files of a folder of a crate: of proofs/ those of lemmas, which stand there or in the folder of a topic. The name
+        of such a folder begins with a capital, as those of functions do not."""
         top = self.root / "crates" / crate / folder
         if folder == "src":
             return sorted(str(path.relative_to(self.root)) for path in top.glob("**/*.rt"))
-        found = top.glob("**/*.antt") if folder == "specs" else top.glob("*.antt")
-        return sorted(str(path.relative_to(self.root)) for path in found if path.name != "Lib.antt")
+        found = [path.relative_to(top).parts for path in top.glob("**/*.antt") if path.name != "Lib.antt"]
+        listed = [parts for parts in found if folder == "specs" or all(part[0].isupper() for part in parts)]
+        return sorted("/".join(["crates", crate, folder, *parts]) for parts in listed)
 
     def file(self, path: str) -> File:
         if path not in self.files:

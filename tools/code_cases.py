@@ -28,7 +28,7 @@ Case = Tuple[str, str]
 
 # The file of a code without texts, units and locations, up to the count of its constants and behind them.
 EMPTY = dataclasses.replace(code_files.ONE, source_path="", obj_name="", first_line_number=None, instructions=(), locations=(), constants=())
-FRONT, BACK = (it.hex() for it in codefile.write(dataclasses.replace(EMPTY, constants=("hole",))).split(codefile.constant("hole")))
+FRONT, BACK = (it.hex() for it in code_files.around_constant(EMPTY))
 MAGIC, ONE, NONE = codefile.MAGIC.hex(), "00000001", "00000000"
 FRONT, BODY = FRONT[: -len(ONE)], FRONT[len(MAGIC) : -len(ONE)]
 # The bytes of a tuple and of a code, and how deep they may nest.

@@ -7,6 +7,7 @@ from the program. The edits are drawn by chance from a fixed seed, so that they 
 import pathlib
 import random
 import sys
+from dataclasses import replace
 
 sys.path.insert(0, str(pathlib.Path(__file__).resolve().parent.parent / "python"))
 from pyc import codefile
@@ -21,6 +22,13 @@ def answer(data):
     except codefile.BadCode as bad:
         return f"{bad.cause} {bad.offset}"
     return "Ok"
+
+
+def around_constant(code):
+    """The bytes of the file of a code that has this one constant, up to the constant and behind it."""
+    hole = 0x5ca1ab1e
+    front, back = codefile.write(replace(code, constants=(hole,))).split(codefile.constant(hole))
+    return front, back
 
 
 # the Expression `1` at 1:1, compiled from m.py

@@ -311,8 +311,6 @@ def section_lines(project: antt.Project, closure: Closure, found: Sequence[Found
 def contract_text(project: antt.Project, what: str) -> List[str]:
     """What a function says of itself, and its clauses."""
     place, _, name = what.rpartition(":")
-    if not place.endswith(".rt"):
-        return []
     source = project.source(place)
     first, end = source.head_of(source.function(name))
     return ["```rust", "\n".join(source.lines[first:end]), "```", ""]

@@ -14,6 +14,7 @@ from dataclasses import replace
 
 sys.path.insert(0, str(pathlib.Path(__file__).resolve().parent.parent / "python"))
 sys.path.insert(0, str(pathlib.Path(__file__).resolve().parent / "model"))
+import code_files
 import instr
 import compile_rows
 import sound
@@ -185,8 +186,8 @@ def nested():
     """A flaw three codes within, codes that nest as deep as may be, and one deeper."""
     flawed, said = code_of("0 0 0 0 0 0 4400 PlaceOutside:0")
     yield "verify " + codefile.write(around(around(around(flawed)))).hex(), verdict_text(said, (2, 2, 2))
-    alone, hole = code_of("0 1 0 0 0 0 1a00 Yes")[0], 0x5ca1ab1e
-    front, back = codefile.write(replace(alone, constants=(hole,))).split(codefile.constant(hole))
+    alone = code_of("0 1 0 0 0 0 1a00 Yes")[0]
+    front, back = code_files.around_constant(alone)
     magic, front = front[: len(codefile.MAGIC)].hex(), front[len(codefile.MAGIC):].hex()
     within = codefile.constant(alone)[:1].hex()
     deepest = f"{magic} {front}{within}*2046 {front}{codefile.constant(None).hex()} {back.hex()}*2047"

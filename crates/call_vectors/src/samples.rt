@@ -40,6 +40,9 @@ fn measures_of(program: &Mod) -> Option<(u32, u32)> {
 /// The statements of the made program of so many, and how deep and how large it is.
 pub fn sampled(alloc: Global, count: &str) -> Result<String, Failure> {
     let count = count.parse::<u32>().map_err(|_| Failure::Line)?;
+    if count >= 1 << 17 {
+        return Err(Failure::Line);
+    }
     let program = sample(alloc, count)?;
     let words = statements_of(alloc, &program);
     let measures = measures_of(&program);

@@ -24,9 +24,9 @@ use Rattle.py_emission_proof.proofs.Additions.Codes.{Ground, MadeFrom}
 use Rattle.py_emission_proof.proofs.Additions.CodeNameLemmas.{IsMadeSo, Named}
 use Rattle.py_emission_proof.proofs.Additions.WellMade.{WellMade, everywhere_so}
 use Rattle.py_emission_proof.specs.Distinct.{HasDistinctNames}
-use Rattle.py_cell_binding.specs.Captures.{CapturesCells}
-use Rattle.py_cell_binding.proofs.CaptureLemmas.{captures_cells}
-use Rattle.py_cell_loads.proofs.CellLoadLemmas.{tree_loads_few}
+use Rattle.py_scope_proof.specs.Captures.{CapturesCells}
+use Rattle.py_scope_proof.proofs.CellBinding.CaptureLemmas.{captures_cells}
+use Rattle.py_scope_proof.proofs.CellLoads.CellLoadLemmas.{tree_loads_few}
 use Rattle.codegen.specs.Calls.{IsChecked, IsCompiled, IsWhole}
 use Rattle.codegen.specs.Compiled.{IsFirst, IsScanned, ScopesFollow, around_tree}
 use Rattle.codegen.proofs.AssembledCodeLemmas.{made_from_scope}

@@ -6,7 +6,7 @@ use Rattle.py_emission_parts.specs.Context.{Context}
 use Rattle.py_emission_parts.specs.Emitting.{Outcome, Done, TooWide, Refused}
 use Rattle.py_emission.specs.EmissionMods.{emission_outcome}
 use Rattle.py_meaning.specs.Scanned.{scopes_of}
-use Rattle.py_cell_loads.proofs.CellLoadLemmas.{tree_loads_few}
+use Rattle.py_scope_proof.proofs.CellLoads.CellLoadLemmas.{tree_loads_few}
 use Rattle.py_emission_outcomes.proofs.Capacity.Premises.{small_tree}
 use Rattle.codegen.specs.Calls.{CompiledIsSealed, EqualTreesHaveEqualCode}
 use Rattle.codegen.specs.Compiled.{IsSealed, around_tree}

@@ -23,12 +23,12 @@ use Rattle.py_emission_proof.proofs.Additions.DistinctNames.{either_false, first
 use Rattle.py_emission_proof.proofs.Additions.WellMade.{IsCelled, WellMade}
 use Rattle.py_meaning.specs.Faults.{faults}
 use Rattle.py_meaning.specs.Scanned.{scopes_of}
-use Rattle.py_scope_tree.specs.Entered.{ScansTo, kind_in_table, kind_of_owner, told_node, told_row}
-use Rattle.py_scope_tree.specs.StmtOwners.{owners_of}
-use Rattle.py_cell_loads.proofs.Distinct.{any_of_those, those_distinct}
-use Rattle.py_scope_tree.proofs.Facts.{Facts, facts}
-use Rattle.py_scope_tree.proofs.EnteringPrograms.{scan_enters_owners}
-use Rattle.py_scope_tree.proofs.OwnerTables.{scan_done, table_has_owners}
+use Rattle.py_scope_proof.specs.Entered.{ScansTo, kind_in_table, kind_of_owner, told_node, told_row}
+use Rattle.py_scope_proof.specs.StmtOwners.{owners_of}
+use Rattle.py_scope_proof.proofs.CellLoads.Distinct.{any_of_those, those_distinct}
+use Rattle.py_scope_proof.proofs.NodeScopes.Facts.{Facts, facts}
+use Rattle.py_scope_proof.proofs.NodeScopes.EnteringPrograms.{scan_enters_owners}
+use Rattle.py_scope_proof.proofs.NodeScopes.OwnerTables.{scan_done, table_has_owners}
 
 -- a name that is not in the first may head the second
 with_head : (xs : List (List ℕ)) (y : List ℕ) (ys : List (List ℕ)) → list_any (text_eq y) xs ≡ false → AreApart xs ys → AreApart xs (y ∷ ys)

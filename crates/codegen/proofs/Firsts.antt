@@ -25,7 +25,7 @@ use Rattle.symboltable.specs.Errors.{codegen_error}
 use Rattle.py_emit.specs.Emitted.{IsEmitted}
 use Rattle.py_emit.specs.States.{Goes, IsTold, Rest, Same}
 use Rattle.py_emission_outcomes.proofs.Faults.FaultOutcomeLemmas.{refusal_heads, done_faultless}
-use Rattle.py_cell_loads.proofs.Whole.{uses_are_few}
+use Rattle.py_scope_proof.proofs.CellLoads.Whole.{uses_are_few}
 use Rattle.py_emission_outcomes.proofs.Capacity.Whole.{trees_fit}
 use Rattle.py_emission_outcomes.proofs.Capacity.WithoutScopes.{refused_without_scopes}
 use Rattle.codegen.proofs.Wholes.{none_whole}

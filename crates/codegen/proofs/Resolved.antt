@@ -8,8 +8,8 @@ use Rattle.py_symbol_tables.specs.Tables.{table_of}
 use Rattle.py_name_uses.specs.Steps.{State, Done}
 use Rattle.py_meaning.specs.Faults.{faults}
 use Rattle.py_meaning.specs.Scanned.{entries_of, scopes_of}
-use Rattle.py_scope_tree.specs.Entered.{ScansTo}
-use Rattle.py_scope_tree.proofs.Facts.{scopes_stand, tables_follow}
+use Rattle.py_scope_proof.specs.Entered.{ScansTo}
+use Rattle.py_scope_proof.proofs.NodeScopes.Facts.{scopes_stand, tables_follow}
 use Rattle.codegen.specs.Compiled.{ScopesFollow}
 
 -- the scopes are those of the table to which the scan resolves

@@ -22,7 +22,7 @@ use Rattle.py_meaning.specs.ExprFaults.{Fault}
 use Rattle.py_meaning.specs.Faults.{faults, malformed_faults, too_deep, too_large, whole}
 use Rattle.py_meaning.specs.Meaning.{body}
 use Rattle.py_meaning.specs.Scanned.{scopes_of}
-use Rattle.py_cell_binding.specs.Captures.{CapturesCells}
+use Rattle.py_scope_proof.specs.Captures.{CapturesCells}
 use Rattle.codegen.specs.Compiled.{AlwaysEnds, HasExactDepth, HasFewUnits, InLeastWidths, IsFirst, IsLocated, IsSealed, NamesPath, NoHigher, ScopesFollow, around_tree}
 use Rattle.codegen.specs.declared.program.Program.{Program}
 use Rattle.codegen.specs.declared.program.Program.TheVariants as lent

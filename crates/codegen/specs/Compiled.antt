@@ -6,7 +6,7 @@ use Rattle.py_scope.specs.Flat.{flat_table}
 use Rattle.py_scope.specs.Laws.{TableFollows}
 use Rattle.py_symbol_tables.specs.Laws.{Stands}
 use Rattle.py_name_uses.specs.Steps.{State}
-use Rattle.py_scope_tree.specs.Entered.{ScansTo}
+use Rattle.py_scope_proof.specs.Entered.{ScansTo}
 use Rattle.py_scope.specs.declared.error.ScanFault.TheVariants as fault
 use Rattle.py_scope.specs.declared.error.SymbolTableError.{SymbolTableError}
 use Rattle.py_scope.specs.declared.table.SymbolTable.{SymbolTable}

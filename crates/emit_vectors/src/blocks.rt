@@ -78,8 +78,9 @@ fn parse_blocks(alloc: Global, text: &str) -> Result<Blocks, Failure> {
         return Ok(blocks);
     }
     let count = text.split("|").count();
+    let mut after: u32 = 0;
     for part in text.split("|") {
-        let after = (blocks.len() as u32).saturating_add(1);
+        after = after.saturating_add(1);
         let next = if (after as usize) < count {
             BlockIdx(after)
         } else {

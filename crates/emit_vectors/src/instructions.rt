@@ -1,8 +1,10 @@
 //! What instructions say of their operands, of the stack, and of what follows them.
+ghost use Rattle.std.specs.Prelude.{◌≡◌, true};
+ghost use Rattle.py_bytecode.specs.Table.{InKind};
 
 use crate::calls::{number, pair};
 use crate::failure::Failure;
-use py_bytecode::{Instruction, OpArg, UnpackExArgs};
+use py_bytecode::{Instruction, OpArg, OperandKind, UnpackExArgs};
 use std::alloc::Global;
 
 /// The instructions.
@@ -111,12 +113,39 @@ pub fn instruction(name: &str) -> Result<Instruction, Failure> {
     Err(Failure::Line)
 }
 
+/// Whether an operand is in the range of its kind, where the kind counts or enumerates.
+fn is_in_kind(kind: OperandKind, operand: u32) -> bool
+    ensures { result ≡ true → InKind kind operand }
+{
+    match kind {
+        OperandKind::Count => operand < 1 << 30,
+        OperandKind::Flags => operand < 32,
+        OperandKind::Pair => operand < 1 << 16,
+        OperandKind::Bit => operand < 2,
+        OperandKind::Unary => operand < 4,
+        OperandKind::Binary => operand < 13,
+        OperandKind::Compare => operand < 6,
+        OperandKind::Test => operand < 5,
+        OperandKind::RaiseKind => operand < 3,
+        OperandKind::Conversion => operand < 4,
+        OperandKind::None
+        | OperandKind::Const
+        | OperandKind::Name
+        | OperandKind::Var
+        | OperandKind::Cell
+        | OperandKind::Label => true,
+    }
+}
+
 /// What an instruction says with an operand: what kind of operand it has, whether it has a target and leads elsewhere, and by
 /// how much it changes the height of the stack where it goes on and where it jumps.
 pub fn instruction_text(alloc: Global, rest: &str) -> Result<String, Failure> {
     let (name, arg) = pair(rest)?;
     let instruction = instruction(name)?;
     let arg = OpArg(number(arg)?);
+    if !is_in_kind(instruction.operand_kind(), arg.0) {
+        return Err(Failure::Line);
+    }
     Ok(format!(in alloc;
         "{:?} {} {} {} {}",
         instruction.operand_kind(),

@@ -1,12 +1,12 @@
 -- What a run of the program over rows in memory owes follows from the clauses of `run`.
-use Rattle.std.proofs.Common.{◌≡◌, ℕ, ◌^◌, Bool, true, false, List, [], ◌∷◌, length, nat_lt, Option, Some, None, IfSome, option_map, option_and_then, Result, Ok, Err, codes, refl, ap, subst, ◌∙◌, if◌then◌else◌}
+use Rattle.std.proofs.Common.{◌≡◌, ℕ, ◌^◌, Bool, true, false, List, [], ◌∷◌, length, nat_lt, Option, Some, None, IfSome, option_map, option_and_then, Result, Ok, Err, codes, refl, ap, arith, subst, ◌∙◌, if◌then◌else◌}
 use Rattle.std.specs.Str.{bytes_eq}
 use Rattle.py_tree.specs.Tree as tree
 use Rattle.py_tree.specs.declared.modules.Mode.{Mode}
 use Rattle.py_bytecode.specs.View.{object}
 use Rattle.py_bytecode.specs.declared.code.CodeObject.{CodeObject}
 use Rattle.py_rows_fields.specs.declared.error.RowsError.{RowsError}
-use Rattle.py_rows.specs.Rows.{rows_tree}
+use Rattle.py_rows_format.specs.Rows.{rows_tree}
 use Rattle.py_meaning.specs.ExprFaults.{Fault}
 use Rattle.py_meaning.specs.Faults.{faults}
 use Rattle.py_lines.specs.Words.{level_of, mode_of}
@@ -48,7 +48,7 @@ due_is c rows = by (nat_lt (length rows) (2 ^ 26)) (rows_tree rows)
 
 misused : (rows mode level path : List ℕ) (s : Status) (code : Option CodeObject) (text line : List ℕ) → IsMisuse mode level
     → Ran None (Some owed.Misuse) s code [] [] text line → RunOwes rows mode level path s text line
-misused rows mode level path status.Done code text line m h = absurd h.fits
+misused rows mode level path status.Done code text line m h = absurd (let e = h.fits in cc)
 misused rows mode level path status.Refused code text line m h = absurd h.fits
 misused rows mode level path status.Usage code text line m h = (m, h.err)
 misused rows mode level path status.Input code text line m h = absurd h.is_due
@@ -61,7 +61,7 @@ module _ (rows mode level : List ℕ) (c : Compilation) (text line : List ℕ) (
       → Ran (Some (Compile c)) (Some (Misread why)) s code [] [] text line → RunOwes rows mode level c.path s text line
   misread why e status.Done code h = absurd h.is_due
   misread why e status.Refused code h = absurd h.is_due
-  misread why e status.Usage code h = absurd h.fits
+  misread why e status.Usage code h = absurd (let e = h.fits in cc)
   misread why e status.Input code h = (why, e, h.err)
   misread why e status.ReadFault code h = absurd (omega (arith, h.read))
   misread why e status.WriteFault code h = tt
@@ -72,7 +72,7 @@ module _ (rows mode level : List ℕ) (c : Compilation) (text line : List ℕ) (
       → RunOwes rows mode level c.path s text line
   refused t f rest e g status.Done code h = absurd h.is_due
   refused t f rest e g status.Refused code h = (c.mode, c.level, is_mode, is_level, record { t = t; fault = f; rest = rest; read = e; first = g; told = h.err })
-  refused t f rest e g status.Usage code h = absurd h.fits
+  refused t f rest e g status.Usage code h = absurd (let e = h.fits in cc)
   refused t f rest e g status.Input code h = absurd h.is_due
   refused t f rest e g status.ReadFault code h = absurd (omega (arith, h.read))
   refused t f rest e g status.WriteFault code h = tt
@@ -80,11 +80,11 @@ module _ (rows mode level : List ℕ) (c : Compilation) (text line : List ℕ) (
 
   done : (t : tree.Mod) → input_tree rows ≡ Ok t → faults t c.mode c.level ≡ [] → (s : Status) (code : Option CodeObject)
       → Ran (Some (Compile c)) (Some (owed.Compiled c t)) s code [] [] text line → RunOwes rows mode level c.path s text line
-  done t e g status.Done None h = absurd h.reported
+  done t e g status.Done None h = absurd (let e = h.reported in cc)
   done t e g status.Done (Some code) h =
       (c.mode, c.level, is_mode, is_level, record { t = t; code = object code; read = e; clean = g; agrees = h.codes_due.agrees; named = (h.codes_due.named 1).0; listed = h.out })
   done t e g status.Refused code h = absurd h.is_due
-  done t e g status.Usage code h = absurd h.fits
+  done t e g status.Usage code h = absurd (let e = h.fits in cc)
   done t e g status.Input code h = absurd h.is_due
   done t e g status.ReadFault code h = absurd (omega (arith, h.read))
   done t e g status.WriteFault code h = tt

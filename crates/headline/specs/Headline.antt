@@ -3,7 +3,7 @@ use Rattle.std.specs.Prelude.{◌≡◌, ℕ, ◌^◌, nat_lt, List, [], ◌∷�
 use Rattle.py_tree.specs.Tree as tree
 use Rattle.py_tree.specs.declared.modules.Mode.{Mode}
 use Rattle.py_rows_fields.specs.declared.error.RowsError.{RowsError}
-use Rattle.py_rows.specs.Rows.{rows_tree}
+use Rattle.py_rows_format.specs.Rows.{rows_tree}
 use Rattle.py_bytecode.specs.Objects.{Object, head}
 use Rattle.py_control.specs.Agreement.{Agree}
 use Rattle.py_listing.specs.Listing.{listing}

@@ -3,8 +3,9 @@ ghost use Rattle.std.specs.Prelude.{codes};
 ghost use Rattle.py_bytecode.specs.View.{object};
 ghost use Rattle.py_tree.specs.View.{mod_tree};
 ghost use Rattle.py_lines.specs.Lines.{rows_text};
-ghost use Rattle.headline.specs.Headline.{Owed};
-ghost use Rattle.headline.specs.Steps.{Gets, GetsTree, IsListed, IsRefused, ReadsTree, Tells};
+ghost use Rattle.py_rows.specs.Rows.{rows_tree as tree_read};
+ghost use Rattle.headline.specs.Headline.{Owed, input_tree};
+ghost use Rattle.headline.specs.Steps.{Gets, GetsTree, IsListed, IsRefused, ReadsTree, Tells, input_by};
 
 use crate::answer::Answer;
 use codegen::CompileOpts;
@@ -49,7 +50,14 @@ fn compiled(alloc: Global, rows: &[u8], mode: Mode, level: u8, path: &str) -> An
 
 /// The tree that the rows are.
 fn tree_of(alloc: Global, rows: &[u8]) -> Result<Mod, Answer>
-    ensures { ReadsTree rows.now result }
+    ensures { ReadsTree (input_tree rows.now) result }
+{
+    read_tree(alloc, rows)
+}
+
+/// The tree that `read_rows` reads, which is that of the format by the law of rows.
+fn read_tree(alloc: Global, rows: &[u8]) -> Result<Mod, Answer>
+    ensures { ReadsTree (input_by tree_read rows.now) result }
 {
     if rows.len() >= LIMIT {
         return Err(too_long(alloc));

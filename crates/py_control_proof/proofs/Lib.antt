@@ -44,3 +44,4 @@ pub mod DecodeGrows
 pub mod LaidCodeLemmas
 pub mod LabelCount
 pub mod LaidOut
+pub mod Dataflow

@@ -4,3 +4,6 @@ pub mod Blocks
 pub mod Laws
 pub mod Made
 pub mod Compiling
+pub mod Sound
+pub mod Flat
+pub mod SoundBlocks

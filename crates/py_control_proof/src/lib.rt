@@ -1,4 +1,5 @@
-//! The laws that tie forms, what they mean and their code together. The bodies of laws do nothing.
+//! The laws that tie forms, what they mean and their code together, and that no walk over this code is refused. The bodies
+//! of laws do nothing.
 #![tactic(auto)]
 
 ghost use Rattle.py_control_proof.specs.Compiling.{CompiledAgrees};
@@ -6,6 +7,9 @@ ghost use Rattle.py_control_proof.specs.Made.{ChildlessAgrees, FullIsMore, Objec
 ghost use Rattle.py_control_proof.specs.Laws.{AlwaysEnds, CodesWalk};
 ghost use Rattle.py_control_proof.specs.Live.{LiveRuns};
 ghost use Rattle.py_control_proof.specs.Blocks.{BlocksRun, BlocksSimulate};
+ghost use Rattle.py_control_proof.specs.Sound.{CodesAreSound};
+ghost use Rattle.py_control_proof.specs.SoundBlocks.{BlocksAreSound, LaidIsSound};
+ghost use Rattle.py_control_proof.specs.Flat.{FlatIsSound, FlatRuns};
 
 /// The code of every scope, to any depth of nesting, agrees with it in the full view and in the plain one, where breaks
 /// and continues stand in loops.
@@ -56,4 +60,30 @@ pub fn blocks_run()
 /// its end.
 pub fn codes_walk()
     ensures { CodesWalk }
+{}
+
+/// No walk over the code of a scope is refused, wherever the code stands.
+pub fn codes_are_sound()
+    ensures { CodesAreSound }
+{}
+
+/// No walk over a list of instructions in which the code of a scope lies is refused.
+pub fn flat_is_sound()
+    ensures { FlatIsSound }
+{}
+
+/// A list of instructions in which the code of a scope lies runs like the code, within the steps that what can be come to
+/// pays for, where breaks and continues stand in loops.
+pub fn flat_runs()
+    ensures { FlatRuns }
+{}
+
+/// No walk over blocks in which the code of a scope lies is refused.
+pub fn blocks_are_sound()
+    ensures { BlocksAreSound }
+{}
+
+/// The same where the code is laid into blocks step by step.
+pub fn laid_is_sound()
+    ensures { LaidIsSound }
 {}

@@ -13,3 +13,4 @@ mod Stmts
 mod Trees
 mod Samples
 pub mod Walked
+pub mod Lengths

@@ -20,8 +20,8 @@ use py_answers::{Halt, Log, Operand, Operation, StepValue};
 use py_base::{List, Text};
 use py_bytecode::Instruction;
 use py_interp::Around;
-use py_interp_values::operands::{one, push, three};
-use py_interp_values::operations::{counted, does, numbered};
+use py_interp::operands::{one, push, three};
+use py_interp::operations::{counted, does, numbered};
 use py_tree::{Expr, ExprCall, Keyword};
 use std::alloc::Global;
 

@@ -12,9 +12,9 @@ use crate::conditions::Asked;
 use crate::expressions::walk_expression;
 use py_answers::{Halt, Log, StepValue};
 use py_interp::Around;
-use py_interp_values::constants::none;
-use py_interp_values::operands::copy_value;
-use py_interp_values::operations::{comparison, does_two, truth};
+use py_interp::constants::none;
+use py_interp::operands::copy_value;
+use py_interp::operations::{comparison, does_two, truth};
 use py_tree::{CmpOp, Expr, ExprCompare};
 
 #[cycle(walk)]

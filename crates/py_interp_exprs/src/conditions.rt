@@ -12,8 +12,8 @@ ghost use Rattle.py_interp_exprs.specs.Parts.{get_truth};
 use crate::expressions::{walk_expression, walk_unary_op};
 use py_answers::{Halt, Log, StepValue};
 use py_interp::Around;
-use py_interp_values::constants::none;
-use py_interp_values::operations::truth;
+use py_interp::constants::none;
+use py_interp::operations::truth;
 use py_tree::{BoolOp, Expr, ExprBoolOp, ExprUnaryOp, UnaryOp};
 
 /// A value and its truth.

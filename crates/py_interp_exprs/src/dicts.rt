@@ -13,8 +13,8 @@ use crate::expressions::walk_expression;
 use crate::groups::close_pairs;
 use py_answers::{Halt, Log, StepValue};
 use py_interp::Around;
-use py_interp_values::operands::push;
-use py_interp_values::operations::add_map;
+use py_interp::operands::push;
+use py_interp::operations::add_map;
 use py_tree::{Expr, ExprDict};
 
 #[cycle(walk)]

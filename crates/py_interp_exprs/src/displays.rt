@@ -12,8 +12,8 @@ use crate::expressions::walk_expression;
 use py_answers::{Halt, Log, StepValue};
 use py_bytecode::Instruction;
 use py_interp::Around;
-use py_interp_values::constants::none;
-use py_interp_values::operations::{build, does_three, does_two, numbered};
+use py_interp::constants::none;
+use py_interp::operations::{build, does_three, does_two, numbered};
 use py_tree::{Expr, ExprSlice};
 
 /// Gets what is built of elements, or of their groups where some are starred.

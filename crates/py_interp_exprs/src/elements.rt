@@ -12,7 +12,7 @@ use crate::expressions::walk_expression;
 use crate::groups::close_run;
 use py_answers::{Halt, Log, StepValue};
 use py_interp::Around;
-use py_interp_values::operands::push;
+use py_interp::operands::push;
 use py_tree::Expr;
 
 /// Whether an element is starred.

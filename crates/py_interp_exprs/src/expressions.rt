@@ -20,10 +20,10 @@ use crate::texts::whole_text;
 use py_answers::{Halt, Log, Operand, Operation, StepValue};
 use py_bytecode::Instruction;
 use py_interp::Around;
-use py_interp_values::constants::{empty_text, literal, none};
-use py_interp_values::names::name_value;
-use py_interp_values::operands::copy_value;
-use py_interp_values::operations::{bare, build, does_one, does_two, numbered};
+use py_interp::constants::{empty_text, literal, none};
+use py_interp::names::name_value;
+use py_interp::operands::copy_value;
+use py_interp::operations::{bare, build, does_one, does_two, numbered};
 use py_node_values::operators::{case_of, conversion_case_of, unary_case_of};
 use py_tree::{
     Expr, ExprAttribute, ExprBinOp, ExprFormattedValue, ExprIfExp, ExprJoinedStr, ExprNamedExpr,

@@ -16,8 +16,8 @@ use py_answers::{Halt, Log, StepValue};
 use py_base::Text;
 use py_bytecode::Instruction;
 use py_interp::Around;
-use py_interp_values::constants::none;
-use py_interp_values::operations::{bare, does_one, does_two, numbered};
+use py_interp::constants::none;
+use py_interp::operations::{bare, does_one, does_two, numbered};
 use py_tree::{ArgWithDefault, Arguments, Comprehension, ExprLambda};
 use std::alloc::Global;
 

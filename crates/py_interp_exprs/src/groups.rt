@@ -7,8 +7,8 @@ ghost use Rattle.py_interp.specs.Doing.{close_map, close_pairs, close_run, join_
 
 use py_answers::{Halt, Log, StepValue};
 use py_bytecode::Instruction;
-use py_interp_values::operands::{one, push};
-use py_interp_values::operations::{add_map, build, build_map};
+use py_interp::operands::{one, push};
+use py_interp::operations::{add_map, build, build_map};
 
 /// Groups with a tuple of a run after them, where the run is not empty.
 ///

@@ -18,8 +18,8 @@ use py_answers::{Halt, Log, StepValue};
 use py_base::{List, Text};
 use py_bytecode::ConstantData;
 use py_interp::Around;
-use py_interp_values::constants::text;
-use py_interp_values::operands::{one, push};
+use py_interp::constants::text;
+use py_interp::operands::{one, push};
 use py_tree::{Expr, Keyword};
 use std::alloc::{AllocError, Global};
 

@@ -7,9 +7,9 @@ ghost use Rattle.py_interp.specs.Doing.{make};
 use py_answers::{Halt, Log, StepValue};
 use py_base::Text;
 use py_bytecode::Instruction;
-use py_interp_values::constants::text;
-use py_interp_values::operands::push;
-use py_interp_values::operations::{does, numbered};
+use py_interp::constants::text;
+use py_interp::operands::push;
+use py_interp::operations::{does, numbered};
 
 /// Puts values after others.
 ///

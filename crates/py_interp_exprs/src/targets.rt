@@ -17,9 +17,9 @@ use py_answers::{Halt, Log, Operand, Operation, StepValue};
 use py_base::List;
 use py_bytecode::Instruction;
 use py_interp::Around;
-use py_interp_values::names::store;
-use py_interp_values::operands::{one, three, two};
-use py_interp_values::operations::{bare, counted, does_none};
+use py_interp::names::store;
+use py_interp::operands::{one, three, two};
+use py_interp::operations::{bare, counted, does_none};
 use py_tree::{Expr, ExprAttribute, ExprSubscript};
 
 /// Gives a value to an expression as a target.

@@ -10,7 +10,7 @@ use Rattle.py_interp.specs.declared.around.Around.{Around}
 use Rattle.py_interp.specs.Acting.{decorate}
 use Rattle.py_interp.specs.Doing.{Doing, does, get_all, values_of_all}
 use Rattle.py_interp.specs.Walks.{all_walks, value_walks, walk_expr}
-use Rattle.py_interp_values.proofs.Lengths.{length_behind}
+use Rattle.py_interp.proofs.Lengths.{length_behind}
 use Rattle.py_interp_exprs.proofs.ContinuationLemmas.{assoc, then_same}
 use Rattle.py_interp_simple.specs.Parts.{called_by}
 

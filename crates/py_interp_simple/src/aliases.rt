@@ -13,10 +13,10 @@ use py_answers::{Halt, Log, StepValue};
 use py_base::Text;
 use py_bytecode::Instruction;
 use py_interp::Around;
+use py_interp::constants::text;
+use py_interp::names::store;
+use py_interp::operations::{bare, build, does_three};
 use py_interp_exprs::walk_expression;
-use py_interp_values::constants::text;
-use py_interp_values::names::store;
-use py_interp_values::operations::{bare, build, does_three};
 use py_tree::{Expr, StmtTypeAlias, TypeParam};
 
 /// Defines an alias. What is no name is not compiled.

@@ -16,12 +16,12 @@ use crate::notes::walk_note;
 use py_answers::{Halt, Log, Operand, Operation, StepValue};
 use py_bytecode::Instruction;
 use py_interp::Around;
+use py_interp::constants::text;
+use py_interp::names::{load, name_value, store};
+use py_interp::operands::{copy_value, three, two};
+use py_interp::operations::{bare, does_none, does_one, does_two, numbered};
 use py_interp_exprs::functions::fixed_name;
 use py_interp_exprs::{walk_expression, walk_target};
-use py_interp_values::constants::text;
-use py_interp_values::names::{load, name_value, store};
-use py_interp_values::operands::{copy_value, three, two};
-use py_interp_values::operations::{bare, does_none, does_one, does_two, numbered};
 use py_node_values::operators::case_of;
 use py_tree::{
     Expr, ExprAttribute, ExprName, ExprSubscript, Operator, StmtAnnAssign, StmtAssign,

@@ -22,15 +22,15 @@ use py_answers::{Halt, Log, StepValue};
 use py_base::Text;
 use py_bytecode::Instruction;
 use py_interp::Around;
+use py_interp::constants::text;
+use py_interp::names::store;
+use py_interp::operands::{one, two};
+use py_interp::operations::{bare, build, does};
 use py_interp_exprs::calls::{call_packed, call_placed};
 use py_interp_exprs::elements::{has_star, is_star, walk_behind};
 use py_interp_exprs::functions::make_child;
 use py_interp_exprs::groups::{close_run, join_maps};
 use py_interp_exprs::keywords::{has_map, walk_keyword_values, walk_maps};
-use py_interp_values::constants::text;
-use py_interp_values::names::store;
-use py_interp_values::operands::{one, two};
-use py_interp_values::operations::{bare, build, does};
 use py_tree::{Expr, Keyword, StmtClassDef};
 
 /// Defines a class.

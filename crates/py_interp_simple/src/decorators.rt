@@ -12,8 +12,8 @@ ghost use Rattle.py_interp_simple.specs.Parts.{called_by};
 use py_answers::{Halt, Log, StepValue};
 use py_bytecode::Instruction;
 use py_interp::Around;
+use py_interp::operations::{does_two, numbered};
 use py_interp_exprs::elements::walk_all;
-use py_interp_values::operations::{does_two, numbered};
 use py_tree::Expr;
 
 /// Gets decorators in order.

@@ -9,9 +9,9 @@ use crate::flow::Flow;
 use py_answers::{Halt, Log, Operand, Operation};
 use py_bytecode::Instruction;
 use py_interp::Around;
+use py_interp::operands::{one, two};
+use py_interp::operations::{bare, does_none};
 use py_interp_exprs::walk_expression;
-use py_interp_values::operands::{one, two};
-use py_interp_values::operations::{bare, does_none};
 use py_tree::{Expr, ExprAttribute, ExprName, ExprSubscript};
 
 /// Deletes targets, a list or a tuple element by element.

@@ -21,13 +21,13 @@ use py_answers::{Halt, Log, Operand, Operation, StepValue};
 use py_base::Text;
 use py_bytecode::Instruction;
 use py_interp::Around;
+use py_interp::constants::text;
+use py_interp::names::store;
+use py_interp::operands::{copy_value, two};
+use py_interp::operations::does_none;
 use py_interp_exprs::functions::fixed_name;
 use py_interp_exprs::making::{append, make};
 use py_interp_exprs::{Defaults, walk_defaults};
-use py_interp_values::constants::text;
-use py_interp_values::names::store;
-use py_interp_values::operands::{copy_value, two};
-use py_interp_values::operations::does_none;
 use py_tree::{StmtFunctionDef, Stmts};
 use std::alloc::Global;
 

@@ -14,10 +14,10 @@ use py_answers::{Halt, Log, StepValue};
 use py_base::Text;
 use py_bytecode::Instruction;
 use py_interp::Around;
+use py_interp::operands::one;
+use py_interp::operations::{counted, does, does_one, numbered};
 use py_interp_exprs::making::{append, make};
 use py_interp_exprs::{Defaults, walk_defaults};
-use py_interp_values::operands::one;
-use py_interp_values::operations::{counted, does, does_one, numbered};
 use py_tree::Arguments;
 use std::alloc::{AllocError, Global};
 

@@ -17,10 +17,10 @@ use crate::flow::Flow;
 use py_answers::{Halt, Log, Operand, Operation, StepValue};
 use py_base::Text;
 use py_bytecode::{ConstantData, Instruction};
+use py_interp::names::store;
+use py_interp::operands::{copy_value, one};
+use py_interp::operations::{bare, does_none, does_one, does_two};
 use py_interp_exprs::functions::fixed_name;
-use py_interp_values::names::store;
-use py_interp_values::operands::{copy_value, one};
-use py_interp_values::operations::{bare, does_none, does_one, does_two};
 use py_node_values::paths::{
     asked_names, behind_dot, first_segment, has_star, name_taken, single_name,
 };

@@ -14,11 +14,11 @@ use py_answers::{Halt, Log, StepValue};
 use py_base::Text;
 use py_bytecode::ConstantData;
 use py_interp::Around;
+use py_interp::constants::{none, text};
+use py_interp::operands::push;
 use py_interp_exprs::functions::fixed_name;
 use py_interp_exprs::groups::close_map;
 use py_interp_exprs::walk_expression;
-use py_interp_values::constants::{none, text};
-use py_interp_values::operands::push;
 use py_tree::{Arg, ArgWithDefault, Arguments, Expr};
 use std::alloc::Global;
 
@@ -67,7 +67,7 @@ pub(crate) fn walk_notes(
 }
 
 // The map of names and values, which take turns; none where there are none.
-#[tactic(auto, using(py_interp_values::proofs::Lengths::lengths))]
+#[tactic(auto, using(py_interp::proofs::Lengths::lengths))]
 fn map_of(log: &mut Log<'_>, notes: Vec<StepValue>) -> Result<Vec<StepValue>, Halt>
     ensures { let run = values_of notes.items in Gets (λ v. values_of v.items) result (world_of log.new) (close_map [] (length run / 2) run (world_of log.old)) }
 {

@@ -18,12 +18,12 @@ use py_answers::{Halt, Log, StepValue};
 use py_base::List;
 use py_bytecode::Instruction;
 use py_interp::Around;
+use py_interp::constants::none;
+use py_interp::names::load;
+use py_interp::operands::{one, two};
+use py_interp::operations::{does_one, does_two, numbered};
 use py_interp_exprs::functions::fixed_name;
 use py_interp_exprs::{walk_expression, walk_test};
-use py_interp_values::constants::none;
-use py_interp_values::names::load;
-use py_interp_values::operands::{one, two};
-use py_interp_values::operations::{does_one, does_two, numbered};
 use py_tree::{Expr, StmtAssert, StmtRaise};
 
 /// Raises an exception, or the one that is handled again.

@@ -16,11 +16,11 @@ use crate::statements::{walk_statement, walk_statements};
 use py_answers::{Halt, Log, StepValue};
 use py_base::Text;
 use py_interp::Around;
+use py_interp::constants::none;
+use py_interp::names::store;
+use py_interp::operands::copy_value;
 use py_interp_exprs::walk_expression;
 use py_interp_simple::{Flow, walk_class, walk_function};
-use py_interp_values::constants::none;
-use py_interp_values::names::store;
-use py_interp_values::operands::copy_value;
 use py_tree::{Expr, Stmt, StmtClassDef, StmtFunctionDef};
 
 /// Walks future imports and the block that follows them.

@@ -14,11 +14,11 @@ use py_answers::{Halt, Log};
 use py_base::Text;
 use py_bytecode::Instruction;
 use py_interp::Around;
+use py_interp::constants::{none, text};
+use py_interp::names::store;
+use py_interp::operations::{bare, does_none};
 use py_interp_exprs::functions::fixed_name;
 use py_interp_simple::{Flow, split_doc};
-use py_interp_values::constants::{none, text};
-use py_interp_values::names::store;
-use py_interp_values::operations::{bare, does_none};
 use py_node_values::annotations::has_annotation;
 use py_tree::Stmt;
 

@@ -13,10 +13,10 @@ use crate::statements::walk_statements;
 use py_answers::{Halt, Log, StepValue};
 use py_bytecode::Instruction;
 use py_interp::Around;
+use py_interp::operands::copy_value;
+use py_interp::operations::{bare, does_one};
 use py_interp_exprs::{walk_expression, walk_target, walk_test};
 use py_interp_simple::Flow;
-use py_interp_values::operands::copy_value;
-use py_interp_values::operations::{bare, does_one};
 use py_tree::{StmtFor, StmtWhile};
 
 /// Walks a body while a test holds, and then an else part.

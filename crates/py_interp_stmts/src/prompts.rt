@@ -17,11 +17,11 @@ use crate::statements::walk_statement;
 use py_answers::{Halt, Log, StepValue};
 use py_bytecode::Instruction;
 use py_interp::Around;
+use py_interp::constants::none;
+use py_interp::operands::{copy_value, one};
+use py_interp::operations::{bare, does_none};
 use py_interp_exprs::walk_expression;
 use py_interp_simple::{Flow, import_names};
-use py_interp_values::constants::none;
-use py_interp_values::operands::{copy_value, one};
-use py_interp_values::operations::{bare, does_none};
 use py_tree::{Expr, Stmt};
 
 /// What stands around the next statement, and whether future imports may still stand there.

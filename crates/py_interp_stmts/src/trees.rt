@@ -14,8 +14,8 @@ use crate::files::walk_file;
 use crate::prompts::walk_prompt;
 use py_answers::{Halt, Log, Outcome, Script, StepValue, Trace};
 use py_interp::Around;
+use py_interp::constants::none;
 use py_interp_simple::Flow;
-use py_interp_values::constants::none;
 use py_tree::{Mod, Mode, Stmt};
 use std::alloc::{AllocError, Global};
 

@@ -18,11 +18,11 @@ use py_answers::{Halt, Log, StepValue};
 use py_base::Text;
 use py_bytecode::Instruction;
 use py_interp::Around;
+use py_interp::constants::none;
+use py_interp::names::store;
+use py_interp::operations::{does_two, numbered};
 use py_interp_exprs::walk_expression;
 use py_interp_simple::Flow;
-use py_interp_values::constants::none;
-use py_interp_values::names::store;
-use py_interp_values::operations::{does_two, numbered};
 use py_tree::{ExceptHandler, Expr, Stmt, StmtTry};
 
 /// Walks a body, what handles its exceptions, an else part, and a finally block on every way out.

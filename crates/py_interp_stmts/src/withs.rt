@@ -15,11 +15,11 @@ use py_answers::{Halt, Log, StepValue};
 use py_base::List;
 use py_bytecode::Instruction;
 use py_interp::Around;
+use py_interp::constants::none;
+use py_interp::operands::one;
+use py_interp::operations::{bare, does_two};
 use py_interp_exprs::{walk_expression, walk_target};
 use py_interp_simple::Flow;
-use py_interp_values::constants::none;
-use py_interp_values::operands::one;
-use py_interp_values::operations::{bare, does_two};
 use py_tree::{Expr, StmtWith, WithItem};
 
 /// Enters items, walks a body, and leaves the items, the last one first.

@@ -7,3 +7,5 @@ pub mod Samples
 pub mod LoadSamples
 pub mod Scopes
 pub mod ScopeSamples
+pub mod Faults
+pub mod Levels

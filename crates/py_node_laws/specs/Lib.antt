@@ -3,3 +3,9 @@ pub mod Adding
 pub mod Running
 pub mod Scopes
 pub mod Growth
+pub mod NodeFaults
+pub mod CallFaults
+pub mod CallPartFaults
+pub mod MissingCells
+pub mod GivenErrors
+pub mod Levels

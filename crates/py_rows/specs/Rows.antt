@@ -18,7 +18,7 @@ use Rattle.py_rows_fields.specs.JsonRows.{json_of, rows_in}
 use Rattle.py_rows_fields.specs.Outline.{checked_rows, depth_of}
 use Rattle.py_rows_fields.specs.Parts.{kind_at, parts_of}
 use Rattle.py_rows_fields.specs.Sorts.{sort_of}
-use Rattle.py_rows_nodes.specs.Making.{make}
+use Rattle.py_rows.specs.Making.{make}
 use Rattle.py_rows_slots.specs.Nodes.{Nodes, is_left, no_nodes}
 
 -- the kind of row n, its fields and the rows that it names, where it may name them

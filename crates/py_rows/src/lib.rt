@@ -8,6 +8,9 @@ ghost use Rattle.py_rows.specs.Rows.{rows_tree};
 
 mod depths;
 mod ending;
+mod making;
+mod mods;
+mod programs;
 mod reading;
 
 use ending::take_program;

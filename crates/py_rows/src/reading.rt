@@ -6,8 +6,8 @@ ghost use Rattle.py_rows_slots.specs.Nodes.{nodes_view};
 ghost use Rattle.py_rows.specs.Rows.{add_row, outline, row_read, rows_from};
 
 use crate::depths::whole_depth;
+use crate::making::make;
 use py_rows_fields::{Kind, Part, Row, RowsError, check_parts, find_parts, kind_at};
-use py_rows_nodes::make;
 use py_rows_slots::Nodes;
 use serde_json::Value;
 use std::alloc::Global;

@@ -14,11 +14,11 @@ use Rattle.py_rows_format.specs.Rows as law
 use Rattle.py_rows.specs.Rows as reader
 use Rattle.py_rows_slots.specs.Nodes.{Nodes, is_left}
 use Rattle.py_rows_slots.specs.Taking.{is_left_at}
-use Rattle.py_rows_format_proof.proofs.CheckLemmas.{Alike, fits_as}
-use Rattle.py_rows_format_proof.proofs.FormLemmas.{is_part}
+use Rattle.py_rows_law.proofs.CheckLemmas.{Alike, fits_as}
+use Rattle.py_rows_law.proofs.FormLemmas.{is_part}
 use Rattle.py_rows_law.proofs.StepLemmas.{SoFar}
-use Rattle.py_rows_format_proof.proofs.TieLemmas.{Ties, list_of, number}
-use Rattle.py_rows_format_proof.proofs.TableLemmas.{sort_as}
+use Rattle.py_rows_law.proofs.TieLemmas.{Ties, list_of, number}
+use Rattle.py_rows_law.proofs.TableLemmas.{sort_as}
 
 -- ---- the last row
 

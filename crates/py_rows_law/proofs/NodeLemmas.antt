@@ -24,11 +24,11 @@ use Rattle.py_rows_slots.specs.Slots.{Made, add_expr, add_stmt, add_type_param}
 use Rattle.py_rows_exprs.specs.Exprs.{expr_of_kind}
 use Rattle.py_rows_stmts.specs.Stmts.{stmt_of_kind}
 use Rattle.py_rows_stmts.specs.TypeParams.{type_param_of_kind}
-use Rattle.py_rows_nodes.specs.Making.{make}
-use Rattle.py_rows_format_proof.proofs.FillingLemmas.{Datas, filled}
-use Rattle.py_rows_format_proof.proofs.FormLemmas.{are_read}
-use Rattle.py_rows_format_proof.proofs.GrowthLemmas.{index_for, with_node}
-use Rattle.py_rows_format_proof.proofs.TableLemmas.{row}
+use Rattle.py_rows.specs.Making.{make}
+use Rattle.py_rows_law.proofs.FillingLemmas.{Datas, filled}
+use Rattle.py_rows_law.proofs.FormLemmas.{are_read}
+use Rattle.py_rows_law.proofs.GrowthLemmas.{index_for, with_node}
+use Rattle.py_rows_law.proofs.TableLemmas.{row}
 
 abbrev pub entries : (fs : List Field) → Datas fs → Items
 entries [] ds = no_items

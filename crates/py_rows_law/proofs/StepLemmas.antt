@@ -44,17 +44,17 @@ use Rattle.py_rows_format.specs.Making.{all_names, are_new, deepest, fits_in, na
 use Rattle.py_rows_format.specs.Rows as law
 use Rattle.py_rows_format.specs.Table as table
 use Rattle.py_rows_slots.specs.Nodes.{Nodes}
-use Rattle.py_rows_nodes.specs.Making.{make}
+use Rattle.py_rows.specs.Making.{make}
 use Rattle.py_rows.specs.Rows.{add_row, is_item, is_with, item_count, row_read, whole_depth}
-use Rattle.py_rows_format_proof.proofs.CheckLemmas.{AreAlike, deepest_alike, kinds_alike, later_alike, node_fits, number_of, numbers_in}
-use Rattle.py_rows_format_proof.proofs.FieldLemmas.{Filled, Says, all_filled}
-use Rattle.py_rows_format_proof.proofs.FillingLemmas.{Datas, filled}
-use Rattle.py_rows_format_proof.proofs.FormLemmas.{Behind, are_read, both_true, forms_alike, is_read, parts_in}
-use Rattle.py_rows_format_proof.proofs.GrowthLemmas.{grown_program, grown_ties, index_for, more, rows_node, with_node, with_row}
+use Rattle.py_rows_law.proofs.CheckLemmas.{AreAlike, deepest_alike, kinds_alike, later_alike, node_fits, number_of, numbers_in}
+use Rattle.py_rows_law.proofs.FieldLemmas.{Filled, Says, all_filled}
+use Rattle.py_rows_law.proofs.FillingLemmas.{Datas, filled}
+use Rattle.py_rows_law.proofs.FormLemmas.{Behind, are_read, both_true, forms_alike, is_read, parts_in}
+use Rattle.py_rows_law.proofs.GrowthLemmas.{grown_program, grown_ties, index_for, more, rows_node, with_node, with_row}
 use Rattle.py_rows_law.proofs.NodeLemmas.{Placed, add, entries, kind_made, made}
-use Rattle.py_rows_format_proof.proofs.NumeralLemmas.{bytes_as, integer_as}
-use Rattle.py_rows_format_proof.proofs.TieLemmas.{Ties, behind}
-use Rattle.py_rows_format_proof.proofs.TableLemmas.{row, same_kind, same_row, sort_as}
+use Rattle.py_rows_law.proofs.NumeralLemmas.{bytes_as, integer_as}
+use Rattle.py_rows_law.proofs.TieLemmas.{Ties, behind}
+use Rattle.py_rows_law.proofs.TableLemmas.{row, same_kind, same_row, sort_as}
 
 -- ---- the rows so far, by the table and by the reader
 

@@ -11,3 +11,4 @@ pub mod StackCutLemmas
 pub mod PeekLemmas
 pub mod Heights
 pub mod FetchLemmas
+pub mod ReverseLemmas

@@ -10,6 +10,7 @@ mod moves;
 mod names;
 mod operations;
 mod parts;
+pub mod pile;
 mod questions;
 mod run;
 

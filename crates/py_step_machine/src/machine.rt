@@ -6,9 +6,9 @@ ghost use Rattle.py_step_decode.specs.Instructions.{entry_of, value_of};
 ghost use Rattle.py_step_machine.specs.State.{Does, state_of};
 
 use crate::held::{Block, Stop};
+use crate::pile::Pile;
 use py_answers::{Log, StepValue, copy_constant};
 use py_base::List;
-use py_stack::Pile;
 use py_step_decode::{Entry, Value};
 use std::alloc::{AllocError, Global};
 

@@ -5,9 +5,9 @@ ghost use Rattle.py_bytecode.specs.Values.{given_values};
 ghost use Rattle.py_answers.specs.Told.{value_of, values_of};
 ghost use Rattle.py_step_machine.specs.State.{machine_stack};
 
+use crate::pile::Pile;
 use py_answers::StepValue;
 use py_base::List;
-use py_stack::Pile;
 use py_step_decode::{Entry, Value};
 use std::alloc::{AllocError, Global};
 

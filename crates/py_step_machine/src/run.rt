@@ -15,10 +15,10 @@ ghost use Rattle.py_decode.specs.Reading.{IsReading};
 
 use crate::held::End;
 use crate::machine::{Machine, shortened};
+use crate::pile::Pile;
 use py_answers::{Log, Outcome, Script, StepValue, Trace};
 use py_bytecode::{CodeObject, ConstantData};
 use py_decode::{UnitRead, read_all, read_in};
-use py_stack::Pile;
 use py_step_decode::{Entry, Instr, decode};
 use std::alloc::{AllocError, Global};
 

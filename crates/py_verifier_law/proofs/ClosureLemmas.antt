@@ -13,14 +13,14 @@ use Rattle.py_control.specs.Agreement.{AgreeFull, Agrees}
 use Rattle.py_control.specs.Form.{Scope}
 use Rattle.py_control.specs.View.{event_to, events_to, ran_to, values_to, whole}
 use Rattle.py_meaning.specs.Meaning.{body}
-use Rattle.py_scope_tree.specs.Own.{OwnUpTo, number_of}
-use Rattle.py_scope_tree.specs.Owners.{Placed}
-use Rattle.py_scope_tree.specs.StmtOwners.{owners_of}
-use Rattle.py_scope_tree.proofs.EachOwn.{each_is_its_own}
-use Rattle.py_scope_tree.proofs.Heads.{own_head}
+use Rattle.py_scope_proof.specs.Own.{OwnUpTo, number_of}
+use Rattle.py_scope_proof.specs.Owners.{Placed}
+use Rattle.py_scope_proof.specs.StmtOwners.{owners_of}
+use Rattle.py_scope_proof.proofs.NodeScopes.EachOwn.{each_is_its_own}
+use Rattle.py_scope_proof.proofs.NodeScopes.Heads.{own_head}
 use Rattle.py_emission_proof.proofs.Additions.CodeNameLemmas.{IsMadeSo, Named}
-use Rattle.py_cell_binding.specs.Chains.{IsChain, IsMadeIn, Link, child_as, closure_in, event_at, made_in, made_of, outermost}
-use Rattle.py_cell_binding.proofs.Events.{inner_made}
+use Rattle.py_scope_proof.specs.Chains.{IsChain, IsMadeIn, Link, child_as, closure_in, event_at, made_in, made_of, outermost}
+use Rattle.py_scope_proof.proofs.CellBinding.Events.{inner_made}
 use Rattle.py_verifier_law.specs.Closures.{ClosuresFit}
 
 -- ---- what the meaning makes, where a run makes a function

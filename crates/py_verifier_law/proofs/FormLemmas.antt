@@ -14,7 +14,7 @@ use Rattle.py_emission_parts.specs.Everywhere.{Everywhere}
 use Rattle.py_emission.specs.EmissionMods.{emission_outcome}
 use Rattle.py_emission_proof.specs.Distinct.{AreApart, AreDistinct, HasDistinctNames}
 use Rattle.py_meaning.specs.Faults.{faults}
-use Rattle.py_scope_tree.proofs.EnteringPrograms.{parts_none}
+use Rattle.py_scope_proof.proofs.NodeScopes.EnteringPrograms.{parts_none}
 use Rattle.codegen.specs.Compiled.{IsLocated, IsSealed, around_tree}
 use Rattle.py_verify.specs.Nested.{path_place}
 use Rattle.py_well_formed.specs.declared.fault.FormFault.{FormFault}

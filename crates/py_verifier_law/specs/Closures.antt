@@ -12,7 +12,7 @@ use Rattle.py_bytecode.specs.declared.code.CodeObject.{CodeObject}
 use Rattle.py_control.specs.Form.{Scope}
 use Rattle.py_meaning.specs.Meaning.{body}
 use Rattle.py_meaning.specs.Scanned.{scopes_of}
-use Rattle.py_cell_binding.specs.Chains.{IsChain, Link, closure_in, event_at, made_in}
+use Rattle.py_scope_proof.specs.Chains.{IsChain, Link, closure_in, event_at, made_in}
 use Rattle.codegen.specs.Calls.{IsCompiled}
 
 -- take a chain of functions that are made one within another, from the code on; an event in a run of the innermost code that makes a function of a

@@ -1,7 +1,7 @@
 -- What C asks for, by whether the script is UTF-8.
 use Rattle.std.proofs.Common.{◌≡◌, ℕ, List, Bool, true, Option, None, option_map, if◌then◌else◌, ap, sym, ◌∙◌}
 use Rattle.std.proofs.lemmas.Str.{is_utf8-from_IsUtf8}
-use Rattle.std.specs.Str.{IsUtf8, is_utf8}
+use Rattle.std.specs.Str.{IsUtf8}
 use Rattle.py_answers.specs.declared.answers.Answer.{Answer}
 use Rattle.py_answers.specs.Scripts.{script_in}
 use Rattle.py_trace.specs.Words.{Asked}

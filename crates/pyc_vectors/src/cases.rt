@@ -88,8 +88,8 @@ fn devices_of(words: &str) -> Option<Devices> {
             Some(Devices::Clean { out, err })
         }
         ("pieces", rest) => {
-            let (read, rest) = piecewise(rest)?;
-            let (write, rest) = piecewise(rest)?;
+            let (read, rest) = pieces_of(rest)?;
+            let (write, rest) = pieces_of(rest)?;
             let (room, _) = number(rest)?;
             Some(Devices::Pieces { read, write, room })
         }
@@ -98,7 +98,7 @@ fn devices_of(words: &str) -> Option<Devices> {
 }
 
 /// The pieces that two numbers tell, and what stands after them.
-fn piecewise(words: &str) -> Option<(Piecewise, &str)> {
+fn pieces_of(words: &str) -> Option<(Piecewise, &str)> {
     let (size, rest) = number(words)?;
     let (failing, rest) = number(rest)?;
     Some((Piecewise { size, failing }, rest))

@@ -16,7 +16,7 @@ use Rattle.py_scope.specs.Scanned.{is_function}
 use Rattle.py_scope.proofs.Truth.{any_scope, truth_both, truth_either, left_or, truth_right_or}
 use Rattle.py_emission_parts.specs.Context.{names_of_those}
 use Rattle.py_emission_proof.specs.Distinct.{AreDistinct}
-use Rattle.py_cell_loads.proofs.SharedUseLemmas.{SharedUseHas, no_more}
+use Rattle.py_scope_proof.proofs.CellLoads.SharedUseLemmas.{SharedUseHas, no_more}
 
 -- the names that are used in some scope
 abbrev pub all_names : List Row → List Name

@@ -12,8 +12,8 @@ use Rattle.py_emission_parts.specs.Emitting.{Around, LoopBlocks}
 use Rattle.py_meaning.specs.Faults.{faults}
 use Rattle.py_meaning.specs.Meaning.{body}
 use Rattle.py_meaning.specs.Scanned.{scopes_of}
-use Rattle.py_scope_tree.specs.Cells.{StandUpTo, at_hand, is_one_of}
-use Rattle.py_scope_tree.proofs.CellsOfScopes.{cells_stand}
+use Rattle.py_scope_proof.specs.Cells.{StandUpTo, at_hand, is_one_of}
+use Rattle.py_scope_proof.proofs.NodeScopes.CellsOfScopes.{cells_stand}
 use Rattle.py_emission_proof.proofs.Additions.EmissionSequenceLemmas.{emission_sequence_looping, emission_sequence_postponed_around}
 use Rattle.py_emission_outcomes.proofs.Capacity.Accesses.{AtHand, AccessReady}
 

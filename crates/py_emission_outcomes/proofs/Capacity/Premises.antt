@@ -20,13 +20,13 @@ use Rattle.py_emission_parts.specs.Context.{cells_among, cells_here, frees_among
 use Rattle.py_meaning.specs.ExprFaults.{Fault}
 use Rattle.py_meaning.specs.Faults.{compile_faults, faults, malformed_faults, too_deep, too_large, whole}
 use Rattle.py_meaning.specs.Scanned.{entries_of, scan_faults, scopes_of}
-use Rattle.py_scope_tree.specs.Entered.{ScansTo}
-use Rattle.py_scope_tree.proofs.EnteringPrograms.{scan_came}
-use Rattle.py_scope_tree.proofs.Facts.{tables_follow}
-use Rattle.py_scope_tree.proofs.ListedTables.{listed_table_numbered, or_none, symbols_there}
-use Rattle.py_scope_tree.proofs.OwnerTables.{scan_done}
-use Rattle.py_cell_loads.specs.Uses.{UsesAreFew, use_count}
-use Rattle.py_cell_loads.proofs.Distinct.{those_distinct}
+use Rattle.py_scope_proof.specs.Entered.{ScansTo}
+use Rattle.py_scope_proof.proofs.NodeScopes.EnteringPrograms.{scan_came}
+use Rattle.py_scope_proof.proofs.NodeScopes.Facts.{tables_follow}
+use Rattle.py_scope_proof.proofs.NodeScopes.ListedTables.{listed_table_numbered, or_none, symbols_there}
+use Rattle.py_scope_proof.proofs.NodeScopes.OwnerTables.{scan_done}
+use Rattle.py_scope_proof.specs.CellLoads.{UsesAreFew, use_count}
+use Rattle.py_scope_proof.proofs.CellLoads.Distinct.{those_distinct}
 use Rattle.py_emission_outcomes.proofs.Capacity.Among.{all_names, few_of_those}
 
 -- where two lists together are empty, each is

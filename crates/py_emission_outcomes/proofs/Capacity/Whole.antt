@@ -17,9 +17,9 @@ use Rattle.py_meaning.specs.ExprFaults.{Fault}
 use Rattle.py_meaning.specs.Faults.{compile_faults}
 use Rattle.py_meaning.specs.Meaning.{body, mod_form}
 use Rattle.py_meaning.specs.Scanned.{scopes_of}
-use Rattle.py_scope_tree.proofs.EnteringPrograms.{parts_none}
+use Rattle.py_scope_proof.proofs.NodeScopes.EnteringPrograms.{parts_none}
 use Rattle.py_emission_outcomes.proofs.Faults.FaultOutcomeLemmas.{refusal_heads}
-use Rattle.py_cell_loads.specs.Uses.{UsesAreFew}
+use Rattle.py_scope_proof.specs.CellLoads.{UsesAreFew}
 use Rattle.py_emission_outcomes.specs.Fitting.{HasShortTables, IsSmall, TreesFit}
 use Rattle.py_emission_outcomes.proofs.Capacity.ShortTables.{sealed_short}
 use Rattle.py_emission_outcomes.proofs.Capacity.Fits.{EmissionFits, FitsIn, IsOfTree, fit_taken}

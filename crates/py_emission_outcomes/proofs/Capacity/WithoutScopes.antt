@@ -12,12 +12,12 @@ use Rattle.py_emission_parts.specs.Context.{outermost}
 use Rattle.py_emission_parts.specs.Emitting.{Refused}
 use Rattle.py_emission.specs.EmissionMods.{emission_outcome}
 use Rattle.py_meaning.specs.Meaning.{body}
-use Rattle.py_scope_tree.specs.Cells.{StandUpTo, at_hand, is_one_of, wanted_at}
-use Rattle.py_scope_tree.specs.Own.{IsOwn, OwnUpTo, number_of}
-use Rattle.py_scope_tree.specs.StmtOwners.{owners_of}
-use Rattle.py_scope_tree.proofs.CellsOfScopes.{free_told}
-use Rattle.py_scope_tree.proofs.EachOwn.{each_is_its_own}
-use Rattle.py_scope_tree.proofs.OwnScopes.{all_as}
+use Rattle.py_scope_proof.specs.Cells.{StandUpTo, at_hand, is_one_of, wanted_at}
+use Rattle.py_scope_proof.specs.Own.{IsOwn, OwnUpTo, number_of}
+use Rattle.py_scope_proof.specs.StmtOwners.{owners_of}
+use Rattle.py_scope_proof.proofs.NodeScopes.CellsOfScopes.{free_told}
+use Rattle.py_scope_proof.proofs.NodeScopes.EachOwn.{each_is_its_own}
+use Rattle.py_scope_proof.proofs.NodeScopes.OwnScopes.{all_as}
 use Rattle.py_emission_outcomes.proofs.Capacity.Fits.{FitsIn}
 use Rattle.py_emission_outcomes.proofs.Capacity.Accesses.{access_outside, ready_outermost}
 use Rattle.py_emission_outcomes.proofs.Capacity.FitMods.{mod_fits}

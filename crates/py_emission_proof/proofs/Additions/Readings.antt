@@ -16,7 +16,7 @@ use Rattle.py_control.specs.Code.{Item, labels, body_code}
 use Rattle.py_control.specs.Looped.{Looped}
 use Rattle.py_control_proof.proofs.Assembly.{occurs}
 use Rattle.py_control_proof.proofs.Labels.{placed_once}
-use Rattle.py_control_sound.proofs.Blocks.{laid_is_sound}
+use Rattle.py_control_proof.proofs.Dataflow.Blocks.{laid_is_sound}
 use Rattle.py_emit.specs.Steps.{steps_in}
 use Rattle.py_emission_proof.proofs.Additions.AddedCodeLemmas.{AllRead, AllInside}
 use Rattle.py_emission_proof.proofs.Additions.Burden.{burden, burden_is, cells_in}

@@ -8,7 +8,7 @@ use Rattle.py_emission_parts.specs.Emitting.{Done}
 use Rattle.py_emission.specs.EmissionMods.{emission_outcome}
 use Rattle.py_meaning.specs.Meaning.{body}
 use Rattle.py_emission_proof.proofs.Additions.Codes.{LoadsFew}
-use Rattle.py_cell_loads.proofs.CellLoadLemmas.{tree_loads_few}
+use Rattle.py_scope_proof.proofs.CellLoads.CellLoadLemmas.{tree_loads_few}
 use Rattle.py_base.specs.declared.errors.CodegenErrorType.{CodegenErrorType}
 use Rattle.py_emit.specs.Emitted.{IsEmitted}
 use Rattle.py_emit.specs.States.{IsTold, Rest, info, rest, state}

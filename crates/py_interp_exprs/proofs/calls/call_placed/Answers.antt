@@ -6,7 +6,7 @@ use Rattle.py_tree.specs.View.{expr_tree}
 use Rattle.py_tree.specs.View.{keywords as keyword_trees}
 use Rattle.py_interp.specs.Doing.{does, name_tuple, placed_call}
 use Rattle.py_interp.specs.Walks.{keyword_walks}
-use Rattle.py_interp_values.proofs.Lengths.{lengths}
+use Rattle.py_interp.proofs.Lengths.{lengths}
 use Rattle.py_interp_exprs.proofs.ContinuationLemmas.{continuation_same}
 use Rattle.py_interp_exprs.proofs.calls.call_placed.Goals as goal
 

@@ -4,7 +4,7 @@ use Rattle.py_answers.specs.Log.{operation_of, world_of}
 use Rattle.py_answers.specs.Told.{value_of, values_of}
 use Rattle.py_emission_parts.specs.TableParts.{counted_operation}
 use Rattle.py_interp.specs.Doing.{does}
-use Rattle.py_interp_values.proofs.Lengths.{lengths}
+use Rattle.py_interp.proofs.Lengths.{lengths}
 use Rattle.py_interp_exprs.proofs.ContinuationLemmas.{continuation_same}
 use Rattle.py_interp_simple.proofs.hidden.call_with.Goals as goal
 

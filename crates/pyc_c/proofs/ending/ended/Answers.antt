@@ -25,7 +25,7 @@ returns-in-Some-clause-run c =
       room = c.run-report.ensures.room;
       line_room = c.run-report.ensures.line_room;
     } in
-    at_front words c.args.input.now r.status c.in-Some.put c.args.text.now c.put_front.new.text c.written.result.now
+    at_front words c.args.input.now r.status c.in-Some.put c.args.text.now c.put_front.new.room c.written.result.now
     ran.form (subst (λ xs. IfSome (due_of words (Some xs)) (IsDue r.status)) c.in-Ok.ensures.source ran.is_due)
     (ran_writes words c.args.input.now c.in-Ok.devices.source r (length c.args.text.now) c.in-Ok.devices.out c.in-Ok.devices.err c.run-report.new.out c.run-report.new.err c.written.result.now
     c.requires c.in-Ok.ensures.source c.in-Ok.ensures.out c.in-Ok.ensures.err ran c.written.ensures)

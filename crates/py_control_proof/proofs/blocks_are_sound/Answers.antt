@@ -1,0 +1,5 @@
+use Rattle.py_control_proof.proofs.Dataflow.Blocks.{blocks_are_sound}
+use Rattle.py_control_proof.proofs.blocks_are_sound.Goals as goal
+
+pub returns : goal.returns
+returns c = blocks_are_sound

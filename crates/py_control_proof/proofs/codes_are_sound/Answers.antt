@@ -1,0 +1,5 @@
+use Rattle.py_control_proof.proofs.Dataflow.CodesAreSound.{codes_are_sound}
+use Rattle.py_control_proof.proofs.codes_are_sound.Goals as goal
+
+pub returns : goal.returns
+returns c = codes_are_sound

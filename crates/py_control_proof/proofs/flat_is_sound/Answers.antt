@@ -1,0 +1,5 @@
+use Rattle.py_control_proof.proofs.Dataflow.Flat.{flat_is_sound}
+use Rattle.py_control_proof.proofs.flat_is_sound.Goals as goal
+
+pub returns : goal.returns
+returns c = flat_is_sound

@@ -1,0 +1,5 @@
+use Rattle.py_control_proof.proofs.Dataflow.Blocks.{laid_is_sound}
+use Rattle.py_control_proof.proofs.laid_is_sound.Goals as goal
+
+pub returns : goal.returns
+returns c = laid_is_sound

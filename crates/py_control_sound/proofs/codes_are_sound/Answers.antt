@@ -1,5 +1,0 @@
-use Rattle.py_control_sound.proofs.CodesAreSound.{codes_are_sound}
-use Rattle.py_control_sound.proofs.codes_are_sound.Goals as goal
-
-pub returns : goal.returns
-returns c = codes_are_sound

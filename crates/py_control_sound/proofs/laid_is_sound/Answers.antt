@@ -1,5 +1,0 @@
-use Rattle.py_control_sound.proofs.Blocks.{laid_is_sound}
-use Rattle.py_control_sound.proofs.laid_is_sound.Goals as goal
-
-pub returns : goal.returns
-returns c = laid_is_sound

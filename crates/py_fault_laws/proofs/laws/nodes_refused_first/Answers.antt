@@ -1,5 +1,0 @@
-use Rattle.py_fault_laws.proofs.Nodes.{bodies_end, deletes_end, exprs_end, statements_end, targets_end, tests_end}
-use Rattle.py_fault_laws.proofs.laws.nodes_refused_first.Goals as goal
-
-pub returns : goal.returns
-returns c = record { expressions = exprs_end; tests = tests_end; targets = targets_end; deletions = deletes_end; statements = statements_end; bodies = bodies_end }

@@ -1,5 +1,0 @@
-use Rattle.py_fault_laws.proofs.Missing.{bodies_find, comprehensions_find, deletions_find, expressions_find, statements_find, stores_find, tests_find}
-use Rattle.py_fault_laws.proofs.laws_of_calls.calls_find_cells.Goals as goal
-
-pub returns : goal.returns
-returns c = record { expressions = expressions_find; tests = tests_find; targets = stores_find; deletions = deletions_find; statements = statements_find; bodies = bodies_find; comprehensions = comprehensions_find }

@@ -1,0 +1,7 @@
+use Rattle.py_node_laws.proofs.Faults.GivenExprs.{to_given}
+use Rattle.py_node_laws.proofs.Faults.GivenParts.{deletes_given, value_given}
+use Rattle.py_node_laws.proofs.Faults.GivenStmts.{never_given, stmt_given, stmts_given}
+use Rattle.py_node_laws.proofs.laws_of_faults.errors_that_never_come.Goals as goal
+
+pub returns : goal.returns
+returns c = record { trees = never_given; expressions = value_given; targets = λ b p e. (to_given b p e).alone; deletions = deletes_given; statements = stmt_given; bodies = stmts_given }

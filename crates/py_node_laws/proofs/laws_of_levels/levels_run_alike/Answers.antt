@@ -1,0 +1,5 @@
+use Rattle.py_node_laws.proofs.Levels.Alike.{levels_run_alike}
+use Rattle.py_node_laws.proofs.laws_of_levels.levels_run_alike.Goals as goal
+
+pub returns : goal.returns
+returns c = levels_run_alike

@@ -1,9 +1,0 @@
-pub mod TableLemmas
-pub mod FormLemmas
-pub mod CheckLemmas
-pub mod TieLemmas
-pub mod TakingLemmas
-pub mod FillingLemmas
-pub mod FieldLemmas
-pub mod GrowthLemmas
-pub mod NumeralLemmas

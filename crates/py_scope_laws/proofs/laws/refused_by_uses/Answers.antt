@@ -1,5 +1,0 @@
-use Rattle.py_scope_laws.proofs.Scans.{programs_refused, values_refused}
-use Rattle.py_scope_laws.proofs.laws.refused_by_uses.Goals as goal
-
-pub returns : goal.returns
-returns c = record { programs = programs_refused; values = values_refused }

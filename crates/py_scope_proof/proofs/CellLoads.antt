@@ -1,0 +1,11 @@
+pub mod Used
+pub mod UsedNames
+pub mod UsedParams
+pub mod UsedExprs
+pub mod UsedDefs
+pub mod UsedStmts
+pub mod Whole
+pub mod Needed
+pub mod SharedUseLemmas
+pub mod Distinct
+pub mod CellLoadLemmas

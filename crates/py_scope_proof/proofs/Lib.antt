@@ -1,0 +1,4 @@
+pub mod NodeScopes
+pub mod CellBinding
+pub mod CellLoads
+pub mod RefusedNames

@@ -1,0 +1,10 @@
+pub mod Owners
+pub mod StmtOwners
+pub mod Entered
+pub mod Own
+pub mod Cells
+pub mod Chains
+pub mod Captures
+pub mod CellLoads
+pub mod Refused
+pub mod NameLaws

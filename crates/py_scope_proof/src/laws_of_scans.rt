@@ -1,0 +1,17 @@
+//! Laws of the scopes that a scan enters. Their bodies do nothing.
+ghost use Rattle.py_scope_proof.specs.Entered.{FaultlessScansEnd, ScanEntersOwners, TableHasOwners};
+
+/// The scan of a tree without faults ends in a state. So no law or clause that speaks of the state to which a scan of such a tree comes speaks of none.
+pub fn faultless_scans_end()
+    ensures { FaultlessScansEnd }
+{}
+
+/// A scan of a tree without faults enters the scopes of the nodes that have one, in their order, each within the scope that its node stands in.
+pub fn scan_enters_owners()
+    ensures { ScanEntersOwners }
+{}
+
+/// The scopes of the table of such a tree are those of its nodes, in their order.
+pub fn table_has_owners()
+    ensures { TableHasOwners }
+{}

@@ -1,5 +1,0 @@
-use Rattle.py_scope_tree.proofs.CellsOfScopes.{cells_stand}
-use Rattle.py_scope_tree.proofs.laws_of_cells.cells_stand.Goals as goal
-
-pub returns : goal.returns
-returns c = cells_stand

@@ -1,5 +1,0 @@
-use Rattle.py_scope_tree.proofs.FreeNames.{free_names_stand}
-use Rattle.py_scope_tree.proofs.laws_of_cells.free_names_stand.Goals as goal
-
-pub returns : goal.returns
-returns c = free_names_stand

@@ -1,5 +1,0 @@
-use Rattle.py_scope_tree.proofs.Facts.{scopes_stand}
-use Rattle.py_scope_tree.proofs.laws_of_cells.scopes_stand.Goals as goal
-
-pub returns : goal.returns
-returns c = scopes_stand

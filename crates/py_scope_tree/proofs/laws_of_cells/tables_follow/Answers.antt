@@ -1,5 +1,0 @@
-use Rattle.py_scope_tree.proofs.Facts.{tables_follow}
-use Rattle.py_scope_tree.proofs.laws_of_cells.tables_follow.Goals as goal
-
-pub returns : goal.returns
-returns c = tables_follow

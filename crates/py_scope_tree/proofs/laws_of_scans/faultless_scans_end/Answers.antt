@@ -1,5 +1,0 @@
-use Rattle.py_scope_tree.proofs.OwnerTables.{scan_done}
-use Rattle.py_scope_tree.proofs.laws_of_scans.faultless_scans_end.Goals as goal
-
-pub returns : goal.returns
-returns c = scan_done

@@ -1,5 +1,0 @@
-use Rattle.py_stack.proofs.Turned.{cut}
-use Rattle.py_stack.proofs.pile.Pile.cut.Goals as goal
-
-pub returns : goal.returns
-returns g c = let at_height = cut c.args.height c.self.inside.items.items in cc
