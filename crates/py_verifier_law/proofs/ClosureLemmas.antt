@@ -1,17 +1,18 @@
 -- A function that compiled code makes has as many cells as its code has free names, along chains of functions made one within another.
-use Rattle.std.proofs.Common.{◌≡◌, refl, sym, ap, ◌∙◌, subst, ℕ, zero, suc, List, [], ◌∷◌, ◌++◌, length, map, Option, Some, None}
+use Rattle.std.proofs.Common.{◌≡◌, refl, sym, ap, ◌∙◌, subst, ℕ, zero, suc, List, [], ◌∷◌, length, map, Option, Some, None}
 use Rattle.std.specs.Prelude.{slice_get}
 use Rattle.std.proofs.lemmas.List.{length-map}
 use Rattle.py_tree.specs.Tree as tree
 use Rattle.py_tree.specs.declared.modules.Mode.{Mode}
 use Rattle.py_bytecode.specs.Objects.{Object, head}
 use Rattle.py_bytecode.specs.Units.{machine}
-use Rattle.py_bytecode.specs.Values.{Answer, Value, Constant, Given, Child, Event, Operates, Makes, Accesses, StoresCells, AsksTruth, AsksNext, Ran}
+use Rattle.py_bytecode.specs.Values.{Answer, Value, Constant, Given, Child, Event, Operates, Makes, Accesses, StoresCells, AsksTruth, AsksNext}
 use Rattle.py_scope.specs.declared.flat.ScopeEntry.{ScopeEntry}
-use Rattle.py_control.specs.Agree.{AllOf, SameEvent, SameEvents, SameRan, SameValue, SameValues, form_of, fully, head_of, kids, meaning_by}
+use Rattle.py_control.specs.Agree.{AllOf, SameEvents, SameValue, SameValues, form_of, fully, head_of, kids, meaning_by}
 use Rattle.py_control.specs.Agreement.{AgreeFull, Agrees}
-use Rattle.py_control.specs.Form.{Scope}
-use Rattle.py_control.specs.View.{event_to, events_to, ran_to, values_to, whole}
+use Rattle.py_control.specs.Form.{Head, Scope}
+use Rattle.py_control.specs.View.{events_to, values_to, whole}
+use Rattle.py_emission_parts.specs.Context.{inside}
 use Rattle.py_meaning.specs.Meaning.{body}
 use Rattle.py_scope_proof.specs.Own.{OwnUpTo, number_of}
 use Rattle.py_scope_proof.specs.Owners.{Placed}
@@ -113,6 +114,7 @@ module _ (t : tree.Mod) (m : Mode) (level : ℕ) (scopes : List ScopeEntry) (o :
     agree : AgreeFull l.code l.scope
 
   outermost_stands : (l : Link) → l ≡ outermost o (body scopes t m level) → LinkStands l
+  unfolding inside
   outermost_stands l e = subst LinkStands (sym e) (record { made_so = made; own = λ n. each_is_its_own scopes t m level n; agree = agrees })
 
   -- what is made within is made so, and stands at its own place
@@ -136,7 +138,7 @@ module _ (t : tree.Mod) (m : Mode) (level : ℕ) (scopes : List ScopeEntry) (o :
       let told = own_head scopes owners (number_of k.scope) l.scope x.1.0 in
       ap length x.2
       ∙ length-map (head_of l.scope).free (head_of k.scope).cell_place
-      ∙ ap (λ d. length d.free) told.tells
+      ∙ ap (λ (d : Head). length d.free) told.tells
       ∙ ap length (told.frees_are ∙ sym x.0.0.frees)
 
   pub closures_fit : ClosuresFit o (body scopes t m level)

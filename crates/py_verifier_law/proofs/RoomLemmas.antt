@@ -1,6 +1,6 @@
 -- A run of a code that verifies and is well formed comes only to instructions that have room for what they ask for.
 use Rattle.std.proofs.Common.{◌≡◌, ℕ, zero, suc, ◌+◌, ◌*◌, ◌%◌, ◌^◌, ◌<◌, ◌≤◌, List, [], ◌∷◌, length, drop, Bool, true, false, Option, Some, None, refl, sym, ap, ◌∙◌, subst, arith}
-use Rattle.std.specs.Prelude.{ℤ, pos, negsuc, ◌||◌, ◌&&◌, ◌==◌, nat_le, nat_lt, not, slice_get, if◌then◌else◌}
+use Rattle.std.specs.Prelude.{ℤ, pos, ◌||◌, ◌&&◌, ◌==◌, nat_le, nat_lt, not, slice_get, if◌then◌else◌}
 use Rattle.std.specs.List.{list_all}
 use Rattle.std.specs.Option.{option_map}
 use Rattle.std.proofs.lemmas.Bool.{eqb-true}
@@ -10,7 +10,7 @@ use Rattle.py_bytecode.specs.declared.instruction.Instruction.{Instruction}
 use Rattle.py_bytecode.specs.declared.instruction.Instruction.TheVariants as op
 use Rattle.py_bytecode.specs.declared.operand.CodeUnit.{CodeUnit}
 use Rattle.py_bytecode.specs.Decode.{tables}
-use Rattle.py_bytecode.specs.Machine.{Config, At, Over, step, steps, start}
+use Rattle.py_bytecode.specs.Machine.{Config, At, step, steps, start}
 use Rattle.py_bytecode.specs.Objects as obj
 use Rattle.py_bytecode.specs.Objects.{Const, Consts, Head, Object, code, const_list, constants, head}
 use Rattle.py_bytecode.specs.Units.{Read, fetch_of_read, fetch_unit, is_prefix, read_from}
@@ -23,15 +23,13 @@ use Rattle.py_dataflow.proofs.UnwindLemmas.{InStep}
 use Rattle.py_verify.specs.declared.verdict.FlawKind.{FlawKind}
 use Rattle.py_verify.specs.Flaws.{operand_fits, unit_count}
 use Rattle.py_verify.specs.Laws.{FlawlessIsSound}
-use Rattle.py_verify.specs.Nested.{Flawless, IsWithin, Leads, path_place}
-use Rattle.py_well_formed.specs.declared.fault.FormFault.{FormFault}
+use Rattle.py_verify.specs.Nested.{Flawless, Leads, path_place}
 use Rattle.py_well_formed.specs.declared.fault.FormFaultKind.{FormFaultKind}
 use Rattle.py_well_formed.specs.declared.fault.FormFaultKind.TheVariants as fault
-use Rattle.py_well_formed.specs.declared.fault.FormSpot.{FormSpot}
 use Rattle.py_well_formed.specs.declared.lines.Line.{Line}
 use Rattle.py_well_formed.specs.Conditions.{Condition, at_unit, at_whole, cell_conditions, condition, first_of, first_unmet, function_conditions, is_quick, is_yield, line_conditions, line_fault, makes_function, own_fault, parameter_conditions, table_fault, unit_fault}
-use Rattle.py_well_formed.specs.Lines.{Ahead, after, lines_from, lines_of, operand_with}
-use Rattle.py_well_formed.specs.Tables.{are_entries, has_entries, has_flag, is_entry, parameters}
+use Rattle.py_well_formed.specs.Lines.{Ahead, lines_from, lines_of, operand_with}
+use Rattle.py_well_formed.specs.Tables.{are_entries, has_entries, has_flag, is_entry, parameters, repeats, shares}
 use Rattle.py_well_formed.specs.WellFormed.{HasForm, at_path, fault_among, fault_in, first_fault, from}
 use Rattle.py_verifier_law.specs.Room.{ComesTo, HasRoom, ParametersFit, RunsHaveRoom, is_celled}
 
@@ -72,20 +70,6 @@ within_is_formed (n ∷ path) o c e l = within_is_formed path l.1 c (child_is_fr
 
 -- ---- its conditions, one by one
 
-head_met : (c : Condition) (cs : List Condition) → first_unmet (c ∷ cs) ≡ None → c.met ≡ true
-head_met c cs e = by c.met c.otherwise (first_unmet cs) e
-  where
-    by : (b : Bool) (k : FormFaultKind) (later : Option FormFaultKind) → (if b then later else Some k) ≡ None → b ≡ true
-    by true k later e = refl
-    by false k later e = absurd cc
-
-tail_met : (c : Condition) (cs : List Condition) → first_unmet (c ∷ cs) ≡ None → first_unmet cs ≡ None
-tail_met c cs e = by c.met c.otherwise (first_unmet cs) e
-  where
-    by : (b : Bool) (k : FormFaultKind) (later : Option FormFaultKind) → (if b then later else Some k) ≡ None → later ≡ None
-    by true k later e = e
-    by false k later e = absurd cc
-
 tables_met : (o : Object) → HasForm o → table_fault (head o) ≡ None
 tables_met o f = unmapped at_whole (table_fault (head o)) (first_is_none (option_map at_whole (table_fault (head o))) (unit_fault (head o) (constants o)) f)
 
@@ -114,18 +98,35 @@ entry_of count (x ∷ xs) zero k a e =
     (omega arith, lt_of k count (sym (ap (is_entry count) q) ∙ and_left (is_entry count x) (list_all (is_entry count) xs) a))
 entry_of count (x ∷ xs) (suc i) k a e = let r = entry_of count xs i k (and_right (is_entry count x) (list_all (is_entry count) xs) a) e in (let l = r.0 in omega (arith, l), r.1)
 
+-- conditions of which none is unmet are met
+three_met : (a b c : Bool) (x y z : FormFaultKind) → first_unmet (condition a x ∷ condition b y ∷ condition c z ∷ []) ≡ None → (a ≡ true) × (b ≡ true) × (c ≡ true)
+three_met true true true x y z e = (refl, refl, refl)
+three_met true true false x y z e = absurd cc
+three_met true false c x y z e = absurd cc
+three_met false b c x y z e = absurd cc
+
+two_met : (a b : Bool) (x y : FormFaultKind) (others : List Condition) → first_unmet (condition a x ∷ condition b y ∷ others) ≡ None → (a ≡ true) × (b ≡ true)
+two_met true true x y others e = (refl, refl)
+two_met true false x y others e = absurd cc
+two_met false b x y others e = absurd cc
+
 parameters_fit : (o : Object) → HasForm o → ParametersFit o
 parameters_fit o f =
     let h = head o in
     let t = tables_met o f in
-    let a = first_is_none (first_unmet (parameter_conditions h)) (first_unmet (cell_conditions h)) t in
-    let b = later_is_none (first_unmet (parameter_conditions h)) (first_unmet (cell_conditions h)) t in
+    let a =
+    three_met (nat_le h.posonlyarg_count h.arg_count) (nat_le (parameters h) (length h.varnames)) (length h.locations == length h.instructions) fault.PositionalOnly fault.FewLocals fault.Locations
+    (first_is_none (first_unmet (parameter_conditions h)) (first_unmet (cell_conditions h)) t) in
+    let b =
+    two_met (has_entries (length h.cellvars) h.cell2arg) (are_entries (parameters h) h.cell2arg) fault.CellEntries fault.CellEntry
+    (condition (not (repeats h.cellvars)) fault.RepeatedCell ∷ condition (not (repeats h.freevars)) fault.RepeatedFree ∷ condition (not (shares h.cellvars h.freevars)) fault.CellIsFree ∷ [])
+    (later_is_none (first_unmet (parameter_conditions h)) (first_unmet (cell_conditions h)) t) in
     record {
-      positional = le_of h.posonlyarg_count h.arg_count (head_met _ _ a);
-      locals = le_of (parameters h) (length h.varnames) (head_met _ _ (tail_met _ _ a));
+      positional = le_of h.posonlyarg_count h.arg_count a.0;
+      locals = le_of (parameters h) (length h.varnames) a.1;
       cells = λ entries i k e g.
-          let many : length entries ≡ length h.cellvars = eqb-true (length entries) (length h.cellvars) (sym (ap (has_entries (length h.cellvars)) e) ∙ head_met _ _ b) in
-          let all : list_all (is_entry (parameters h)) entries ≡ true = sym (ap (are_entries (parameters h)) e) ∙ head_met _ _ (tail_met _ _ b) in
+          let many : length entries ≡ length h.cellvars = eqb-true (length entries) (length h.cellvars) (sym (ap (has_entries (length h.cellvars)) e) ∙ b.0) in
+          let all : list_all (is_entry (parameters h)) entries ≡ true = sym (ap (are_entries (parameters h)) e) ∙ b.1 in
           let r = entry_of (parameters h) entries i k all g in
           (let l = r.0 in omega (arith, l, many), r.1);
     }
@@ -146,7 +147,9 @@ AllFlagged h (u ∷ us) = (is_prefix u.op ≡ false → Flagged h u.op) × AllFl
 
 line_flagged : (h : Head) (cs : List Const) (all : List Line) (i : ℕ) (l : Line) → first_unmet (line_conditions h cs all i l) ≡ None → Flagged h l.op
 line_flagged h cs all i l e =
-    (or_implied (is_quick l.op) (has_flag h.flags 0x20) (head_met _ _ e), or_implied (is_yield l.op) (has_flag h.flags 0x02) (head_met _ _ (tail_met _ _ e)))
+    let m =
+    two_met (not (is_quick l.op) || has_flag h.flags 0x20) (not (is_yield l.op) || has_flag h.flags 0x02) fault.QuickLocal fault.Yield (if makes_function l.op then function_conditions h cs all i l.operand else []) e in
+    (or_implied (is_quick l.op) (has_flag h.flags 0x20) m.0, or_implied (is_yield l.op) (has_flag h.flags 0x02) m.1)
 
 -- each unit that is no prefix gives a line
 units_flagged : (h : Head) (cs : List Const) (all : List Line) (i : ℕ) (a : Ahead) (us : List CodeUnit) → line_fault h cs all i (lines_from a us) ≡ None → AllFlagged h us
