@@ -2,4 +2,5 @@ mod ClosureLemmas
 mod FormLemmas
 mod Forms
 mod RoomLemmas
+mod RoomSamples
 mod Throughout

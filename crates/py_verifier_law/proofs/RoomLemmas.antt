@@ -148,7 +148,8 @@ AllFlagged h (u ∷ us) = (is_prefix u.op ≡ false → Flagged h u.op) × AllFl
 line_flagged : (h : Head) (cs : List Const) (all : List Line) (i : ℕ) (l : Line) → first_unmet (line_conditions h cs all i l) ≡ None → Flagged h l.op
 line_flagged h cs all i l e =
     let m =
-    two_met (not (is_quick l.op) || has_flag h.flags 0x20) (not (is_yield l.op) || has_flag h.flags 0x02) fault.QuickLocal fault.Yield (if makes_function l.op then function_conditions h cs all i l.operand else []) e in
+    two_met (not (is_quick l.op) || has_flag h.flags 0x20) (not (is_yield l.op) || has_flag h.flags 0x02) fault.QuickLocal fault.Yield
+    (if makes_function l.op then function_conditions h cs all i l.operand else []) e in
     (or_implied (is_quick l.op) (has_flag h.flags 0x20) m.0, or_implied (is_yield l.op) (has_flag h.flags 0x02) m.1)
 
 -- each unit that is no prefix gives a line
