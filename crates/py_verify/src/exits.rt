@@ -167,8 +167,8 @@ pub fn fall_from(stacks: &Stacks, flow: Flow, known: UnitState) -> Option<Arrivi
     })
 }
 
-/// What comes to the target of a jump.
-pub fn jump_from(stacks: &Stacks, branch: Branch, known: UnitState) -> Arriving
+// What comes to the target of a jump.
+fn jump_to(stacks: &Stacks, branch: Branch, known: UnitState) -> Arriving
     requires linked { IsLinked stacks.now.entries.items }
     requires stack { IsStack stacks.now.entries.items known.blocks }
     requires fits { jumps_within branch known.height (blocks_of stacks.now.entries.items known.blocks) ≡ true }
@@ -199,4 +199,20 @@ pub fn jump_from(stacks: &Stacks, branch: Branch, known: UnitState) -> Arriving
             below: stacks.looped(known.blocks),
         },
     }
+}
+
+/// What comes to the target of an instruction, if it jumps.
+pub fn jump_from(stacks: &Stacks, jumps: bool, branch: Branch, known: UnitState) -> Option<Arriving>
+    requires linked { IsLinked stacks.now.entries.items }
+    requires stack { IsStack stacks.now.entries.items known.blocks }
+    requires fits { jumps ≡ true → jumps_within branch known.height (blocks_of stacks.now.entries.items known.blocks) ≡ true }
+    ensures none { IfNone result (jumps ≡ false) }
+    ensures jumps { IfSome result (λ _. jumps ≡ true) }
+    ensures stack { IfSome result (λ a. IsStack stacks.now.entries.items a.below) }
+    ensures coming { IfSome result (λ a. coming_in stacks.now.entries.items a ≡ jumps_to branch (state_in stacks.now.entries.items known)) }
+{
+    if !jumps {
+        return None;
+    }
+    Some(jump_to(stacks, branch, known))
 }

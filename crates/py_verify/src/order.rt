@@ -18,6 +18,12 @@ pub fn rank_of(ranks: &[usize], unit: usize) -> usize {
     }
 }
 
+fn set_rank(ranks: &mut [usize], unit: usize, rank: usize) {
+    if unit < ranks.len() {
+        ranks[unit] = rank;
+    }
+}
+
 // Puts a unit that was not seen on the path.
 fn enter(ranks: &[usize], path: &mut Vec<usize>, unit: usize) -> Result<(), AllocError> {
     if unit < ranks.len() && ranks[unit] == UNSEEN {
@@ -58,11 +64,11 @@ pub fn ranks(alloc: Global, reads: &[Option<UnitRead>]) -> Result<Vec<usize>, Al
             return Ok(ranks);
         };
         if rank_of(&ranks, unit) == UNSEEN {
-            ranks[unit] = ENTERED;
+            set_rank(&mut ranks, unit, ENTERED);
             enter_all(reads, &ranks, &mut path, unit)?;
         } else {
             if rank_of(&ranks, unit) == ENTERED {
-                ranks[unit] = time;
+                set_rank(&mut ranks, unit, time);
             }
             path.pop();
         }

@@ -1,9 +1,9 @@
 //! Stacks of open blocks, which units share.
 
-ghost use Rattle.std.specs.Prelude.{◌≡◌, ◌≢◌, ◌<◌, ◌++◌, ◌∷◌, [], Some, true, false, IfErr, IfOk};
+ghost use Rattle.std.specs.Prelude.{◌≡◌, ◌≢◌, ◌<◌, ◌++◌, ◌||◌, ◌∷◌, [], None, Some, true, false, IfErr, IfOk, length};
 ghost use Rattle.std.specs.Option.{IfNone, IfSome};
 ghost use Rattle.py_dataflow.specs.Known.{Torn, joined_mark, lacking_in};
-ghost use Rattle.py_dataflow.specs.Walks.{Alike, cut_to, from_loop, height_of, left_by, rest_of};
+ghost use Rattle.py_dataflow.specs.Walks.{Alike, cut_to, from_loop, height_of, is_loop, left_by, rest_of};
 ghost use Rattle.py_verify.specs.Stacks.{Extends, IsJoined, IsLinked, IsMeeting, IsStack, IsTop, blocks_of, first_of};
 
 use py_dataflow::{Mark, Refused};
@@ -80,7 +80,7 @@ fn is_entry(entry: Entry, block: Mark, below: Option<usize>) -> bool
 }
 
 // The block with the marks of both.
-fn joined(mine: Mark, theirs: Mark) -> Mark
+fn join_marks(mine: Mark, theirs: Mark) -> Mark
     ensures { result ≡ joined_mark mine theirs }
 {
     Mark {
@@ -97,6 +97,46 @@ fn adds_mark(mine: Mark, theirs: Mark) -> bool
     ensures no { result ≡ false → joined_mark mine theirs ≡ mine }
 {
     theirs.plain && !mine.plain || theirs.exit && !mine.exit
+}
+
+fn is_same(one: Option<usize>, other: Option<usize>) -> bool
+    ensures yes { result ≡ true → one ≡ other }
+    ensures no { result ≡ false → one ≢ other }
+{
+    one == other
+}
+
+// Whether two blocks have the same kind and height.
+fn is_alike(mine: Mark, theirs: Mark) -> bool
+    ensures yes { result ≡ true → (mine.kind ≡ theirs.kind) × (mine.height ≡ theirs.height) }
+    ensures no { result ≡ false → ¬ ((mine.kind ≡ theirs.kind) × (mine.height ≡ theirs.height)) }
+{
+    mine.kind == theirs.kind && mine.height == theirs.height
+}
+
+// Puts a block last.
+fn put(blocks: &mut Vec<Mark>, block: Mark) -> Result<(), Refused>
+    ensures items { IfOk result (λ _. blocks.new.items ≡ blocks.old.items ++ block ∷ []) }
+    ensures memory { IfErr result (λ e. e ≡ Refused.OutOfMemory) }
+{
+    match blocks.push(block) {
+        Ok(()) => Ok(()),
+        Err(_) => Err(Refused::OutOfMemory),
+    }
+}
+
+// Whether a block is marked both ways.
+fn is_torn(block: Mark) -> bool
+    ensures yes { result ≡ true → (block.plain ≡ true) × (block.exit ≡ true) }
+    ensures no { result ≡ false → ¬ ((block.plain ≡ true) × (block.exit ≡ true)) }
+{
+    block.plain && block.exit
+}
+
+fn either(one: bool, other: bool) -> bool
+    ensures { result ≡ (one || other) }
+{
+    one || other
 }
 
 // The height that is left where a block is cut away.
@@ -125,6 +165,7 @@ impl Stacks {
     fn top(&self, stack: Option<usize>) -> Option<Entry>
         requires linked { IsLinked self.now.entries.items }
         requires stack { IsStack self.now.entries.items stack }
+        ensures empty { IfNone result (stack ≡ None) }
         ensures none { IfNone result (blocks_of self.now.entries.items stack ≡ []) }
         ensures some { IfSome result (IsTop self.now.entries.items stack) }
     {
@@ -215,7 +256,22 @@ impl Stacks {
         }
     }
 
-    // What is known of a stack with a block above this one. An own loop's stack is that of the entry itself.
+    // The stack from the innermost loop on, where this block is above that stack. A loop's own is that of the entry that comes next.
+    fn looped_above(&self, block: Mark, below: Option<usize>) -> Option<usize>
+        requires linked { IsLinked self.now.entries.items }
+        requires below { IsStack self.now.entries.items below }
+        ensures own { is_loop block.kind ≡ true → result ≡ Some (length self.now.entries.items) }
+        ensures stack { is_loop block.kind ≡ false → IsStack self.now.entries.items result }
+        ensures blocks { is_loop block.kind ≡ false → blocks_of self.now.entries.items result ≡ from_loop (blocks_of self.now.entries.items below) }
+    {
+        if block.kind.is_loop() {
+            Some(self.entries.len())
+        } else {
+            self.looped(below)
+        }
+    }
+
+    // The entry of a stack with this block above that one.
     fn entry_above(&self, block: Mark, below: Option<usize>) -> Entry
         requires linked { IsLinked self.now.entries.items }
         requires below { IsStack self.now.entries.items below }
@@ -223,17 +279,15 @@ impl Stacks {
         ensures block { result.block ≡ block }
         ensures below { result.below ≡ below }
     {
-        let looped = if block.kind.is_loop() {
-            Some(self.entries.len())
-        } else {
-            self.looped(below)
-        };
+        let looped = self.looped_above(block, below);
+        let cut = self.cut(left_by(block), below);
+        let torn = either(is_torn(block), self.is_torn(below));
         Entry {
             block,
             below,
             looped,
-            cut: self.cut(left_by(block), below),
-            torn: block.plain && block.exit || self.is_torn(below),
+            cut,
+            torn,
         }
     }
 
@@ -243,7 +297,7 @@ impl Stacks {
         ensures found { IfSome result (λ number. IsStack self.now.entries.items (Some number)) }
         ensures blocks { IfSome result (λ number. blocks_of self.now.entries.items (Some number) ≡ block ∷ blocks_of self.now.entries.items below) }
     {
-        let number = *self.numbers.get(key_of(block, below))?;
+        let number = *self.numbers.get(&key_of(block, below))?;
         if number < self.entries.len() && is_entry(self.entries[number], block, below) {
             Some(number)
         } else {
@@ -311,18 +365,19 @@ impl Stacks {
         let mut other = theirs;
         let mut adds = false;
         let mut lacks = false;
-        while one != other {
-            let (Some(first), Some(second)) = (self.top(one), self.top(other)) else {
+        while !is_same(one, other) {
+            let Some(first) = self.top(one) else {
                 return Err(Refused::BlockMismatch);
             };
-            if first.block.kind != second.block.kind || first.block.height != second.block.height {
+            let Some(second) = self.top(other) else {
+                return Err(Refused::BlockMismatch);
+            };
+            if !is_alike(first.block, second.block) {
                 return Err(Refused::BlockMismatch);
             }
-            if above.push(joined(first.block, second.block)).is_err() {
-                return Err(Refused::OutOfMemory);
-            }
-            adds = adds || adds_mark(first.block, second.block);
-            lacks = lacks || adds_mark(second.block, first.block);
+            put(&mut above, join_marks(first.block, second.block))?;
+            adds = either(adds, adds_mark(first.block, second.block));
+            lacks = either(lacks, adds_mark(second.block, first.block));
             one = first.below;
             other = second.below;
         }

@@ -292,19 +292,15 @@ fn exits_of(
     }
     let item = info_of(read);
     let flow = Flow::of(item.instr, item.arg);
-    if let Err(refused) = check(stacks, &item, flow, known) {
-        return Err(halt_of(refused, unit));
+    match check(stacks, &item, flow, known) {
+        Ok(()) => Ok(Exits {
+            next: read.next,
+            target: read.arg.0 as usize,
+            fall: fall_from(stacks, flow, known),
+            jump: jump_from(stacks, item.instr.has_target(), flow.branch, known),
+        }),
+        Err(refused) => Err(halt_of(refused, unit)),
     }
-    Ok(Exits {
-        next: read.next,
-        target: read.arg.0 as usize,
-        fall: fall_from(stacks, flow, known),
-        jump: if item.instr.has_target() {
-            Some(jump_from(stacks, flow.branch, known))
-        } else {
-            None
-        },
-    })
 }
 
 // What is known of a unit.

@@ -25,8 +25,8 @@ impl<K: Ord, V> BTreeMap<K, V> {
     }
 
     /// The value of a key.
-    pub fn get(&self, key: K) -> Option<&V> {
-        self.entries.get(&key)
+    pub fn get(&self, key: &K) -> Option<&V> {
+        self.entries.get(key)
     }
 
     /// Gives a key a value, and answers the one that it had.
