@@ -49,7 +49,7 @@ module _ (es : List Entry) (e : Entry) where
 
   top_kept : (n : Option ℕ) (d : Entry) → IsStack es n → IsTop es n d → IsTop (es ++ e ∷ []) n d
   top_kept n d s t = record {
-    blocks = blocks_kept n s ∙ t.blocks ∙ ap (λ b. d.block ∷ b) (sym (blocks_kept d.below t.below));
+    shape = blocks_kept n s ∙ t.shape ∙ ap (λ b. d.block ∷ b) (sym (blocks_kept d.below t.below));
     below = stacks_kept d.below t.below;
     looped = blocks_kept d.looped t.looped_stack ∙ t.looped ∙ ap from_loop (sym (blocks_kept n s));
     looped_stack = stacks_kept d.looped t.looped_stack;
@@ -85,7 +85,7 @@ module _ (es : List Entry) (e : Entry) (linked : IsLinked es) (next : IsNext es 
 
   top_next : IsTop (es ++ e ∷ []) (Some (length es)) e
   top_next = record {
-    blocks = blocks_next es e ∙ ap (λ b. e.block ∷ b) (sym (blocks_kept es e e.below next.below));
+    shape = blocks_next es e ∙ ap (λ b. e.block ∷ b) (sym (blocks_kept es e e.below next.below));
     below = stacks_kept es e e.below next.below;
     looped = from_loop_here (is_loop e.block.kind) refl ∙ ap from_loop (sym (blocks_next es e));
     looped_stack = looped_is_stack (is_loop e.block.kind) refl;

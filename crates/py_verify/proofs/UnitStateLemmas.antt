@@ -23,23 +23,23 @@ use Rattle.py_verify.specs.Stepping.{Comes, KnownIn, HaltsAt, halt_by}
 use Rattle.py_verify.proofs.Comings.{comes_shown, halts_at}
 
 module _ (es fs : List Entry) (x : Extends es fs) where
-  known_same : (o : Option (Option UnitState)) → ((u : UnitState) → o ≡ Some (Some u) → IsStack es u.blocks) → known_in fs o ≡ known_in es o
+  known_same : (o : Option (Option UnitState)) → ((u : UnitState) → o ≡ Some (Some u) → IsStack es u.stack) → known_in fs o ≡ known_in es o
   known_same None h = refl
   known_same (Some None) h = refl
-  known_same (Some (Some u)) h = ap (λ b. Some (state u.height b)) (x.same u.blocks (h u refl))
+  known_same (Some (Some u)) h = ap (λ b. Some (state u.height b)) (x.same u.stack (h u refl))
 
   pub state_at_same : (us : List (Option UnitState)) → AllStacks es us → (k : ℕ) → state_at fs us k ≡ state_at es us k
   state_at_same us h k = known_same (slice_get us k) (h k)
 
   pub all_stacks_same : (us : List (Option UnitState)) → AllStacks es us → AllStacks fs us
-  all_stacks_same us h k u e = x.stacks u.blocks (h k u e)
+  all_stacks_same us h k u e = x.stacks u.stack (h k u e)
 
   pub coming_same : (a : Arriving) → IsStack es a.below → coming_in fs a ≡ coming_in es a
   coming_same a h = ap (λ b. state a.height (with_block a.opened b)) (x.same a.below h)
 
-  missing_at_same : (o : Option UnitState) → ((u : UnitState) → o ≡ Some u → IsStack es u.blocks) → missing_at fs o ≡ missing_at es o
+  missing_at_same : (o : Option UnitState) → ((u : UnitState) → o ≡ Some u → IsStack es u.stack) → missing_at fs o ≡ missing_at es o
   missing_at_same None h = refl
-  missing_at_same (Some u) h = ap missing_in (x.same u.blocks (h u refl))
+  missing_at_same (Some u) h = ap missing_in (x.same u.stack (h u refl))
 
   pub missing_same : (us : List (Option UnitState)) → AllStacks es us → missing_marks fs us ≡ missing_marks es us
   missing_same [] h = refl
@@ -52,7 +52,7 @@ module _ (es fs : List Entry) (x : Extends es fs) where
 
 -- a unit has a stack with more marks, of stacks that may be new
 pub marks_added : (es fs : List Entry) (us : List (Option UnitState)) (place : ℕ) (known more : UnitState) → Extends es fs → AllStacks es us → place < length us → slice_get us place ≡ Some (Some known)
-    → missing_in (blocks_of fs more.blocks) < missing_in (blocks_of es known.blocks) → Moves Change.Marks es us fs (slice_set us place (Some more))
+    → missing_in (blocks_of fs more.stack) < missing_in (blocks_of es known.stack) → Moves Change.Marks es us fs (slice_set us place (Some more))
 marks_added es fs us place known more x h within e fewer =
     let was : get_or us place (Some known) ≡ Some known = get_or_from_slice_get us place (Some known) (Some known) e in
     let u = sum_by-set unknown_at us place (Some more) (Some known) within in
@@ -60,7 +60,7 @@ marks_added es fs us place known more x h within e fewer =
     let m = sum_by-set (missing_at fs) us place (Some more) (Some known) within in
     let mw = ap (missing_at fs) was in
     let same = missing_same es fs x us h in
-    let blocks = ap missing_in (x.same known.blocks (h place known e)) in
+    let blocks = ap missing_in (x.same known.stack (h place known e)) in
     (omega (arith, u, uw), omega (arith, m, mw, same, blocks, fewer))
 
 -- two changes, one after the other

@@ -31,7 +31,7 @@ first_of (m ∷ s) = Some m
 
 -- the entry has the innermost block of a stack, and says what is so of it
 pub record IsTop (es : List Entry) (n : Option ℕ) (e : Entry) : Type 0 where
-  pub blocks : blocks_of es n ≡ e.block ∷ blocks_of es e.below
+  pub shape : blocks_of es n ≡ e.block ∷ blocks_of es e.below
   pub below : IsStack es e.below
   pub looped : blocks_of es e.looped ≡ from_loop (blocks_of es n)
   pub looped_stack : IsStack es e.looped
@@ -62,6 +62,6 @@ pub record IsJoined (old new : List Entry) (mine theirs : Option ℕ) (j : Joine
   pub extends : Extends old new
   pub alike : Alike (blocks_of old mine) (blocks_of old theirs)
   pub stack : IsStack new j.stack
-  pub blocks : blocks_of new j.stack ≡ join (blocks_of old mine) (blocks_of old theirs)
+  pub shape : blocks_of new j.stack ≡ join (blocks_of old mine) (blocks_of old theirs)
   pub first : j.adds ≡ false → join (blocks_of old mine) (blocks_of old theirs) ≡ blocks_of old mine
   pub more : j.adds ≡ true → missing_in (join (blocks_of old mine) (blocks_of old theirs)) < missing_in (blocks_of old mine)

@@ -14,7 +14,7 @@ use Rattle.py_verify.specs.declared.stacks.Entry.{Entry}
 use Rattle.py_verify.specs.Stacks.{blocks_of, IsStack, Extends}
 
 abbrev pub state_in : List Entry → UnitState → State
-state_in es u = state u.height (blocks_of es u.blocks)
+state_in es u = state u.height (blocks_of es u.stack)
 
 abbrev pub with_block : Option Mark → Shape → Shape
 with_block None s = s
@@ -34,7 +34,7 @@ abbrev pub state_at : List Entry → List (Option UnitState) → ℕ → Option 
 state_at es us k = known_in es (slice_get us k)
 
 abbrev pub AllStacks : List Entry → List (Option UnitState) → Type 0
-AllStacks es us = (k : ℕ) (u : UnitState) → slice_get us k ≡ Some (Some u) → IsStack es u.blocks
+AllStacks es us = (k : ℕ) (u : UnitState) → slice_get us k ≡ Some (Some u) → IsStack es u.stack
 
 abbrev pub unknown_at : Option UnitState → ℕ
 unknown_at None = 1
@@ -46,7 +46,7 @@ unknown us = sum_by unknown_at us
 
 abbrev pub missing_at : List Entry → Option UnitState → ℕ
 missing_at es None = 0
-missing_at es (Some u) = missing_in (blocks_of es u.blocks)
+missing_at es (Some u) = missing_in (blocks_of es u.stack)
 
 -- how many marks the known units lack
 abbrev pub missing_marks : List Entry → List (Option UnitState) → ℕ

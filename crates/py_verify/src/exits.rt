@@ -15,7 +15,7 @@ use py_dataflow::{Branch, Flow, InstructionInfo, Mark, NeededBlock, Opening, Ref
 #[derive(Clone, Copy, Debug)]
 pub struct UnitState {
     pub height: u32,
-    pub blocks: Option<usize>,
+    pub stack: Option<usize>,
 }
 
 /// What comes to a unit: the height of the stack, and the blocks that are open, of which the innermost may have no entry yet.
@@ -53,33 +53,33 @@ fn next_height(taken: u64, given: u64, height: u32) -> u32
 }
 
 // The blocks that stay.
-fn kept(stacks: &Stacks, pops: bool, blocks: Option<usize>) -> Option<usize>
+fn kept(stacks: &Stacks, pops: bool, stack: Option<usize>) -> Option<usize>
     requires linked { IsLinked stacks.now.entries.items }
-    requires stack { IsStack stacks.now.entries.items blocks }
+    requires stack { IsStack stacks.now.entries.items stack }
     ensures stack { IsStack stacks.now.entries.items result }
-    ensures blocks { blocks_of stacks.now.entries.items result ≡ (if pops then rest_of (blocks_of stacks.now.entries.items blocks) else blocks_of stacks.now.entries.items blocks) }
+    ensures shape { blocks_of stacks.now.entries.items result ≡ (if pops then rest_of (blocks_of stacks.now.entries.items stack) else blocks_of stacks.now.entries.items stack) }
 {
-    if pops { stacks.below(blocks) } else { blocks }
+    if pops { stacks.below(stack) } else { stack }
 }
 
 fn falls_fit(stacks: &Stacks, flow: Flow, known: UnitState) -> bool
     requires linked { IsLinked stacks.now.entries.items }
-    requires stack { IsStack stacks.now.entries.items known.blocks }
-    ensures { result ≡ falls_within flow known.height (blocks_of stacks.now.entries.items known.blocks) }
+    requires stack { IsStack stacks.now.entries.items known.stack }
+    ensures { result ≡ falls_within flow known.height (blocks_of stacks.now.entries.items known.stack) }
 {
-    let floor = stacks.height(kept(stacks, flow.pops, known.blocks));
+    let floor = stacks.height(kept(stacks, flow.pops, known.stack));
     has_enough(floor, flow.takes, flow.looks_at, known.height)
         && (!flow.falls || next_fits(flow.takes, flow.gives, known.height))
 }
 
 fn jumps_fit(stacks: &Stacks, branch: Branch, known: UnitState) -> bool
     requires linked { IsLinked stacks.now.entries.items }
-    requires stack { IsStack stacks.now.entries.items known.blocks }
-    ensures { result ≡ jumps_within branch known.height (blocks_of stacks.now.entries.items known.blocks) }
+    requires stack { IsStack stacks.now.entries.items known.stack }
+    ensures { result ≡ jumps_within branch known.height (blocks_of stacks.now.entries.items known.stack) }
 {
     match branch {
         Branch::Goes { takes, gives, .. } => {
-            has_enough(stacks.height(known.blocks), takes, 0, known.height)
+            has_enough(stacks.height(known.stack), takes, 0, known.height)
                 && next_fits(takes, gives, known.height)
         }
         Branch::Breaks => true,
@@ -90,12 +90,12 @@ fn jumps_fit(stacks: &Stacks, branch: Branch, known: UnitState) -> bool
 // Whether the block that an instruction needs is there.
 fn has_block(stacks: &Stacks, needs: NeededBlock, known: UnitState) -> bool
     requires linked { IsLinked stacks.now.entries.items }
-    requires stack { IsStack stacks.now.entries.items known.blocks }
-    ensures { result ≡ has_block needs known.height (blocks_of stacks.now.entries.items known.blocks) }
+    requires stack { IsStack stacks.now.entries.items known.stack }
+    ensures { result ≡ has_block needs known.height (blocks_of stacks.now.entries.items known.stack) }
 {
     match needs {
-        NeededBlock::Loop => stacks.block(stacks.looped(known.blocks)).is_some(),
-        _ => match stacks.block(known.blocks) {
+        NeededBlock::Loop => stacks.block(stacks.looped(known.stack)).is_some(),
+        _ => match stacks.block(known.stack) {
             Some(block) => block_present(needs, known.height, &[block]),
             None => block_present(needs, known.height, &[]),
         },
@@ -114,7 +114,7 @@ pub fn check(
     known: UnitState,
 ) -> Result<(), Refused>
     requires linked { IsLinked stacks.now.entries.items }
-    requires stack { IsStack stacks.now.entries.items known.blocks }
+    requires stack { IsStack stacks.now.entries.items known.stack }
     requires flow { flow ≡ flow_in item.now }
     ensures passes { IfOk result (λ _. Passes item.now (state_in stacks.now.entries.items known)) }
     ensures refused { IfErr result (FailsAs item.now (state_in stacks.now.entries.items known)) }
@@ -150,8 +150,8 @@ fn opened(opening: Option<Opening>, height: u32) -> Option<Mark>
 /// What comes to the next unit, if it follows.
 pub fn fall_from(stacks: &Stacks, flow: Flow, known: UnitState) -> Option<Arriving>
     requires linked { IsLinked stacks.now.entries.items }
-    requires stack { IsStack stacks.now.entries.items known.blocks }
-    requires fits { falls_within flow known.height (blocks_of stacks.now.entries.items known.blocks) ≡ true }
+    requires stack { IsStack stacks.now.entries.items known.stack }
+    requires fits { falls_within flow known.height (blocks_of stacks.now.entries.items known.stack) ≡ true }
     ensures none { IfNone result (flow.falls ≡ false) }
     ensures falls { IfSome result (λ _. flow.falls ≡ true) }
     ensures stack { IfSome result (λ a. IsStack stacks.now.entries.items a.below) }
@@ -163,15 +163,15 @@ pub fn fall_from(stacks: &Stacks, flow: Flow, known: UnitState) -> Option<Arrivi
     Some(Arriving {
         height: next_height(flow.takes, flow.gives, known.height),
         opened: opened(flow.opens, known.height),
-        below: kept(stacks, flow.pops, known.blocks),
+        below: kept(stacks, flow.pops, known.stack),
     })
 }
 
 // What comes to the target of a jump.
 fn jump_to(stacks: &Stacks, branch: Branch, known: UnitState) -> Arriving
     requires linked { IsLinked stacks.now.entries.items }
-    requires stack { IsStack stacks.now.entries.items known.blocks }
-    requires fits { jumps_within branch known.height (blocks_of stacks.now.entries.items known.blocks) ≡ true }
+    requires stack { IsStack stacks.now.entries.items known.stack }
+    requires fits { jumps_within branch known.height (blocks_of stacks.now.entries.items known.stack) ≡ true }
     ensures stack { IsStack stacks.now.entries.items result.below }
     ensures coming { coming_in stacks.now.entries.items result ≡ jumps_to branch (state_in stacks.now.entries.items known) }
 {
@@ -183,10 +183,10 @@ fn jump_to(stacks: &Stacks, branch: Branch, known: UnitState) -> Arriving
         } => Arriving {
             height: next_height(takes, gives, known.height),
             opened: opened(opens, known.height),
-            below: known.blocks,
+            below: known.stack,
         },
         Branch::Breaks => {
-            let looped = stacks.looped(known.blocks);
+            let looped = stacks.looped(known.stack);
             Arriving {
                 height: stacks.height(looped),
                 opened: None,
@@ -194,9 +194,9 @@ fn jump_to(stacks: &Stacks, branch: Branch, known: UnitState) -> Arriving
             }
         }
         Branch::Continues => Arriving {
-            height: stacks.cut(known.height, known.blocks),
+            height: stacks.cut(known.height, known.stack),
             opened: None,
-            below: stacks.looped(known.blocks),
+            below: stacks.looped(known.stack),
         },
     }
 }
@@ -204,8 +204,8 @@ fn jump_to(stacks: &Stacks, branch: Branch, known: UnitState) -> Arriving
 /// What comes to the target of an instruction, if it jumps.
 pub fn jump_from(stacks: &Stacks, jumps: bool, branch: Branch, known: UnitState) -> Option<Arriving>
     requires linked { IsLinked stacks.now.entries.items }
-    requires stack { IsStack stacks.now.entries.items known.blocks }
-    requires fits { jumps ≡ true → jumps_within branch known.height (blocks_of stacks.now.entries.items known.blocks) ≡ true }
+    requires stack { IsStack stacks.now.entries.items known.stack }
+    requires fits { jumps ≡ true → jumps_within branch known.height (blocks_of stacks.now.entries.items known.stack) ≡ true }
     ensures none { IfNone result (jumps ≡ false) }
     ensures jumps { IfSome result (λ _. jumps ≡ true) }
     ensures stack { IfSome result (λ a. IsStack stacks.now.entries.items a.below) }

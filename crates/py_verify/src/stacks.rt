@@ -115,11 +115,11 @@ fn is_alike(mine: Mark, theirs: Mark) -> bool
 }
 
 // Puts a block last.
-fn put(blocks: &mut Vec<Mark>, block: Mark) -> Result<(), Refused>
-    ensures items { IfOk result (λ _. blocks.new.items ≡ blocks.old.items ++ block ∷ []) }
+fn put(above: &mut Vec<Mark>, block: Mark) -> Result<(), Refused>
+    ensures items { IfOk result (λ _. above.new.items ≡ above.old.items ++ block ∷ []) }
     ensures memory { IfErr result (λ e. e ≡ Refused.OutOfMemory) }
 {
-    match blocks.push(block) {
+    match above.push(block) {
         Ok(()) => Ok(()),
         Err(_) => Err(Refused::OutOfMemory),
     }
@@ -204,7 +204,7 @@ impl Stacks {
         requires linked { IsLinked self.now.entries.items }
         requires stack { IsStack self.now.entries.items stack }
         ensures stack { IsStack self.now.entries.items result }
-        ensures blocks { blocks_of self.now.entries.items result ≡ rest_of (blocks_of self.now.entries.items stack) }
+        ensures shape { blocks_of self.now.entries.items result ≡ rest_of (blocks_of self.now.entries.items stack) }
     {
         match self.top(stack) {
             Some(entry) => entry.below,
@@ -217,7 +217,7 @@ impl Stacks {
         requires linked { IsLinked self.now.entries.items }
         requires stack { IsStack self.now.entries.items stack }
         ensures stack { IsStack self.now.entries.items result }
-        ensures blocks { blocks_of self.now.entries.items result ≡ from_loop (blocks_of self.now.entries.items stack) }
+        ensures shape { blocks_of self.now.entries.items result ≡ from_loop (blocks_of self.now.entries.items stack) }
     {
         match self.top(stack) {
             Some(entry) => entry.looped,
@@ -262,7 +262,7 @@ impl Stacks {
         requires below { IsStack self.now.entries.items below }
         ensures own { is_loop block.kind ≡ true → result ≡ Some (length self.now.entries.items) }
         ensures stack { is_loop block.kind ≡ false → IsStack self.now.entries.items result }
-        ensures blocks { is_loop block.kind ≡ false → blocks_of self.now.entries.items result ≡ from_loop (blocks_of self.now.entries.items below) }
+        ensures shape { is_loop block.kind ≡ false → blocks_of self.now.entries.items result ≡ from_loop (blocks_of self.now.entries.items below) }
     {
         if block.kind.is_loop() {
             Some(self.entries.len())
@@ -295,7 +295,7 @@ impl Stacks {
     fn find(&self, block: Mark, below: Option<usize>) -> Option<usize>
         requires linked { IsLinked self.now.entries.items }
         ensures found { IfSome result (λ number. IsStack self.now.entries.items (Some number)) }
-        ensures blocks { IfSome result (λ number. blocks_of self.now.entries.items (Some number) ≡ block ∷ blocks_of self.now.entries.items below) }
+        ensures shape { IfSome result (λ number. blocks_of self.now.entries.items (Some number) ≡ block ∷ blocks_of self.now.entries.items below) }
     {
         let number = *self.numbers.get(&key_of(block, below))?;
         if number < self.entries.len() && is_entry(self.entries[number], block, below) {
@@ -314,7 +314,7 @@ impl Stacks {
         requires below { IsStack self.old.entries.items below }
         ensures extends { IfOk result (λ _. Extends self.old.entries.items self.new.entries.items) }
         ensures stack { IfOk result (IsStack self.new.entries.items) }
-        ensures blocks { IfOk result (λ stack. blocks_of self.new.entries.items stack ≡ block ∷ blocks_of self.old.entries.items below) }
+        ensures shape { IfOk result (λ stack. blocks_of self.new.entries.items stack ≡ block ∷ blocks_of self.old.entries.items below) }
     {
         if let Some(number) = self.find(block, below) {
             return Ok(Some(number));
@@ -336,7 +336,7 @@ impl Stacks {
         requires below { IsStack self.old.entries.items below }
         ensures extends { IfOk result (λ _. Extends self.old.entries.items self.new.entries.items) }
         ensures stack { IfOk result (IsStack self.new.entries.items) }
-        ensures blocks { IfOk result (λ stack. blocks_of self.new.entries.items stack ≡ above.items ++ blocks_of self.old.entries.items below) }
+        ensures shape { IfOk result (λ stack. blocks_of self.new.entries.items stack ≡ above.items ++ blocks_of self.old.entries.items below) }
     {
         let mut above = above;
         let mut stack = below;

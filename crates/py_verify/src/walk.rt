@@ -135,7 +135,7 @@ fn arrive(
 ) -> Result<Change, Refused>
     requires linked { IsLinked stacks.old.entries.items }
     requires stacks { AllStacks stacks.old.entries.items states.old }
-    requires stack { IsStack stacks.old.entries.items arriving.blocks }
+    requires stack { IsStack stacks.old.entries.items arriving.stack }
     requires inside { place < length states.old }
     requires whole { IsWhole (state_at stacks.old.entries.items states.old place) }
     ensures arrives { IfOk result (λ _. Arrives stacks.old.entries.items states.old stacks.new.entries.items states.new place (state_in stacks.old.entries.items arriving)) }
@@ -146,7 +146,7 @@ fn arrive(
 {
     match states[place] {
         None => {
-            if stacks.is_torn(arriving.blocks) {
+            if stacks.is_torn(arriving.stack) {
                 return Err(Refused::BlockMismatch);
             }
             states[place] = Some(arriving);
@@ -156,7 +156,7 @@ fn arrive(
             if known.height != arriving.height {
                 return Err(Refused::UnevenHeights);
             }
-            let joined = stacks.join(alloc, known.blocks, arriving.blocks)?;
+            let joined = stacks.join(alloc, known.stack, arriving.stack)?;
             if !joined.adds {
                 return Ok(Change::Nothing);
             }
@@ -165,7 +165,7 @@ fn arrive(
             }
             states[place] = Some(UnitState {
                 height: known.height,
-                blocks: joined.stack,
+                stack: joined.stack,
             });
             Ok(Change::Marks)
         }
@@ -177,20 +177,20 @@ fn state_of(stacks: &mut Stacks, arriving: Arriving) -> Result<UnitState, Halt>
     requires linked { IsLinked stacks.old.entries.items }
     requires below { IsStack stacks.old.entries.items arriving.below }
     ensures extends { IfOk result (λ _. Extends stacks.old.entries.items stacks.new.entries.items) }
-    ensures stack { IfOk result (λ known. IsStack stacks.new.entries.items known.blocks) }
+    ensures stack { IfOk result (λ known. IsStack stacks.new.entries.items known.stack) }
     ensures state { IfOk result (λ known. state_in stacks.new.entries.items known ≡ coming_in stacks.old.entries.items arriving) }
     ensures memory { IfErr result (λ halt. halt ≡ Halt.OutOfMemory) }
 {
-    let blocks = match arriving.opened {
+    let stack = match arriving.opened {
         Some(block) => match stacks.open(block, arriving.below) {
-            Ok(blocks) => blocks,
+            Ok(stack) => stack,
             Err(_) => return Err(Halt::OutOfMemory),
         },
         None => arriving.below,
     };
     Ok(UnitState {
         height: arriving.height,
-        blocks,
+        stack,
     })
 }
 
@@ -269,7 +269,7 @@ fn exits_of(
 ) -> Result<Exits, Halt>
     requires reading { IsReading (object code.now) reads.now }
     requires linked { IsLinked stacks.now.entries.items }
-    requires stack { IsStack stacks.now.entries.items known.blocks }
+    requires stack { IsStack stacks.now.entries.items known.stack }
     requires shown { Shown (code_look (object code.now)) unit (state_in stacks.now.entries.items known) }
     requires begins { read_at (object code.now) unit ≢ None }
     ensures exits { IfOk result (IsExits (object code.now) unit (state_in stacks.now.entries.items known) stacks.now.entries.items) }

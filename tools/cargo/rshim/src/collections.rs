@@ -84,3 +84,36 @@ impl<T: Ord> BinaryHeap<T> {
         }
     }
 }
+
+#[cfg(test)]
+mod tests {
+    use super::*;
+
+    #[test]
+    fn a_heap_gives_the_greatest_first() -> Result<(), AllocError> {
+        let mut heap = BinaryHeap::new(Global);
+        for number in 0..1000_u32 {
+            heap.push(number.wrapping_mul(2_654_435_761) % 97)?;
+        }
+        let mut last = u32::MAX;
+        for _ in 0..1000 {
+            let next = heap.pop().ok_or(AllocError)?;
+            assert!(next <= last);
+            last = next;
+        }
+        assert_eq!(heap.pop(), None);
+        Ok(())
+    }
+
+    #[test]
+    fn a_map_keeps_the_last_value_of_a_key() -> Result<(), AllocError> {
+        let mut map = BTreeMap::new(Global);
+        for number in 0..1000 {
+            map.insert(number % 500, number)?;
+        }
+        assert_eq!(map.get(&7), Some(&507));
+        assert_eq!(map.get(&500), None);
+        assert_eq!(map.insert(7, 0)?, Some(507));
+        Ok(())
+    }
+}

@@ -12,10 +12,10 @@ returns-else-is_torn-2-clause-moves c =
     let fs = c.join.new.self.entries.items in
     let j = c.in_ok-joined-in-Some.joined in
     let known = c.in-Some.known in
-    let more : UnitState = record { height = known.height; blocks = j.stack } in
+    let more : UnitState = record { height = known.height; stack = j.stack } in
     let there : slice_get c.args.states.now c.args.place ≡ Some (Some known) = search rules in
     let joined = c.in_ok-joined-in-Some.ensures.joined in
     let few = joined.more c.if-not-joined.false in
-    let same = ap missing_in joined.blocks in
-    let fewer : missing_in (blocks_of fs j.stack) < missing_in (blocks_of es known.blocks) = omega (arith, few, same) in
+    let same = ap missing_in joined.shape in
+    let fewer : missing_in (blocks_of fs j.stack) < missing_in (blocks_of es known.stack) = omega (arith, few, same) in
     marks_added es fs c.args.states.now c.args.place known more joined.extends c.requires.stacks c.requires.inside there fewer
