@@ -7,17 +7,16 @@ use Rattle.std.proofs.lemmas.Option.{same_Some}
 use Rattle.py_bytecode.specs.Objects.{Object, head}
 use Rattle.py_decode.specs.Reading.{read_at}
 use Rattle.py_dataflow.specs.declared.known.Change.{Change}
-use Rattle.py_dataflow.specs.Walks.{State, Seen, falls_to, jumps_to, Edge, Falls, Jumps}
+use Rattle.py_dataflow.specs.Walks.{State, falls_to, jumps_to, Edge, Falls, Jumps}
 use Rattle.py_dataflow.specs.Known.{combined_change}
 use Rattle.py_dataflow.specs.Shown.{Covered, Closed_at}
-use Rattle.py_dataflow.specs.Sound.{code_look}
 use Rattle.py_verify.specs.declared.exits.Arriving.{Arriving}
 use Rattle.py_verify.specs.declared.exits.UnitState.{UnitState}
 use Rattle.py_verify.specs.declared.stacks.Entry.{Entry}
 use Rattle.py_verify.specs.declared.walk.Exits.{Exits}
 use Rattle.py_verify.specs.declared.walk.Progress.{Progress}
 use Rattle.py_verify.specs.declared.walk.Task.{Task}
-use Rattle.py_verify.specs.Stacks.{Extends, IsStack}
+use Rattle.py_verify.specs.Stacks.{Extends}
 use Rattle.py_verify.specs.UnitStates.{AllStacks, Arrives, Grows, Moves, coming_in, state_at}
 use Rattle.py_verify.specs.Stepping.{Comes, KnownIn, entries_in, known_by, tasks_in, IsListed, Steps, Settled, IsWorking, FallsOn, JumpsOn, IsExits}
 use Rattle.py_verify.proofs.StackLemmas.{extends_self, extends_trans}

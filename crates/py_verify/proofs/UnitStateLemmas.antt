@@ -1,5 +1,5 @@
 -- What is known of units while stacks are added, and while states arrive.
-use Rattle.std.proofs.Common.{◌≡◌, ◌≢◌, ℕ, zero, suc, ◌+◌, ◌<◌, ◌≤◌, List, [], ◌∷◌, length, get_or, replicate, Option, Some, None, refl, sym, inl, inr, ap, ◌∙◌, subst, arith}
+use Rattle.std.proofs.Common.{◌≡◌, ◌≢◌, ℕ, zero, suc, ◌<◌, ◌≤◌, List, [], ◌∷◌, length, get_or, replicate, Option, Some, None, refl, sym, inl, inr, ap, ◌∙◌, subst, arith}
 use Rattle.std.specs.Prelude.{slice_get, slice_set}
 use Rattle.std.proofs.lemmas.Bool.{cases_eq}
 use Rattle.std.proofs.lemmas.List.Sums.{sum_by-cons, sum_by-set}
@@ -20,7 +20,7 @@ use Rattle.py_verify.specs.declared.stacks.Entry.{Entry}
 use Rattle.py_verify.specs.Stacks.{blocks_of, IsStack, Extends}
 use Rattle.py_verify.specs.UnitStates.{state_in, with_block, coming_in, known_in, state_at, AllStacks, unknown, unknown_at, missing_at, missing_marks, Moves, Arrives, Grows}
 use Rattle.py_verify.specs.Stepping.{Comes, KnownIn, HaltsAt, halt_by}
-use Rattle.py_verify.proofs.Comings.{comes_shown, halts_at}
+use Rattle.py_verify.proofs.Comings.{comes_shown}
 
 module _ (es fs : List Entry) (x : Extends es fs) where
   known_same : (o : Option (Option UnitState)) → ((u : UnitState) → o ≡ Some (Some u) → IsStack es u.stack) → known_in fs o ≡ known_in es o

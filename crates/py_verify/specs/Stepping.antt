@@ -1,5 +1,5 @@
 -- What is known while a code is walked.
-use Rattle.std.specs.Prelude.{◌≡◌, ◌≢◌, ℕ, ◌<◌, ◌≤◌, ◌⊎◌, [], ◌∷◌, List, length, true, false, Option, Some, None, if◌then◌else◌, nat_eq}
+use Rattle.std.specs.Prelude.{◌≡◌, ◌≢◌, ℕ, ◌<◌, ◌≤◌, ◌⊎◌, [], List, length, true, false, Option, Some, None, if◌then◌else◌, nat_eq}
 use Rattle.std.specs.List.{sum_by}
 use Rattle.std.specs.BinaryHeap.{heap_items, heap_len}
 use Rattle.py_bytecode.specs.Objects.{Object, head}

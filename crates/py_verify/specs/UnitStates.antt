@@ -1,9 +1,7 @@
 -- What is known of units, whose stacks are numbers.
-use Rattle.std.specs.Prelude.{◌≡◌, ◌≢◌, ℕ, ◌+◌, ◌<◌, List, [], ◌∷◌, length, Option, Some, None, slice_get}
+use Rattle.std.specs.Prelude.{◌≡◌, ◌≢◌, ℕ, ◌<◌, List, ◌∷◌, length, Option, Some, None, slice_get}
 use Rattle.std.specs.List.{sum_by}
 use Rattle.py_dataflow.specs.declared.flow.Mark.{Mark}
-use Rattle.py_dataflow.specs.declared.flow.Branch.{Branch}
-use Rattle.py_dataflow.specs.declared.flow.Flow.{Flow}
 use Rattle.py_dataflow.specs.declared.known.Change.{Change}
 use Rattle.py_dataflow.specs.Walks.{Shape, State, state}
 use Rattle.py_dataflow.specs.Known.{Torn, Fits, arrival, missing_in}

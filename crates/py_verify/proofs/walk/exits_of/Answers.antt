@@ -1,4 +1,4 @@
-use Rattle.std.proofs.Common.{◌≡◌, ◌<◌, ◌^◌, refl, sym, ap, ◌∙◌, subst, arith}
+use Rattle.std.proofs.Common.{◌<◌, ◌^◌, refl, sym, ◌∙◌, subst, arith}
 use Rattle.py_bytecode.specs.Objects.{head}
 use Rattle.py_bytecode.specs.View.{object}
 use Rattle.py_decode.specs.Reading.{read_of}

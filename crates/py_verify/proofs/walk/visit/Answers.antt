@@ -1,4 +1,4 @@
-use Rattle.std.proofs.Common.{◌≡◌, Some, refl, subst}
+use Rattle.std.proofs.Common.{◌≡◌, Some, refl}
 use Rattle.py_bytecode.specs.View.{object}
 use Rattle.py_dataflow.specs.Known.{combined_change}
 use Rattle.py_verify.specs.UnitStates.{state_in}

@@ -1,10 +1,10 @@
-use Rattle.std.proofs.Common.{◌≡◌, ℕ, ◌⊎◌, [], None, refl, inl, inr, sym, ap, ◌∙◌, subst}
+use Rattle.std.proofs.Common.{[], None, refl, inl, inr, ap, ◌∙◌, subst}
 use Rattle.py_bytecode.specs.View.{object}
 use Rattle.py_dataflow.specs.Walks.{State, state}
 use Rattle.py_dataflow.specs.Shown.{Covered}
 use Rattle.py_verify.specs.UnitStates.{coming_in, state_at}
 use Rattle.py_verify.specs.Flaws.{unit_count}
-use Rattle.py_verify.specs.Stepping.{Begins, IsListed, Settled, entries_in, known_by, tasks_in}
+use Rattle.py_verify.specs.Stepping.{Begins, entries_in, known_by}
 use Rattle.py_verify.proofs.StackLemmas.{no_blocks}
 use Rattle.py_verify.proofs.UnitStateLemmas.{none_known}
 use Rattle.py_verify.proofs.SettledUnitLemmas.{unknown_settled}

@@ -1,6 +1,5 @@
-use Rattle.std.proofs.Common.{◌≡◌, ◌≢◌, ℕ, ◌++◌, ◌∷◌, [], Option, sym, ap, ◌∙◌, subst, rules, true, false}
+use Rattle.std.proofs.Common.{◌≡◌, ◌≢◌, ◌++◌, ◌∷◌, [], sym, ap, ◌∙◌, subst}
 use Rattle.py_dataflow.specs.Known.{joined_mark}
-use Rattle.py_dataflow.specs.Walks.{Alike, Shape}
 use Rattle.py_verify.specs.Stacks.{blocks_of}
 use Rattle.py_verify.proofs.MeetingLemmas.{IsParted, parted_next, none_alike, parted_alike, parted_parts, parted_first, parted_second, parted_fewer}
 use Rattle.py_verify.proofs.stacks.Stacks.meeting.Goals as goal
