@@ -1,5 +1,5 @@
 //! The room that a tree is to fit into, as what is left of it.
-ghost use Rattle.std.specs.Prelude.{◌≡◌, ◌-◌};
+ghost use Rattle.std.specs.Prelude.{◌≡◌, ◌+◌, ◌-◌};
 ghost use Rattle.py_limits.specs.Size.{dots, opt_name_size, path_size};
 
 use py_tree::Text;
@@ -15,7 +15,11 @@ pub fn spend(room: &mut u32, count: u32)
 pub fn spend_count(room: &mut u32, count: usize)
     ensures { room.new ≡ room.old - count }
 {
-    spend(room, u32::try_from(count).unwrap_or(u32::MAX));
+    let left = *room;
+    *room = match u32::try_from(count) {
+        Ok(count) => left.saturating_sub(count),
+        Err(_) => 0,
+    };
 }
 
 /// Takes an identifier from the room, nothing where it is missing.
