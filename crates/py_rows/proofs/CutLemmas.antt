@@ -174,16 +174,16 @@ module _ (b m : List ℕ) (ds es : Items) where
       let short : lex between (b ++ 93 ∷ 93 ∷ []) ≡ lexed.0 ++ token end_array ∷ token end_array ∷ [] = lexed.1 (93 ∷ []) ∙ ap (λ l. lexed.0 ++ token end_array ∷ l) closing in
       let parts = split lexed.0 fresh (subst (λ l. Sound (punctuate fresh l)) short sound) in
       let told : items_tokens h.items ≡ parts.0 ++ end_array ∷ end_array ∷ [] =
-          sym first ∙ ap (punctuate fresh) short ∙ parts.1 (token end_array ∷ []) ∙ ap (λ l. parts.0 ++ end_array ∷ l) closing_end in
+      sym first ∙ ap (punctuate fresh) short ∙ parts.1 (token end_array ∷ []) ∙ ap (λ l. parts.0 ++ end_array ∷ l) closing_end in
       let same : body h.items ≡ parts.0 ++ end_array ∷ [] =
-          push_same _ _ (sym (with_end h.items) ∙ told ∙ sym (append_assoc parts.0 (end_array ∷ []) (end_array ∷ []))) in
+      push_same _ _ (sym (with_end h.items) ∙ told ∙ sym (append_assoc parts.0 (end_array ∷ []) (end_array ∷ []))) in
       let whole : punctuate fresh (lex between (b ++ 93 ∷ 44 ∷ 91 ∷ m)) ≡ items_tokens (joined h.items k.items) =
-          ap (punctuate fresh) (lexed.1 (44 ∷ 91 ∷ m)) ∙ parts.1 (lex between (44 ∷ 91 ∷ m))
-          ∙ ap (λ l. parts.0 ++ end_array ∷ l) (reopened m ∙ sym (reopen m) ∙ second)
-          ∙ sym (append_assoc parts.0 (end_array ∷ []) (items_tokens k.items))
-          ∙ ap (λ l. l ++ items_tokens k.items) (sym same)
-          ∙ sym (joined_tokens h.items k.items) in
+      ap (punctuate fresh) (lexed.1 (44 ∷ 91 ∷ m)) ∙ parts.1 (lex between (44 ∷ 91 ∷ m))
+      ∙ ap (λ l. parts.0 ++ end_array ∷ l) (reopened m ∙ sym (reopen m) ∙ second)
+      ∙ sym (append_assoc parts.0 (end_array ∷ []) (items_tokens k.items))
+      ∙ ap (λ l. l ++ items_tokens k.items) (sym same)
+      ∙ sym (joined_tokens h.items k.items) in
       let shallow : depth (json.array (joined h.items k.items)) ≤ max_depth =
-          omega (arith, joined_depth h.items k.items 126 (omega (arith, h.shallow)) (omega (arith, k.shallow))) in
+      omega (arith, joined_depth h.items k.items 126 (omega (arith, h.shallow)) (omega (arith, k.shallow))) in
       read_back _ (joined h.items k.items) (append ds es) (opened _ ∙ ap (λ l. begin_array ∷ l) whole) shallow
       (joined_data h.items k.items ds es h.data_of k.data_of)

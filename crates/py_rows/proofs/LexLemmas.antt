@@ -96,7 +96,7 @@ pub plain_step : (q b o s l : Bool) (x : ℕ) (xs : List ℕ) → Rest xs
     → is_some (cond q (Some []) (cond b (content after_backslash (xs ++ 93 ∷ 93 ∷ [])) (cond l None (prepend (x ∷ []) (content plain (xs ++ 93 ∷ 93 ∷ [])))))) ≡ true
     → Faultless (At in_string (cond q quote (cond b backslash (cond o operator (cond s space other)))) x xs (93 ∷ []))
     → Text_of (At in_string (cond q quote (cond b backslash (cond o operator (cond s space other)))) x xs)
-      (λ r. cond q (Some []) (cond b (content after_backslash (xs ++ 93 ∷ r)) (cond l None (prepend (x ∷ []) (content plain (xs ++ 93 ∷ r))))))
+    (λ r. cond q (Some []) (cond b (content after_backslash (xs ++ 93 ∷ r)) (cond l None (prepend (x ∷ []) (content plain (xs ++ 93 ∷ r))))))
 plain_step true b o s l x xs rest h g = (rest outside g, λ r. refl)
 plain_step false true o s l x xs rest h g = rest (inside after_backslash) (h, g)
 plain_step false false o s true x xs rest h g = absurd (false≢true h)
@@ -143,8 +143,10 @@ hex_passes x ys h = go (x == 34) (x == 92) (is_operator x) (is_space x) not_quot
   where
     not_quote : (x == 34) ≡ false
     not_quote = ne_eqb x 34 (λ e. true≢false (sym h ∙ ap (λ y. is_digit y 16) e))
+
     not_backslash : (x == 92) ≡ false
     not_backslash = ne_eqb x 92 (λ e. true≢false (sym h ∙ ap (λ y. is_digit y 16) e))
+
     go : (q b o s : Bool) → q ≡ false → b ≡ false
         → lex_byte in_string (cond q quote (cond b backslash (cond o operator (cond s space other)))) x ys (λ n. lex n ys) ≡ lex in_string ys
     go true b o s e f = absurd (true≢false e)

@@ -88,11 +88,11 @@ at_border : (bytes : List ℕ) (start border : ℕ) → start < border → IsBor
     → drop start bytes ≡ take (border - 1 - start) (drop start bytes) ++ 93 ∷ 44 ∷ 91 ∷ drop (border + 2) bytes
 at_border bytes start border lt h =
     let third : drop (border - 1) bytes ≡ 93 ∷ 44 ∷ 91 ∷ drop (border + 2) bytes =
-        let one : border - 1 + 1 ≡ border = omega (arith, lt) in
-        let two : border + 1 + 1 ≡ border + 2 = omega arith in
-        drop_more bytes (border - 1) 0 (omega (arith, lt, h.0)) ∙ ap₂ (λ x k. x ∷ drop k bytes) h.1 one
-        ∙ ap (λ l. 93 ∷ l) (drop_more bytes border 0 (omega (arith, h.0)) ∙ ap (λ x. x ∷ drop (border + 1) bytes) h.2
-        ∙ ap (λ l. 44 ∷ l) (drop_more bytes (border + 1) 0 h.0 ∙ ap₂ (λ x k. x ∷ drop k bytes) h.3 two)) in
+    let one : border - 1 + 1 ≡ border = omega (arith, lt) in
+    let two : border + 1 + 1 ≡ border + 2 = omega arith in
+    drop_more bytes (border - 1) 0 (omega (arith, lt, h.0)) ∙ ap₂ (λ x k. x ∷ drop k bytes) h.1 one
+    ∙ ap (λ l. 93 ∷ l) (drop_more bytes border 0 (omega (arith, h.0)) ∙ ap (λ x. x ∷ drop (border + 1) bytes) h.2
+    ∙ ap (λ l. 44 ∷ l) (drop_more bytes (border + 1) 0 h.0 ∙ ap₂ (λ x k. x ∷ drop k bytes) h.3 two)) in
     let from : start + (border - 1 - start) ≡ border - 1 = omega (arith, lt) in
     sym (take-append-drop (border - 1 - start) (drop start bytes))
     ∙ ap (λ l. take (border - 1 - start) (drop start bytes) ++ l) (drop-drop (border - 1 - start) start bytes ∙ ap (λ k. drop k bytes) from ∙ third)
@@ -122,7 +122,7 @@ left_step bytes piece start border number next old nodes new lt h text told left
     let first : read (91 ∷ b ++ 93 ∷ 93 ∷ []) ≡ Some (array ds) = ap read (sym (text ∙ piece_ends bytes start border lt h)) ∙ is.is in
     let second : read (91 ∷ 91 ∷ m) ≡ Some (array es) = ap (λ l. read (91 ∷ l)) (sym opens) ∙ r in
     let whole : read (91 ∷ drop start bytes) ≡ Some (array (append ds es)) =
-        ap (λ l. read (91 ∷ l)) (at_border bytes start border lt h) ∙ read-cut b m ds es first second in
+    ap (λ l. read (91 ∷ l)) (at_border bytes start border lt h) ∙ read-cut b m ds es first second in
     let found = left (append ds es) (some_append ds es is.some) whole in
     (found.0, found.1, found.2, found.3 ∙ rows_from-append number ds es nodes new told.2 ∙ ap (λ k. rows_from k es new) (sym told.3))
 

@@ -16,7 +16,6 @@ Sound (t ∷ ts) = (is_bad t ≡ false) × Sound ts
 abbrev pub Splits : Place → List Lexeme → Type 0
 Splits p ls = (ts : List Token) × ((es : List Lexeme) → punctuate p (ls ++ token end_array ∷ es) ≡ ts ++ end_array ∷ punctuate after_value es)
 
-
 abbrev Turn : List Lexeme → Type 0
 Turn ls = (q : Place) → Sound (punctuate q (ls ++ token end_array ∷ token end_array ∷ [])) → Splits q ls
 

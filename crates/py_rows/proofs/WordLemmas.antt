@@ -5,9 +5,9 @@ use Rattle.std.proofs.lemmas.List.{take-append-le}
 use Rattle.std.specs.List.{prefix_len, starts_with}
 use Rattle.std.specs.Cmp.Lexicographic.{pointwise}
 use Rattle.std.specs.Char.{is_ascii_digit}
+use Rattle.json.specs.Ascii as ascii
 use Rattle.json.specs.Token.{Token, number, boolean, null, bad}
 use Rattle.json.specs.Word.{head, ends_word, after_digits, after_minus, after_sign, after_whole, after_fraction, after_exponent, after_number, number_before, literal, word}
-
 
 -- the ending in a rest
 abbrev before : List ℕ → Option (List ℕ) → Option (List ℕ)
@@ -116,7 +116,7 @@ module _ (r : List ℕ) where
   unfolding word
   word-closed x xs =
       let t = x ∷ xs in
-      ap₂ (λ a b. cond (x == 116) a b) (literals _ (boolean true) t (refl, refl, refl, refl, tt))
-      (ap₂ (λ a b. cond (x == 102) a b) (literals _ (boolean false) t (refl, refl, refl, refl, refl, tt))
-      (ap₂ (λ a b. cond (x == 110) a b) (literals _ null t (refl, refl, refl, refl, tt))
+      ap₂ (λ a b. cond (x == 116) a b) (literals ascii.true_text (boolean true) t (refl, refl, refl, refl, tt))
+      (ap₂ (λ a b. cond (x == 102) a b) (literals ascii.false_text (boolean false) t (refl, refl, refl, refl, refl, tt))
+      (ap₂ (λ a b. cond (x == 110) a b) (literals ascii.null_text null t (refl, refl, refl, refl, tt))
       (ap (number_before (t ++ 93 ∷ r)) (whole_number t) ∙ numbered t (after_number t))))

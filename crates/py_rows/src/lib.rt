@@ -15,9 +15,9 @@ mod programs;
 mod reading;
 
 use ending::take_program;
+use pieces::read_pieces;
 pub use py_rows_fields::RowsError;
 use py_rows_fields::{read_json, rows_of};
-use pieces::read_pieces;
 use py_rows_slots::Nodes;
 use py_tree::Mod;
 use reading::read_all;

@@ -20,7 +20,7 @@ const PIECE: usize = 512;
 pub(crate) fn read_pieces(alloc: Global, bytes: &[u8], nodes: &mut Nodes) -> Result<(), RowsError>
     ensures { IfOk result (λ _. text_read bytes.now (nodes_view nodes.old) ≡ Ok (nodes_view nodes.new)) }
 {
-    if from_utf8(bytes).is_err() || bytes.first() != Some(&b'[') {
+    if from_utf8(bytes).is_err() || bytes.is_empty() || bytes[0] != b'[' {
         return Err(RowsError::NotJson);
     }
     let mut piece = Vec::new(alloc);
@@ -64,8 +64,8 @@ fn border_from(bytes: &[u8], start: usize) -> Option<usize>
 
 /// Whether a comma between two rows stands there: a row ends before it, and a bracket and a word begin one behind it.
 fn is_border(bytes: &[u8], at: usize) -> bool
-    requires { 0 < at }
-    requires { at < length bytes.now }
+    requires behind { 0 < at }
+    requires within { at < length bytes.now }
     ensures { IsTrue result → IsBorder bytes.now at }
 {
     at + 3 < bytes.len()
