@@ -5,4 +5,4 @@ abbrev pub invariant-bytes : goal.invariant-bytes
 invariant-bytes l = record { behind : l.fn.start < l.at }
 
 abbrev pub decreases-bytes : goal.decreases-bytes
-decreases-bytes l = length l.fn.bytes.now - l.at
+decreases-bytes l = length l.fn.bytes - l.at
