@@ -42,7 +42,7 @@ rows_from-append n (item d ds) es old new h =
 
 -- ---- the rows of a text
 
-record IsRows (text : List ℕ) (rows : Items) : Type 0 where
+pub record IsRows (text : List ℕ) (rows : Items) : Type 0 where
   pub utf8 : is_utf8 text ≡ true
   pub is : read text ≡ Some (array rows)
   pub some : IsSome rows
@@ -75,10 +75,10 @@ whole_read text rows old u e some =
 -- ---- what is left of the text
 
 -- whatever rows the text from there on is, behind a bracket: the whole text is rows, and what is left of reading them is reading those
-abbrev pub Left : List ℕ → (start number : ℕ) → (old nodes : Nodes) → Type 0
-Left bytes start number old nodes =
+abbrev pub Left : List ℕ → (start first : ℕ) → (old nodes : Nodes) → Type 0
+Left bytes start first old nodes =
     (es : Items) → IsSome es → read (91 ∷ drop start bytes) ≡ Some (array es)
-    → (rows : Items) × IsSome rows × (read bytes ≡ Some (array rows)) × (rows_from 0 rows old ≡ rows_from number es nodes)
+    → (rows : Items) × IsSome rows × (read bytes ≡ Some (array rows)) × (rows_from 0 rows old ≡ rows_from first es nodes)
 
 pub left_first : (bytes : List ℕ) (nodes : Nodes) → 0 < length bytes → get_or bytes 0 0 ≡ 91 → Left bytes 1 0 nodes nodes
 left_first (x ∷ xs) nodes some e es h r = (es, h, ap (λ y. read (y ∷ xs)) e ∙ r, refl)
@@ -109,26 +109,26 @@ piece_ends bytes start border lt h =
     ∙ ap (λ l. 91 ∷ l ++ 93 ∷ []) (take-suc (drop start bytes) n 0 within ∙ ap (λ x. take n (drop start bytes) ++ x ∷ []) (get_or-drop start bytes n 0 ∙ ap (λ k. get_or bytes k 0) at ∙ h.1))
     ∙ ap (λ l. 91 ∷ l) (append_assoc (take n (drop start bytes)) (93 ∷ []) (93 ∷ []))
 
-pub left_step : (bytes piece : List ℕ) (start border number next : ℕ) (old nodes new : Nodes) → start < border → IsBorder bytes border
-    → piece ≡ 91 ∷ slice_range bytes start border ++ 93 ∷ [] → IsRead piece number next nodes new
-    → Left bytes start number old nodes → Left bytes (border + 1) next old new
-left_step bytes piece start border number next old nodes new lt h text told left es some r =
+pub left_step : (bytes piece : List ℕ) (start border first next : ℕ) (old nodes new : Nodes) → start < border → IsBorder bytes border
+    → piece ≡ 91 ∷ slice_range bytes start border ++ 93 ∷ [] → IsRead piece first next nodes new
+    → Left bytes start first old nodes → Left bytes (border + 1) next old new
+left_step bytes piece start border first next old nodes new lt h text told left es some r =
     let b = take (border - 1 - start) (drop start bytes) in
     let m = drop (border + 2) bytes in
     let ds = told.0 in
     let is = is_rows piece ds told.1 in
     let two : border + 1 + 1 ≡ border + 2 = omega arith in
     let opens : drop (border + 1) bytes ≡ 91 ∷ m = drop_more bytes (border + 1) 0 h.0 ∙ ap₂ (λ x k. x ∷ drop k bytes) h.3 two in
-    let first : read (91 ∷ b ++ 93 ∷ 93 ∷ []) ≡ Some (array ds) = ap read (sym (text ∙ piece_ends bytes start border lt h)) ∙ is.is in
+    let one : read (91 ∷ b ++ 93 ∷ 93 ∷ []) ≡ Some (array ds) = ap read (sym (text ∙ piece_ends bytes start border lt h)) ∙ is.is in
     let second : read (91 ∷ 91 ∷ m) ≡ Some (array es) = ap (λ l. read (91 ∷ l)) (sym opens) ∙ r in
     let whole : read (91 ∷ drop start bytes) ≡ Some (array (append ds es)) =
-    ap (λ l. read (91 ∷ l)) (at_border bytes start border lt h) ∙ read-cut b m ds es first second in
+    ap (λ l. read (91 ∷ l)) (at_border bytes start border lt h) ∙ read-cut b m ds es one second in
     let found = left (append ds es) (some_append ds es is.some) whole in
-    (found.0, found.1, found.2, found.3 ∙ rows_from-append number ds es nodes new told.2 ∙ ap (λ k. rows_from k es new) (sym told.3))
+    (found.0, found.1, found.2, found.3 ∙ rows_from-append first ds es nodes new told.2 ∙ ap (λ k. rows_from k es new) (sym told.3))
 
-pub left_last : (bytes piece : List ℕ) (start number next : ℕ) (old nodes new : Nodes) → is_utf8 bytes ≡ true
-    → piece ≡ 91 ∷ drop start bytes → IsRead piece number next nodes new → Left bytes start number old nodes → text_read bytes old ≡ Ok new
-left_last bytes piece start number next old nodes new u text told left =
+pub left_last : (bytes piece : List ℕ) (start first next : ℕ) (old nodes new : Nodes) → is_utf8 bytes ≡ true
+    → piece ≡ 91 ∷ drop start bytes → IsRead piece first next nodes new → Left bytes start first old nodes → text_read bytes old ≡ Ok new
+left_last bytes piece start first next old nodes new u text told left =
     let is = is_rows piece told.0 told.1 in
     let found = left told.0 is.some (ap read (sym text) ∙ is.is) in
     whole_read bytes found.0 old u found.2 found.1 ∙ found.3 ∙ told.2

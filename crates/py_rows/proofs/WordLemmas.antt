@@ -116,7 +116,7 @@ module _ (r : List ℕ) where
   unfolding word
   word-closed x xs =
       let t = x ∷ xs in
-      ap₂ (λ a b. cond (x == 116) a b) (literals ascii.true_text (boolean true) t (refl, refl, refl, refl, tt))
-      (ap₂ (λ a b. cond (x == 102) a b) (literals ascii.false_text (boolean false) t (refl, refl, refl, refl, refl, tt))
-      (ap₂ (λ a b. cond (x == 110) a b) (literals ascii.null_text null t (refl, refl, refl, refl, tt))
+      ap₂ (λ a b. cond (x == 116) a b) (literals ascii.true_text (boolean true) t (refl, (refl, (refl, (refl, tt)))))
+      (ap₂ (λ a b. cond (x == 102) a b) (literals ascii.false_text (boolean false) t (refl, (refl, (refl, (refl, (refl, tt))))))
+      (ap₂ (λ a b. cond (x == 110) a b) (literals ascii.null_text null t (refl, (refl, (refl, (refl, tt)))))
       (ap (number_before (t ++ 93 ∷ r)) (whole_number t) ∙ numbered t (after_number t))))

@@ -6,6 +6,6 @@ use Rattle.py_rows.proofs.pieces.read_piece.Given as goal
 
 abbrev pub invariant-loop-row : goal.invariant-loop-row
 invariant-loop-row l = record {
-  rest : rows_from l.number (items_view (drop l.row-index l.rows.items)) (nodes_view l.nodes) ≡ rows_from l.fn.start (items_view l.rows.items) (nodes_view l.fn.nodes);
+  rest : rows_from l.number (items_view (drop l.row-index l.row-items)) (nodes_view l.nodes) ≡ rows_from l.fn.start (items_view l.row-items) (nodes_view l.fn.nodes);
   counted : l.number ≡ l.fn.start + l.row-index;
 }
