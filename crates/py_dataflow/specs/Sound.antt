@@ -20,4 +20,6 @@ NeverWrong = (o : Object) → sound o → (answers : List Answer) → (machine o
 
 -- the limit of height changes no run
 abbrev pub LimitIsNoMatter : Type 0
-LimitIsNoMatter = (o : Object) → sound o → (fuel : ℕ) (w : World Object) → M.limited_machine (fetch_unit (tables o) (head o).instructions) (head o).max_stackdepth fuel 0 w ≡ M.machine (fetch_unit (tables o) (head o).instructions) fuel 0 w
+LimitIsNoMatter = (o : Object) → sound o → (fuel : ℕ) (w : World Object)
+    → M.limited_machine (fetch_unit (tables o) (head o).instructions) (head o).max_stackdepth fuel 0 w
+    ≡ M.machine (fetch_unit (tables o) (head o).instructions) fuel 0 w

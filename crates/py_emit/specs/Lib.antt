@@ -3,5 +3,5 @@ pub mod States
 pub mod Access
 pub mod Emitted
 pub mod Placed
-pub mod Around
+pub mod NodeContext
 pub mod Tables

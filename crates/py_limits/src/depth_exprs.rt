@@ -73,7 +73,8 @@ pub fn expr_depth(expr: &Expr, most: u32) -> Option<u32>
 /// The nesting of the deeper of two expressions. None where it is above `most`, as below.
 #[cycle(depth)]
 pub fn pair_depth(left: &Expr, right: &Expr, most: u32) -> Option<u32>
-    ensures { IsAtMost result most (max (expr_nesting (view.expr_tree left.now)) (expr_nesting (view.expr_tree right.now))) }
+    ensures { IsAtMost result most
+        (max (expr_nesting (view.expr_tree left.now)) (expr_nesting (view.expr_tree right.now))) }
 {
     let left = expr_depth(left, most)?;
     let right = expr_depth(right, most)?;
@@ -83,7 +84,9 @@ pub fn pair_depth(left: &Expr, right: &Expr, most: u32) -> Option<u32>
 /// The nesting of the deepest of an element and the clauses that give it.
 #[cycle(depth)]
 fn element_depth(elt: &Expr, clauses: &[Comprehension], most: u32) -> Option<u32>
-    ensures { IsAtMost result most (max (expr_nesting (view.expr_tree elt.now)) (generators_nesting (view.generators view.expr_tree clauses.now))) }
+    ensures { IsAtMost result most
+        (max (expr_nesting (view.expr_tree elt.now))
+        (generators_nesting (view.generators view.expr_tree clauses.now))) }
 {
     let elt = expr_depth(elt, most)?;
     let clauses = generators_depth(clauses, most)?;
@@ -93,7 +96,10 @@ fn element_depth(elt: &Expr, clauses: &[Comprehension], most: u32) -> Option<u32
 /// The nesting of the deepest of a callee and its arguments.
 #[cycle(depth)]
 fn call_depth(e: &ExprCall, most: u32) -> Option<u32>
-    ensures { IsAtMost result most (max (expr_nesting (view.expr_tree e.now.func.value)) (max (exprs_nesting (view.exprs view.expr_tree e.now.args)) (keywords_nesting (view.keywords view.expr_tree e.now.keywords)))) }
+    ensures { IsAtMost result most
+        (max (expr_nesting (view.expr_tree e.now.func.value))
+        (max (exprs_nesting (view.exprs view.expr_tree e.now.args))
+        (keywords_nesting (view.keywords view.expr_tree e.now.keywords)))) }
 {
     let func = expr_depth(&e.func, most)?;
     let args = exprs_depth(e.args.as_slice(), most)?;
@@ -104,7 +110,10 @@ fn call_depth(e: &ExprCall, most: u32) -> Option<u32>
 /// The nesting of the deepest bound or step.
 #[cycle(depth)]
 fn slice_depth(e: &ExprSlice, most: u32) -> Option<u32>
-    ensures { IsAtMost result most (max (opt_expr_nesting (view.opt_box view.expr_tree e.now.lower)) (max (opt_expr_nesting (view.opt_box view.expr_tree e.now.upper)) (opt_expr_nesting (view.opt_box view.expr_tree e.now.step)))) }
+    ensures { IsAtMost result most
+        (max (opt_expr_nesting (view.opt_box view.expr_tree e.now.lower))
+        (max (opt_expr_nesting (view.opt_box view.expr_tree e.now.upper))
+        (opt_expr_nesting (view.opt_box view.expr_tree e.now.step)))) }
 {
     let lower = optional_depth(&e.lower, most)?;
     let upper = optional_depth(&e.upper, most)?;
@@ -191,7 +200,10 @@ fn generators_depth(clauses: &[Comprehension], most: u32) -> Option<u32>
 
 #[cycle(depth)]
 fn generator_depth(clause: &Comprehension, most: u32) -> Option<u32>
-    ensures { IsAtMost result most (max (expr_nesting (view.expr_tree clause.now.target.value)) (max (expr_nesting (view.expr_tree clause.now.iter.value)) (exprs_nesting (view.exprs view.expr_tree clause.now.ifs))) + 1) }
+    ensures { IsAtMost result most
+        (max (expr_nesting (view.expr_tree clause.now.target.value))
+        (max (expr_nesting (view.expr_tree clause.now.iter.value))
+        (exprs_nesting (view.exprs view.expr_tree clause.now.ifs))) + 1) }
 {
     let below = most.checked_sub(1)?;
     let ends = pair_depth(&clause.target, &clause.iter, below)?;
@@ -227,7 +239,9 @@ fn args_depth(items: &[ArgWithDefault], most: u32) -> Option<u32>
 
 #[cycle(depth)]
 fn default_arg_depth(item: &ArgWithDefault, most: u32) -> Option<u32>
-    ensures { IsAtMost result most (max (arg_nesting (view.arg view.expr_tree item.now.def)) (opt_expr_nesting (view.opt_box view.expr_tree item.now.default)) + 1) }
+    ensures { IsAtMost result most
+        (max (arg_nesting (view.arg view.expr_tree item.now.def))
+        (opt_expr_nesting (view.opt_box view.expr_tree item.now.default)) + 1) }
 {
     let below = most.checked_sub(1)?;
     let def = arg_depth(&item.def, below)?;

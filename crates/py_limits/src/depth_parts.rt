@@ -44,7 +44,9 @@ pub fn items_depth(items: &[WithItem], most: u32) -> Option<u32>
 }
 
 fn item_depth(item: &WithItem, most: u32) -> Option<u32>
-    ensures { IsAtMost result most (max (expr_nesting (view.expr_tree item.now.context_expr.value)) (opt_expr_nesting (view.opt_box view.expr_tree item.now.optional_vars)) + 1) }
+    ensures { IsAtMost result most
+        (max (expr_nesting (view.expr_tree item.now.context_expr.value))
+        (opt_expr_nesting (view.opt_box view.expr_tree item.now.optional_vars)) + 1) }
 {
     let below = most.checked_sub(1)?;
     let context_expr = expr_depth(&item.context_expr, below)?;
@@ -71,7 +73,10 @@ pub fn head_depth(
     generic: &List<TypeParam>,
     most: u32,
 ) -> Option<u32>
-    ensures { IsAtMost result most (head_nesting (view.arguments view.expr_tree params.now) (view.exprs view.expr_tree decorators.now) (view.opt_box view.expr_tree returns.now) (view.type_params generic.now)) }
+    ensures { IsAtMost result most
+        (head_nesting (view.arguments view.expr_tree params.now)
+        (view.exprs view.expr_tree decorators.now) (view.opt_box view.expr_tree returns.now)
+        (view.type_params generic.now)) }
 {
     let params = arguments_depth(params, most)?;
     let decorators = exprs_depth(decorators.as_slice(), most)?;
@@ -82,7 +87,10 @@ pub fn head_depth(
 
 /// The nesting of the deepest part of a class but for its body.
 pub fn class_head_depth(s: &StmtClassDef, most: u32) -> Option<u32>
-    ensures { IsAtMost result most (class_head_nesting (view.exprs view.expr_tree s.now.bases) (view.keywords view.expr_tree s.now.keywords) (view.exprs view.expr_tree s.now.decorator_list) (view.type_params s.now.type_params)) }
+    ensures { IsAtMost result most
+        (class_head_nesting (view.exprs view.expr_tree s.now.bases)
+        (view.keywords view.expr_tree s.now.keywords)
+        (view.exprs view.expr_tree s.now.decorator_list) (view.type_params s.now.type_params)) }
 {
     let bases = exprs_depth(s.bases.as_slice(), most)?;
     let keywords = keywords_depth(s.keywords.as_slice(), most)?;

@@ -138,7 +138,10 @@ fn stmt_depth(stmt: &Stmt, most: u32) -> Option<u32>
 #[cycle(body)]
 #[tactic(auto, using(crate::proofs::Counts::count_items))]
 fn with_depth(items: &[WithItem], body: &Stmts, most: u32) -> Option<u32>
-    ensures { IsAtMost result most (max (with_items_nesting (view.with_items items.now)) (stmts_nesting (view.stmts view.stmt_tree body.now)) + with_levels (view.with_items items.now)) }
+    ensures { IsAtMost result most
+        (max (with_items_nesting (view.with_items items.now))
+        (stmts_nesting (view.stmts view.stmt_tree body.now))
+        + with_levels (view.with_items items.now)) }
 {
     let levels = u32::try_from(items.len()).ok()?.max(1);
     let below = most.checked_sub(levels)?;
@@ -150,7 +153,9 @@ fn with_depth(items: &[WithItem], body: &Stmts, most: u32) -> Option<u32>
 /// The nesting of the deeper of two bodies.
 #[cycle(body)]
 fn bodies_depth(body: &Stmts, orelse: &Stmts, most: u32) -> Option<u32>
-    ensures { IsAtMost result most (max (stmts_nesting (view.stmts view.stmt_tree body.now)) (stmts_nesting (view.stmts view.stmt_tree orelse.now))) }
+    ensures { IsAtMost result most
+        (max (stmts_nesting (view.stmts view.stmt_tree body.now))
+        (stmts_nesting (view.stmts view.stmt_tree orelse.now))) }
 {
     let body = stmts_depth(body.as_slice(), most)?;
     let orelse = stmts_depth(orelse.as_slice(), most)?;
@@ -160,7 +165,9 @@ fn bodies_depth(body: &Stmts, orelse: &Stmts, most: u32) -> Option<u32>
 /// The nesting of the deepest of a body and the handlers around it.
 #[cycle(body)]
 fn handled_depth(body: &Stmts, handlers: &[ExceptHandler], most: u32) -> Option<u32>
-    ensures { IsAtMost result most (max (stmts_nesting (view.stmts view.stmt_tree body.now)) (handlers_nesting (view.handlers view.stmt_tree handlers.now))) }
+    ensures { IsAtMost result most
+        (max (stmts_nesting (view.stmts view.stmt_tree body.now))
+        (handlers_nesting (view.handlers view.stmt_tree handlers.now))) }
 {
     let body = stmts_depth(body.as_slice(), most)?;
     let handlers = handlers_depth(handlers, most)?;
@@ -181,7 +188,9 @@ fn handlers_depth(handlers: &[ExceptHandler], most: u32) -> Option<u32>
 
 #[cycle(body)]
 fn handler_depth(handler: &ExceptHandler, most: u32) -> Option<u32>
-    ensures { IsAtMost result most (max (opt_expr_nesting (view.opt_box view.expr_tree handler.now.type_)) (stmts_nesting (view.stmts view.stmt_tree handler.now.body)) + 1) }
+    ensures { IsAtMost result most
+        (max (opt_expr_nesting (view.opt_box view.expr_tree handler.now.type_))
+        (stmts_nesting (view.stmts view.stmt_tree handler.now.body)) + 1) }
 {
     let below = most.checked_sub(1)?;
     let type_ = optional_depth(&handler.type_, below)?;

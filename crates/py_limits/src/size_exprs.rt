@@ -66,7 +66,9 @@ pub fn after_expr(expr: &Expr, room: u32) -> Option<u32>
 /// What is left after a callee and its arguments.
 #[cycle(size)]
 fn after_call(e: &ExprCall, room: u32) -> Option<u32>
-    ensures { IsLeft result room (expr_size (view.expr_tree e.now.func.value) + exprs_size (view.exprs view.expr_tree e.now.args) + keywords_size (view.keywords view.expr_tree e.now.keywords)) }
+    ensures { IsLeft result room (expr_size (view.expr_tree e.now.func.value)
+        + exprs_size (view.exprs view.expr_tree e.now.args)
+        + keywords_size (view.keywords view.expr_tree e.now.keywords)) }
 {
     let left = after_expr(&e.func, room)?;
     let left = after_exprs(e.args.as_slice(), left)?;
@@ -87,7 +89,8 @@ pub fn after_keywords(items: &[Keyword], room: u32) -> Option<u32>
 
 #[cycle(size)]
 fn after_keyword(keyword: &Keyword, room: u32) -> Option<u32>
-    ensures { IsLeft result room (opt_name_size keyword.now.arg + expr_size (view.expr_tree keyword.now.value) + 1) }
+    ensures { IsLeft result room (opt_name_size keyword.now.arg
+        + expr_size (view.expr_tree keyword.now.value) + 1) }
 {
     let room = room.checked_sub(1)?;
     after_expr(&keyword.value, after_name(&keyword.arg, room)?)
@@ -96,7 +99,9 @@ fn after_keyword(keyword: &Keyword, room: u32) -> Option<u32>
 /// What is left after the bounds and the step.
 #[cycle(size)]
 fn after_slice(e: &ExprSlice, room: u32) -> Option<u32>
-    ensures { IsLeft result room (opt_expr_size (view.opt_box view.expr_tree e.now.lower) + opt_expr_size (view.opt_box view.expr_tree e.now.upper) + opt_expr_size (view.opt_box view.expr_tree e.now.step)) }
+    ensures { IsLeft result room (opt_expr_size (view.opt_box view.expr_tree e.now.lower)
+        + opt_expr_size (view.opt_box view.expr_tree e.now.upper)
+        + opt_expr_size (view.opt_box view.expr_tree e.now.step)) }
 {
     let left = after_optional(&e.lower, room)?;
     let left = after_optional(&e.upper, left)?;
@@ -161,7 +166,9 @@ fn after_generators(clauses: &[Comprehension], room: u32) -> Option<u32>
 
 #[cycle(size)]
 fn after_generator(clause: &Comprehension, room: u32) -> Option<u32>
-    ensures { IsLeft result room (expr_size (view.expr_tree clause.now.target.value) + expr_size (view.expr_tree clause.now.iter.value) + exprs_size (view.exprs view.expr_tree clause.now.ifs) + 1) }
+    ensures { IsLeft result room (expr_size (view.expr_tree clause.now.target.value)
+        + expr_size (view.expr_tree clause.now.iter.value)
+        + exprs_size (view.exprs view.expr_tree clause.now.ifs) + 1) }
 {
     let left = after_expr(&clause.target, room.checked_sub(1)?)?;
     let left = after_expr(&clause.iter, left)?;
@@ -193,7 +200,8 @@ fn after_args(items: &[ArgWithDefault], room: u32) -> Option<u32>
 
 #[cycle(size)]
 fn after_default_arg(item: &ArgWithDefault, room: u32) -> Option<u32>
-    ensures { IsLeft result room (arg_size (view.arg view.expr_tree item.now.def) + opt_expr_size (view.opt_box view.expr_tree item.now.default) + 1) }
+    ensures { IsLeft result room (arg_size (view.arg view.expr_tree item.now.def)
+        + opt_expr_size (view.opt_box view.expr_tree item.now.default) + 1) }
 {
     let left = after_arg(&item.def, room.checked_sub(1)?)?;
     after_optional(&item.default, left)

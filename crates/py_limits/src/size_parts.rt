@@ -44,7 +44,8 @@ pub fn after_items(items: &[WithItem], room: u32) -> Option<u32>
 }
 
 fn after_item(item: &WithItem, room: u32) -> Option<u32>
-    ensures { IsLeft result room (expr_size (view.expr_tree item.now.context_expr.value) + opt_expr_size (view.opt_box view.expr_tree item.now.optional_vars) + 1) }
+    ensures { IsLeft result room (expr_size (view.expr_tree item.now.context_expr.value)
+        + opt_expr_size (view.opt_box view.expr_tree item.now.optional_vars) + 1) }
 {
     let left = after_expr(&item.context_expr, room.checked_sub(1)?)?;
     after_optional(&item.optional_vars, left)
@@ -108,7 +109,9 @@ pub fn after_head(
     generic: &List<TypeParam>,
     room: u32,
 ) -> Option<u32>
-    ensures { IsLeft result room (head_size (view.arguments view.expr_tree params.now) (view.exprs view.expr_tree decorators.now) (view.opt_box view.expr_tree returns.now) (view.type_params generic.now)) }
+    ensures { IsLeft result room (head_size (view.arguments view.expr_tree params.now)
+        (view.exprs view.expr_tree decorators.now) (view.opt_box view.expr_tree returns.now)
+        (view.type_params generic.now)) }
 {
     let left = after_arguments(params, room.checked_sub(2)?)?;
     let left = after_exprs(decorators.as_slice(), left)?;
@@ -118,7 +121,9 @@ pub fn after_head(
 
 /// What is left after the name of a class and its parts but for its body.
 pub fn after_class_head(s: &StmtClassDef, room: u32) -> Option<u32>
-    ensures { IsLeft result room (class_head_size (view.exprs view.expr_tree s.now.bases) (view.keywords view.expr_tree s.now.keywords) (view.exprs view.expr_tree s.now.decorator_list) (view.type_params s.now.type_params)) }
+    ensures { IsLeft result room (class_head_size (view.exprs view.expr_tree s.now.bases)
+        (view.keywords view.expr_tree s.now.keywords)
+        (view.exprs view.expr_tree s.now.decorator_list) (view.type_params s.now.type_params)) }
 {
     let left = after_exprs(s.bases.as_slice(), room.checked_sub(2)?)?;
     let left = after_keywords(s.keywords.as_slice(), left)?;

@@ -95,7 +95,8 @@ fn after_stmt(stmt: &Stmt, all: u32) -> Option<u32>
 /// What is left after two bodies.
 #[cycle(body)]
 fn after_bodies(body: &Stmts, orelse: &Stmts, room: u32) -> Option<u32>
-    ensures { IsLeft result room (stmts_size (view.stmts view.stmt_tree body.now) + stmts_size (view.stmts view.stmt_tree orelse.now)) }
+    ensures { IsLeft result room (stmts_size (view.stmts view.stmt_tree body.now)
+        + stmts_size (view.stmts view.stmt_tree orelse.now)) }
 {
     let left = after_stmts(body.as_slice(), room)?;
     after_stmts(orelse.as_slice(), left)
@@ -104,7 +105,8 @@ fn after_bodies(body: &Stmts, orelse: &Stmts, room: u32) -> Option<u32>
 /// What is left after a body and the handlers around it.
 #[cycle(body)]
 fn after_handled(body: &Stmts, handlers: &[ExceptHandler], room: u32) -> Option<u32>
-    ensures { IsLeft result room (stmts_size (view.stmts view.stmt_tree body.now) + handlers_size (view.handlers view.stmt_tree handlers.now)) }
+    ensures { IsLeft result room (stmts_size (view.stmts view.stmt_tree body.now)
+        + handlers_size (view.handlers view.stmt_tree handlers.now)) }
 {
     let left = after_stmts(body.as_slice(), room)?;
     after_handlers(handlers, left)
@@ -123,7 +125,9 @@ fn after_handlers(handlers: &[ExceptHandler], room: u32) -> Option<u32>
 
 #[cycle(body)]
 fn after_handler(handler: &ExceptHandler, room: u32) -> Option<u32>
-    ensures { IsLeft result room (opt_expr_size (view.opt_box view.expr_tree handler.now.type_) + opt_name_size handler.now.name + stmts_size (view.stmts view.stmt_tree handler.now.body) + 1) }
+    ensures { IsLeft result room (opt_expr_size (view.opt_box view.expr_tree handler.now.type_)
+        + opt_name_size handler.now.name + stmts_size (view.stmts view.stmt_tree handler.now.body)
+        + 1) }
 {
     let left = after_optional(&handler.type_, room.checked_sub(1)?)?;
     let left = after_name(&handler.name, left)?;

@@ -1,6 +1,6 @@
 //! Statements after imports from the future.
 ghost use Rattle.py_tree.specs.View.{stmt_tree, stmts};
-ghost use Rattle.py_emission.specs.EmissionFutures.{emission_behind};
+ghost use Rattle.py_emission.specs.EmissionFutures.{emission_after};
 ghost use Rattle.py_emission.specs.EmissionMods.{emission_of_block, emission_of_prompt};
 ghost use Rattle.py_emission.specs.EmissionStmts.{emission_of_stmts};
 ghost use Rattle.py_emit.specs.States.{AreMade, Emits, rest};
@@ -19,7 +19,8 @@ use py_tree::Stmt;
 /// The first compile fault of the statements, with its location; MissingCell; or OutOfMemory.
 pub fn compile_file(em: &mut Emitter, body: &[Stmt]) -> Result<(), CodegenError>
     requires loops { AreMade (rest em.old).context.loop_blocks }
-    ensures { Emits result (emission_behind emission_of_stmts (stmts stmt_tree body.now)) em.old em.new }
+    ensures { Emits result (emission_after emission_of_stmts (stmts stmt_tree body.now)) em.old
+        em.new }
 {
     let before = em.context().future_annotations;
     let opening = compile_futures(em, body)?;
@@ -34,7 +35,8 @@ pub fn compile_file(em: &mut Emitter, body: &[Stmt]) -> Result<(), CodegenError>
 /// The first compile fault of the statements, with its location; MissingCell; or OutOfMemory.
 pub fn compile_whole_block(em: &mut Emitter, body: &[Stmt]) -> Result<(), CodegenError>
     requires loops { AreMade (rest em.old).context.loop_blocks }
-    ensures { Emits result (emission_behind emission_of_block (stmts stmt_tree body.now)) em.old em.new }
+    ensures { Emits result (emission_after emission_of_block (stmts stmt_tree body.now)) em.old
+        em.new }
 {
     let before = em.context().future_annotations;
     let opening = compile_futures(em, body)?;

@@ -146,7 +146,9 @@ module _ (o : Object) where
     settled_here work es cf cj g (inl same) = inl (λ s1 es1. (is.sees, is.sees_is, subst (λ z. Closed_at (state_at new) z is.sees) (same_Some s s1 (sym es ∙ sym same ∙ es1)) (closed_here cf cj g)))
 
   -- a unit was taken from the work list, and a walk went on from there
-  module _ (p q r : Progress) (unit : ℕ) (c : Change) (same : q.states.items ≡ p.states.items) (taken : p.work.items ≡ q.work.items ++ unit ∷ []) (w : IsWorking o p) (h : Steps o q r c) (here : Settled o r.states.items unit ⊎ IsListed r.work.items unit) where
+  module _ (p q r : Progress) (unit : ℕ) (c : Change) (same : q.states.items ≡ p.states.items)
+      (taken : p.work.items ≡ q.work.items ++ unit ∷ []) (w : IsWorking o p) (h : Steps o q r c)
+      (here : Settled o r.states.items unit ⊎ IsListed r.work.items unit) where
     settled_unit_grown : Grows p.states.items r.states.items
     settled_unit_grown = subst (λ ks. Grows ks r.states.items) same h.grows
 

@@ -75,7 +75,8 @@ module _ (o : Object) (ks : List (Option KnownState)) (known : KnownIn o ks) (st
   by_highest : Nowhere (state_at ks) ⊎ Highest (state_at ks) → sound o
   by_highest (inl n) = absurd (n 0 start.by start.there)
   by_highest (inr h) =
-      let d : IsDepth (code_look o) 0 h.at.height = holding.depth_law (code_look o) (state_at ks) soundness_closed h.at.height h.above h.place h.at h.there refl (known.shown.shown h.place h.at h.there) in
+      let d : IsDepth (code_look o) 0 h.at.height = holding.depth_law (code_look o)
+      (state_at ks) soundness_closed h.at.height h.above h.place h.at h.there refl (known.shown.shown h.place h.at h.there) in
       let l = known.low h.place h.at h.there in
       holding.depth_sound (code_look o) (state_at ks) soundness_closed h.at.height (suc (head o).max_stackdepth) d (omega (arith, l))
 

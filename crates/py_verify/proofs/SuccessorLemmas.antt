@@ -26,7 +26,7 @@ use Rattle.py_verify.specs.declared.walk.Exits.{Exits}
 use Rattle.py_verify.specs.Flaws.{operand_fits, WalkFlaw}
 use Rattle.py_verify.specs.Stepping.{Comes, Goes, HaltsAt, halt_by, FallsOn, JumpsOn, IsExits}
 use Rattle.py_verify.proofs.Comings.{coming_outside, lower_limit}
-use Rattle.py_verify.proofs.UnitViewLemmas.{sees_of, fit}
+use Rattle.py_verify.proofs.UnitViewLemmas.{sees_of, unit_view_fit}
 
 and_left : (a b : Bool) → (a && b) ≡ true → a ≡ true
 and_left true b e = refl
@@ -41,7 +41,8 @@ enough_of Branch.Continues h s e = refl
 pub operand_outside : (o : Object) (unit : ℕ) (s : State) (r : Read) → Shown (code_look o) unit s → read_at o unit ≡ Some r → operand_fits o r ≡ false → WalkFlaw o unit FlawKind.OperandOutside
 operand_outside o unit s r h e f = let w = some_walk (code_look o) unit s h in record { read = r; at = w.at; reached = w.reached; read_is = e; outside = f }
 
-module _ (o : Object) (unit : ℕ) (s : State) (r : UnitRead) (info : InstructionInfo) (same_instr : info.instr ≡ r.instr) (same_arg : info.arg ≡ r.arg) (read : read_at o unit ≡ Some (read_of r)) (fits : operand_fits o (read_of r) ≡ true) where
+module _ (o : Object) (unit : ℕ) (s : State) (r : UnitRead) (info : InstructionInfo) (same_instr : info.instr ≡ r.instr)
+    (same_arg : info.arg ≡ r.arg) (read : read_at o unit ≡ Some (read_of r)) (fits : operand_fits o (read_of r) ≡ true) where
   abbrev x : Seen ℕ
   x = sees_of (read_of r)
 
@@ -49,7 +50,7 @@ module _ (o : Object) (unit : ℕ) (s : State) (r : UnitRead) (info : Instructio
   flow_is = ap (λ i. flow_at i info.arg.0) same_instr ∙ ap (λ (a : OpArg). flow_at r.instr a.0) same_arg
 
   looks : code_look o unit ≡ Some x
-  looks = fit o unit (read_of r) read fits
+  looks = unit_view_fit o unit (read_of r) read fits
 
   jump_is : is_jump info.instr ≡ is_label (row_of r.instr).kind
   jump_is = ap is_jump same_instr

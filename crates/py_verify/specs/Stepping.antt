@@ -15,7 +15,7 @@ use Rattle.py_verify.specs.declared.walk.Halt.{Halt}
 use Rattle.py_verify.specs.declared.walk.Progress.{Progress}
 use Rattle.py_verify.specs.Flaws.{unit_count, WalkFlaw}
 
--- a walk comes to a place in a state: it begins there, or an edge leads there from a unit
+-- a walk reaches a place in a state: it begins there, or an edge leads there from a unit
 pub data Comes (o : Object) (from : ℕ) : ℕ → State → Type 0 where
   Begins : (to : ℕ) (t : State) → from ≡ 0 → to ≡ 0 → t ≡ state 0 [] → Comes o from to t
   Goes : (s : State) (x : Seen ℕ) (to : ℕ) (t : State) → Shown (code_look o) from s → code_look o from ≡ Some x → Edge x s to t → Comes o from to t
@@ -54,7 +54,7 @@ abbrev pub HaltsAt : Object → Halt → Type 0
 HaltsAt o (Halt.Flawed kind place) = WalkFlaw o place kind
 HaltsAt o Halt.OutOfMemory = Unit {0}
 
--- how py_dataflow tells a verification error at a unit
+-- how py_dataflow reports a verification error at a unit
 abbrev pub halt_by : Refused → (unit : ℕ) → Halt
 halt_by Refused.NoEnd unit = Halt.Flawed FlawKind.PlaceOutside unit
 halt_by Refused.UnevenHeights unit = Halt.Flawed FlawKind.UnevenHeights unit

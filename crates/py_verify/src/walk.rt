@@ -67,7 +67,7 @@ fn halt_of(refused: Refused, unit: usize) -> Halt
     Halt::Flawed { kind, unit }
 }
 
-// The instruction as py_dataflow takes it. Where it goes on is told by what is read, so it has neither a block nor a
+// The instruction as py_dataflow takes it. Where it goes on is given by what is read, so it has neither a block nor a
 // location.
 fn info_of(read: UnitRead) -> InstructionInfo
     ensures instr { result.instr ≡ read.instr }
@@ -84,7 +84,8 @@ fn info_of(read: UnitRead) -> InstructionInfo
 // Puts a unit on the work list, if its state changed.
 fn note(work: &mut Vec<usize>, unit: usize, change: Change) -> Result<(), Halt>
     ensures listed { IfOk result (λ _. change ≢ Change.Nothing → IsListed work.new.items unit) }
-    ensures kept { IfOk result (λ _. (k : ℕ) → IsListed work.old.items k → IsListed work.new.items k) }
+    ensures kept { IfOk result (λ _. (k : ℕ) → IsListed work.old.items k
+        → IsListed work.new.items k) }
     ensures still { change ≡ Change.Nothing → work.new.items ≡ work.old.items }
     ensures memory { IfErr result (λ halt. halt ≡ Halt.OutOfMemory) }
 {
@@ -122,7 +123,8 @@ fn reach(
     requires known { KnownIn (object code.now) progress.old.states.items }
     requires comes { Comes (object code.now) from to (state_of arriving) }
     ensures steps { IfOk result (λ change. Steps (object code.now) progress.old progress.new change) }
-    ensures covered { IfOk result (λ _. Covered (state_at progress.new.states.items) to (state_of arriving)) }
+    ensures covered { IfOk result (λ _.
+        Covered (state_at progress.new.states.items) to (state_of arriving)) }
     ensures halts { IfErr result (HaltsAt (object code.now)) }
 {
     if !begins_in(reads, to) {
@@ -160,7 +162,8 @@ fn reach_if(
     requires known { KnownIn (object code.now) progress.old.states.items }
     requires comes { IfSome arriving (λ k. Comes (object code.now) from to (state_of k)) }
     ensures steps { IfOk result (λ change. Steps (object code.now) progress.old progress.new change) }
-    ensures covered { IfOk result (λ _. IfSome arriving (λ k. Covered (state_at progress.new.states.items) to (state_of k))) }
+    ensures covered { IfOk result (λ _.
+        IfSome arriving (λ k. Covered (state_at progress.new.states.items) to (state_of k))) }
     ensures halts { IfErr result (HaltsAt (object code.now)) }
 {
     match arriving {
@@ -186,7 +189,7 @@ fn exits_of(
     // Its range is known where it is read.
     let _most = code.max_stackdepth;
     let Some(read) = read_in(reads, unit) else {
-        // No walk comes to where no instruction begins.
+        // No walk reaches where no instruction begins.
         return Err(Halt::Flawed {
             kind: FlawKind::PlaceOutside,
             unit,
@@ -232,7 +235,9 @@ fn visit(
     requires reading { IsReading (object code.now) reads.now }
     requires known { KnownIn (object code.now) progress.old.states.items }
     ensures steps { IfOk result (λ change. Steps (object code.now) progress.old progress.new change) }
-    ensures settled { IfOk result (λ _. Settled (object code.now) progress.new.states.items unit ⊎ IsListed progress.new.work.items unit) }
+    ensures settled { IfOk result (λ _.
+        Settled (object code.now) progress.new.states.items unit
+        ⊎ IsListed progress.new.work.items unit) }
     ensures halts { IfErr result (HaltsAt (object code.now)) }
 {
     let exits = match known_of(&progress.states, unit) {
@@ -253,8 +258,11 @@ fn advance(
 ) -> Result<Change, Halt>
     requires reading { IsReading (object code.now) reads.now }
     requires working { IsWorking (object code.now) progress.old }
-    ensures working { IfOk result (λ _. IsWorking (object code.now) progress.new × Grows progress.old.states.items progress.new.states.items) }
-    ensures moves { IfOk result (λ change. Moves change progress.old.states.items progress.new.states.items) }
+    ensures working { IfOk result (λ _.
+        IsWorking (object code.now) progress.new
+        × Grows progress.old.states.items progress.new.states.items) }
+    ensures moves { IfOk result (λ change.
+        Moves change progress.old.states.items progress.new.states.items) }
     ensures done { IfOk result (λ change. change ≡ Change.Nothing → progress.new.work.items ≡ []) }
     ensures halts { IfErr result (HaltsAt (object code.now)) }
 {
@@ -277,9 +285,12 @@ fn spread(
 ) -> Result<bool, Halt>
     requires reading { IsReading (object code.now) reads.now }
     requires working { IsWorking (object code.now) progress.old }
-    ensures working { IfOk result (λ _. IsWorking (object code.now) progress.new × Grows progress.old.states.items progress.new.states.items) }
+    ensures working { IfOk result (λ _.
+        IsWorking (object code.now) progress.new
+        × Grows progress.old.states.items progress.new.states.items) }
     ensures done { IfOk result (λ more. more ≡ false → progress.new.work.items ≡ []) }
-    ensures fewer { IfOk result (λ more. more ≡ true → unknown progress.new.states.items < unknown progress.old.states.items) }
+    ensures fewer { IfOk result (λ more. more ≡ true
+        → unknown progress.new.states.items < unknown progress.old.states.items) }
     ensures halts { IfErr result (HaltsAt (object code.now)) }
 {
     loop {
@@ -300,8 +311,10 @@ fn spread_all(
 ) -> Result<(), Halt>
     requires reading { IsReading (object code.now) reads.now }
     requires working { IsWorking (object code.now) progress.old }
-    ensures known { IfOk result (λ _. KnownIn (object code.now) progress.new.states.items × Grows progress.old.states.items progress.new.states.items) }
-    ensures settled { IfOk result (λ _. (k : ℕ) → Settled (object code.now) progress.new.states.items k) }
+    ensures known { IfOk result (λ _. KnownIn (object code.now) progress.new.states.items
+        × Grows progress.old.states.items progress.new.states.items) }
+    ensures settled { IfOk result (λ _. (k : ℕ)
+        → Settled (object code.now) progress.new.states.items k) }
     ensures halts { IfErr result (HaltsAt (object code.now)) }
 {
     loop {
@@ -335,7 +348,8 @@ fn walk_all(
 pub fn walk_flaw(alloc: Global, code: &CodeObject) -> Result<Option<Spot>, AllocError>
     requires small { unit_count (object code.now) < 2 ^ 32 }
     ensures none { IfOk result (λ found. IfNone found (sound (object code.now))) }
-    ensures some { IfOk result (λ found. IfSome found (λ spot. WalkFlaw (object code.now) spot.unit spot.kind)) }
+    ensures some { IfOk result (λ found.
+        IfSome found (λ spot. WalkFlaw (object code.now) spot.unit spot.kind)) }
 {
     let reads = read_all(alloc, code)?;
     let mut progress = Progress {

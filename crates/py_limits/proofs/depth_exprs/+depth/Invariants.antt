@@ -7,13 +7,19 @@ abbrev pub invariant-exprs_depth-loop-e : goal.invariant-exprs_depth-loop-e
 invariant-exprs_depth-loop-e l = (max l.deepest (exprs_nesting (view.exprs view.expr_tree (drop l.e-index l.items))) ≡ exprs_nesting (view.exprs view.expr_tree l.items)) × (l.deepest ≤ l.most)
 
 abbrev pub invariant-keys_depth-loop-key : goal.invariant-keys_depth-loop-key
-invariant-keys_depth-loop-key l = (max l.deepest (opt_exprs_nesting (view.opt_exprs view.expr_tree (drop l.key-index l.keys))) ≡ opt_exprs_nesting (view.opt_exprs view.expr_tree l.keys)) × (l.deepest ≤ l.most)
+invariant-keys_depth-loop-key l =
+    (max l.deepest (opt_exprs_nesting (view.opt_exprs view.expr_tree (drop l.key-index l.keys)))
+    ≡ opt_exprs_nesting (view.opt_exprs view.expr_tree l.keys)) × (l.deepest ≤ l.most)
 
 abbrev pub invariant-keywords_depth-loop-keyword : goal.invariant-keywords_depth-loop-keyword
-invariant-keywords_depth-loop-keyword l = (max l.deepest (keywords_nesting (view.keywords view.expr_tree (drop l.keyword-index l.items))) ≡ keywords_nesting (view.keywords view.expr_tree l.items)) × (l.deepest ≤ l.most)
+invariant-keywords_depth-loop-keyword l =
+    (max l.deepest (keywords_nesting (view.keywords view.expr_tree (drop l.keyword-index l.items)))
+    ≡ keywords_nesting (view.keywords view.expr_tree l.items)) × (l.deepest ≤ l.most)
 
 abbrev pub invariant-generators_depth-loop-clause : goal.invariant-generators_depth-loop-clause
-invariant-generators_depth-loop-clause l = (max l.deepest (generators_nesting (view.generators view.expr_tree (drop l.clause-index l.clauses))) ≡ generators_nesting (view.generators view.expr_tree l.clauses)) × (l.deepest ≤ l.most)
+invariant-generators_depth-loop-clause l =
+    (max l.deepest (generators_nesting (view.generators view.expr_tree (drop l.clause-index l.clauses)))
+    ≡ generators_nesting (view.generators view.expr_tree l.clauses)) × (l.deepest ≤ l.most)
 
 abbrev pub invariant-args_depth-loop-item : goal.invariant-args_depth-loop-item
 invariant-args_depth-loop-item l = (max l.deepest (args_nesting (view.args view.expr_tree (drop l.item-index l.items))) ≡ args_nesting (view.args view.expr_tree l.items)) × (l.deepest ≤ l.most)

@@ -7,7 +7,9 @@ abbrev pub invariant-stmts_depth-loop-s : goal.invariant-stmts_depth-loop-s
 invariant-stmts_depth-loop-s l = (max l.deepest (stmts_nesting (view.stmts view.stmt_tree (drop l.s-index l.body))) ≡ stmts_nesting (view.stmts view.stmt_tree l.body)) × (l.deepest ≤ l.most)
 
 abbrev pub invariant-handlers_depth-loop-handler : goal.invariant-handlers_depth-loop-handler
-invariant-handlers_depth-loop-handler l = (max l.deepest (handlers_nesting (view.handlers view.stmt_tree (drop l.handler-index l.handlers))) ≡ handlers_nesting (view.handlers view.stmt_tree l.handlers)) × (l.deepest ≤ l.most)
+invariant-handlers_depth-loop-handler l =
+    (max l.deepest (handlers_nesting (view.handlers view.stmt_tree (drop l.handler-index l.handlers)))
+    ≡ handlers_nesting (view.handlers view.stmt_tree l.handlers)) × (l.deepest ≤ l.most)
 
 abbrev pub invariant-cases_depth-loop-case : goal.invariant-cases_depth-loop-case
 invariant-cases_depth-loop-case l = (max l.deepest (cases_nesting (view.cases view.stmt_tree (drop l.case-index l.cases))) ≡ cases_nesting (view.cases view.stmt_tree l.cases)) × (l.deepest ≤ l.most)

@@ -10,10 +10,14 @@ abbrev pub invariant-after_keys-loop-key : goal.invariant-after_keys-loop-key
 invariant-after_keys-loop-key l = (l.room + keys_size (view.opt_exprs view.expr_tree (drop l.key-index l.keys)) ≡ l.left + keys_size (view.opt_exprs view.expr_tree l.keys)) × (l.left ≤ l.room)
 
 abbrev pub invariant-after_keywords-loop-keyword : goal.invariant-after_keywords-loop-keyword
-invariant-after_keywords-loop-keyword l = (l.room + keywords_size (view.keywords view.expr_tree (drop l.keyword-index l.items)) ≡ l.left + keywords_size (view.keywords view.expr_tree l.items)) × (l.left ≤ l.room)
+invariant-after_keywords-loop-keyword l =
+    (l.room + keywords_size (view.keywords view.expr_tree (drop l.keyword-index l.items)) ≡ l.left
+    + keywords_size (view.keywords view.expr_tree l.items)) × (l.left ≤ l.room)
 
 abbrev pub invariant-after_generators-loop-clause : goal.invariant-after_generators-loop-clause
-invariant-after_generators-loop-clause l = (l.room + generators_size (view.generators view.expr_tree (drop l.clause-index l.clauses)) ≡ l.left + generators_size (view.generators view.expr_tree l.clauses)) × (l.left ≤ l.room)
+invariant-after_generators-loop-clause l =
+    (l.room + generators_size (view.generators view.expr_tree (drop l.clause-index l.clauses)) ≡ l.left
+    + generators_size (view.generators view.expr_tree l.clauses)) × (l.left ≤ l.room)
 
 abbrev pub invariant-after_args-loop-item : goal.invariant-after_args-loop-item
 invariant-after_args-loop-item l = (l.room + args_size (view.args view.expr_tree (drop l.item-index l.items)) ≡ l.left + args_size (view.args view.expr_tree l.items)) × (l.left ≤ l.room)

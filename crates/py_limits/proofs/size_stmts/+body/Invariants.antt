@@ -7,7 +7,9 @@ abbrev pub invariant-after_stmts-loop-s : goal.invariant-after_stmts-loop-s
 invariant-after_stmts-loop-s l = (l.room + stmts_size (view.stmts view.stmt_tree (drop l.s-index l.body)) ≡ l.left + stmts_size (view.stmts view.stmt_tree l.body)) × (l.left ≤ l.room)
 
 abbrev pub invariant-after_handlers-loop-handler : goal.invariant-after_handlers-loop-handler
-invariant-after_handlers-loop-handler l = (l.room + handlers_size (view.handlers view.stmt_tree (drop l.handler-index l.handlers)) ≡ l.left + handlers_size (view.handlers view.stmt_tree l.handlers)) × (l.left ≤ l.room)
+invariant-after_handlers-loop-handler l =
+    (l.room + handlers_size (view.handlers view.stmt_tree (drop l.handler-index l.handlers)) ≡ l.left
+    + handlers_size (view.handlers view.stmt_tree l.handlers)) × (l.left ≤ l.room)
 
 abbrev pub invariant-after_cases-loop-case : goal.invariant-after_cases-loop-case
 invariant-after_cases-loop-case l = (l.room + cases_size (view.cases view.stmt_tree (drop l.case-index l.cases)) ≡ l.left + cases_size (view.cases view.stmt_tree l.cases)) × (l.left ≤ l.room)

@@ -47,7 +47,9 @@ returns-in_ok-note-in-Ok-clause-covered c =
     let t = state_of c.args.arriving in
     let arrives : Arrives c.args.progress.now.states.items new c.args.to t = subst (λ ks. Arrives ks new c.args.to t) c.deref_mut.ensures.value c.in-Ok.ensures.arrives in
     let same : (with_items c.args.progress.now.states new).items ≡ new = with_items_is c.args.progress.now.states new (arrives.long ∙ sym c.args.progress.now.states.ok.0) in
-    subst (λ ks. Covered (state_at ks) c.args.to t) (sym same) (arrives_covered (object c.args.code.now) c.args.progress.now.states.items new c.args.from c.args.to t c.requires.known c.requires.comes arrives)
+    subst (λ ks. Covered (state_at ks) c.args.to t) (sym same)
+    (arrives_covered (object c.args.code.now) c.args.progress.now.states.items new c.args.from c.args.to t c.requires.known
+    c.requires.comes arrives)
 
 pub returns-in-Err-clause-halts : goal.returns-in-Err-clause-halts
 returns-in-Err-clause-halts c =
@@ -55,4 +57,6 @@ returns-in-Err-clause-halts c =
     let t = state_of c.args.arriving in
     let uneven = subst (λ ks. e ≡ Refused.UnevenHeights → IsUneven (state_at ks c.args.to) t) c.deref_mut.ensures.value c.in-Err.ensures.uneven in
     let unfit = subst (λ ks. e ≡ Refused.BlockMismatch → Unfit (state_at ks c.args.to) t) c.deref_mut.ensures.value c.in-Err.ensures.unfit in
-    subst (HaltsAt (object c.args.code.now)) (sym c.halt_of.ensures) (arrival_halts (object c.args.code.now) c.args.progress.now.states.items c.args.from c.args.to t e c.requires.known c.requires.comes uneven unfit c.in-Err.ensures.others)
+    subst (HaltsAt (object c.args.code.now)) (sym c.halt_of.ensures)
+    (arrival_halts (object c.args.code.now) c.args.progress.now.states.items c.args.from c.args.to t e c.requires.known c.requires.comes
+    uneven unfit c.in-Err.ensures.others)

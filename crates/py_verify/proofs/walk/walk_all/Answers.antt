@@ -12,5 +12,8 @@ reach-requires-clause-comes c = Begins 0 (state_of c.first_known.result) refl re
 
 pub returns-clause-sound : goal.returns-clause-sound
 returns-clause-sound c =
-    let start : Covered (state_at c.reach.new.progress.states.items) 0 (state 0 []) = subst (λ (t : State). Covered (state_at c.reach.new.progress.states.items) 0 t) c.first_known.ensures c.in_ok-reach.ensures.covered in
-    settled_sound (object c.args.code.now) c.spread_all.new.progress.states.items c.in_ok-spread_all.ensures.known.0 (c.in_ok-spread_all.ensures.known.1 0 (state 0 []) start) c.in_ok-spread_all.ensures.settled
+    let start : Covered (state_at c.reach.new.progress.states.items) 0 (state 0 []) =
+    subst (λ (t : State). Covered (state_at c.reach.new.progress.states.items) 0 t) c.first_known.ensures
+    c.in_ok-reach.ensures.covered in
+    settled_sound (object c.args.code.now) c.spread_all.new.progress.states.items c.in_ok-spread_all.ensures.known.0
+    (c.in_ok-spread_all.ensures.known.1 0 (state 0 []) start) c.in_ok-spread_all.ensures.settled

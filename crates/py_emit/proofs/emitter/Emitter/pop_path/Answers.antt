@@ -1,6 +1,6 @@
 use Rattle.std.proofs.Common.{◌∙◌, List, ℕ, ap, sym}
 use Rattle.py_emission_parts.specs.Emitting.{State}
-use Rattle.py_emit.specs.Around.{on_path}
+use Rattle.py_emit.specs.NodeContext.{on_path}
 use Rattle.py_emit.specs.States.{state}
 use Rattle.py_emit.proofs.emitter.Emitter.pop_path.Goals as goal
 
@@ -15,4 +15,4 @@ returns-clause-state c before part undotted whole =
 pub returns-clause-others : goal.returns-clause-others
 returns-clause-others c =
     let moved = c.set_path.ensures.state ∙ ap (on_path c.before_last_dot.result) c.set_path-path.ensures.state in
-    moved ∙ sym (ap (λ (s : State). on_path s.around.context.path (state c.args.self.now)) moved)
+    moved ∙ sym (ap (λ (s : State). on_path s.node_context.context.path (state c.args.self.now)) moved)
