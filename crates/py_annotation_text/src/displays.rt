@@ -78,7 +78,8 @@ fn push_several(out: &mut String, items: &[Expr], low: u8) -> Result<(), AllocEr
 
 #[cycle(text)]
 pub(crate) fn push_dict(out: &mut String, e: &ExprDict) -> Result<(), AllocError>
-    ensures { OnOk result (string_bytes out.new ≡ string_bytes out.old ++ show (dict_tree e.now) 16) }
+    ensures { OnOk result (string_bytes out.new ≡ string_bytes out.old
+        ++ show (dict_tree e.now) 16) }
 {
     out.push_str("{")?;
     push_pairs(out, e)?;

@@ -78,7 +78,8 @@ fn push_links(out: &mut String, ops: &[CmpOp], values: &[Expr]) -> Result<(), Al
 
 #[cycle(text)]
 pub(crate) fn push_call(out: &mut String, e: &ExprCall) -> Result<(), AllocError>
-    ensures { OnOk result (string_bytes out.new ≡ string_bytes out.old ++ show (call_tree e.now) 16) }
+    ensures { OnOk result (string_bytes out.new ≡ string_bytes out.old
+        ++ show (call_tree e.now) 16) }
 {
     push_expr(out, &e.func, 16)?;
     out.push_str("(")?;

@@ -39,7 +39,8 @@ pub fn mangle_name(
     class_name: Option<&str>,
     name: &str,
 ) -> Result<Option<Text>, AllocError>
-    ensures { IfOk result (λ answer. answer ≡ mangling_of (option_copied class_name.entry) name.now) }
+    ensures { IfOk result (λ answer. answer
+        ≡ mangling_of (option_copied class_name.entry) name.now) }
 {
     let Some(class_name) = class_name else {
         return Ok(None);

@@ -29,7 +29,8 @@ pub fn enter_function(
 ) -> Result<MakeFunctionFlags, CodegenError>
     ensures flags { IfOk result (λ flags.
         flags.0 ≡ flags_of_defaults (default_emissions (arguments expr_tree args.now))) }
-    ensures entered { OnOk result (IsEntered (arguments expr_tree args.now) name.now em.old em.new) }
+    ensures entered { OnOk result (IsEntered
+        (arguments expr_tree args.now) name.now em.old em.new) }
     ensures refused { IfErr result
         (λ e. e.error ≢ CodegenErrorType.OutOfMemory
         → entry (arguments expr_tree args.now) (state em.old) ≡ Refused e.error e.location) }

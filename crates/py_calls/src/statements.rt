@@ -30,7 +30,8 @@ pub fn compile_statement(em: &mut Emitter, statement: &Stmt) -> Result<(), Codeg
 pub fn compile_statements(em: &mut Emitter, body: &Stmts, from: usize) -> Result<(), CodegenError>
     requires loops { AreMade (rest em.old).context.loop_blocks }
     requires within { from ≤ length body.now }
-    ensures { Emits result (emission_of_stmts (stmts stmt_tree (drop from body.now))) em.old em.new }
+    ensures { Emits result (emission_of_stmts (stmts stmt_tree (drop from body.now))) em.old
+        em.new }
 {
     py_stmt::compile_statements(em, statements_from(body, from))
 }

@@ -146,10 +146,12 @@ fn visit(
     ensures steps { IfOk result (λ visited.
         Steps (look_at starts.now items.now)
         (length items.now) states.old states.new visited.change) }
-    ensures before { IfOk result (λ visited. visited.after ≡ false → SameTo k states.old states.new) }
+    ensures before { IfOk result (λ visited. visited.after ≡ false
+        → SameTo k states.old states.new) }
     ensures settled { IfOk result (λ visited. visited.after ≡ false
         → Settled (look_at starts.now items.now) states.new k) }
-    ensures after { IfOk result (λ visited. visited.after ≡ true → visited.change ≢ Change.Nothing) }
+    ensures after { IfOk result (λ visited. visited.after ≡ true
+        → visited.change ≢ Change.Nothing) }
     ensures refused { IfErr result
         (λ fault. RefusalAt (look_at starts.now items.now) fault.refused fault.place) }
 {
@@ -184,7 +186,8 @@ fn round(
         (length items.now) states.old states.new visited.change) }
     ensures settled { IfOk result (λ visited. visited.after ≡ false → (k : ℕ) → k < length items.now
         → Settled (look_at starts.now items.now) states.new k) }
-    ensures after { IfOk result (λ visited. visited.after ≡ true → visited.change ≢ Change.Nothing) }
+    ensures after { IfOk result (λ visited. visited.after ≡ true
+        → visited.change ≢ Change.Nothing) }
     ensures refused { IfErr result
         (λ fault. RefusalAt (look_at starts.now items.now) fault.refused fault.place) }
 {

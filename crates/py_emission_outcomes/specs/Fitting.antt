@@ -31,7 +31,8 @@ pub record HasShortTables (o : Object) : Type 0 where
   pub arguments : (head o).arg_count < 2 ^ 30
   pub keywords : (head o).kwonlyarg_count < 2 ^ 30
 
--- what is emitted of a tree without faults is done, its tables, blocks and scopes are so few, and the tables of its code object and of each code object within are so short and its parameters so few, in each mode, at each level of optimization and from each path
+-- what is emitted of a tree without faults is done, its tables, blocks and scopes are so few, and the tables of its code object and of each
+-- code object within are so short and its parameters so few, in each mode, at each level of optimization and from each path
 abbrev pub TreesFit : Type 0
 TreesFit =
     (t : tree.Mod) (m : Mode) (level : ℕ) (path : List ℕ) → faults t m level ≡ []

@@ -185,7 +185,8 @@ fn compile_turn(
     element: &ComprehensionElement<'_>,
     depth: usize,
 ) -> Result<(), CodegenError>
-    ensures { Emits result (element_of element.now ▸ added_element element.now depth) em.old em.new }
+    ensures { Emits result (element_of element.now ▸ added_element element.now depth) em.old
+        em.new }
 {
     compile_element(em, element)?;
     add_element(em, element, depth)

@@ -98,7 +98,8 @@ pub fn compile_jump_if(
     target: BlockIdx,
 ) -> Result<(), CodegenError>
     requires { target.0 < 0xffff_ffff }
-    ensures { Emits result (emission_of_test (expr_tree expr.now) condition target.0) em.old em.new }
+    ensures { Emits result (emission_of_test (expr_tree expr.now) condition target.0) em.old
+        em.new }
 {
     let jump = JumpIf {
         truth: condition,

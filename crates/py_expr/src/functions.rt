@@ -112,7 +112,8 @@ fn compile_each_default(
     items: &[ArgWithDefault],
     named: bool,
 ) -> Result<usize, CodegenError>
-    ensures count { IfOk result (λ n. n ≡ length (default_values named (args expr_tree items.now))) }
+    ensures count { IfOk result (λ n. n
+        ≡ length (default_values named (args expr_tree items.now))) }
     ensures few { IfOk result (λ n. n ≤ length items.now) }
     ensures emits { Emits result (in_turn (default_values named (args expr_tree items.now))) em.old
         em.new }

@@ -187,9 +187,11 @@ pub fn check_items(
     lens: TableLens,
     items: &[InstructionInfo],
 ) -> Result<(), ItemFault>
-    ensures fine { IfOk result (λ _. (check : Check) → NowhereFails check inside.now lens items.now) }
+    ensures fine { IfOk result (λ _. (check : Check)
+        → NowhereFails check inside.now lens items.now) }
     ensures range { IfOk result (λ _. All (λ x. x.arg.0 < 2 ^ 32) items.now) }
-    ensures here { IfErr result (λ fault. FailsAt fault.check inside.now lens items.now fault.place) }
+    ensures here { IfErr result (λ fault.
+        FailsAt fault.check inside.now lens items.now fault.place) }
     ensures earlier { IfErr result
         (λ fault. (check : Check) → rank check < rank fault.check
         → NowhereFails check inside.now lens items.now) }

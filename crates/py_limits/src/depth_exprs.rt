@@ -189,7 +189,8 @@ fn keyword_depth(keyword: &Keyword, most: u32) -> Option<u32>
 /// The nesting of the deepest clause, 0 where there is none.
 #[cycle(depth)]
 fn generators_depth(clauses: &[Comprehension], most: u32) -> Option<u32>
-    ensures { IsAtMost result most (generators_nesting (view.generators view.expr_tree clauses.now)) }
+    ensures { IsAtMost result most
+        (generators_nesting (view.generators view.expr_tree clauses.now)) }
 {
     let mut deepest = 0;
     for clause in clauses {
@@ -287,7 +288,8 @@ fn constant_depth(value: &Constant, most: u32) -> Option<u32>
 /// The nesting of the deepest constant, 0 where there is none.
 #[cycle(constant)]
 fn constants_depth(items: &[Constant], most: u32) -> Option<u32>
-    ensures { IsAtMost result most (literals_nesting (view.literal_list view.literal_of items.now)) }
+    ensures { IsAtMost result most
+        (literals_nesting (view.literal_list view.literal_of items.now)) }
 {
     let mut deepest = 0;
     for item in items {

@@ -96,7 +96,8 @@ fn use_in(
     ensures ok { OnOk result (row.new ≡ used_in name.now role row.old) }
     ensures allowed { OnOk result (refused_in row.old name.now role ≡ None) }
     ensures err { OnErr result (row.new ≡ row.old) }
-    ensures refused { IfErr result (λ e. Tells e (refused_in row.old name.now role) (Some location)) }
+    ensures refused { IfErr result
+        (λ e. Tells e (refused_in row.old name.now role) (Some location)) }
 {
     let role = role_in(row.kind, role);
     let (place, held) = row.entries.find(name);

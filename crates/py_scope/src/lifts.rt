@@ -219,7 +219,8 @@ fn lift_names(alloc: Global, rows: &mut Vec<Row>, scope: usize, names: &[Text]) 
     requires above { 0 < scope }
     requires module { kind_of (slice_get rows.old.items 0) ≡ Module }
     requires comprehension { kind_of (slice_get rows.old.items scope) ≡ Comprehension }
-    ensures allowed { OnOk result (first_refusal rows.old.items (from_scope scope names.now) ≡ None) }
+    ensures allowed { OnOk result (first_refusal rows.old.items (from_scope scope names.now)
+        ≡ None) }
     ensures lifted { OnOk result (IsLifted rows.old.items
         (from_scope scope names.now) rows.new.items) }
     ensures refused { IfErr result

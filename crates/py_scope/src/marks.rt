@@ -165,7 +165,8 @@ fn mark_scope(alloc: Global, rows: &mut Vec<Row>, scope: usize) -> Result<(), Al
 pub fn mark_all(alloc: Global, rows: &mut Vec<Row>, order: &[usize]) -> Result<(), AllocError>
     requires numbered { IsNumbered rows.old.items }
     requires within { All (λ s. s < length rows.old.items) order.now }
-    ensures { OnOk result (IsSettled rows.old.items (looks rows.old.items order.now) rows.new.items) }
+    ensures { OnOk result (IsSettled rows.old.items
+        (looks rows.old.items order.now) rows.new.items) }
 {
     for scope in order {
         mark_scope(alloc, rows, *scope)?;

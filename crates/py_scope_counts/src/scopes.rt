@@ -261,7 +261,8 @@ fn scopes_in_opt_arg(value: &Option<Box<Arg>>, count: usize) -> Option<usize>
 
 #[cycle(scopes)]
 fn scopes_in_arg(param: &Arg, count: usize) -> Option<usize>
-    ensures { IsSum result (count + counts.scopes_in_arg false (view.arg view.expr_tree param.now)) }
+    ensures { IsSum result (count + counts.scopes_in_arg false
+        (view.arg view.expr_tree param.now)) }
 {
     scopes_in_opt(&param.annotation, false, count)
 }

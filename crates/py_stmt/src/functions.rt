@@ -220,7 +220,8 @@ fn compile_body(em: &mut Emitter, body: &Stmts) -> Result<(), CodegenError>
 pub(crate) fn compile_rest(em: &mut Emitter, body: &[Stmt], from: usize) -> Result<(), CodegenError>
     requires loops { AreMade (rest em.old).context.loop_blocks }
     requires from { from ≤ length body.now }
-    ensures { Emits result (emission_of_stmts (stmts stmt_tree (drop from body.now))) em.old em.new }
+    ensures { Emits result (emission_of_stmts (stmts stmt_tree (drop from body.now))) em.old
+        em.new }
 {
     for i in from..body.len() {
         compile_statement(em, &body[i])?;

@@ -96,7 +96,8 @@ fn import_path(
     level: u32,
     names: ConstantData,
 ) -> Result<(), CodegenError>
-    ensures { Emits result (emission_of_module (Some path.now) level (constant names)) em.old em.new }
+    ensures { Emits result (emission_of_module (Some path.now) level (constant names)) em.old
+        em.new }
 {
     load_level(em, level)?;
     em.load_const(names)?;
@@ -131,7 +132,8 @@ fn import_module(
 /// Emits the load of a number.
 #[tactic(auto, using(py_bytecode::proofs::View::views))]
 fn load_level(em: &mut Emitter, level: u32) -> Result<(), CodegenError>
-    ensures { Emits result (emit_constant Instruction.LoadConst (integer (pos level))) em.old em.new }
+    ensures { Emits result (emit_constant Instruction.LoadConst (integer (pos level))) em.old
+        em.new }
 {
     em.load_const(ConstantData::Integer {
         value: i128::from(level),

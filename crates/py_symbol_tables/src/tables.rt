@@ -72,7 +72,8 @@ pub fn scan_body(alloc: Global, program: &Stmts) -> Result<SymbolTable, SymbolTa
 pub fn scan_value(alloc: Global, expr: &Expr) -> Result<SymbolTable, SymbolTableError>
     ensures table { IfOk result (λ table.
         table_of (scanned.scan_value (expr_tree expr.now)) ≡ Some table) }
-    ensures follows { IfOk result (λ table. Follows (scanned.scan_value (expr_tree expr.now)) table) }
+    ensures follows { IfOk result (λ table.
+        Follows (scanned.scan_value (expr_tree expr.now)) table) }
     ensures clean { OnOk result (value_faults (expr_tree expr.now) ≡ []) }
     ensures first { IfErr result (λ e. IsFirst e (value_faults (expr_tree expr.now))) }
     ensures told { IfErr result IsTextOrMemory }
@@ -115,7 +116,8 @@ pub fn scan_program(alloc: Global, program: &Stmts) -> Result<SymbolTable, Symbo
 pub fn scan_expr(alloc: Global, expr: &Expr) -> Result<SymbolTable, SymbolTableError>
     ensures table { IfOk result (λ table.
         table_of (scanned.scan_value (expr_tree expr.now)) ≡ Some table) }
-    ensures follows { IfOk result (λ table. Follows (scanned.scan_value (expr_tree expr.now)) table) }
+    ensures follows { IfOk result (λ table.
+        Follows (scanned.scan_value (expr_tree expr.now)) table) }
     ensures clean { OnOk result (expr_faults (expr_tree expr.now) ≡ []) }
     ensures first { IfErr result (λ e. IsFirst e (expr_faults (expr_tree expr.now))) }
     ensures placed { IfErr result IsPlaced }

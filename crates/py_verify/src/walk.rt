@@ -122,7 +122,8 @@ fn reach(
     requires reading { IsReading (object code.now) reads.now }
     requires known { KnownIn (object code.now) progress.old.states.items }
     requires comes { Comes (object code.now) from to (state_of arriving) }
-    ensures steps { IfOk result (λ change. Steps (object code.now) progress.old progress.new change) }
+    ensures steps { IfOk result (λ change.
+        Steps (object code.now) progress.old progress.new change) }
     ensures covered { IfOk result (λ _.
         Covered (state_at progress.new.states.items) to (state_of arriving)) }
     ensures halts { IfErr result (HaltsAt (object code.now)) }
@@ -161,7 +162,8 @@ fn reach_if(
     requires reading { IsReading (object code.now) reads.now }
     requires known { KnownIn (object code.now) progress.old.states.items }
     requires comes { IfSome arriving (λ k. Comes (object code.now) from to (state_of k)) }
-    ensures steps { IfOk result (λ change. Steps (object code.now) progress.old progress.new change) }
+    ensures steps { IfOk result (λ change.
+        Steps (object code.now) progress.old progress.new change) }
     ensures covered { IfOk result (λ _.
         IfSome arriving (λ k. Covered (state_at progress.new.states.items) to (state_of k))) }
     ensures halts { IfErr result (HaltsAt (object code.now)) }
@@ -234,7 +236,8 @@ fn visit(
 ) -> Result<Change, Halt>
     requires reading { IsReading (object code.now) reads.now }
     requires known { KnownIn (object code.now) progress.old.states.items }
-    ensures steps { IfOk result (λ change. Steps (object code.now) progress.old progress.new change) }
+    ensures steps { IfOk result (λ change.
+        Steps (object code.now) progress.old progress.new change) }
     ensures settled { IfOk result (λ _.
         Settled (object code.now) progress.new.states.items unit
         ⊎ IsListed progress.new.work.items unit) }

@@ -45,7 +45,8 @@ impl Scan for SymbolTable {
         ensures follows { IfOk result (λ table.
             Follows (scanned.scan_program (stmts stmt_tree program.now)) table) }
         ensures clean { OnOk result (program_faults (stmts stmt_tree program.now) ≡ []) }
-        ensures first { IfErr result (λ e. IsFirst e (program_faults (stmts stmt_tree program.now))) }
+        ensures first { IfErr result (λ e.
+            IsFirst e (program_faults (stmts stmt_tree program.now))) }
         ensures placed { IfErr result IsPlaced }
     {
         py_symbol_tables::scan_program(alloc, program)

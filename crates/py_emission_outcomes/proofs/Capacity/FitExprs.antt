@@ -1,4 +1,5 @@
--- What is emitted of an expression fits by its size, where the cells of the functions in its form are at hand: as a value, as a test, as an element, as what is called, as what is returned, and as a target.
+-- What is emitted of an expression fits by its size, where the cells of the functions in its form are at hand: as a value, as a test, as an
+-- element, as what is called, as what is returned, and as a target.
 use Rattle.std.proofs.Common.{◌≡◌, refl, ℕ, suc, ◌+◌, ◌*◌, List, [], ◌∷◌, ◌++◌, ◌||◌, Some, None, codes, arith}
 use Rattle.py_base.specs.declared.errors.CodegenErrorType.TheVariants as error
 use Rattle.py_tree.specs.Tree as tree

@@ -1,4 +1,5 @@
--- What the whole code of a scope weighs, of a program, of a lambda, of a function, of a class, and of a type-parameter scope of type parameters: at most sixteen for each unit of size, two more for what ends a function, and fourteen more for what begins and ends a class.
+-- What the whole code of a scope weighs, of a program, of a lambda, of a function, of a class, and of a type-parameter scope of type
+-- parameters: at most sixteen for each unit of size, two more for what ends a function, and fourteen more for what begins and ends a class.
 use Rattle.std.proofs.Common.{ℕ, ◌+◌, ◌*◌, ◌^◌, ◌<◌, ◌≤◌, ◌≡◌, List, [], ◌∷◌, Bool, true, false, Option, Some, None, refl, arith, append-nil}
 use Rattle.std.specs.Prelude.{codes, nat_lt, if◌then◌else◌}
 use Rattle.py_tree.specs.Tree as tree

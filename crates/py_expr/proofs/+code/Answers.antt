@@ -23,7 +23,11 @@ use Rattle.py_expr_parts.specs.Calls.{callee_value, is_method}
 use Rattle.py_expr_parts.specs.Turns.{element_after, group_count, group_rest, groups_by, run_length_after}
 use Rattle.py_expr.proofs.+code.Answers.CallSteps.{call_entered, named_goes, plain_goes, positional_plain, tuple_plain, type_taken}
 use Rattle.py_expr.proofs.+code.Answers.ClauseSteps.{clause_begins, clause_refused, clauses_go_on, condition_refused, conditions_go_on, end_is, end_waits, start_waits}
-use Rattle.py_expr.proofs.+code.Answers.ComprehensionSteps.{body_refused, clauses_closed, clauses_refused, clauses_wait, comprehension_awaits, comprehension_called, comprehension_goes, comprehension_inner, comprehension_left, comprehension_made, comprehension_refused, dict_goes, function_refused, generator_goes, iterable_refused, no_generator, turn_refused, unstarred_done, unstarred_refused}
+use Rattle.py_expr.proofs.+code.Answers.ComprehensionSteps.{body_refused, clauses_closed, clauses_refused, clauses_wait}
+use Rattle.py_expr.proofs.+code.Answers.ComprehensionSteps.{comprehension_awaits, comprehension_called, comprehension_goes}
+use Rattle.py_expr.proofs.+code.Answers.ComprehensionSteps.{comprehension_inner, comprehension_left, comprehension_made}
+use Rattle.py_expr.proofs.+code.Answers.ComprehensionSteps.{comprehension_refused, dict_goes, function_refused, generator_goes}
+use Rattle.py_expr.proofs.+code.Answers.ComprehensionSteps.{iterable_refused, no_generator, turn_refused, unstarred_done, unstarred_refused}
 use Rattle.py_expr.proofs.+code.Answers.LambdaSteps.{defaults_refused, lambda_goes, lambda_inner, lambda_left, lambda_not_begun, lambda_refused, lambda_step_scope_refused}
 use Rattle.py_expr.proofs.+code.Answers.MapLoops.{keyword_refused, map_alone, map_refused, maps_begin, maps_go_on, maps_joined}
 use Rattle.py_expr.proofs.+code.Answers.StoreLoops.{attribute_stored, element_stored, store_refused, stores_go_on}

@@ -9,7 +9,9 @@ mod MapLoops
 mod Otherwise
 mod Unpacking
 use Rattle.py_interp_exprs.proofs.+interpreter.Answers.ChainLoops.{shorts_decided, shorts_ended, shorts_go_on, tests_decided, tests_ended, tests_go_on}
-use Rattle.py_interp_exprs.proofs.+interpreter.Answers.Choices.{call_packs, call_places, display_ended, display_grouped, display_grouped_ended, display_plain, links_some, parts_ended, parts_joined, text_alone}
+use Rattle.py_interp_exprs.proofs.+interpreter.Answers.Choices.{call_packs, call_places, display_ended, display_grouped}
+use Rattle.py_interp_exprs.proofs.+interpreter.Answers.Choices.{display_grouped_ended, display_plain, links_some, parts_ended, parts_joined}
+use Rattle.py_interp_exprs.proofs.+interpreter.Answers.Choices.{text_alone}
 use Rattle.py_interp_exprs.proofs.+interpreter.Answers.Defaults.{lambda_made, positionals_end, positionals_ended}
 use Rattle.py_interp_exprs.proofs.+interpreter.Answers.DictLoop.{entries_end, entries_go_on}
 use Rattle.py_interp_exprs.proofs.+interpreter.Answers.ElementLoops.{group_plain, groups_go_on}

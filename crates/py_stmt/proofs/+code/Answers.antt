@@ -25,7 +25,9 @@ use Rattle.py_expr_parts.proofs.Steps.{step_stays}
 use Rattle.py_expr_scopes.proofs.OpenBlocks.{open_block_apart, begin_opens, block_opens, jump_opens, opens}
 use Rattle.py_stmt.proofs.+code.Answers.EnclosingLoops.{each_enclosing_loop, last_enclosing_loop, unguarded_enclosing_loop, while_enclosing_loop}
 use Rattle.py_stmt.proofs.+code.Answers.Classes as class
-use Rattle.py_stmt.proofs.+code.Answers.Defining.{decorated_refused, defaults_refused, inner_goes, inner_refused, made_goes, made_refused, plain_goes, rest_done, rest_goes_on, rest_refused, defining_scope_inner, defining_scope_left, defining_scope_refused, scope_unlooped, some_goes, value_refused}
+use Rattle.py_stmt.proofs.+code.Answers.Defining.{decorated_refused, defaults_refused, inner_goes, inner_refused, made_goes, made_refused}
+use Rattle.py_stmt.proofs.+code.Answers.Defining.{plain_goes, rest_done, rest_goes_on, rest_refused, defining_scope_inner}
+use Rattle.py_stmt.proofs.+code.Answers.Defining.{defining_scope_left, defining_scope_refused, scope_unlooped, some_goes, value_refused}
 use Rattle.py_stmt.proofs.+code.Answers.TypeParamScope as in_type_param_scope
 use Rattle.py_stmt.proofs.+code.Answers.Iterating.{end_begins, end_refused, for_goes, other_begins, turn_begins, turn_refused}
 use Rattle.py_stmt.proofs.+code.Answers.Managing.{left_open, no_body, no_items, some_body, some_items}

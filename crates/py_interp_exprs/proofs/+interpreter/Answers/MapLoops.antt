@@ -12,7 +12,12 @@ use Rattle.py_interp_exprs.proofs.ContinuationLemmas.{continuation_after, contin
 use Rattle.py_interp_exprs.proofs.Places.{keyword_of, keywords_at, suc_is_plus_one}
 use Rattle.py_interp_exprs.proofs.Turns.{all_step, map_step, named_step}
 use Rattle.py_interp_exprs.proofs.+interpreter.Goals as goal
-use Rattle.py_interp_exprs.proofs.+interpreter.Goals.{keywords::interpret_maps-in-Some+in_ok-run-in-Some, keywords::interpret_maps-in-None+in_ok-closed-in-None+in_ok-maps-in-None, functions::interpret_positional-in-Some+in_ok-values, functions::interpret_positional-in_default, functions::interpret_keyword_only-in-Some+in_ok-run, functions::interpret_keyword_only-in_default}
+use Rattle.py_interp_exprs.proofs.+interpreter.Goals.{keywords::interpret_maps-in-Some+in_ok-run-in-Some}
+use Rattle.py_interp_exprs.proofs.+interpreter.Goals.{keywords::interpret_maps-in-None+in_ok-closed-in-None+in_ok-maps-in-None}
+use Rattle.py_interp_exprs.proofs.+interpreter.Goals.{functions::interpret_positional-in-Some+in_ok-values}
+use Rattle.py_interp_exprs.proofs.+interpreter.Goals.{functions::interpret_positional-in_default}
+use Rattle.py_interp_exprs.proofs.+interpreter.Goals.{functions::interpret_keyword_only-in-Some+in_ok-run}
+use Rattle.py_interp_exprs.proofs.+interpreter.Goals.{functions::interpret_keyword_only-in_default}
 
 pub maps_go_on : goal.keywords::interpret_maps-loop-keyword-preserved
 maps_go_on t c =
