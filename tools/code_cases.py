@@ -10,18 +10,16 @@ later, which reads type parameters.
 """
 import argparse
 import dataclasses
-import pathlib
 import sys
 from typing import Iterator, Tuple
 
+import case_files
 import code_files
 import form_table
 import step_rows
 import verdict_table
 from listing import listing
 from pyc import codefile
-
-CRATE = pathlib.Path(__file__).resolve().parent.parent / "crates" / "code_vectors"
 
 # A line of the input, and what is written in its place.
 Case = Tuple[str, str]
@@ -97,16 +95,7 @@ def main() -> int:
     check = parser.parse_args().check
     if sys.version_info < (3, 12):
         sys.exit("code_cases.py: Python 3.12 or later is wanted, which reads type parameters")
-    made = list(cases())
-    differ = False
-    for name, which in (("stdin", 0), ("stdout", 1)):
-        text = "".join(case[which] + "\n" for case in made)
-        if check:
-            differ = differ or (CRATE / name).read_text(encoding="utf-8") != text
-        else:
-            (CRATE / name).write_text(text, encoding="utf-8")
-    print("code_vectors: %d cases" % sum(not question.startswith("#") for question, _ in made))
-    return int(differ)
+    return case_files.settle("code_vectors", cases(), check)
 
 
 if __name__ == "__main__":

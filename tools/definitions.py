@@ -335,7 +335,7 @@ def headline_page(project: antt.Project, closure: Closure) -> str:
         lines += ["## %d. %s" % (k, section.title), "", section.says, ""]
         lines += contract_text(project, HEADLINE) if k == 0 else []
         lines += section_lines(project, closure, found)
-    lines += left_out(project, closure, code_texts(project, closure))
+    lines += cited_beside(project, closure, code_texts(project, closure))
     return "\n".join(lines).rstrip("\n") + "\n"
 
 
@@ -344,7 +344,7 @@ def anchor(number: int, title: str) -> str:
     return "%d-%s" % (number, re.sub(r"[^a-z0-9 ]", "", title.lower()).replace(" ", "-"))
 
 
-def left_out(project: antt.Project, closure: Closure, types: List[str]) -> List[str]:
+def cited_beside(project: antt.Project, closure: Closure, types: List[str]) -> List[str]:
     """What a page cites and does not show, and why."""
     others = undeclared(project, closure.code)
     but = ", but for %s, which a derive writes" % ", ".join(others) if others else ""
@@ -390,7 +390,7 @@ def trusted_page(project: antt.Project, of_headline: Closure) -> str:
         for path in sorted({path for path, _ in closure.found if path.split("/")[1] == crate}):
             lines += [*trusted_file(project, closure, path, headline), ""]
     lines += devices(project)
-    lines += left_out(project, closure, code_lines(project, closure))
+    lines += cited_beside(project, closure, code_lines(project, closure))
     return "\n".join(lines).rstrip("\n") + "\n"
 
 

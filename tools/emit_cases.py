@@ -11,8 +11,8 @@ import pathlib
 import sys
 from typing import Iterator, List, Tuple
 
-CRATE = pathlib.Path(__file__).resolve().parent.parent / "crates" / "emit_vectors"
 sys.path.insert(0, str(pathlib.Path(__file__).resolve().parent / "model"))
+import case_files
 import instr
 
 # A line of the input, and what is written in its place.
@@ -217,14 +217,7 @@ def main() -> int:
     parser = argparse.ArgumentParser(prog="emit_cases.py", description="Writes the cases of crates/emit_vectors.")
     parser.add_argument("--check", action="store_true", help="compare them alone")
     args = parser.parse_args()
-    made = list(cases())
-    print("emit_vectors: %d cases" % sum(not line.startswith("#") for line, _ in made))
-    texts = {"stdin": "".join(line + "\n" for line, _ in made), "stdout": "".join(said + "\n" for _, said in made)}
-    if args.check:
-        return int(any((CRATE / name).read_text(encoding="utf-8") != text for name, text in texts.items()))
-    for name, text in texts.items():
-        (CRATE / name).write_text(text, encoding="utf-8")
-    return 0
+    return case_files.settle("emit_vectors", cases(), args.check)
 
 
 if __name__ == "__main__":

@@ -45,11 +45,13 @@ def report_on(rows):
 
 
 def flaws_of(asked, verdict):
-    """The flaws that a verdict says, or of which it is one, each a kind and a unit."""
+    """The flaws that a verdict says, or of which it is one, each a kind and a unit; None where it is of a nested code."""
     if asked:
         return {(kind, int(unit)) for kind, unit in (flaw.split(":") for flaw in asked.split(","))}
+    if verdict == "Yes":
+        return set()
     flaw = FLAW.fullmatch(verdict)
-    return {(flaw["kind"], int(flaw["unit"]))} if flaw else set()
+    return {(flaw["kind"], int(flaw["unit"]))} if flaw else None
 
 
 def table():
@@ -60,8 +62,9 @@ def table():
     assert len(questions) == len(verdicts)
     for line, verdict in zip(questions, verdicts):
         found = ASKED.fullmatch(line)
-        if found and "path: [2" not in verdict:
-            yield codefile.read(bytes.fromhex(found["file"])), flaws_of(found["flaws"], verdict)
+        flaws = flaws_of(found["flaws"], verdict) if found else None
+        if flaws is not None:
+            yield codefile.read(bytes.fromhex(found["file"])), flaws
 
 
 def changed(data):

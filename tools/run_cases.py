@@ -15,9 +15,9 @@ import subprocess
 import sys
 from typing import Iterator, Tuple
 
-CRATE = pathlib.Path(__file__).resolve().parent.parent / "crates" / "pyc_vectors"
 MODEL = str(pathlib.Path(__file__).resolve().parent / "model")
 sys.path.insert(0, MODEL)
+import case_files
 import code_files
 import compile_rows
 from py2rows import rows_text
@@ -365,14 +365,7 @@ def main() -> int:
     parser.add_argument("--check", action="store_true", help="compare them alone")
     args = parser.parse_args()
     sys.setrecursionlimit(20000)
-    made = list(cases(args.python))
-    texts = {"stdin": "".join(line + "\n" for line, _ in made), "stdout": "".join(text for _, text in made)}
-    print("pyc_vectors: %d cases" % sum(not line.startswith("#") for line, _ in made))
-    if args.check:
-        return int(any((CRATE / name).read_text(encoding="utf-8") != text for name, text in texts.items()))
-    for name, text in texts.items():
-        (CRATE / name).write_text(text, encoding="utf-8")
-    return 0
+    return case_files.settle("pyc_vectors", cases(args.python), args.check, end="")
 
 
 if __name__ == "__main__":

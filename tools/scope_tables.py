@@ -12,10 +12,10 @@ import pathlib
 import sys
 
 sys.path.insert(0, str(pathlib.Path(__file__).resolve().parent / "model"))
+import case_files
 import scopes
 from py2rows import tree_of
 
-CRATE = pathlib.Path(__file__).resolve().parent.parent / "crates" / "scope_vectors"
 KINDS = {"Module": "M", "Class": "C", "Function": "F", "Comprehension": "G", "TypeParams": "T"}
 ROLES = {"Used": "u", "Assigned": "a", "Imported": "i", "Parameter": "p", "AnnotatedParameter": "n",
          "AnnotationAssigned": "t", "Walrus": "w", "Iter": "r", "Global": "g", "Nonlocal": "l"}
@@ -193,11 +193,7 @@ def cases():
 
 def main():
     argparse.ArgumentParser(prog="scope_tables.py", description=__doc__.split("\n")[0]).parse_args()
-    made = list(cases())
-    for name, which in (("stdin", 0), ("stdout", 1)):
-        text = "".join(case[which] + "\n" for case in made)
-        (CRATE / name).write_text(text, encoding="utf-8")
-    print("scope_vectors: %d cases" % sum(not line.startswith("#") for line, _ in made))
+    case_files.settle("scope_vectors", cases())
 
 
 if __name__ == "__main__":
