@@ -1,8 +1,11 @@
 mod Ranges
+mod StackLemmas
+mod MeetingLemmas
 mod Objects
 mod UnitViewLemmas
 mod Comings
 mod SuccessorLemmas
+mod UnitStateLemmas
 mod WorklistLemmas
 mod Places
 mod SettledUnitLemmas

@@ -2,9 +2,12 @@
 //! within them.
 #![tactic(auto)]
 
+mod exits;
 pub mod laws;
 mod operands;
+mod order;
 mod search;
+mod stacks;
 pub mod verdict;
 pub mod verifier;
 mod walk;

@@ -1,26 +1,32 @@
 //! Walks over the units of a code, by a list of the units that are left to do.
 
-ghost use Rattle.std.specs.Prelude.{ℕ, ◌≡◌, ◌≢◌, ◌<◌, ◌^◌, ◌⊎◌, [], None, Some, true, false, IfErr, IfOk, length, replicate};
+ghost use Rattle.std.specs.Prelude.{ℕ, ◌≡◌, ◌≢◌, ◌<◌, ◌^◌, ◌⊎◌, List, [], None, Some, true, false, IfErr, IfOk, length, replicate, slice_get};
+ghost use Rattle.std.specs.BinaryHeap.{heap_items, heap_len};
 ghost use Rattle.std.specs.Option.{IfNone, IfSome};
 ghost use Rattle.py_bytecode.specs.View.{object};
 ghost use Rattle.py_decode.specs.Reading.{IsReading, read_at, reading_at};
-ghost use Rattle.py_dataflow.specs.Known.{Moves, state_at, state_of, unknown};
-ghost use Rattle.py_dataflow.specs.Shown.{Covered, Grows, Shown};
+ghost use Rattle.py_dataflow.specs.Known.{IsUneven, IsWhole, Unfit};
+ghost use Rattle.py_dataflow.specs.Shown.{Covered, Shown};
 ghost use Rattle.py_dataflow.specs.Sound.{code_look, sound};
 ghost use Rattle.py_dataflow.specs.Walks.{state};
 ghost use Rattle.py_verify.specs.Flaws.{WalkFlaw, unit_count};
-ghost use Rattle.py_verify.specs.Stepping.{Comes, HaltsAt, IsExits, IsListed, IsWorking, KnownIn, Settled, Steps, halt_by};
+ghost use Rattle.py_verify.specs.declared.stacks.Entry.{Entry};
+ghost use Rattle.py_verify.specs.Stacks.{Extends, IsLinked, IsStack};
+ghost use Rattle.py_verify.specs.Stepping.{Comes, HaltsAt, IsExits, IsListed, IsWorking, KnownIn, Settled, Steps, entries_in, halt_by, known_by, tasks_in};
+ghost use Rattle.py_verify.specs.UnitStates.{AllStacks, Arrives, Grows, Moves, coming_in, missing_marks, state_at, state_in, unknown};
 
+use crate::exits::{Arriving, UnitState, check, fall_from, jump_from};
 use crate::operands::operand_fits;
+use crate::order::{rank_of, ranks};
+use crate::stacks::Stacks;
 use crate::verdict::{FlawKind, Spot};
 use py_base::SourceLocation;
 use py_bytecode::CodeObject;
-use py_dataflow::known::{
-    Change, KnownState, arrive, combine, first_known, nexts_of, unknown_states,
-};
-use py_dataflow::{BlockIdx, InstructionInfo, Refused};
+use py_dataflow::known::{Change, combine};
+use py_dataflow::{BlockIdx, Flow, InstructionInfo, Refused};
 use py_decode::{UnitRead, read_all, read_in};
 use std::alloc::{AllocError, Global};
+use std::collections::BinaryHeap;
 
 /// Why a walk ended early.
 #[derive(Clone, Copy, Debug)]
@@ -31,26 +37,37 @@ pub enum Halt {
     OutOfMemory,
 }
 
+/// A unit that is left to do. The one with the greatest rank comes first.
+#[derive(Clone, Copy, Debug, PartialEq, Eq, PartialOrd, Ord)]
+pub struct Task {
+    pub rank: usize,
+    pub unit: usize,
+}
+
 /// What is known so far, and what is left to do.
 #[derive(Drop)]
 pub struct Progress {
+    /// The stacks of blocks that are open somewhere.
+    pub stacks: Stacks,
     /// What is known of each unit; None until a walk is known to come there.
-    pub states: Vec<Option<KnownState>>,
-    /// The units to go on from: those whose state changed since a walk last went on from there. The last comes first.
-    pub work: Vec<usize>,
+    pub states: Vec<Option<UnitState>>,
+    /// The units to go on from: those whose state changed since a walk last went on from there.
+    pub work: BinaryHeap<Task>,
+    /// The rank of each unit.
+    pub ranks: Vec<usize>,
 }
 
-/// Where an instruction leads to, and what is known there.
-#[derive(Drop)]
+/// Where an instruction leads to, and what comes there.
+#[derive(Clone, Copy, Debug)]
 pub struct Exits {
     /// The place of the next unit.
     pub next: usize,
     /// The operand: the place of the target, if it is a jump.
     pub target: usize,
-    /// What is known of the next unit, if it may follow.
-    pub fall: Option<KnownState>,
-    /// What is known of the target, if it is a jump.
-    pub jump: Option<KnownState>,
+    /// What comes to the next unit, if it may follow.
+    pub fall: Option<Arriving>,
+    /// What comes to the target, if it is a jump.
+    pub jump: Option<Arriving>,
 }
 
 /// What a refusal of py_dataflow at a unit is here.
@@ -82,15 +99,15 @@ fn info_of(read: UnitRead) -> InstructionInfo
 }
 
 // Puts a unit on the work list, if its state changed.
-fn note(work: &mut Vec<usize>, unit: usize, change: Change) -> Result<(), Halt>
-    ensures listed { IfOk result (λ _. change ≢ Change.Nothing → IsListed work.new.items unit) }
-    ensures kept { IfOk result (λ _. (k : ℕ) → IsListed work.old.items k → IsListed work.new.items k) }
-    ensures still { change ≡ Change.Nothing → work.new.items ≡ work.old.items }
+fn note(work: &mut BinaryHeap<Task>, rank: usize, unit: usize, change: Change) -> Result<(), Halt>
+    ensures listed { IfOk result (λ _. change ≢ Change.Nothing → IsListed (heap_items work.new) unit) }
+    ensures kept { IfOk result (λ _. (k : ℕ) → IsListed (heap_items work.old) k → IsListed (heap_items work.new) k) }
+    ensures still { change ≡ Change.Nothing → heap_len work.new ≡ heap_len work.old }
     ensures memory { IfErr result (λ halt. halt ≡ Halt.OutOfMemory) }
 {
     match change {
         Change::Nothing => Ok(()),
-        Change::Marks | Change::Place => match work.push(unit) {
+        Change::Marks | Change::Place => match work.push(Task { rank, unit }) {
             Ok(()) => Ok(()),
             Err(_) => Err(Halt::OutOfMemory),
         },
@@ -108,6 +125,75 @@ fn begins_in(reads: &[Option<UnitRead>], unit: usize) -> bool
     }
 }
 
+// A state arrives at a unit: it is put there, or its marks are added to those of the state that is there.
+fn arrive(
+    alloc: Global,
+    stacks: &mut Stacks,
+    states: &mut [Option<UnitState>],
+    place: usize,
+    arriving: UnitState,
+) -> Result<Change, Refused>
+    requires linked { IsLinked stacks.old.entries.items }
+    requires stacks { AllStacks stacks.old.entries.items states.old }
+    requires stack { IsStack stacks.old.entries.items arriving.stack }
+    requires inside { place < length states.old }
+    requires whole { IsWhole (state_at stacks.old.entries.items states.old place) }
+    ensures arrives { IfOk result (λ _. Arrives stacks.old.entries.items states.old stacks.new.entries.items states.new place (state_in stacks.old.entries.items arriving)) }
+    ensures moves { IfOk result (λ change. Moves change stacks.old.entries.items states.old stacks.new.entries.items states.new) }
+    ensures uneven { IfErr result (λ e. e ≡ Refused.UnevenHeights → IsUneven (state_at stacks.old.entries.items states.old place) (state_in stacks.old.entries.items arriving)) }
+    ensures unfit { IfErr result (λ e. e ≡ Refused.BlockMismatch → Unfit (state_at stacks.old.entries.items states.old place) (state_in stacks.old.entries.items arriving)) }
+    ensures others { IfErr result (λ e. (e ≢ Refused.NoEnd) × (e ≢ Refused.HeightOutOfRange)) }
+{
+    match states[place] {
+        None => {
+            if stacks.is_torn(arriving.stack) {
+                return Err(Refused::BlockMismatch);
+            }
+            states[place] = Some(arriving);
+            Ok(Change::Place)
+        }
+        Some(known) => {
+            if known.height != arriving.height {
+                return Err(Refused::UnevenHeights);
+            }
+            let joined = stacks.join(alloc, known.stack, arriving.stack)?;
+            if !joined.adds {
+                return Ok(Change::Nothing);
+            }
+            if stacks.is_torn(joined.stack) {
+                return Err(Refused::BlockMismatch);
+            }
+            states[place] = Some(UnitState {
+                height: known.height,
+                stack: joined.stack,
+            });
+            Ok(Change::Marks)
+        }
+    }
+}
+
+// The state that arrives, with an entry for each block.
+fn state_of(stacks: &mut Stacks, arriving: Arriving) -> Result<UnitState, Halt>
+    requires linked { IsLinked stacks.old.entries.items }
+    requires below { IsStack stacks.old.entries.items arriving.below }
+    ensures extends { IfOk result (λ _. Extends stacks.old.entries.items stacks.new.entries.items) }
+    ensures stack { IfOk result (λ known. IsStack stacks.new.entries.items known.stack) }
+    ensures state { IfOk result (λ known. state_in stacks.new.entries.items known ≡ coming_in stacks.old.entries.items arriving) }
+    ensures memory { IfErr result (λ halt. halt ≡ Halt.OutOfMemory) }
+{
+    let stack = match arriving.opened {
+        Some(block) => match stacks.open(block, arriving.below) {
+            Ok(stack) => stack,
+            Err(_) => return Err(Halt::OutOfMemory),
+        },
+        None => arriving.below,
+    };
+    Ok(UnitState {
+        height: arriving.height,
+        stack,
+    })
+}
+
 // A walk goes on from a unit to another.
 fn reach(
     alloc: Global,
@@ -116,13 +202,14 @@ fn reach(
     progress: &mut Progress,
     from: usize,
     to: usize,
-    arriving: KnownState,
+    arriving: Arriving,
 ) -> Result<Change, Halt>
     requires reading { IsReading (object code.now) reads.now }
-    requires known { KnownIn (object code.now) progress.old.states.items }
-    requires comes { Comes (object code.now) from to (state_of arriving) }
+    requires known { KnownIn (object code.now) (entries_in progress.old) progress.old.states.items }
+    requires stack { IsStack (entries_in progress.old) arriving.below }
+    requires comes { Comes (object code.now) from to (coming_in (entries_in progress.old) arriving) }
     ensures steps { IfOk result (λ change. Steps (object code.now) progress.old progress.new change) }
-    ensures covered { IfOk result (λ _. Covered (state_at progress.new.states.items) to (state_of arriving)) }
+    ensures covered { IfOk result (λ _. Covered (known_by progress.new) to (coming_in (entries_in progress.old) arriving)) }
     ensures halts { IfErr result (HaltsAt (object code.now)) }
 {
     if !begins_in(reads, to) {
@@ -137,9 +224,11 @@ fn reach(
             unit: from,
         });
     }
-    match arrive(alloc, &mut progress.states, to, arriving) {
+    let known = state_of(&mut progress.stacks, arriving)?;
+    match arrive(alloc, &mut progress.stacks, &mut progress.states, to, known) {
         Ok(change) => {
-            note(&mut progress.work, to, change)?;
+            let rank = rank_of(&progress.ranks, to);
+            note(&mut progress.work, rank, to, change)?;
             Ok(change)
         }
         Err(refused) => Err(halt_of(refused, to)),
@@ -154,33 +243,36 @@ fn reach_if(
     progress: &mut Progress,
     from: usize,
     to: usize,
-    arriving: Option<KnownState>,
+    arriving: Option<Arriving>,
 ) -> Result<Change, Halt>
     requires reading { IsReading (object code.now) reads.now }
-    requires known { KnownIn (object code.now) progress.old.states.items }
-    requires comes { IfSome arriving (λ k. Comes (object code.now) from to (state_of k)) }
+    requires known { KnownIn (object code.now) (entries_in progress.old) progress.old.states.items }
+    requires stack { IfSome arriving (λ a. IsStack (entries_in progress.old) a.below) }
+    requires comes { IfSome arriving (λ a. Comes (object code.now) from to (coming_in (entries_in progress.old) a)) }
     ensures steps { IfOk result (λ change. Steps (object code.now) progress.old progress.new change) }
-    ensures covered { IfOk result (λ _. IfSome arriving (λ k. Covered (state_at progress.new.states.items) to (state_of k))) }
+    ensures covered { IfOk result (λ _. IfSome arriving (λ a. Covered (known_by progress.new) to (coming_in (entries_in progress.old) a))) }
     ensures halts { IfErr result (HaltsAt (object code.now)) }
 {
     match arriving {
-        Some(known) => reach(alloc, code, reads, progress, from, to, known),
+        Some(arriving) => reach(alloc, code, reads, progress, from, to, arriving),
         None => Ok(Change::Nothing),
     }
 }
 
 // Where the instruction at a unit leads to from what is known there.
 fn exits_of(
-    alloc: Global,
     code: &CodeObject,
     reads: &[Option<UnitRead>],
+    stacks: &Stacks,
     unit: usize,
-    known: &KnownState,
+    known: UnitState,
 ) -> Result<Exits, Halt>
     requires reading { IsReading (object code.now) reads.now }
-    requires shown { Shown (code_look (object code.now)) unit (state_of known.now) }
+    requires linked { IsLinked stacks.now.entries.items }
+    requires stack { IsStack stacks.now.entries.items known.stack }
+    requires shown { Shown (code_look (object code.now)) unit (state_in stacks.now.entries.items known) }
     requires begins { read_at (object code.now) unit ≢ None }
-    ensures exits { IfOk result (IsExits (object code.now) unit (state_of known.now)) }
+    ensures exits { IfOk result (IsExits (object code.now) unit (state_in stacks.now.entries.items known) stacks.now.entries.items) }
     ensures halts { IfErr result (HaltsAt (object code.now)) }
 {
     // Its range is known where it is read.
@@ -198,24 +290,26 @@ fn exits_of(
             unit,
         });
     }
-    match nexts_of(alloc, &info_of(read), known) {
-        Ok(nexts) => Ok(Exits {
+    let item = info_of(read);
+    let flow = Flow::of(item.instr, item.arg);
+    match check(stacks, &item, flow, known) {
+        Ok(()) => Ok(Exits {
             next: read.next,
             target: read.arg.0 as usize,
-            fall: nexts.fall,
-            jump: nexts.jump,
+            fall: fall_from(stacks, flow, known),
+            jump: jump_from(stacks, item.instr.has_target(), flow.branch, known),
         }),
         Err(refused) => Err(halt_of(refused, unit)),
     }
 }
 
 // What is known of a unit.
-fn known_of(states: &[Option<KnownState>], unit: usize) -> Option<&KnownState>
-    ensures none { IfNone result (state_at states.now unit ≡ None) }
-    ensures some { IfSome result (λ known. state_at states.now unit ≡ Some (state_of known.now)) }
+fn known_of(states: &[Option<UnitState>], unit: usize) -> Option<UnitState>
+    ensures none { IfNone result ((es : List Entry) → state_at es states.now unit ≡ None) }
+    ensures some { IfSome result (λ known. slice_get states.now unit ≡ Some (Some known)) }
 {
     if unit < states.len() {
-        states[unit].as_ref()
+        states[unit]
     } else {
         None
     }
@@ -230,13 +324,13 @@ fn visit(
     unit: usize,
 ) -> Result<Change, Halt>
     requires reading { IsReading (object code.now) reads.now }
-    requires known { KnownIn (object code.now) progress.old.states.items }
+    requires known { KnownIn (object code.now) (entries_in progress.old) progress.old.states.items }
     ensures steps { IfOk result (λ change. Steps (object code.now) progress.old progress.new change) }
-    ensures settled { IfOk result (λ _. Settled (object code.now) progress.new.states.items unit ⊎ IsListed progress.new.work.items unit) }
+    ensures settled { IfOk result (λ _. Settled (object code.now) (known_by progress.new) unit ⊎ IsListed (tasks_in progress.new) unit) }
     ensures halts { IfErr result (HaltsAt (object code.now)) }
 {
     let exits = match known_of(&progress.states, unit) {
-        Some(known) => exits_of(alloc, code, reads, unit, known)?,
+        Some(known) => exits_of(code, reads, &progress.stacks, unit, known)?,
         None => return Ok(Change::Nothing),
     };
     let fell = reach_if(alloc, code, reads, progress, unit, exits.next, exits.fall)?;
@@ -253,13 +347,13 @@ fn advance(
 ) -> Result<Change, Halt>
     requires reading { IsReading (object code.now) reads.now }
     requires working { IsWorking (object code.now) progress.old }
-    ensures working { IfOk result (λ _. IsWorking (object code.now) progress.new × Grows progress.old.states.items progress.new.states.items) }
-    ensures moves { IfOk result (λ change. Moves change progress.old.states.items progress.new.states.items) }
-    ensures done { IfOk result (λ change. change ≡ Change.Nothing → progress.new.work.items ≡ []) }
+    ensures working { IfOk result (λ _. IsWorking (object code.now) progress.new × Grows (known_by progress.old) (known_by progress.new)) }
+    ensures moves { IfOk result (λ change. Moves change (entries_in progress.old) progress.old.states.items (entries_in progress.new) progress.new.states.items) }
+    ensures done { IfOk result (λ change. change ≡ Change.Nothing → heap_len progress.new.work ≡ 0) }
     ensures halts { IfErr result (HaltsAt (object code.now)) }
 {
-    while let Some(unit) = progress.work.pop() {
-        let change = visit(alloc, code, reads, progress, unit)?;
+    while let Some(task) = progress.work.pop() {
+        let change = visit(alloc, code, reads, progress, task.unit)?;
         match change {
             Change::Nothing => (),
             Change::Marks | Change::Place => return Ok(change),
@@ -277,8 +371,8 @@ fn spread(
 ) -> Result<bool, Halt>
     requires reading { IsReading (object code.now) reads.now }
     requires working { IsWorking (object code.now) progress.old }
-    ensures working { IfOk result (λ _. IsWorking (object code.now) progress.new × Grows progress.old.states.items progress.new.states.items) }
-    ensures done { IfOk result (λ more. more ≡ false → progress.new.work.items ≡ []) }
+    ensures working { IfOk result (λ _. IsWorking (object code.now) progress.new × Grows (known_by progress.old) (known_by progress.new)) }
+    ensures done { IfOk result (λ more. more ≡ false → heap_len progress.new.work ≡ 0) }
     ensures fewer { IfOk result (λ more. more ≡ true → unknown progress.new.states.items < unknown progress.old.states.items) }
     ensures halts { IfErr result (HaltsAt (object code.now)) }
 {
@@ -300,8 +394,8 @@ fn spread_all(
 ) -> Result<(), Halt>
     requires reading { IsReading (object code.now) reads.now }
     requires working { IsWorking (object code.now) progress.old }
-    ensures known { IfOk result (λ _. KnownIn (object code.now) progress.new.states.items × Grows progress.old.states.items progress.new.states.items) }
-    ensures settled { IfOk result (λ _. (k : ℕ) → Settled (object code.now) progress.new.states.items k) }
+    ensures known { IfOk result (λ _. KnownIn (object code.now) (entries_in progress.new) progress.new.states.items × Grows (known_by progress.old) (known_by progress.new)) }
+    ensures settled { IfOk result (λ _. (k : ℕ) → Settled (object code.now) (known_by progress.new) k) }
     ensures halts { IfErr result (HaltsAt (object code.now)) }
 {
     loop {
@@ -319,11 +413,17 @@ fn walk_all(
     progress: &mut Progress,
 ) -> Result<(), Halt>
     requires reading { IsReading (object code.now) reads.now }
+    requires entries { entries_in progress.old ≡ [] }
     requires unknown { progress.old.states.items ≡ replicate (unit_count (object code.now)) None }
     ensures sound { IfOk result (λ _. sound (object code.now)) }
     ensures halts { IfErr result (HaltsAt (object code.now)) }
 {
-    reach(alloc, code, reads, progress, 0, 0, first_known(alloc))?;
+    let first = Arriving {
+        height: 0,
+        opened: None,
+        below: None,
+    };
+    reach(alloc, code, reads, progress, 0, 0, first)?;
     spread_all(alloc, code, reads, progress)?;
     Ok(())
 }
@@ -339,8 +439,10 @@ pub fn walk_flaw(alloc: Global, code: &CodeObject) -> Result<Option<Spot>, Alloc
 {
     let reads = read_all(alloc, code)?;
     let mut progress = Progress {
-        states: unknown_states(alloc, code.instructions.len())?,
-        work: Vec::new(alloc),
+        stacks: Stacks::new(alloc),
+        states: vec![in alloc; None; code.instructions.len()]?,
+        work: BinaryHeap::new(alloc),
+        ranks: ranks(alloc, &reads)?,
     };
     match walk_all(alloc, code, &reads, &mut progress) {
         Ok(()) => Ok(None),

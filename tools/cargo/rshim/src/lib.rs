@@ -5,6 +5,7 @@
 //! and not the end of the process. What they do not offer is what would take memory without an answer.
 
 pub mod alloc;
+pub mod collections;
 pub mod env;
 pub mod io;
 pub mod reserve;

@@ -1,13 +1,12 @@
 use Rattle.py_bytecode.specs.View.{object}
-use Rattle.py_dataflow.specs.Known.{unknown}
-use Rattle.py_dataflow.specs.Shown.{Grows}
-use Rattle.py_verify.specs.Stepping.{IsWorking}
+use Rattle.py_verify.specs.UnitStates.{Grows, unknown}
+use Rattle.py_verify.specs.Stepping.{IsWorking, known_by}
 use Rattle.py_verify.proofs.walk.spread_all.Given as goal
 
 abbrev pub invariant-loop : goal.invariant-loop
 invariant-loop l = record {
   working : IsWorking (object l.code) l.progress;
-  grows : Grows l.initial.progress.states.items l.progress.states.items;
+  grows : Grows (known_by l.initial.progress) (known_by l.progress);
 }
 
 abbrev pub decreases-loop : goal.decreases-loop
