@@ -5,8 +5,8 @@ ghost use Rattle.py_limits.specs.Nesting.{expr_nesting, nesting};
 ghost use Rattle.py_tree.specs.Tree as tree;
 ghost use Rattle.py_tree.specs.View.{expr_tree, mod_tree, stmts, stmt_tree};
 
-use crate::depth_exprs::{expr_depth, exprs_depth};
-use crate::depth_stmts::stmts_depth;
+use crate::exprs::{measure_expr, measure_exprs};
+use crate::stmts::measure_stmts;
 use py_tree::{Expr, Mod, Stmts};
 
 /// The nesting of the tree: a node nests one deeper than its deepest child, and a leaf 1; a `with` of
@@ -21,10 +21,11 @@ pub fn depth_of_tree(tree: &Mod, limit: u32) -> Option<u32>
         Mod::Interactive(m) => depth_of_body(&m.body, limit),
         Mod::Expression(m) => depth_of_expr(&m.body, limit),
         Mod::FunctionType(m) => {
+            let mut room = 0;
             let most = limit.checked_sub(1)?;
             let below = most.checked_sub(1)?;
-            let argtypes = exprs_depth(m.argtypes.as_slice(), below)?;
-            let returns = expr_depth(&m.returns, below)?;
+            let argtypes = measure_exprs(m.argtypes.as_slice(), below, &mut room)?;
+            let returns = measure_expr(&m.returns, below, &mut room)?;
             Some(argtypes.max(returns) + 1)
         }
     }
@@ -34,9 +35,10 @@ pub fn depth_of_tree(tree: &Mod, limit: u32) -> Option<u32>
 pub fn depth_of_body(body: &Stmts, limit: u32) -> Option<u32>
     ensures { IsBelow result limit (nesting (tree.Module (stmts stmt_tree body.now))) }
 {
+    let mut room = 0;
     let most = limit.checked_sub(1)?;
     let below = most.checked_sub(1)?;
-    let deepest = stmts_depth(body.as_slice(), below)?;
+    let deepest = measure_stmts(body.as_slice(), below, &mut room)?;
     Some(deepest + 1)
 }
 
@@ -44,8 +46,9 @@ pub fn depth_of_body(body: &Stmts, limit: u32) -> Option<u32>
 pub fn depth_of_expr(expr: &Expr, limit: u32) -> Option<u32>
     ensures { IsBelow result limit (expr_nesting (expr_tree expr.now) + 1) }
 {
+    let mut room = 0;
     let most = limit.checked_sub(1)?;
     let below = most.checked_sub(1)?;
-    let value = expr_depth(expr, below)?;
+    let value = measure_expr(expr, below, &mut room)?;
     Some(value + 1)
 }

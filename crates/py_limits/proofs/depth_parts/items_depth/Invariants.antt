@@ -1,7 +1,0 @@
-use Rattle.std.proofs.Common.{drop, ◌≡◌, ◌≤◌, max}
-use Rattle.py_limits.specs.Nesting.{with_items_nesting}
-use Rattle.py_tree.specs.View as view
-use Rattle.py_limits.proofs.depth_parts.items_depth.Given as goal
-
-abbrev pub invariant-loop-item : goal.invariant-loop-item
-invariant-loop-item l = (max l.deepest (with_items_nesting (view.with_items (drop l.item-index l.items))) ≡ with_items_nesting (view.with_items l.items)) × (l.deepest ≤ l.most)

@@ -1,6 +1,0 @@
-use Rattle.std.proofs.Common.{drop, ◌≡◌, ◌≤◌, ◌+◌}
-use Rattle.py_limits.specs.Size.{aliases_size}
-use Rattle.py_limits.proofs.size_parts.after_aliases.Given as goal
-
-abbrev pub invariant-loop-alias : goal.invariant-loop-alias
-invariant-loop-alias l = (l.room + aliases_size (drop l.alias-index l.names) ≡ l.left + aliases_size l.names) × (l.left ≤ l.room)

@@ -1,6 +1,0 @@
-use Rattle.std.proofs.Common.{drop, ◌≡◌, ◌≤◌, ◌+◌}
-use Rattle.py_limits.specs.Size.{paths_size}
-use Rattle.py_limits.proofs.size_parts.after_paths.Given as goal
-
-abbrev pub invariant-loop-alias : goal.invariant-loop-alias
-invariant-loop-alias l = (l.room + paths_size (drop l.alias-index l.names) ≡ l.left + paths_size l.names) × (l.left ≤ l.room)
