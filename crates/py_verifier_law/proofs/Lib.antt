@@ -1,3 +1,6 @@
+mod ClosureLemmas
 mod FormLemmas
 mod Forms
+mod RoomLemmas
+mod RoomSamples
 mod Throughout

@@ -12,4 +12,5 @@ use Rattle.codegen.specs.Calls.{IsCompiled}
 -- a code that a compile call answers has no fault of form, and none stands in a code nested in it
 abbrev pub CompiledIsWellFormed : Type 0
 CompiledIsWellFormed =
-    (answer : Result CodeObject (LocatedError CodegenErrorType)) (t : tree.Mod) (source : List ℕ) (m : Mode) (l : ℕ) → IsCompiled answer t source m l → IfOk answer (λ code. first_fault (object code) ≡ None)
+    (answer : Result CodeObject (LocatedError CodegenErrorType)) (t : tree.Mod) (source : List ℕ) (m : Mode) (l : ℕ) → IsCompiled answer t source m l
+    → IfOk answer (λ code. first_fault (object code) ≡ None)

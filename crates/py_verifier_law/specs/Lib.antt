@@ -1,2 +1,4 @@
 pub mod Flawless
 pub mod Formed
+pub mod Room
+pub mod Closures

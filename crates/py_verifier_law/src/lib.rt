@@ -1,6 +1,8 @@
-//! The laws of the verifier: a code that a compile call answers has no verification error, and is well formed.
+//! Laws of the verifier and of the form of codes: what compiles has no error of either kind, and what has none has room for its runs.
 #![tactic(auto)]
 
 mod laws;
 
-pub use laws::{compiled_is_flawless, compiled_is_well_formed};
+pub use laws::{
+    compiled_closures_fit, compiled_is_flawless, compiled_is_well_formed, runs_have_room,
+};

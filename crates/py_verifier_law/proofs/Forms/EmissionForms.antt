@@ -105,11 +105,6 @@ pub if_forms : {k : Frame} {v w : Emission} (b : Bool) → Forms k v → Forms k
 if_forms true x y = x
 if_forms false x y = y
 
--- the second is reached only where the test fails
-pub unless_forms : {k : Frame} {v w : Emission} (b : Bool) → (b ≡ true → Forms k v) → Forms k w → Forms k (if b then v else w)
-unless_forms true x y = x refl
-unless_forms false x y = y
-
 pub emit_forms : {k : Frame} (i : Instruction) (n : ℕ) → is_plain i ≡ true → Forms k (emit i n)
 unfolding emit
 emit_forms i n e = record { forms = λ c s h. put_formed c s s i n (λ g. g) h.formed (plain_fits (room_of c s) i e) }
