@@ -1,5 +1,5 @@
 //! What each call emits, beside what the order of emission says.
-ghost use Rattle.std.specs.Prelude.{IfOk};
+ghost use Rattle.std.specs.Prelude.{IfOk, OnOk};
 ghost use Rattle.py_emit.specs.States.{AreMade, rest};
 
 use crate::failure::Failure;
@@ -109,9 +109,27 @@ fn call_on_stmts(em: &mut Emitter, call: Call, body: &Stmts) -> Result<(), Failu
     match (call, body.get(0)) {
         (Call::Statement, Some(statement)) => compile_statement(em, statement)?,
         (Call::FromSecond, _) if body.len() > 1 => compile_statements(em, body, 1)?,
+        (Call::Each, _) => compile_each(em, body)?,
         (Call::Features, Some(Stmt::ImportFrom(s))) => compile_future_features(em, &s.names)?,
+        (Call::LateFeatures, Some(Stmt::ImportFrom(s))) => {
+            em.set_future_over(true);
+            compile_future_features(em, &s.names)?;
+        }
         _ => return Err(Failure::Line),
     }
+    Ok(())
+}
+
+/// Makes a call for each of two statements, the second of which is compiled by what the first has left.
+fn compile_each(em: &mut Emitter, body: &Stmts) -> Result<(), Failure>
+    requires { AreMade (rest em.old).context.loop_blocks }
+    ensures { OnOk result (AreMade (rest em.new).context.loop_blocks) }
+{
+    let (Some(first), Some(second)) = (body.get(0), body.get(1)) else {
+        return Err(Failure::Line);
+    };
+    compile_statement(em, first)?;
+    compile_statement(em, second)?;
     Ok(())
 }
 
@@ -123,7 +141,9 @@ fn call(alloc: Global, em: &mut Emitter, call: Call, program: &Mod) -> Result<St
         Mod::Expression(m) => call_on_expr(alloc, em, call, &m.body),
         Mod::Module(m) => {
             call_on_stmts(em, call, &m.body)?;
-            Ok(String::from_str(alloc, "left:")?)
+            let context = em.context();
+            let (over, postponed) = (context.future_over, context.future_annotations);
+            Ok(format!(in alloc; "over {over}, postponed {postponed}:")?)
         }
         _ => Err(Failure::Line),
     }

@@ -14,7 +14,9 @@ pub enum Call {
     Function,
     Statement,
     FromSecond,
+    Each,
     Features,
+    LateFeatures,
 }
 
 impl Call {
@@ -30,7 +32,9 @@ impl Call {
             "function" => Some(Call::Function),
             "statement" => Some(Call::Statement),
             "from-second" => Some(Call::FromSecond),
+            "each" => Some(Call::Each),
             "features" => Some(Call::Features),
+            "late-features" => Some(Call::LateFeatures),
             _ => None,
         }
     }

@@ -6,7 +6,7 @@ use crate::emitters::{head_of_function, text};
 use crate::failure::{Failure, error_text, place_text};
 use crate::instructions::instruction;
 use crate::values::{code_of, constant};
-use py_base::{CodegenError, CodegenErrorType, OneIndexed, SourceLocation, Text};
+use py_base::{CodegenError, CodegenErrorType, List, Names, OneIndexed, SourceLocation, Text};
 use py_bytecode::{CodeObject, ConstantData, OpArg};
 use py_emit::{EmitContext, Emitter, NameUsage, Naming, ScopeHead};
 use py_ir::{BlockIdx, InstructionInfo};
@@ -167,6 +167,17 @@ fn quoted(alloc: Global, text: &Text) -> Result<String, Failure> {
     Ok(format!(in alloc; "{text:?}")?)
 }
 
+/// The parts of a path, which `/` divides.
+fn parts(alloc: Global, path: &str) -> Result<Names, AllocError> {
+    let mut parts = Vec::new(alloc);
+    if !path.is_empty() {
+        for part in path.split("/") {
+            parts.push(text(alloc, part)?)?;
+        }
+    }
+    Ok(List::from_vec(parts))
+}
+
 /// A call that speaks of the class and of the names of what stands around.
 fn on_around(alloc: Global, em: &mut Emitter, name: &str, rest: &str) -> Result<String, Failure> {
     match name {
@@ -181,7 +192,10 @@ fn on_around(alloc: Global, em: &mut Emitter, name: &str, rest: &str) -> Result<
                 None => Ok(String::from_str(alloc, "none")?),
             }
         }
-        "set_path" => quoted(alloc, &em.set_path(text(alloc, rest)?)),
+        "set_path" => {
+            let before = em.set_path(parts(alloc, rest)?);
+            Ok(format!(in alloc; "{before:?}")?)
+        }
         "mangled" => quoted(alloc, &em.mangled(rest)?),
         "qualified_name" => quoted(alloc, &em.qualified_name()?),
         "push_path" => {
@@ -254,12 +268,14 @@ fn function(em: &mut Emitter, head: ScopeHead) -> Result<CodeObject, CodegenErro
     close(em)
 }
 
-/// The context before, and the present one, once the loop has these two blocks and annotations are postponed.
+/// The context before, and the present one, once the loop has these two blocks, no import from `__future__` may stand and
+/// annotations are postponed.
 fn on_context(alloc: Global, em: &mut Emitter, rest: &str) -> Result<String, Failure> {
     let (to_start, to_end) = pair(rest)?;
     let blocks = (BlockIdx(number(to_start)?), BlockIdx(number(to_end)?));
     let before = em.set_context(EmitContext {
         loop_blocks: Some(blocks),
+        future_over: true,
         future_annotations: true,
     });
     let now = em.context();

@@ -10,6 +10,7 @@ use Rattle.py_emission.specs.Emission.{default_emissions}
 use Rattle.py_emission.specs.Parameters.{function_shape, parameters}
 use Rattle.py_emit.specs.States.{entered_rest, rest, state}
 use Rattle.py_emit.specs.declared.emitter.Emitter.{Emitter}
+use Rattle.py_emit.specs.declared.context.Naming.TheVariants as naming
 
 -- in a nested scope, around which the class and the qualified name stay: the parameters and None
 abbrev pub lambda_opening : tree.Arguments → Action
@@ -25,4 +26,4 @@ pub record IsEntered (p : tree.Arguments) (name : List ℕ) (before after : Emit
   pub defaults : run (emission_of_defaults (default_emissions p)) (state before) ≡ Done (state around)
   pub kept : rest around ≡ rest before
   pub opened : lambda_opening p (state around) ≡ Done (state after)
-  pub waits : rest after ≡ entered_rest around.scope (code_head (lambda_inside (state around).around.context (state around).next) (function_shape p name) (state around).location) (rest around)
+  pub waits : rest after ≡ entered_rest naming.AsAround around.scope (code_head (lambda_inside (state around).around.context (state around).next) (function_shape p name) (state around).location) (rest around)

@@ -1,50 +1,41 @@
--- A name after a path.
-use Rattle.std.proofs.Common.{◌≡◌, ◌≢◌, ℕ, zero, suc, ◌<◌, List, [], ◌∷◌, ◌++◌, true, false, get_or, length, take, Bool, ◌||◌, nat_eq, refl, sym, ap, subst, ◌∙◌, arith}
+-- A name after a path, and the parts of a qualified name.
+use Rattle.std.proofs.Common.{◌≡◌, ◌≢◌, ℕ, suc, ◌+◌, ◌<◌, List, [], ◌∷◌, ◌++◌, drop, get_or, length, append_assoc, refl, sym, ap, ◌∙◌, arith}
+use Rattle.std.proofs.Math.Seq.{drop-cons}
 use Rattle.std.specs.Prelude.{codes}
+use Rattle.py_base.proofs.Numbers.{suc_is_plus_one}
 use Rattle.py_emission_parts.specs.Context.{behind_dot}
-use Rattle.py_emit.specs.Around.{has_dot}
+use Rattle.py_emit.specs.Around.{but_last}
+use Rattle.py_emit.specs.Dotted.{each_after_dot}
+use Rattle.py_emit.specs.States.{dotted}
 
-pub dotted : (path name : List ℕ) → path ≢ [] → behind_dot path name ≡ path ++ (codes "." ++ name)
-dotted [] name some = absurd (some refl)
-dotted (x ∷ path) name some = refl
+pub dotted_behind : (path name : List ℕ) → path ≢ [] → behind_dot path name ≡ path ++ (codes "." ++ name)
+dotted_behind [] name some = absurd (some refl)
+dotted_behind (x ∷ path) name some = refl
 
 pub bare : (path name : List ℕ) → path ≡ [] → behind_dot path name ≡ name
 bare [] name e = refl
 bare (x ∷ path) name e = absurd cc
 
--- no byte of a part without a dot is one
-pub no_dot : (part : List ℕ) (k : ℕ) → has_dot part ≡ false → get_or part k 0 ≡ 46 → ⊥
-no_dot [] k h e = absurd cc
-no_dot (b ∷ part) zero h e = let h' : has_dot (46 ∷ part) ≡ false = subst (λ x. has_dot (x ∷ part) ≡ false) e h in absurd cc
-no_dot (b ∷ part) (suc k) h e = no_dot part k (behind_false (nat_eq b 46) (has_dot part) h) e
+-- the first part stands without a dot
+pub dotted_first : (x : List ℕ) (parts : List (List ℕ)) → dotted (x ∷ parts) ≡ x ++ each_after_dot parts
+dotted_first x [] = sym (append_nil x)
   where
-    behind_false : (x y : Bool) → (x || y) ≡ false → y ≡ false
-    behind_false true y h = absurd cc
-    behind_false false y h = h
+    append_nil : (xs : List ℕ) → xs ++ [] ≡ xs
+    append_nil [] = refl
+    append_nil (y ∷ ys) = ap (λ zs. y ∷ zs) (append_nil ys)
+dotted_first x (y ∷ parts) = ap (λ r. x ++ (46 ∷ r)) (dotted_first y parts)
 
--- the byte after a path
-dotted_at_end : (path rest : List ℕ) → get_or (path ++ 46 ∷ rest) (length path) 0 ≡ 46
-dotted_at_end [] rest = refl
-dotted_at_end (x ∷ path) rest = dotted_at_end path rest
+-- one part more stands after a dot
+pub next_after_dot : (full : List ℕ) (parts : List (List ℕ)) (i : ℕ) (d : List ℕ) → i < length parts
+    → full ++ each_after_dot (drop i parts) ≡ ((full ++ codes ".") ++ get_or parts i d) ++ each_after_dot (drop (i + 1) parts)
+next_after_dot full parts i d lt =
+    ap (λ r. full ++ each_after_dot r) (drop-cons parts i d lt)
+    ∙ sym (append_assoc full (codes ".") (get_or parts i d ++ each_after_dot (drop (suc i) parts)))
+    ∙ sym (append_assoc (full ++ codes ".") (get_or parts i d) (each_after_dot (drop (suc i) parts)))
+    ∙ ap (λ j. ((full ++ codes ".") ++ get_or parts i d) ++ each_after_dot (drop j parts)) (suc_is_plus_one i)
 
-within_end : (path rest : List ℕ) → length path < length (path ++ 46 ∷ rest)
-within_end [] rest = omega arith
-within_end (x ∷ path) rest = let h = within_end path rest in omega (arith, h)
-
--- what stands before the last dot
-cut_behind : (path part : List ℕ) (n : ℕ) → has_dot part ≡ false → (0 < n → get_or (path ++ 46 ∷ part) n 0 ≡ 46)
-    → ((k : ℕ) → n < k → k < length (path ++ 46 ∷ part) → get_or (path ++ 46 ∷ part) k 0 ≡ 46 → ⊥) → take n (path ++ 46 ∷ part) ≡ path
-cut_behind [] part zero h d l = refl
-cut_behind [] part (suc n) h d l = absurd (no_dot part n h (d (omega arith)))
-cut_behind (x ∷ path) part zero h d l = absurd (l (suc (length path)) (omega arith) (within_end (x ∷ path) part) (dotted_at_end path part))
-cut_behind (x ∷ path) part (suc n) h d l =
-    ap (λ xs. x ∷ xs) (cut_behind path part n h (λ p. d (omega arith)) (λ k m b e. l (suc k) (omega (arith, m)) (omega (arith, b)) e))
-
--- a part without a dot goes from after its path
-pub cut_last : (path part whole : List ℕ) (n : ℕ) → has_dot part ≡ false → behind_dot path part ≡ whole → (0 < n → get_or whole n 0 ≡ 46)
-    → ((k : ℕ) → n < k → k < length whole → get_or whole k 0 ≡ 46 → ⊥) → take n whole ≡ path
-cut_last [] part whole zero h e d l = refl
-cut_last [] part whole (suc n) h e d l = absurd (no_dot part (suc n) h (ap (λ xs. get_or xs (suc n) 0) e ∙ d (omega arith)))
-cut_last (x ∷ path) part whole n h e d l =
-    subst (λ w. take n w ≡ x ∷ path) e
-    (cut_behind (x ∷ path) part n h (subst (λ w. 0 < n → get_or w n 0 ≡ 46) (sym e) d) (subst (λ w. (k : ℕ) → n < k → k < length w → get_or w k 0 ≡ 46 → ⊥) (sym e) l))
+-- what was put last goes
+pub but_last_is : (parts : List (List ℕ)) (x : List ℕ) → but_last (parts ++ x ∷ []) ≡ parts
+but_last_is [] x = refl
+but_last_is (y ∷ []) x = refl
+but_last_is (y ∷ z ∷ parts) x = ap (λ r. y ∷ r) (but_last_is (z ∷ parts) x)

@@ -12,7 +12,7 @@ use Rattle.py_emission_parts.specs.Within.{Shape}
 use Rattle.py_emission_parts.specs.Context.{cells_among, frees_among, inside, outermost, symbols_in, with_path, within_class}
 use Rattle.py_emission_parts.specs.Emitting.{Done, Emission, State, initial_state}
 use Rattle.py_emission_parts.specs.Sealed.{Head, assembled_object}
-use Rattle.py_emit.specs.States.{Rest, Source, context_of, nested_context, entered_rest, head_in, left_scope, left_rest, module_head, module_shape, named_in, no_context, rest, state, unlooped_context}
+use Rattle.py_emit.specs.States.{Rest, Source, context_of, dotted, nested_context, entered_rest, head_in, left_scope, left_rest, module_head, module_shape, named_in, no_context, parts_in, rest, state, unlooped_context}
 use Rattle.py_emit.specs.declared.context.Naming.{Naming}
 use Rattle.py_emit.specs.declared.context.Naming.TheVariants as naming
 use Rattle.py_emit.specs.declared.emitter.Emitter.{Emitter}
@@ -27,13 +27,13 @@ level_within typ (naming.Class name path) s = refl
 
 -- what stands around in a nested scope
 pub context_within : (x : Source) (around o : OpenScope) (n : Naming) (number : ℕ) → o.class ≡ (named_in n (context_of x around)).class
-    → o.path ≡ (named_in n (context_of x around)).path → o.here ≡ number → o.context ≡ unlooped_context around.context
+    → o.path ≡ parts_in n around.path → o.here ≡ number → o.context ≡ unlooped_context around.context
     → o.code.cellvar_cache ≡ cells_among (symbols_in x.scopes number) → o.code.freevar_cache ≡ frees_among (symbols_in x.scopes number)
     → context_of x o ≡ inside o.typ number (named_in n (context_of x around))
 unfolding inside with_path within_class
-context_within x around o naming.AsAround number c p h e v f = λ i. record { level = x.opts.optimize; source = x.path; class = c i; path = p i; postponed = (e i).future_annotations; typ = o.typ; scopes = x.scopes; here = h i; cells = v i; frees = f i }
-context_within x around o (naming.Function path) number c p h e v f = λ i. record { level = x.opts.optimize; source = x.path; class = c i; path = p i; postponed = (e i).future_annotations; typ = o.typ; scopes = x.scopes; here = h i; cells = v i; frees = f i }
-context_within x around o (naming.Class name path) number c p h e v f = λ i. record { level = x.opts.optimize; source = x.path; class = c i; path = p i; postponed = (e i).future_annotations; typ = o.typ; scopes = x.scopes; here = h i; cells = v i; frees = f i }
+context_within x around o naming.AsAround number c p h e v f = λ i. record { level = x.opts.optimize; source = x.path; class = c i; path = dotted (p i); postponed = (e i).future_annotations; typ = o.typ; scopes = x.scopes; here = h i; cells = v i; frees = f i }
+context_within x around o (naming.Function path) number c p h e v f = λ i. record { level = x.opts.optimize; source = x.path; class = c i; path = dotted (p i); postponed = (e i).future_annotations; typ = o.typ; scopes = x.scopes; here = h i; cells = v i; frees = f i }
+context_within x around o (naming.Class name path) number c p h e v f = λ i. record { level = x.opts.optimize; source = x.path; class = c i; path = dotted (p i); postponed = (e i).future_annotations; typ = o.typ; scopes = x.scopes; here = h i; cells = v i; frees = f i }
 
 -- and what its code object says of it
 pub head_within : (x : Source) (around : OpenScope) (n : Naming) (typ : SymbolTableType) (number : ℕ) (h : Shape) (at : SourceLocation)
@@ -48,7 +48,7 @@ pub context_outermost : (x : Source) (o : OpenScope) → o.class ≡ None → o.
     → o.code.cellvar_cache ≡ cells_among (symbols_in x.scopes 0) → o.code.freevar_cache ≡ frees_among (symbols_in x.scopes 0)
     → context_of x o ≡ outermost x.opts.optimize x.path x.scopes
 unfolding inside
-context_outermost x o c p t h e v f = λ i. record { level = x.opts.optimize; source = x.path; class = c i; path = p i; postponed = (e i).future_annotations; typ = t i; scopes = x.scopes; here = h i; cells = v i; frees = f i }
+context_outermost x o c p t h e v f = λ i. record { level = x.opts.optimize; source = x.path; class = c i; path = dotted (p i); postponed = (e i).future_annotations; typ = t i; scopes = x.scopes; here = h i; cells = v i; frees = f i }
 
 pub head_outermost : (x : Source) → head_in module_shape x.path 1 (symbols_in x.scopes 0) ≡ module_head (outermost x.opts.optimize x.path x.scopes)
 unfolding inside
@@ -71,8 +71,8 @@ module _ (typ : SymbolTableType) (n : Naming) (h : Shape) (first : Emitter) (ent
   abbrev head : Head
   head = code_head (nested_context typ n (state first)) h (state first).location
 
-  module _ (into : rest entry ≡ entered_rest first.scope head (rest first)) (same : rest last ≡ rest entry) where
-    waits : rest last ≡ entered_rest first.scope head (rest first)
+  module _ (into : rest entry ≡ entered_rest n first.scope head (rest first)) (same : rest last ≡ rest entry) where
+    waits : rest last ≡ entered_rest n first.scope head (rest first)
     waits = same ∙ into
 
     -- the enclosing scope waits last

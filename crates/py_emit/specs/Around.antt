@@ -1,6 +1,5 @@
 -- What stands around a scope, told piece by piece.
-use Rattle.std.specs.Prelude.{ℕ, Bool, List, Option, nat_eq}
-use Rattle.std.specs.List.{list_any}
+use Rattle.std.specs.Prelude.{ℕ, [], ◌∷◌, List, Option}
 use Rattle.py_emission_parts.specs.Emitting.{State}
 
 -- names are written as this class writes them
@@ -11,6 +10,8 @@ in_class class s = record s { around = record s.around { context = record s.arou
 abbrev pub on_path : (path : List ℕ) → State → State
 on_path path s = record s { around = record s.around { context = record s.around.context { path = path } } }
 
--- a part of a qualified name has a dot within
-abbrev pub has_dot : (part : List ℕ) → Bool
-has_dot part = list_any (λ b. nat_eq b 46) part
+-- all parts of a qualified name but the last
+abbrev pub but_last : (parts : List (List ℕ)) → List (List ℕ)
+but_last [] = []
+but_last (x ∷ []) = []
+but_last (x ∷ y ∷ parts) = x ∷ but_last (y ∷ parts)

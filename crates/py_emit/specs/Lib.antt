@@ -5,3 +5,4 @@ pub mod Emitted
 pub mod Placed
 pub mod Around
 pub mod Tables
+pub mod Dotted

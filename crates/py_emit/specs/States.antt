@@ -1,5 +1,6 @@
 -- What an emitter holds: what is emitted, and the rest, which steps of an emission leave as it is.
 use Rattle.std.specs.Prelude.{◌≡◌, ◌≢◌, ◌<◌, ℕ, List, [], ◌∷◌, ◌++◌, length, map, codes, Bool, false, Option, Some, None, Result, Ok, Err}
+use Rattle.std.specs.List.{join_with_byte}
 use Rattle.py_base.specs.declared.location.SourceLocation.{SourceLocation}
 use Rattle.py_base.specs.declared.location.LocatedError.{LocatedError}
 use Rattle.py_bytecode.specs.View.{constant}
@@ -43,12 +44,16 @@ pub record Source : Type 0 where
   pub path : List ℕ
   pub scopes : List ScopeEntry
 
+-- the parts of a qualified name, with dots between them
+abbrev pub dotted : (parts : List (List ℕ)) → List ℕ
+dotted parts = join_with_byte 46 parts
+
 abbrev pub context_of : Source → OpenScope → Context
 context_of x o = record {
   level = x.opts.optimize;
   source = x.path;
   class = o.class;
-  path = o.path;
+  path = dotted o.path;
   postponed = o.context.future_annotations;
   typ = o.typ;
   scopes = x.scopes;
@@ -94,17 +99,19 @@ head_of c = record {
   freevars = c.freevar_cache;
 }
 
--- how it is compiled, what the enclosing code says, the path that errors name, all scopes, what the scope is, and those around it, which wait
+-- how it is compiled, what the enclosing code says, the parts of the qualified name of what stands around, the path that errors name, all
+-- scopes, what the scope is, and those around it, which wait
 pub record Rest : Type 0 where
   pub opts : CompileOpts
   pub context : EmitContext
+  pub parts : List (List ℕ)
   pub path : List ℕ
   pub scopes : List ScopeEntry
   pub head : Head
   pub outer : List OpenScope
 
 unfoldable pub rest : Emitter → Rest
-rest e = record { opts = e.opts; context = e.scope.context; path = e.source_path; scopes = e.scopes; head = head_of e.scope.code; outer = e.outer.items }
+rest e = record { opts = e.opts; context = e.scope.context; parts = e.scope.path; path = e.source_path; scopes = e.scopes; head = head_of e.scope.code; outer = e.outer.items }
 
 -- a program has names of its own and no arguments, and is named `<module>`
 abbrev pub module_shape : Shape
@@ -122,16 +129,22 @@ pub record IsFirst (code : FlatCode) (h : Head) : Type 0 where
   pub head : head_of code ≡ h
 
 abbrev pub no_context : EmitContext
-no_context = record { loop_blocks = None; future_annotations = false }
+no_context = record { loop_blocks = None; future_over = false; future_annotations = false }
 
 abbrev pub first_rest : CompileOpts → (path : List ℕ) → List ScopeEntry → Rest
-first_rest opts path scopes = record { opts = opts; context = no_context; path = path; scopes = scopes; head = module_head (outermost opts.optimize path scopes); outer = [] }
+first_rest opts path scopes = record { opts = opts; context = no_context; parts = []; path = path; scopes = scopes; head = module_head (outermost opts.optimize path scopes); outer = [] }
 
 abbrev pub looped_rest : Option (BlockIdx × BlockIdx) → Rest → Rest
 looped_rest loops r = record r { context = record r.context { loop_blocks = loops } }
 
 abbrev pub postponed_rest : (postponed : Bool) → Rest → Rest
 postponed_rest p r = record r { context = record r.context { future_annotations = p } }
+
+abbrev pub told_rest : EmitContext → Rest → Rest
+told_rest x r = record r { context = x }
+
+abbrev pub parted_rest : (parts : List (List ℕ)) → Rest → Rest
+parted_rest parts r = record r { parts = parts }
 
 -- the code of a scope, which is a generator or not
 abbrev pub flagged_code : OpenScope → FlatCode
@@ -204,6 +217,12 @@ named_in naming.AsAround c = c
 named_in (naming.Function path) c = with_path path c
 named_in (naming.Class name path) c = with_path path (within_class name c)
 
+-- and the parts of that name: it is one part, but where it stays
+abbrev pub parts_in : Naming → (parts : List (List ℕ)) → List (List ℕ)
+parts_in naming.AsAround parts = parts
+parts_in (naming.Function path) parts = path ∷ []
+parts_in (naming.Class name path) parts = path ∷ []
+
 -- a nested scope, which begins with nothing
 abbrev pub nested_context : SymbolTableType → Naming → State → Context
 nested_context typ n s = inside typ s.next (named_in n s.around.context)
@@ -226,8 +245,8 @@ abbrev pub shape_of : ScopeHead → Shape
 shape_of h = record { flags = h.flags.0; posonlyarg_count = h.posonlyarg_count; arg_count = h.arg_count; kwonlyarg_count = h.kwonlyarg_count; obj_name = h.obj_name }
 
 -- the enclosing scope waits
-abbrev pub entered_rest : (scope : OpenScope) → Head → Rest → Rest
-entered_rest o h r = record r { context = unlooped_context r.context; head = h; outer = r.outer ++ o ∷ [] }
+abbrev pub entered_rest : Naming → (scope : OpenScope) → Head → Rest → Rest
+entered_rest n o h r = record r { context = unlooped_context r.context; parts = parts_in n r.parts; head = h; outer = r.outer ++ o ∷ [] }
 
 abbrev pub source_in : Rest → Source
 source_in r = record { opts = r.opts; path = r.path; scopes = r.scopes }
@@ -237,4 +256,4 @@ abbrev pub left_scope : Rest → OpenScope → State → State
 left_scope r o t = state_of (source_in r) o t.location t.next
 
 abbrev pub left_rest : (outer : List OpenScope) → OpenScope → Rest → Rest
-left_rest outer o r = record r { context = o.context; head = head_of o.code; outer = outer }
+left_rest outer o r = record r { context = o.context; parts = o.path; head = head_of o.code; outer = outer }

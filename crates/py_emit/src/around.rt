@@ -1,13 +1,13 @@
 //! What stands around a scope, told piece by piece: the class, the qualified name, and the context.
-ghost use Rattle.std.specs.Prelude.{◌≡◌, ◌<◌, ℕ, List, false, length, slice_index, IfErr, IfOk, OnOk};
-ghost use Rattle.py_emission_parts.specs.Context.{behind_dot, qualified_under as qualified_name};
+ghost use Rattle.std.specs.Prelude.{◌≡◌, ◌++◌, ◌∷◌, [], IfErr, IfOk, OnOk};
 ghost use Rattle.py_emission_parts.specs.Emitting.{with_loops, with_postponed};
-ghost use Rattle.py_emit.specs.Around.{has_dot, in_class, on_path};
-ghost use Rattle.py_emit.specs.States.{IsStarved, loop_blocks, looped_rest, postponed_rest, rest, state};
+ghost use Rattle.py_emit.specs.Around.{but_last, in_class, on_path};
+ghost use Rattle.py_emit.specs.States.{IsStarved, dotted, loop_blocks, parted_rest, rest, state, told_rest};
 
 use crate::context::EmitContext;
 use crate::emitter::Emitter;
-use py_base::{CodegenError, CodegenErrorType, Text};
+use crate::paths::joined;
+use py_base::{CodegenError, CodegenErrorType, Names, Text};
 use std::mem;
 
 impl Emitter {
@@ -21,13 +21,13 @@ impl Emitter {
         mem::replace(&mut self.scope.class, class)
     }
 
-    /// This is the qualified name of what stands around, its parts joined by dots, until the present scope is left. Answers
-    /// the one before.
+    /// These are the parts of the qualified name of what stands around, until the present scope is left. Answers those
+    /// before.
     #[tactic(auto, unfolding(crate::specs::States::rest))]
-    pub fn set_path(&mut self, path: Text) -> Text
-        ensures old { result ≡ (state self.old).around.context.path }
-        ensures state { state self.new ≡ on_path path (state self.old) }
-        ensures rest { rest self.new ≡ rest self.old }
+    pub fn set_path(&mut self, path: Names) -> Names
+        ensures old { result ≡ (rest self.old).parts }
+        ensures state { state self.new ≡ on_path (dotted path) (state self.old) }
+        ensures rest { rest self.new ≡ parted_rest path (rest self.old) }
     {
         mem::replace(&mut self.scope.path, path)
     }
@@ -36,76 +36,59 @@ impl Emitter {
     ///
     /// # Errors
     /// OutOfMemory alone.
+    #[tactic(auto, unfolding(crate::specs::States::rest))]
     pub fn push_path(&mut self, part: Text) -> Result<(), CodegenError>
-        ensures state { OnOk result (state self.new ≡ on_path (qualified_name (state self.old).around.context part) (state self.old)) }
-        ensures rest { OnOk result (rest self.new ≡ rest self.old) }
+        ensures state { OnOk result (state self.new ≡ on_path (dotted ((rest self.old).parts ++ part ∷ [])) (state self.old)) }
+        ensures rest { OnOk result (rest self.new ≡ parted_rest ((rest self.old).parts ++ part ∷ []) (rest self.old)) }
         ensures err { IfErr result (λ e. IsStarved e (rest self.old).path) }
     {
-        let path = self.qualified(part.as_str())?;
-        self.set_path(path);
-        Ok(())
+        match self.scope.path.push(part) {
+            Ok(()) => Ok(()),
+            Err(_) => Err(self.error(CodegenErrorType::OutOfMemory)),
+        }
     }
 
-    /// The last part of the qualified name of what stands around goes, which is what stands after its last dot.
+    /// The last part of the qualified name of what stands around goes. Where there is none, nothing does.
+    #[tactic(auto, unfolding(crate::specs::States::rest))]
     pub fn pop_path(&mut self)
-        ensures state { (path part : List ℕ) → has_dot part ≡ false → behind_dot path part ≡ (state self.old).around.context.path → state self.new ≡ on_path path (state self.old) }
-        ensures others { state self.new ≡ on_path (state self.new).around.context.path (state self.old) }
-        ensures rest { rest self.new ≡ rest self.old }
+        ensures state { state self.new ≡ on_path (dotted (but_last (rest self.old).parts)) (state self.old) }
+        ensures rest { rest self.new ≡ parted_rest (but_last (rest self.old).parts) (rest self.old) }
     {
-        let empty = Text::from_string(String::new(self.alloc()));
-        let path = self.set_path(empty);
-        self.set_path(before_last_dot(path));
+        drop_last(&mut self.scope.path);
     }
 
     /// The qualified name of what stands around, its parts joined by dots.
     ///
     /// # Errors
     /// OutOfMemory alone.
+    #[tactic(auto, unfolding(crate::specs::States::rest))]
     pub fn qualified_name(&mut self) -> Result<Text, CodegenError>
-        ensures data { IfOk result (λ path. path ≡ (state self.old).around.context.path) }
+        ensures data { IfOk result (λ path. path ≡ dotted (rest self.old).parts) }
         ensures same { OnOk result (self.new ≡ self.old) }
         ensures err { IfErr result (λ e. IsStarved e (rest self.old).path) }
     {
-        match self.scope.path.try_clone(self.alloc()) {
+        match joined(self.alloc(), self.scope.path.as_slice()) {
             Ok(path) => Ok(path),
             Err(_) => Err(self.error(CodegenErrorType::OutOfMemory)),
         }
     }
 
-    /// Says what the enclosing code says: the blocks of the innermost loop, and whether annotations are postponed. Answers
-    /// what was said before.
+    /// Says what the enclosing code says: the blocks of the innermost loop, whether an import from `__future__` may still
+    /// stand, and whether annotations are postponed. Answers what was said before.
+    #[tactic(auto, unfolding(py_emission_parts::specs::Emitting::with_loops, py_emission_parts::specs::Emitting::with_postponed, crate::specs::States::rest))]
     pub fn set_context(&mut self, context: EmitContext) -> EmitContext
         ensures old { result ≡ (rest self.old).context }
         ensures state { state self.new ≡ with_postponed context.future_annotations (with_loops (loop_blocks context.loop_blocks) (state self.old)) }
-        ensures rest { rest self.new ≡ postponed_rest context.future_annotations (looped_rest context.loop_blocks (rest self.old)) }
+        ensures rest { rest self.new ≡ told_rest context (rest self.old) }
     {
-        let before = self.context();
-        self.set_loops(context.loop_blocks);
-        self.set_postponed(context.future_annotations);
-        before
+        mem::replace(&mut self.scope.context, context)
     }
 }
 
-/// What stands before the last dot of a path, or nothing where it has none.
-fn before_last_dot(path: Text) -> Text
-    ensures { (before part : List ℕ) → has_dot part ≡ false → behind_dot before part ≡ path → result ≡ before }
+/// The last part goes, where there is one.
+#[tactic(auto, using(crate::proofs::Dotted::but_last_is))]
+fn drop_last(path: &mut Names)
+    ensures { path.new ≡ but_last path.old }
 {
-    let mut text = path.into_string();
-    let end = last_dot(text.as_str().as_bytes());
-    text.truncate(end);
-    Text::from_string(text)
-}
-
-/// The place of the last dot of a path, or 0 where it has none.
-fn last_dot(path: &[u8]) -> usize
-    ensures dot { 0 < result → slice_index path.now result ≡ 46 }
-    ensures last { (k : ℕ) → result < k → k < length path.now → slice_index path.now k ≡ 46 → ⊥ }
-{
-    let mut place = 0;
-    for (i, b) in path.iter().enumerate() {
-        if *b == b'.' {
-            place = i;
-        }
-    }
-    place
+    path.pop();
 }

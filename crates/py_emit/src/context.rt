@@ -45,14 +45,17 @@ pub enum Naming {
 pub struct EmitContext {
     /// The blocks to which `continue` and `break` of the innermost loop of this scope go.
     pub loop_blocks: Option<(BlockIdx, BlockIdx)>,
+    /// Whether a statement was compiled after which no import from `__future__` may stand.
+    pub future_over: bool,
     /// Whether annotations are postponed (PEP 563).
     pub future_annotations: bool,
 }
 
 impl EmitContext {
-    /// No loop, and no annotation is postponed.
+    /// No loop, an import from `__future__` may stand, and no annotation is postponed.
     pub const OUTERMOST: EmitContext = EmitContext {
         loop_blocks: None,
+        future_over: false,
         future_annotations: false,
     };
 }

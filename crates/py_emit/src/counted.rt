@@ -25,7 +25,7 @@ impl Emitter {
     ) -> Result<(), CodegenError>
         requires left { AreLeft 1 (state self.old) }
         ensures state { OnOk result (state self.new ≡ initial_state (next_within (state self.old)) (state self.old).location (suc (state self.old).next)) }
-        ensures rest { OnOk result (rest self.new ≡ entered_rest self.old.scope (code_head (next_within (state self.old)) (shape_of head) (state self.old).location) (rest self.old)) }
+        ensures rest { OnOk result (rest self.new ≡ entered_rest Naming.AsAround self.old.scope (code_head (next_within (state self.old)) (shape_of head) (state self.old).location) (rest self.old)) }
         ensures err { IfErr result (λ e. IsStarved e (rest self.old).path) }
         ensures steps { steps.new ≡ steps.old + 1 }
     {

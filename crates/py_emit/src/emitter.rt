@@ -9,13 +9,16 @@ ghost use Rattle.py_emission_parts.specs.Running.{code_head, run};
 ghost use Rattle.py_emission_parts.specs.Context.{inside, outermost, symbols_in};
 ghost use Rattle.py_emission_parts.specs.Emitting.{Begin, Done, Put, initial_state, emit as emission_of, emit_count, generator_mark, jump as jumping, with_location, nothing, with_block, with_loops, with_postponed, with_step};
 ghost use Rattle.py_emission_parts.specs.Sealed.{assembled_object};
-ghost use Rattle.py_emit.specs.States.{Emits, Goes, IsFirst, IsStarved, IsUnrefused, nested_context, entered_rest, first_rest, head_in, head_of, info, left_scope, left_rest, loop_blocks, looped_rest, module_shape, named_in, placed_error, postponed_rest, rest, shape_of, source_of, state, state_of, unlooped_context, without_path, without_source};
+ghost use Rattle.py_emit.specs.States.{Emits, Goes, IsFirst, IsStarved, IsUnrefused, nested_context, entered_rest, first_rest, head_in, head_of, info, left_scope, left_rest, loop_blocks, looped_rest, module_shape, named_in, parts_in, placed_error, postponed_rest, rest, shape_of, source_of, state, state_of, told_rest, unlooped_context, without_path, without_source};
 ghost use Rattle.py_emit.specs.Steps.{IsOpen, step_of};
 
 use crate::context::{CompileOpts, EmitContext, Naming, ScopeHead};
+use crate::paths::{alone, copied};
 use crate::refusals::{has_short_tables, only_starved, starved};
 use crate::scopes::{OpenScope, first_code, laid_out};
-use py_base::{CodegenError, CodegenErrorType, LocatedError, OneIndexed, SourceLocation, Text};
+use py_base::{
+    CodegenError, CodegenErrorType, LocatedError, Names, OneIndexed, SourceLocation, Text,
+};
 use py_bytecode::{CodeFlags, CodeObject, Instruction, OpArg};
 use py_ir::{BlockIdx, FlatCode, InstructionInfo};
 use py_scope::{FlatScopes, SymbolTable, SymbolTableType};
@@ -95,7 +98,7 @@ impl Emitter {
                 typ: SymbolTableType::Module,
                 here: 0,
                 class: None,
-                path: Text::from_string(String::new(alloc)),
+                path: Names::new(alloc),
                 context: EmitContext::OUTERMOST,
             },
             outer: Vec::new(alloc),
@@ -143,6 +146,16 @@ impl Emitter {
         ensures rest { rest self.new ≡ postponed_rest postponed (rest self.old) }
     {
         mem::replace(&mut self.scope.context.future_annotations, postponed)
+    }
+
+    /// Whether a statement was compiled after which no import from `__future__` may stand. Answers what was said before.
+    #[tactic(auto, unfolding(crate::specs::States::rest))]
+    pub fn set_future_over(&mut self, over: bool) -> bool
+        ensures old { result ≡ (rest self.old).context.future_over }
+        ensures state { state self.new ≡ state self.old }
+        ensures rest { rest self.new ≡ told_rest (record (rest self.old).context { future_over = over }) (rest self.old) }
+    {
+        mem::replace(&mut self.scope.context.future_over, over)
     }
 
     /// What follows stands there in the source.
@@ -293,7 +306,7 @@ impl Emitter {
         naming: Naming,
     ) -> Result<(), CodegenError>
         ensures state { OnOk result (state self.new ≡ initial_state (nested_context typ naming (state self.old)) (state self.old).location (suc (state self.old).next)) }
-        ensures rest { OnOk result (rest self.new ≡ entered_rest self.old.scope (code_head (nested_context typ naming (state self.old)) (shape_of head) (state self.old).location) (rest self.old)) }
+        ensures rest { OnOk result (rest self.new ≡ entered_rest naming self.old.scope (code_head (nested_context typ naming (state self.old)) (shape_of head) (state self.old).location) (rest self.old)) }
         ensures err { IfErr result (λ e. IsStarved e (rest self.old).path) }
     {
         let number = self.next;
@@ -411,6 +424,7 @@ impl Emitter {
         ensures state { IfOk result (λ o. (at : Location) (next : ℕ) → state_of (source_of self.now) o at next ≡ initial_state (inside typ number (named_in naming (state self.now).around.context)) at next) }
         ensures head { IfOk result (λ o. head_of o.code ≡ head_in (shape_of head) self.now.source_path self.now.location.row (symbols_in self.now.scopes number)) }
         ensures context { IfOk result (λ o. o.context ≡ unlooped_context self.now.scope.context) }
+        ensures parts { IfOk result (λ o. o.path ≡ parts_in naming self.now.scope.path) }
     {
         let line = self.location.row;
         let code = first_code(
@@ -436,16 +450,17 @@ impl Emitter {
         })
     }
 
-    /// What class mangles the names of a nested scope, and the qualified name of their context.
+    /// What class mangles the names of a nested scope, and the parts of the qualified name of their context.
     #[tactic(auto, unfolding(py_emission_parts::specs::Context::with_path, py_emission_parts::specs::Context::within_class))]
-    fn names_within(&self, naming: Naming) -> Result<(Option<Text>, Text), AllocError>
+    fn names_within(&self, naming: Naming) -> Result<(Option<Text>, Names), AllocError>
         ensures class { IfOk result (λ names. names.0 ≡ (named_in naming (state self.now).around.context).class) }
-        ensures path { IfOk result (λ names. names.1 ≡ (named_in naming (state self.now).around.context).path) }
+        ensures parts { IfOk result (λ names. names.1 ≡ parts_in naming self.now.scope.path) }
     {
+        let alloc = self.alloc;
         match naming {
-            Naming::AsAround => Ok((self.class_name()?, self.scope.path.try_clone(self.alloc)?)),
-            Naming::Function { path } => Ok((self.class_name()?, path)),
-            Naming::Class { name, path } => Ok((Some(name), path)),
+            Naming::AsAround => Ok((self.class_name()?, copied(alloc, &self.scope.path)?)),
+            Naming::Function { path } => Ok((self.class_name()?, alone(alloc, path)?)),
+            Naming::Class { name, path } => Ok((Some(name), alone(alloc, path)?)),
         }
     }
 

@@ -1,11 +1,12 @@
 //! Qualified names.
-ghost use Rattle.std.specs.Prelude.{◌≡◌, ◌++◌, IfErr, IfOk, OnOk};
+ghost use Rattle.std.specs.Prelude.{◌≡◌, ◌++◌, ◌∷◌, [], IfErr, IfOk, OnOk};
 ghost use Rattle.py_emission_parts.specs.Within.{class_path as path_of_class, is_global as is_declared_global};
 ghost use Rattle.py_emission_parts.specs.Context.{behind_dot, function_path as path_of_function, mangled_by, qualified_under as qualified_name, scope_of};
-ghost use Rattle.py_emit.specs.States.{IsStarved, rest, state};
+ghost use Rattle.py_emit.specs.States.{IsStarved, dotted, rest, state};
+ghost use Rattle.py_emit.specs.Dotted.{each_after_dot};
 
 use crate::emitter::Emitter;
-use py_base::{CodegenError, CodegenErrorType, Text};
+use py_base::{CodegenError, CodegenErrorType, List, Names, Text};
 use py_scope::SymbolScope;
 use std::alloc::{AllocError, Global};
 
@@ -19,7 +20,7 @@ impl Emitter {
         ensures same { OnOk result (self.new ≡ self.old) }
         ensures err { IfErr result (λ e. IsStarved e (rest self.old).path) }
     {
-        match behind_dot(self.alloc(), self.scope.path.as_str(), name, "") {
+        match self.below(name, "") {
             Ok(full) => Ok(full),
             Err(_) => Err(self.error(CodegenErrorType::OutOfMemory)),
         }
@@ -34,10 +35,21 @@ impl Emitter {
         ensures same { OnOk result (self.new ≡ self.old) }
         ensures err { IfErr result (λ e. IsStarved e (rest self.old).path) }
     {
-        match behind_dot(self.alloc(), self.scope.path.as_str(), name, ".<locals>") {
+        match self.below(name, ".<locals>") {
             Ok(path) => Ok(path),
             Err(_) => Err(self.error(CodegenErrorType::OutOfMemory)),
         }
+    }
+
+    /// A name after the qualified name of what stands around, and what follows it.
+    ///
+    /// # Errors
+    /// There is no memory for it.
+    fn below(&self, name: &str, end: &str) -> Result<Text, AllocError>
+        ensures { IfOk result (λ full. full ≡ qualified_name (state self.now).around.context name.now ++ end.now) }
+    {
+        let path = joined(self.alloc(), self.scope.path.as_slice())?;
+        behind_dot(self.alloc(), path.as_str(), name, end)
     }
 
     /// The qualified name of a class of this name, which stands in the present scope: where the name is declared global
@@ -74,7 +86,7 @@ impl Emitter {
 ///
 /// # Errors
 /// There is no memory for it.
-#[tactic(auto, using(crate::proofs::Dotted::dotted, crate::proofs::Dotted::bare))]
+#[tactic(auto, using(crate::proofs::Dotted::dotted_behind, crate::proofs::Dotted::bare))]
 fn behind_dot(alloc: Global, path: &str, name: &str, end: &str) -> Result<Text, AllocError>
     ensures { IfOk result (λ full. full ≡ behind_dot path.now name.now ++ end.now) }
 {
@@ -86,4 +98,60 @@ fn behind_dot(alloc: Global, path: &str, name: &str, end: &str) -> Result<Text, 
     full.push_str(name)?;
     full.push_str(end)?;
     Ok(Text::from_string(full))
+}
+
+/// The parts of a qualified name, with dots between them.
+///
+/// # Errors
+/// There is no memory for it.
+#[tactic(auto, using(crate::proofs::Dotted::dotted_first))]
+pub(crate) fn joined(alloc: Global, parts: &[Text]) -> Result<Text, AllocError>
+    ensures { IfOk result (λ full. full ≡ dotted parts.now) }
+{
+    let mut full = String::new(alloc);
+    if let Some((first, others)) = parts.split_first() {
+        full.push_str(first.as_str())?;
+        push_parts(&mut full, others)?;
+    }
+    Ok(Text::from_string(full))
+}
+
+/// Each part goes last, after a dot.
+///
+/// # Errors
+/// There is no memory for it.
+fn push_parts(full: &mut String, parts: &[Text]) -> Result<(), AllocError>
+    ensures { OnOk result (full.new ≡ full.old ++ each_after_dot parts.now) }
+{
+    for part in parts {
+        full.push_str(".")?;
+        full.push_str(part.as_str())?;
+    }
+    Ok(())
+}
+
+/// A copy of the parts.
+///
+/// # Errors
+/// There is no memory for it.
+pub(crate) fn copied(alloc: Global, parts: &Names) -> Result<Names, AllocError>
+    ensures { IfOk result (λ copy. copy ≡ parts.now) }
+{
+    let mut copies = Vec::new(alloc);
+    for part in parts.as_slice() {
+        copies.push(part.try_clone(alloc)?)?;
+    }
+    Ok(List::from_vec(copies))
+}
+
+/// One part.
+///
+/// # Errors
+/// There is no memory for it.
+pub(crate) fn alone(alloc: Global, part: Text) -> Result<Names, AllocError>
+    ensures { IfOk result (λ parts. parts ≡ part ∷ []) }
+{
+    let mut parts = Vec::new(alloc);
+    parts.push(part)?;
+    Ok(List::from_vec(parts))
 }

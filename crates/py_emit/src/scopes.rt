@@ -12,7 +12,7 @@ ghost use Rattle.py_emit.specs.States.{IsFirst, flagged_code, head_in, shape_of}
 
 use crate::context::{EmitContext, ScopeHead};
 use bitflags::Flags;
-use py_base::{OneIndexed, Text};
+use py_base::{Names, OneIndexed, Text};
 use py_bytecode::{CodeFlags, CodeObject};
 use py_ir::{ConstantSet, FinalizeError, FlatBlocks, FlatCode, NameSet};
 use py_scope::{FlatScopes, Symbol, SymbolFlags, SymbolScope, SymbolTableType, Symbols};
@@ -28,8 +28,8 @@ pub struct OpenScope {
     pub(crate) here: usize,
     /// The innermost class, by which names are mangled.
     pub(crate) class: Option<Text>,
-    /// The qualified name of what stands around the names of this scope.
-    pub(crate) path: Text,
+    /// The parts of the qualified name of what stands around the names of this scope.
+    pub(crate) path: Names,
     pub(crate) context: EmitContext,
 }
 

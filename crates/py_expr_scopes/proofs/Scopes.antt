@@ -69,7 +69,7 @@ module _ (typ : SymbolTableType) (n : Naming) (h : Shape) (first entry : Emitter
       → (x.error ≢ error.OutOfMemory → run body (state entry) ≡ Refused x.error x.location) → Gives r s (λ k. run (inner_child body k) (state first))
   refused_gives body r x s e why = subst (λ y. Gives y s (λ k. run (inner_child body k) (state first))) (sym e) (λ k ne. child_refused (λ c m. inside typ m (named_in n c)) h body k (state first) x.error x.location (ap (run body) (sym begins) ∙ why ne))
 
-  module _ (last after : Emitter) (into : rest entry ≡ entered_rest first.scope (code_head (nested_context typ n (state first)) h (state first).location) (rest first)) (same : rest last ≡ rest entry) where
+  module _ (last after : Emitter) (into : rest entry ≡ entered_rest n first.scope (code_head (nested_context typ n (state first)) h (state first).location) (rest first)) (same : rest last ≡ rest entry) where
     -- it is left, and what follows goes on with its code object
     pub left_gives : (body : Emission) (r : Result CodeObject (LocatedError CodegenErrorType)) → run body (state entry) ≡ Done (state last)
         → IfOk r (λ code. object code ≡ assembled_object (rest last).opts.optimize (rest last).head (state last))

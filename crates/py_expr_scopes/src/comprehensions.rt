@@ -90,7 +90,7 @@ pub fn scope_name(element: &ComprehensionElement<'_>) -> &'static str
 /// OutOfMemory alone.
 pub fn enter_comprehension(em: &mut Emitter, name: Text) -> Result<(), CodegenError>
     ensures state { OnOk result (state em.new ≡ initial_state (nested_context SymbolTableType.Comprehension Naming.AsAround (state em.old)) (state em.old).location (suc (state em.old).next)) }
-    ensures rest { OnOk result (rest em.new ≡ entered_rest em.old.scope (code_head (nested_context SymbolTableType.Comprehension Naming.AsAround (state em.old)) (comprehension_shape name) (state em.old).location) (rest em.old)) }
+    ensures rest { OnOk result (rest em.new ≡ entered_rest Naming.AsAround em.old.scope (code_head (nested_context SymbolTableType.Comprehension Naming.AsAround (state em.old)) (comprehension_shape name) (state em.old).location) (rest em.old)) }
     ensures err { IfErr result (λ e. IsStarved e (rest em.old).path) }
 {
     let head = ScopeHead {

@@ -60,7 +60,7 @@ pub fn enter_function(
     naming: Naming,
 ) -> Result<(), CodegenError>
     ensures state { OnOk result (state em.new ≡ initial_state (nested_context SymbolTableType.Function naming (state em.old)) (state em.old).location (suc (state em.old).next)) }
-    ensures rest { OnOk result (rest em.new ≡ entered_rest em.old.scope (code_head (nested_context SymbolTableType.Function naming (state em.old)) (function_shape (arguments expr_tree params.now) name) (state em.old).location) (rest em.old)) }
+    ensures rest { OnOk result (rest em.new ≡ entered_rest naming em.old.scope (code_head (nested_context SymbolTableType.Function naming (state em.old)) (function_shape (arguments expr_tree params.now) name) (state em.old).location) (rest em.old)) }
     ensures err { IfErr result (λ e. IsStarved e (rest em.old).path) }
 {
     let head = function_head(em, params, name)?;

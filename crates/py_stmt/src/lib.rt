@@ -12,5 +12,5 @@ mod statements;
 mod tries;
 mod withs;
 
-pub use futures::{compile_file, compile_prompt, compile_whole_block};
+pub use futures::{compile_file, compile_placed, compile_prompt, compile_whole_block};
 pub use statements::compile_statements;

@@ -1,8 +1,9 @@
 -- Future imports that stand before other statements, one after another, and what is restored after statements.
-use Rattle.std.proofs.Common.{◌≡◌, ℕ, suc, ◌+◌, ◌-◌, ◌<◌, List, [], ◌∷◌, length, drop, take, get_or, Bool, true, false, Option, Some, None, Result, Err, refl, sym, ap, ◌∙◌, subst, arith}
+use Rattle.std.proofs.Common.{◌≡◌, ℕ, zero, suc, ◌+◌, ◌-◌, ◌<◌, ◌≤◌, List, [], ◌∷◌, length, drop, take, get_or, Bool, true, false, ◌||◌, Option, Some, None, Result, Err, refl, sym, ap, ◌∙◌, subst, arith}
+use Rattle.std.proofs.lemmas.Bool.{le-ltb, lt-ltb}
 use Rattle.std.proofs.Math.Seq.{drop-cons}
 use Rattle.std.proofs.lemmas.List.{length-drop, take_all}
-use Rattle.std.specs.Prelude.{IfNone, if◌then◌else◌}
+use Rattle.std.specs.Prelude.{IfNone, if◌then◌else◌, nat_lt}
 use Rattle.py_base.proofs.Numbers.{suc_is_plus_one}
 use Rattle.py_base.specs.declared.location.LocatedError.{LocatedError}
 use Rattle.py_tree.specs.Tree as tree
@@ -18,7 +19,7 @@ use Rattle.py_emission.specs.Futures.{Future, future_of, is_feature, postpones}
 use Rattle.py_emit.specs.States.{Rest, rest, state}
 use Rattle.py_emit.specs.declared.emitter.Emitter.{Emitter}
 use Rattle.py_emit.proofs.Joined.{done_same, went}
-use Rattle.py_stmt_parts.specs.Futures.{Entered, IsRefusing, Leads, Opens, changed_rest, restore_postponed, restored_state}
+use Rattle.py_stmt_parts.specs.Futures.{BeginsOtherwise, Entered, IsRefusing, Leads, Opens, changed_rest, has_other, opens_postponed, restore_postponed, restored_state}
 use Rattle.py_stmt_parts.specs.declared.futures.Opening.{Opening}
 
 abbrev pub flag : State → Bool
@@ -82,6 +83,67 @@ future_here emission all i d f lt e =
     ap (λ xs. emission_behind emission (stmts stmt_tree xs)) (drop-cons all i d lt)
     ∙ future_first emission (stmt_tree (get_or all i d)) (stmts stmt_tree (drop (suc i) all)) f e
     ∙ ap (λ j. emission_of_future f ▸ after_future_import f (emission_behind emission (stmts stmt_tree (drop j all)))) (suc_is_plus_one i)
+
+-- whether another statement stands after it, and whether one of those that stand first postpones annotations
+pub others_next : (all : List Stmt) (i : ℕ) (d : Stmt) (f : Future) → i < length all → future_of (stmt_tree (get_or all i d)) ≡ Some f
+    → has_other (stmts stmt_tree (drop i all)) ≡ has_other (stmts stmt_tree (drop (i + 1) all))
+others_next all i d f lt e =
+    ap (λ xs. has_other (stmts stmt_tree xs)) (drop-cons all i d lt)
+    ∙ ap (λ (o : Option Future). elim o [ None ↦ true | Some g ↦ has_other (stmts stmt_tree (drop (suc i) all)) ]) e
+    ∙ ap (λ j. has_other (stmts stmt_tree (drop j all))) (suc_is_plus_one i)
+
+opening_next : (all : List Stmt) (i : ℕ) (d : Stmt) (f : Future) → i < length all → future_of (stmt_tree (get_or all i d)) ≡ Some f
+    → opens_postponed (stmts stmt_tree (drop i all)) ≡ (postpones f || opens_postponed (stmts stmt_tree (drop (i + 1) all)))
+opening_next all i d f lt e =
+    ap (λ xs. opens_postponed (stmts stmt_tree xs)) (drop-cons all i d lt)
+    ∙ ap (λ (o : Option Future). elim o [ None ↦ false | Some g ↦ postpones g || opens_postponed (stmts stmt_tree (drop (suc i) all)) ]) e
+    ∙ ap (λ j. postpones f || opens_postponed (stmts stmt_tree (drop j all))) (suc_is_plus_one i)
+
+moved_over : (c p r : Bool) → (c || (p || r)) ≡ ((if p then true else c) || r)
+moved_over true true r = refl
+moved_over true false r = refl
+moved_over false true r = refl
+moved_over false false r = refl
+
+pub postponed_next : (all : List Stmt) (i : ℕ) (d : Stmt) (f : Future) (before after : Bool) → i < length all → future_of (stmt_tree (get_or all i d)) ≡ Some f
+    → after ≡ (if postpones f then true else before)
+    → (before || opens_postponed (stmts stmt_tree (drop i all))) ≡ (after || opens_postponed (stmts stmt_tree (drop (i + 1) all)))
+postponed_next all i d f before after lt e h =
+    ap (λ (b : Bool). before || b) (opening_next all i d f lt e)
+    ∙ moved_over before (postpones f) (opens_postponed (stmts stmt_tree (drop (i + 1) all)))
+    ∙ ap (λ (b : Bool). b || opens_postponed (stmts stmt_tree (drop (i + 1) all))) (sym h)
+
+-- where no future import follows
+pub others_last : (all : List Stmt) (i : ℕ) → i ≤ length all → BeginsOtherwise (drop i all) → has_other (stmts stmt_tree (drop i all)) ≡ nat_lt i (length all)
+others_last [] zero l h = sym (le-ltb 0 0 (omega arith))
+others_last [] (suc i) l h = absurd (omega (arith, l))
+others_last (s ∷ ss) zero l h =
+    ap (λ (o : Option Future). elim o [ None ↦ true | Some f ↦ has_other (stmts stmt_tree ss) ]) h ∙ sym (lt-ltb 0 (length (s ∷ ss)) (omega arith))
+others_last (s ∷ ss) (suc i) l h = others_last ss i (omega (arith, l)) h ∙ below i (length ss)
+  where
+    below : (a b : ℕ) → nat_lt a b ≡ nat_lt (suc a) (suc b)
+    below a b = grind arith
+
+pub opens_last : (ss : List Stmt) → BeginsOtherwise ss → opens_postponed (stmts stmt_tree ss) ≡ false
+opens_last [] h = refl
+opens_last (s ∷ ss) h = ap (λ (o : Option Future). elim o [ None ↦ false | Some f ↦ postpones f || opens_postponed (stmts stmt_tree ss) ]) h
+
+or_none : (b c : Bool) → c ≡ false → (b || c) ≡ b
+or_none true c e = refl
+or_none false c e = e
+
+pub postponed_last : (c : Bool) (ss : List Stmt) → BeginsOtherwise ss → (c || opens_postponed (stmts stmt_tree ss)) ≡ c
+postponed_last c ss h = or_none c (opens_postponed (stmts stmt_tree ss)) (opens_last ss h)
+
+-- no statement, or one that is no future import, begins these
+pub begins_otherwise : (all : List Stmt) (i : ℕ) (s : Stmt) → i < length all → s ≡ get_or all i s → future_of (stmt_tree s) ≡ None → BeginsOtherwise (drop i all)
+begins_otherwise all i s lt is h = subst BeginsOtherwise (sym (drop-cons all i s lt)) (ap (λ (t : Stmt). future_of (stmt_tree t)) (sym is) ∙ h)
+
+pub begins_empty : (all : List Stmt) (i : ℕ) → i ≡ length all → BeginsOtherwise (drop i all)
+begins_empty [] zero e = tt
+begins_empty [] (suc i) e = absurd (omega (arith, e))
+begins_empty (s ∷ ss) zero e = absurd (omega (arith, e))
+begins_empty (s ∷ ss) (suc i) e = begins_empty ss i (omega (arith, e))
 
 -- a statement, where there is one
 pub future_import_one_of : (xs : List Stmt) (i : ℕ) → i < length xs → Stmt

@@ -1,5 +1,5 @@
 -- What is left to emit after future imports.
-use Rattle.std.specs.Prelude.{◌≡◌, ◌≢◌, ℕ, List, Bool, true, Result, Ok, Err, drop, if◌then◌else◌}
+use Rattle.std.specs.Prelude.{◌≡◌, ◌≢◌, ℕ, ◌||◌, List, [], ◌∷◌, Bool, true, false, Some, None, Result, Ok, Err, drop, if◌then◌else◌}
 use Rattle.py_base.specs.declared.location.LocatedError.{LocatedError}
 use Rattle.py_tree.specs.Tree as tree
 use Rattle.py_tree.specs.View.{stmt_tree, stmts}
@@ -8,11 +8,15 @@ use Rattle.py_tree.specs.declared.statements.StmtImportFrom.{StmtImportFrom}
 use Rattle.py_base.specs.declared.errors.CodegenErrorType.{CodegenErrorType}
 use Rattle.py_base.specs.declared.errors.CodegenErrorType.TheVariants as error
 use Rattle.py_emission.specs.Emission.{emission}
-use Rattle.py_emission_parts.specs.Emitting.{Done, Emission, Outcome, Refused, State, with_postponed}
+use Rattle.py_tree.specs.declared.statements.Alias.{Alias}
+use Rattle.py_emission_parts.specs.Emitting.{Done, Emission, Outcome, Refused, State, refuse, with_postponed}
 use Rattle.py_emission_parts.specs.Running.{Action, on_done, run}
-use Rattle.py_emission.specs.EmissionFutures.{emission_behind}
-use Rattle.py_emission.specs.Futures.{Future}
-use Rattle.py_emit.specs.States.{Rest, postponed_rest}
+use Rattle.py_emission.specs.EmissionFutures.{check_features, emission_behind}
+use Rattle.py_emission.specs.EmissionStmts.{emission_of_stmts}
+use Rattle.py_emission.specs.Futures.{Future, future_of, postpones}
+use Rattle.py_emit.specs.States.{Goes, Rest, Same, postponed_rest, rest, state, told_rest}
+use Rattle.py_emit.specs.declared.context.EmitContext.{EmitContext}
+use Rattle.py_emit.specs.declared.emitter.Emitter.{Emitter}
 use Rattle.py_stmt_parts.specs.declared.futures.Opening.{Opening}
 
 -- a future import
@@ -58,3 +62,40 @@ Opens (Err x) s m all = (emission : tree.Stmts → Emission) → x.error ≢ err
 -- no future import begins these statements
 abbrev pub NoFuture : List Stmt → Type 0
 NoFuture all = (emission : tree.Stmts → Emission) → emission_behind emission (stmts stmt_tree all) ≡ emission (stmts stmt_tree all)
+
+-- these statements begin with another statement, or there is none
+abbrev pub BeginsOtherwise : List Stmt → Type 0
+BeginsOtherwise [] = Unit {0}
+BeginsOtherwise (s ∷ ss) = future_of (stmt_tree s) ≡ None
+
+-- another statement than a future import stands there
+abbrev pub has_other : tree.Stmts → Bool
+has_other tree.no_stmts = false
+has_other (tree.more_stmts s ss) = elim (future_of s) [ None ↦ true | Some f ↦ has_other ss ]
+
+-- one of the future imports that stand first postpones annotations
+abbrev pub opens_postponed : tree.Stmts → Bool
+opens_postponed tree.no_stmts = false
+opens_postponed (tree.more_stmts s ss) = elim (future_of s) [ None ↦ false | Some f ↦ postpones f || opens_postponed ss ]
+
+-- what the enclosing code says after statements: behind another statement no future import may stand
+abbrev pub context_after : EmitContext → tree.Stmts → EmitContext
+context_after x ss = if x.future_over then x else record x { future_over = has_other ss; future_annotations = x.future_annotations || opens_postponed ss }
+
+-- statements where a future import may stand, and where none may
+abbrev pub emission_placed : (over : Bool) → tree.Stmts → Emission
+emission_placed over ss = if over then emission_of_stmts ss else emission_behind emission_of_stmts ss
+
+-- what is taken from the future
+abbrev pub emission_of_features : (over : Bool) → List Alias → Emission
+emission_of_features over names = if over then refuse error.InvalidFuturePlacement else check_features names
+
+-- what is done, and then annotations are postponed or not
+abbrev pub postponed_after : (postponed : Bool) → Outcome → Outcome
+postponed_after p o = on_done o (λ s. Done (with_postponed p s))
+
+-- a call emits this, and the enclosing code says that after it: where the call is Ok, it has come from the state before to the one after, and
+-- the rest is as it was but for that; where it is not, the emission is refused so, and the error names the path, unless memory is wanting
+pub record EmitsInto {A : Type 0} (r : Result A (LocatedError CodegenErrorType)) (a : Emission) (x : EmitContext) (before after : Emitter) : Type 0 where
+  pub goes : Goes r (state after) (postponed_after x.future_annotations (run a (state before)))
+  pub same : Same r (rest after) (told_rest x (rest before))

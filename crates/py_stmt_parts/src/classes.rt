@@ -42,7 +42,7 @@ pub fn make_class(
 /// OutOfMemory alone.
 pub fn enter_class(em: &mut Emitter, name: &str, path: Text) -> Result<(), CodegenError>
     ensures state { OnOk result (state em.new ≡ initial_state (nested_context SymbolTableType.Class (Naming.Class name.now path) (state em.old)) (state em.old).location (suc (state em.old).next)) }
-    ensures rest { OnOk result (rest em.new ≡ entered_rest em.old.scope (code_head (nested_context SymbolTableType.Class (Naming.Class name.now path) (state em.old)) (class_shape name.now) (state em.old).location) (rest em.old)) }
+    ensures rest { OnOk result (rest em.new ≡ entered_rest (Naming.Class name.now path) em.old.scope (code_head (nested_context SymbolTableType.Class (Naming.Class name.now path) (state em.old)) (class_shape name.now) (state em.old).location) (rest em.old)) }
     ensures err { IfErr result (λ e. IsStarved e (rest em.old).path) }
 {
     let obj_name = em.text(name)?;

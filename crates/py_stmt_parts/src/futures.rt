@@ -1,12 +1,12 @@
 //! Imports from the future, which stand before all other statements.
-ghost use Rattle.std.specs.Prelude.{◌≡◌, ◌≤◌, ◌<◌, Some, None, [], ◌∷◌, drop, get_or, length, IfErr, IfNone, IfOk, IfSome, if◌then◌else◌};
-ghost use Rattle.py_tree.specs.View.{stmt_tree};
+ghost use Rattle.std.specs.Prelude.{◌≡◌, ◌≤◌, ◌<◌, Some, None, [], ◌∷◌, drop, get_or, length, nat_lt, IfErr, IfNone, IfOk, IfSome, if◌then◌else◌};
+ghost use Rattle.py_tree.specs.View.{stmt_tree, stmts};
 ghost use Rattle.py_name_uses.specs.Parts.{names_annotations};
 ghost use Rattle.py_emission.specs.EmissionFutures.{check_features, emission_of_future};
 ghost use Rattle.py_emission.specs.Futures.{future_of, is_feature};
 ghost use Rattle.py_emission_parts.specs.Running.{run};
 ghost use Rattle.py_emit.specs.States.{Emits, IsTold, postponed_rest, rest, state};
-ghost use Rattle.py_stmt_parts.specs.Futures.{AreChanged, Entered, IsRefusing, NoFuture, Opens, changed_rest, future, restored_state};
+ghost use Rattle.py_stmt_parts.specs.Futures.{AreChanged, BeginsOtherwise, Entered, IsRefusing, NoFuture, Opens, changed_rest, future, has_other, opens_postponed, restored_state};
 
 use crate::imports::import_from;
 use py_base::{CodegenError, CodegenErrorType};
@@ -43,6 +43,8 @@ pub fn restore(em: &mut Emitter, changed: bool, before: bool)
 pub fn compile_futures(em: &mut Emitter, body: &[Stmt]) -> Result<Opening, CodegenError>
     ensures opens { Opens result (state em.old) (state em.new) body.now }
     ensures within { IfOk result (λ o. o.count ≤ length body.now) }
+    ensures others { IfOk result (λ o. has_other (stmts stmt_tree body.now) ≡ nat_lt o.count (length body.now)) }
+    ensures postponed { IfOk result (λ o. opens_postponed (stmts stmt_tree body.now) ≡ o.postponed) }
     ensures rest { IfOk result (λ o. rest em.new ≡ changed_rest o.postponed (rest em.old)) }
     ensures told { IfErr result (λ e. IsTold e (rest em.old).path) }
 {
@@ -82,6 +84,7 @@ pub fn enter_future(
 fn future_at(body: &[Stmt], place: usize) -> Option<&StmtImportFrom>
     requires { place ≤ length body.now }
     ensures none { IfNone result (NoFuture (drop place body.now)) }
+    ensures first { IfNone result (BeginsOtherwise (drop place body.now)) }
     ensures within { IfSome result (λ s. place < length body.now) }
     ensures is { IfSome result (λ s. (d : Stmt) → future_of (stmt_tree (get_or body.now place d)) ≡ Some (future s.now)) }
 {

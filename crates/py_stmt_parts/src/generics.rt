@@ -141,7 +141,7 @@ fn load_if(em: &mut Emitter, name: &str, handed: bool) -> Result<(), CodegenErro
 /// OutOfMemory alone.
 pub fn enter_hidden(em: &mut Emitter, name: &str, count: u32) -> Result<(), CodegenError>
     ensures state { OnOk result (state em.new ≡ initial_state (nested_context SymbolTableType.TypeParams Naming.AsAround (state em.old)) (state em.old).location (suc (state em.old).next)) }
-    ensures rest { OnOk result (rest em.new ≡ entered_rest em.old.scope (code_head (nested_context SymbolTableType.TypeParams Naming.AsAround (state em.old)) (hidden_shape count name.now) (state em.old).location) (rest em.old)) }
+    ensures rest { OnOk result (rest em.new ≡ entered_rest Naming.AsAround em.old.scope (code_head (nested_context SymbolTableType.TypeParams Naming.AsAround (state em.old)) (hidden_shape count name.now) (state em.old).location) (rest em.old)) }
     ensures err { IfErr result (λ e. IsStarved e (rest em.old).path) }
 {
     let obj_name = hidden_text(em, name)?;

@@ -8,6 +8,7 @@ use Rattle.py_emission_parts.specs.Within.{lambda_inside}
 use Rattle.py_emission.specs.Parameters.{function_shape, parameters}
 use Rattle.py_emit.specs.States.{entered_rest, rest, state}
 use Rattle.py_emit.specs.declared.emitter.Emitter.{Emitter}
+use Rattle.py_emit.specs.declared.context.Naming.TheVariants as naming
 use Rattle.py_calls.proofs.functions.enter_function.Goals as goal
 
 pub returns-clause-entered : goal.returns-clause-entered
@@ -21,5 +22,5 @@ returns-clause-entered c =
       opened = ap (run (enter_parameters (parameters p) ▸ add_constant const.none)) (sym c.in_ok-enter_function.ensures.state) ∙ c.in_ok-begin_function.ensures.goes;
       waits =
           c.in_ok-begin_function.ensures.same ∙ c.in_ok-enter_function.ensures.rest
-          ∙ ap (λ n. entered_rest e.scope (code_head (lambda_inside (state e).around.context (state e).next) (function_shape p n) (state e).location) (rest e)) c.in_ok-name.ensures.data;
+          ∙ ap (λ n. entered_rest naming.AsAround e.scope (code_head (lambda_inside (state e).around.context (state e).next) (function_shape p n) (state e).location) (rest e)) c.in_ok-name.ensures.data;
     }

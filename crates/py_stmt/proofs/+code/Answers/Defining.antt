@@ -37,10 +37,10 @@ use Rattle.py_stmt.proofs.+code.Goals as goal
 
 -- what is kept on entering, by the parameters as the tree has them
 defining_shaped : (n : Naming) (first : Emitter) (name : List ℕ) (p q : ArgumentsOf Expr) (r : Rest)
-    → r ≡ entered_rest first.scope (code_head (nested_context kind.Function n (state first)) (function_shape (arguments expr_tree p) name) (state first).location) (rest first)
+    → r ≡ entered_rest n first.scope (code_head (nested_context kind.Function n (state first)) (function_shape (arguments expr_tree p) name) (state first).location) (rest first)
     → p ≡ q
-    → r ≡ entered_rest first.scope (code_head (nested_context kind.Function n (state first)) (function_shape (arguments expr_tree q) name) (state first).location) (rest first)
-defining_shaped n first name p q r is same = is ∙ ap (λ (x : ArgumentsOf Expr). entered_rest first.scope (code_head (nested_context kind.Function n (state first)) (function_shape (arguments expr_tree x) name) (state first).location) (rest first)) same
+    → r ≡ entered_rest n first.scope (code_head (nested_context kind.Function n (state first)) (function_shape (arguments expr_tree q) name) (state first).location) (rest first)
+defining_shaped n first name p q r is same = is ∙ ap (λ (x : ArgumentsOf Expr). entered_rest n first.scope (code_head (nested_context kind.Function n (state first)) (function_shape (arguments expr_tree x) name) (state first).location) (rest first)) same
 
 pub defining_scope_left : goal.functions::compile_function_scope-returns
 defining_scope_left t c =

@@ -27,10 +27,10 @@ use Rattle.py_stmt.proofs.+code.Goals as goal
 
 -- what is kept on entering, by the name and the count as they are meant
 hidden_shaped : (first : Emitter) (name other : List ℕ) (n m : ℕ) (r : Rest)
-    → r ≡ entered_rest first.scope (code_head (nested_context kind.TypeParams naming.AsAround (state first)) (hidden_shape n name) (state first).location) (rest first)
+    → r ≡ entered_rest naming.AsAround first.scope (code_head (nested_context kind.TypeParams naming.AsAround (state first)) (hidden_shape n name) (state first).location) (rest first)
     → name ≡ other → n ≡ m
-    → r ≡ entered_rest first.scope (code_head (nested_context kind.TypeParams naming.AsAround (state first)) (hidden_shape m other) (state first).location) (rest first)
-hidden_shaped first name other n m r is same many = is ∙ (λ i. entered_rest first.scope (code_head (nested_context kind.TypeParams naming.AsAround (state first)) (hidden_shape (many i) (same i)) (state first).location) (rest first))
+    → r ≡ entered_rest naming.AsAround first.scope (code_head (nested_context kind.TypeParams naming.AsAround (state first)) (hidden_shape m other) (state first).location) (rest first)
+hidden_shaped first name other n m r is same many = is ∙ (λ i. entered_rest naming.AsAround first.scope (code_head (nested_context kind.TypeParams naming.AsAround (state first)) (hidden_shape (many i) (same i)) (state first).location) (rest first))
 
 pub hidden_scope_left : goal.functions::compile_hidden_scope-returns
 hidden_scope_left t c =

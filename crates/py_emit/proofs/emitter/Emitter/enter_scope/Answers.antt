@@ -6,6 +6,7 @@ use Rattle.py_emission_parts.specs.Running.{code_head}
 use Rattle.py_emission_parts.specs.Context.{inside}
 use Rattle.py_emission_parts.specs.Emitting.{initial_state}
 use Rattle.py_emit.specs.States.{entered_rest, rest, shape_of, state}
+use Rattle.py_emit.specs.declared.context.Naming.TheVariants as naming
 use Rattle.py_emit.proofs.TableDropLemmas.{typ_is}
 use Rattle.py_emit.proofs.emitter.Emitter.enter_scope.Goals as goal
 
@@ -27,6 +28,6 @@ pub returns-clause-rest : goal.returns-clause-rest
 returns-clause-rest g c =
     let e = c.args.self.now in
     let here = subst (λ n. typ_at e.scopes n ≡ Some c.typ-typ.result) c.next_scope-number.ensures c.typ-typ.ensures in
-    subst (λ (typ : SymbolTableType). OnOk c.open_scope.result (rest c.open_scope.new.self ≡ entered_rest e.scope (code_head (inside typ e.next (state e).around.context) (shape_of c.args.head) e.location) (rest e)))
+    subst (λ (typ : SymbolTableType). OnOk c.open_scope.result (rest c.open_scope.new.self ≡ entered_rest naming.AsAround e.scope (code_head (inside typ e.next (state e).around.context) (shape_of c.args.head) e.location) (rest e)))
     (sym (typ_is e.scopes e.next c.typ-typ.result here))
     c.open_scope.ensures.rest

@@ -20,6 +20,7 @@ returns-clause-rest c =
     let e = c.args.self.now in
     let after = c.replace-around.ensures.after in
     let context = ap (λ (o : OpenScope). o.context) after ∙ c.in-Ok.ensures.context in
+    let parts = ap (λ (o : OpenScope). o.path) after ∙ c.in-Ok.ensures.parts in
     let head = ap (λ (o : OpenScope). head_of o.code) after ∙ c.in-Ok.ensures.head ∙ head_within (source_of e) e.scope c.args.naming c.args.typ e.next (shape_of c.args.head) e.location in
     let outer = c.in-Ok-push_scope.ensures ∙ ap (λ (o : OpenScope). e.outer.items ++ o ∷ []) c.replace-around.ensures.value in
-    λ i. record { opts = e.opts; context = context i; path = e.source_path; scopes = e.scopes; head = head i; outer = outer i }
+    λ i. record { opts = e.opts; context = context i; parts = parts i; path = e.source_path; scopes = e.scopes; head = head i; outer = outer i }

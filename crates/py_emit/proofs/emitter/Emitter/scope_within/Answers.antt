@@ -12,5 +12,5 @@ returns-clause-state c at next =
     let f = c.in_ok-code.ensures in
     let o : OpenScope = record { code = c.in_ok-code.code; generator = false; typ = c.args.typ; here = c.args.number; class = c.in_ok-class.class; path = c.in_ok-class.path; context = unlooped_context e.scope.context } in
     begun_state (source_of e) o _ _ at next f refl
-    (context_within (source_of e) e.scope o c.args.naming c.args.number c.in_ok-class.ensures.class c.in_ok-class.ensures.path refl refl (ap (λ (h : Head). h.cellvars) f.head) (ap (λ (h : Head). h.freevars) f.head))
+    (context_within (source_of e) e.scope o c.args.naming c.args.number c.in_ok-class.ensures.class c.in_ok-class.ensures.parts refl refl (ap (λ (h : Head). h.cellvars) f.head) (ap (λ (h : Head). h.freevars) f.head))
     refl
