@@ -36,7 +36,7 @@ fn emitter(alloc: Global, program: &Mod) -> Result<Emitter, Failure>
     Ok(Emitter::new(alloc, CompileOpts::default(), path, table)?)
 }
 
-/// Takes the instructions of the current block out, the last first, and tells each with its operand.
+/// Takes the instructions of the current block out, the last first, and gives each with its operand.
 fn take_all(em: &mut Emitter, words: &mut String) -> Result<(), AllocError> {
     for _ in 0..32 {
         match em.take_last() {
@@ -72,7 +72,7 @@ fn comprehend(em: &mut Emitter, expr: &Expr) -> Result<(), CodegenError> {
     compile_comprehension(em, parts)
 }
 
-/// Makes a call that is handed an expression, and tells what it answers beside what it emits.
+/// Makes a call that is handed an expression, and says what it answers beside what it emits.
 fn call_on_expr(
     alloc: Global,
     em: &mut Emitter,

@@ -1,5 +1,5 @@
 //! Calls on a tree: what each emits, and what is said of the tree and of its parts. Each line of standard input is a question
-//! and the rows of a tree; on standard output the answer stands in its place. A line that begins with `#` is copied: it tells
+//! and the rows of a tree; on standard output the answer stands in its place. A line that begins with `#` is copied: it gives
 //! what follows.
 #![tactic(auto)]
 

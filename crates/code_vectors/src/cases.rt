@@ -91,9 +91,9 @@ impl Place {
                 code.constants = only(alloc, ConstantData::Tuple { elements })?;
             }
             Place::WithinCode => {
-                let code_within = mem::replace(&mut code, read_code(alloc, bytes)?);
-                let code_within = Box::new(alloc, code_within)?;
-                code.constants = only(alloc, ConstantData::Code { code: code_within })?;
+                let nested_code = mem::replace(&mut code, read_code(alloc, bytes)?);
+                let nested_code = Box::new(alloc, nested_code)?;
+                code.constants = only(alloc, ConstantData::Code { code: nested_code })?;
             }
         }
         Ok(code)

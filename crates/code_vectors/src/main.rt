@@ -1,5 +1,5 @@
 //! What is said of codes. Each line of standard input has a question about the code of a file; on standard output the answer
-//! stands in its place. A line that begins with `#` is copied: it tells what follows.
+//! stands in its place. A line that begins with `#` is copied: it says what follows.
 #![tactic(auto)]
 
 mod answers;

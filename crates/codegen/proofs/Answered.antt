@@ -19,7 +19,7 @@ use Rattle.py_meaning.specs.Faults.{faults}
 use Rattle.py_meaning.specs.Meaning.{body}
 use Rattle.py_meaning.specs.Scanned.{scan_faults, scopes_of}
 use Rattle.py_emit.specs.Emitted.{IsEmitted}
-use Rattle.py_emit.specs.States.{IsTold}
+use Rattle.py_emit.specs.States.{IsReported}
 use Rattle.py_emission_proof.proofs.Additions.Codes.{Ground, MadeFrom}
 use Rattle.py_emission_proof.proofs.Additions.CodeNameLemmas.{IsMadeSo, Named}
 use Rattle.py_emission_proof.proofs.Additions.WellMade.{WellMade, everywhere_so}
@@ -28,7 +28,7 @@ use Rattle.py_scope_proof.specs.Captures.{CapturesCells}
 use Rattle.py_scope_proof.proofs.CellBinding.CaptureLemmas.{captures_cells}
 use Rattle.py_scope_proof.proofs.CellLoads.CellLoadLemmas.{tree_loads_few}
 use Rattle.codegen.specs.Calls.{IsChecked, IsCompiled, IsWhole}
-use Rattle.codegen.specs.Compiled.{IsFirst, IsScanned, ScopesFollow, around_tree}
+use Rattle.codegen.specs.Compiled.{IsFirst, IsScanned, ScopesFollow, tree_context}
 use Rattle.codegen.proofs.AssembledCodeLemmas.{made_from_scope}
 use Rattle.codegen.proofs.DistinctTables.{distinct_names}
 use Rattle.codegen.proofs.Heights.{no_higher}
@@ -81,7 +81,7 @@ ok_with : {T E : Type 0} (r : Result T E) (P : T → Type 0) (R : Type 0) (Q : T
 ok_with (Ok x) P R Q f p q = f x p q
 ok_with (Err e) P R Q f p q = p
 
--- what is made from the scope of a tree agrees with it, and so does each code object within it
+-- what is made from the scope of a tree agrees with it, and so does each code object nested in it
 agree : (ground : Ground) (o : Object) (s : Scope) → MadeFrom ground (o, s) → Agree o s
 agree ground o s h n = (objects_agree n o s (h.from n)).1
 
@@ -89,34 +89,37 @@ agree_full : (ground : Ground) (o : Object) (s : Scope) → MadeFrom ground (o, 
 agree_full ground o s h n = (objects_agree n o s (h.from n)).0
 
 -- a whole tree whose scopes were met, and which was emitted or refused
-module _ (r : Result CodeObject (LocatedError CodegenErrorType)) (t : tree.Mod) (path : List ℕ) (m : Mode) (l : ℕ) (w : IsWhole t m) (e : IfOk r (λ code. IsEmitted code (around_tree t path l) (emission_outcome t m (around_tree t path l)))) (clean : OnOk r (scan_faults t ≡ [])) where
+module _ (r : Result CodeObject (LocatedError CodegenErrorType)) (t : tree.Mod) (path : List ℕ) (m : Mode) (l : ℕ) (w : IsWhole t m)
+    (e : IfOk r (λ code. IsEmitted code (tree_context t path l) (emission_outcome t m (tree_context t path l))))
+    (clean : OnOk r (scan_faults t ≡ [])) where
   abbrev scope : Scope
   scope = body (scopes_of t) t m l
 
   abbrev ground : Ground
   ground = (path, scopes_of t)
 
-  abbrev answered_around : Context
-  answered_around = around_tree t path l
+  abbrev answered_context : Context
+  answered_context = tree_context t path l
 
   answered_faultless : OnOk r (faults t m l ≡ [])
-  answered_faultless = ok_both r (λ code. IsEmitted code (around_tree t path l) (emission_outcome t m (around_tree t path l))) (scan_faults t ≡ []) (faults t m l ≡ []) (λ code e z. emitted_clean code path t m l w z e) e clean
+  answered_faultless = ok_both r (λ code. IsEmitted code (tree_context t path l) (emission_outcome t m (tree_context t path l)))
+      (scan_faults t ≡ []) (faults t m l ≡ []) (λ code e z. emitted_clean code path t m l w z e) e clean
 
   -- what holds of a code object that is made from the scope of a tree
   made_so : (Q : Object → Type 0) → ((o : Object) → MadeFrom ground (o, scope) → Q o) → IfOk r (λ code. Q (object code))
   made_so Q f = go r e answered_faultless
     where
       go : (x : Result CodeObject (LocatedError CodegenErrorType))
-          → IfOk x (λ code. IsEmitted code (around_tree t path l) (emission_outcome t m (around_tree t path l))) → OnOk x (faults t m l ≡ [])
+          → IfOk x (λ code. IsEmitted code (tree_context t path l) (emission_outcome t m (tree_context t path l))) → OnOk x (faults t m l ≡ [])
           → IfOk x (λ code. Q (object code))
       go (Ok code) p q = f (object code) (made_from_scope code path m l (scopes_of t) t w.1 (tree_loads_few t m l q w.1) p)
       go (Err e) p q = p
 
-  -- and what holds of it and of each code object within it
+  -- and what holds of it and of each code object nested in it
   well_so : (Q : Object → Type 0) → ((o : Object) → WellMade path (scopes_of t) o → Q o) → IfOk r (λ code. Everywhere Q (object code))
   well_so Q f = made_so (Everywhere Q) (λ o h. everywhere_so (WellMade path (scopes_of t)) Q f o h.well)
 
-  pub answered : IfErr r (λ e. IsScanned e t m l) → IfErr r (λ e. IsTold e path) → IsCompiled r t path m l
+  pub answered : IfErr r (λ e. IsScanned e t m l) → IfErr r (λ e. IsReported e path) → IsCompiled r t path m l
   answered first told = record {
     agrees = made_so (λ o. Agree o scope) (λ o h. agree ground o scope h);
     agrees_full = made_so (λ o. AgreeFull o scope) (λ o h. agree_full ground o scope h);
@@ -132,15 +135,18 @@ module _ (r : Result CodeObject (LocatedError CodegenErrorType)) (t : tree.Mod) 
     units = well_so _ (λ o w. w.few);
     widths = well_so _ (λ o w. w.written);
     tables = tabled;
-    nested = on_ok r (λ code. IsEmitted code (around_tree t path l) (emission_outcome t m (around_tree t path l))) (λ code. nesting (object code) < 2 ^ 11) (λ code h. nested_below code t m (around_tree t path l) w.0 h) e;
+    nested = on_ok r (λ code. IsEmitted code (tree_context t path l) (emission_outcome t m (tree_context t path l)))
+        (λ code. nesting (object code) < 2 ^ 11) (λ code h. nested_below code t m (tree_context t path l) w.0 h) e;
     clean = answered_faultless;
     first = on_err r (λ e. IsScanned e t m l) (λ e. IsFirst e (faults t m l)) (λ e h. first_refused_first e t m l w h) first;
-    path = on_err r (λ e. IsTold e path) (λ e. e.source_path ≡ path) (λ e h. h.0) told;
-    nowhere = on_err r (λ e. IsTold e path) (λ e. e.error ≡ error.OutOfMemory → e.location ≡ None) (λ e h. h.1) told;
+    path = on_err r (λ e. IsReported e path) (λ e. e.source_path ≡ path) (λ e h. h.0) told;
+    nowhere = on_err r (λ e. IsReported e path) (λ e. e.error ≡ error.OutOfMemory → e.location ≡ None) (λ e h. h.1) told;
   }
     where
       captured : IfOk r (λ code. CapturesCells t m l (object code))
-      captured = ok_with r (λ code. (n : ℕ) → IsMadeSo (Named (scopes_of t)) n (object code) scope) (faults t m l ≡ []) (λ code. CapturesCells t m l (object code)) (λ code h z. captures_cells t m l z (object code) h) (made_so (λ o. (n : ℕ) → IsMadeSo (Named (scopes_of t)) n o scope) (λ o h. h.named)) answered_faultless
+      captured = ok_with r (λ code. (n : ℕ) → IsMadeSo (Named (scopes_of t)) n (object code) scope) (faults t m l ≡ [])
+          (λ code. CapturesCells t m l (object code)) (λ code h z. captures_cells t m l z (object code) h)
+          (made_so (λ o. (n : ℕ) → IsMadeSo (Named (scopes_of t)) n o scope) (λ o h. h.named)) answered_faultless
 
       tabled : IfOk r (λ code. Everywhere HasDistinctNames (object code))
       tabled =

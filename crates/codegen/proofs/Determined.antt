@@ -9,7 +9,7 @@ use Rattle.py_meaning.specs.Scanned.{scopes_of}
 use Rattle.py_scope_proof.proofs.CellLoads.CellLoadLemmas.{tree_loads_few}
 use Rattle.py_emission_outcomes.proofs.Capacity.Premises.{small_tree}
 use Rattle.codegen.specs.Calls.{CompiledIsSealed, EqualTreesHaveEqualCode}
-use Rattle.codegen.specs.Compiled.{IsSealed, around_tree}
+use Rattle.codegen.specs.Compiled.{IsSealed, tree_context}
 use Rattle.codegen.proofs.AssembledCodeLemmas.{code_is_sealed}
 
 both_sealed : (c : Context) (r : Outcome) (o p : Object) → IsSealed o c r → IsSealed p c r → o ≡ p
@@ -24,4 +24,4 @@ compiled_sealed t source m l a h =
     code_is_sealed a source m l (scopes_of t) t small (tree_loads_few t m l h.clean small) h.emission
 
 pub equal_trees : EqualTreesHaveEqualCode
-equal_trees t source m l a b h k = both_sealed (around_tree t source l) (emission_outcome t m (around_tree t source l)) _ _ (compiled_sealed t source m l a h) (compiled_sealed t source m l b k)
+equal_trees t source m l a b h k = both_sealed (tree_context t source l) (emission_outcome t m (tree_context t source l)) _ _ (compiled_sealed t source m l a h) (compiled_sealed t source m l b k)

@@ -23,12 +23,12 @@ use Rattle.py_emission_proof.proofs.Additions.DistinctNames.{either_false, first
 use Rattle.py_emission_proof.proofs.Additions.WellMade.{IsCelled, WellMade}
 use Rattle.py_meaning.specs.Faults.{faults}
 use Rattle.py_meaning.specs.Scanned.{scopes_of}
-use Rattle.py_scope_proof.specs.Entered.{ScansTo, kind_in_table, kind_of_owner, told_node, told_row}
-use Rattle.py_scope_proof.specs.StmtOwners.{owners_of}
+use Rattle.py_scope_proof.specs.Entered.{ScansTo, kind_in_table, kind_of_scope_node, report_of_node, report_of_row}
+use Rattle.py_scope_proof.specs.StmtScopeNodes.{scope_nodes_of}
 use Rattle.py_scope_proof.proofs.CellLoads.Distinct.{any_of_those, those_distinct}
 use Rattle.py_scope_proof.proofs.NodeScopes.Facts.{Facts, facts}
-use Rattle.py_scope_proof.proofs.NodeScopes.EnteringPrograms.{scan_enters_owners}
-use Rattle.py_scope_proof.proofs.NodeScopes.OwnerTables.{scan_done, table_has_owners}
+use Rattle.py_scope_proof.proofs.NodeScopes.EnteringPrograms.{scan_enters_scope_nodes}
+use Rattle.py_scope_proof.proofs.NodeScopes.ScopeNodeTables.{scan_done, table_has_scope_nodes}
 
 -- a name that is not in the first may head the second
 with_head : (xs : List (List ℕ)) (y : List ℕ) (ys : List (List ℕ)) → list_any (text_eq y) xs ≡ false → AreApart xs ys → AreApart xs (y ∷ ys)
@@ -96,8 +96,8 @@ each_apart rows scopes same f k = by (slice_get scopes k) refl
 -- a tree has as many scopes as its scan enters
 distinct_table_as_many : (t : tree.Mod) (m : Mode) (level : ℕ) (s : State) → faults t m level ≡ [] → ScansTo t s → length (scopes_of t) ≡ length s.scopes.rows
 distinct_table_as_many t m level s h e =
-    sym (length-map (scopes_of t) kind_in_table) ∙ ap length (table_has_owners t m level h) ∙ length-map (owners_of t m) kind_of_owner
-    ∙ sym (length-map (owners_of t m) told_node) ∙ sym (ap length (scan_enters_owners t m level s h e)) ∙ length-map s.scopes.rows told_row
+    sym (length-map (scopes_of t) kind_in_table) ∙ ap length (table_has_scope_nodes t m level h) ∙ length-map (scope_nodes_of t m) kind_of_scope_node
+    ∙ sym (length-map (scope_nodes_of t m) report_of_node) ∙ sym (ap length (scan_enters_scope_nodes t m level s h e)) ∙ length-map s.scopes.rows report_of_row
 
 -- the tables of a code object that is made so hold no name twice
 named_once : (source : List ℕ) (scopes : List ScopeEntry) → ((k : ℕ) → Apart (symbols_in scopes k)) → (o : Object) → WellMade source scopes o → HasDistinctNames o

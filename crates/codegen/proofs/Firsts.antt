@@ -14,7 +14,7 @@ use Rattle.py_base.specs.declared.errors.CodegenErrorType.TheVariants as error
 use Rattle.py_base.specs.declared.location.SourceLocation.{SourceLocation}
 use Rattle.py_meaning.specs.Scanned.{scan_faults, scopes_of}
 use Rattle.codegen.specs.Calls.{IsChecked, IsWhole}
-use Rattle.codegen.specs.Compiled.{IsFirst, IsRefused, IsScan, IsScanned, around_tree}
+use Rattle.codegen.specs.Compiled.{IsFirst, IsRefused, IsScan, IsScanned, tree_context}
 use Rattle.py_scope.specs.declared.flat.ScopeEntry.{ScopeEntry}
 use Rattle.py_emission_parts.specs.Context.{outermost}
 use Rattle.py_scope.specs.declared.error.ScanFault.{ScanFault}
@@ -23,7 +23,7 @@ use Rattle.py_scope.specs.declared.error.SymbolTableError.{SymbolTableError}
 use Rattle.py_name_uses.specs.Goes.{IsTextOrMemory, TextOrMemory}
 use Rattle.symboltable.specs.Errors.{codegen_error}
 use Rattle.py_emit.specs.Emitted.{IsEmitted}
-use Rattle.py_emit.specs.States.{Goes, IsTold, Rest, Same}
+use Rattle.py_emit.specs.States.{Goes, IsReported, Rest, Same}
 use Rattle.py_emission_outcomes.proofs.Faults.FaultOutcomeLemmas.{refusal_heads, done_faultless}
 use Rattle.py_scope_proof.proofs.CellLoads.Whole.{uses_are_few}
 use Rattle.py_emission_outcomes.proofs.Capacity.Whole.{trees_fit}
@@ -55,7 +55,7 @@ first_refused_first e t m l w (inr h) known =
 
 -- what is emitted of a tree without faults misses no cell
 missing_faulty : (t : tree.Mod) (m : Mode) (l : ℕ) (path : List ℕ) (at : Option SourceLocation) → IsWhole t m → scan_faults t ≡ []
-    → emission_outcome t m (around_tree t path l) ≡ Refused error.MissingCell at → compile_faults m l t ≢ []
+    → emission_outcome t m (tree_context t path l) ≡ Refused error.MissingCell at → compile_faults m l t ≢ []
 missing_faulty t m l path at w clean r none =
     let f = trees_fit uses_are_few t m l path (compiled t m l w ∙ (λ i. clean i ++ none i)) in
     let same : ◌≡◌ {A = Outcome} (Refused error.MissingCell at) (Done f.0) = sym r ∙ f.1 in
@@ -80,20 +80,20 @@ pub refused_without : (e : LocatedError CodegenErrorType) (t : tree.Mod) (m : Mo
     → IsRefused e (emission_outcome t m (outermost l path [])) → IsFirst e (compile_faults m l t)
 refused_without e t m l path w refused known = refusal_heads t m l path [] e.error e.location w.2 (refused known) (refused_without_scopes t m l path e.error e.location w.1 (refused known))
 
-emitted_faultless : (code : CodeObject) (path : List ℕ) (t : tree.Mod) (m : Mode) (l : ℕ) (o : Outcome) → emission_outcome t m (around_tree t path l) ≡ o
-    → shapes t m ≡ [] → IsEmitted code (around_tree t path l) o → compile_faults m l t ≡ []
+emitted_faultless : (code : CodeObject) (path : List ℕ) (t : tree.Mod) (m : Mode) (l : ℕ) (o : Outcome) → emission_outcome t m (tree_context t path l) ≡ o
+    → shapes t m ≡ [] → IsEmitted code (tree_context t path l) o → compile_faults m l t ≡ []
 emitted_faultless code path t m l (Done r) e h is = done_faultless t m l path (scopes_of t) r h e
 emitted_faultless code path t m l TooWide e h is = absurd is
 emitted_faultless code path t m l (Refused r at) e h is = absurd is
 
 -- where the scan refuses nothing and the emission is done, nothing is wrong with the tree
-pub done_clean : (path : List ℕ) (t : tree.Mod) (m : Mode) (l : ℕ) (s : State) → IsWhole t m → scan_faults t ≡ [] → emission_outcome t m (around_tree t path l) ≡ Done s → faults t m l ≡ []
+pub done_clean : (path : List ℕ) (t : tree.Mod) (m : Mode) (l : ℕ) (s : State) → IsWhole t m → scan_faults t ≡ [] → emission_outcome t m (tree_context t path l) ≡ Done s → faults t m l ≡ []
 done_clean path t m l s w clean is = compiled t m l w ∙ (λ i. clean i ++ done_faultless t m l path (scopes_of t) s w.2 is i)
 
 pub emitted_clean : (code : CodeObject) (path : List ℕ) (t : tree.Mod) (m : Mode) (l : ℕ) → IsWhole t m → scan_faults t ≡ []
-    → IsEmitted code (around_tree t path l) (emission_outcome t m (around_tree t path l)) → faults t m l ≡ []
+    → IsEmitted code (tree_context t path l) (emission_outcome t m (tree_context t path l)) → faults t m l ≡ []
 emitted_clean code path t m l w clean is =
-    compiled t m l w ∙ (λ i. clean i ++ emitted_faultless code path t m l (emission_outcome t m (around_tree t path l)) refl w.2 is i)
+    compiled t m l w ∙ (λ i. clean i ++ emitted_faultless code path t m l (emission_outcome t m (tree_context t path l)) refl w.2 is i)
 
 -- what a call that emits a whole tree without scopes answers
 module _ {A : Type 0} (t : tree.Mod) (m : Mode) (l : ℕ) (path : List ℕ) (w : IsWhole t m) (after : State) where
@@ -106,7 +106,7 @@ module _ {A : Type 0} (t : tree.Mod) (m : Mode) (l : ℕ) (path : List ℕ) (w :
   first_without (Err e) g = refused_without e t m l path w g
 
 -- an error names the path that the emitter had, and out of memory stands nowhere
-pub told_same : {A : Type 0} (x : Result A (LocatedError CodegenErrorType)) (after before : Rest) (path : List ℕ) → before.path ≡ path → Same x after before → IfErr x (λ e. IsTold e path)
+pub told_same : {A : Type 0} (x : Result A (LocatedError CodegenErrorType)) (after before : Rest) (path : List ℕ) → before.path ≡ path → Same x after before → IfErr x (λ e. IsReported e path)
 told_same (Ok a) after before path p h = tt
 told_same (Err e) after before path p h = (h.0 ∙ p, h.1)
 

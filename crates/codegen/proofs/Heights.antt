@@ -16,15 +16,15 @@ module _ (o : Object) (ok : sound o) where
   fetch = fetch_unit (tables o) (head o).instructions
 
   -- each state of a run is in step with a walk
-  abbrev In : Config Object ℕ → Type 0
-  In = InStep Object ℕ (code_look o) 0
+  abbrev InHeight : Config Object ℕ → Type 0
+  InHeight = InStep Object ℕ (code_look o) 0
 
-  in_step : (n : ℕ) (c : Config Object ℕ) → In c → In (steps fetch n c)
+  in_step : (n : ℕ) (c : Config Object ℕ) → InHeight c → InHeight (steps fetch n c)
   in_step zero c h = h
   in_step (suc n) c h = in_step n (step fetch c) (step_in fetch 0 (suc (head o).max_stackdepth) ok (unit_proper (tables o) (head o).instructions) c h)
 
   -- and no walk is higher
-  height_low : (c : Config Object ℕ) → In c → stack_height c ≤ (head o).max_stackdepth
+  height_low : (c : Config Object ℕ) → InHeight c → stack_height c ≤ (head o).max_stackdepth
   height_low (At p s bs slot w) h = let l = low_by (code_look o) 0 (suc (head o).max_stackdepth) ok (omega arith) h.1.0 p h.0 h.1.1 in let e = h.2 in omega (arith, l, e)
   height_low (Over events r) h = omega arith
 

@@ -23,12 +23,13 @@ use Rattle.py_emission_outcomes.proofs.Faults.FaultOutcomeLemmas.{level_is}
 use Rattle.py_emission_proof.proofs.Trees.NeverRefused.{IsCelled, never_refused}
 
 -- an emitter before anything is emitted, and one that emitted a tree
-module _ (t : tree.Mod) (m : Mode) (opts : CompileOpts) (path : List ℕ) (scopes : List ScopeEntry) (first : Emitter) (s : state first ≡ nothing (outermost opts.optimize path scopes)) (r : rest first ≡ first_rest opts path scopes) where
-  abbrev made_around : Context
-  made_around = outermost opts.optimize path scopes
+module _ (t : tree.Mod) (m : Mode) (opts : CompileOpts) (path : List ℕ) (scopes : List ScopeEntry) (first : Emitter)
+    (s : state first ≡ nothing (outermost opts.optimize path scopes)) (r : rest first ≡ first_rest opts path scopes) where
+  abbrev made_context : Context
+  made_context = outermost opts.optimize path scopes
 
   pub goes_first : {A : Type 0} (x : Result A (LocatedError CodegenErrorType)) (after : State) → Goes x after (run (emission_of_mod t m) (state first))
-      → Goes x after (emission_outcome t m made_around)
+      → Goes x after (emission_outcome t m made_context)
   goes_first x after h = subst (λ q. Goes x after (run (emission_of_mod t m) q)) s h
 
   -- so it is over no scopes, where these are none
@@ -36,7 +37,7 @@ module _ (t : tree.Mod) (m : Mode) (opts : CompileOpts) (path : List ℕ) (scope
       → Goes x after (run (emission_of_mod t m) (state first)) → Goes x after (emission_outcome t m (outermost opts.optimize path []))
   goes_without none x after h = subst (λ q. Goes x after (emission_outcome t m (outermost opts.optimize path q))) none (goes_first x after h)
 
-  module _ (last : Emitter) (same : rest last ≡ rest first) (is : emission_outcome t m made_around ≡ Done (state last)) where
+  module _ (last : Emitter) (same : rest last ≡ rest first) (is : emission_outcome t m made_context ≡ Done (state last)) where
     level_same : (rest last).opts.optimize ≡ opts.optimize
     level_same = ap (λ (q : Rest). q.opts.optimize) (same ∙ r)
 
@@ -45,10 +46,11 @@ module _ (t : tree.Mod) (m : Mode) (opts : CompileOpts) (path : List ℕ) (scope
     celled = record { cellvars = refl; freevars = refl }
 
     pub unrefused_mod : size_of t < 2 ^ 22 → LoadsFew scopes (body scopes t m opts.optimize) → IsUnrefused (rest last).opts.optimize (info last)
-    unrefused_mod small few = subst (λ l. IsUnrefused l (info last)) (sym level_same) (never_refused t m opts.optimize path scopes (state last) (info last) (rest last).head small few is celled (info_holds last))
+    unrefused_mod small few = subst (λ l. IsUnrefused l (info last)) (sym level_same)
+        (never_refused t m opts.optimize path scopes (state last) (info last) (rest last).head small few is celled (info_holds last))
 
-    pub made_mod : (code : CodeObject) → IsFinal (rest last).opts.optimize (info last) code → IsEmitted code made_around (emission_outcome t m made_around)
-    made_mod code f = subst (IsEmitted code made_around) (sym is) (record {
+    pub made_mod : (code : CodeObject) → IsFinal (rest last).opts.optimize (info last) code → IsEmitted code made_context (emission_outcome t m made_context)
+    made_mod code f = subst (IsEmitted code made_context) (sym is) (record {
       info = info last;
       holds = subst (λ (q : Rest). Holds (info last) q.head (state last)) (same ∙ r) (info_holds last);
       final = subst (λ l. IsFinal l (info last) code) (level_same ∙ sym (level_is opts.optimize path scopes)) f;

@@ -23,7 +23,7 @@ use Rattle.py_meaning.specs.Faults.{faults, malformed_faults, too_deep, too_larg
 use Rattle.py_meaning.specs.Meaning.{body}
 use Rattle.py_meaning.specs.Scanned.{scopes_of}
 use Rattle.py_scope_proof.specs.Captures.{CapturesCells}
-use Rattle.codegen.specs.Compiled.{AlwaysEnds, HasExactDepth, HasFewUnits, InLeastWidths, IsFirst, IsLocated, IsSealed, NamesPath, NoHigher, ScopesFollow, around_tree}
+use Rattle.codegen.specs.Compiled.{AlwaysEnds, HasExactDepth, HasFewUnits, InLeastWidths, IsFirst, IsLocated, IsSealed, NamesPath, NoHigher, ScopesFollow, tree_context}
 use Rattle.codegen.specs.declared.program.Program.{Program}
 use Rattle.codegen.specs.declared.program.Program.TheVariants as lent
 
@@ -34,11 +34,11 @@ pub record IsCompiled (answer : Result CodeObject (LocatedError CodegenErrorType
   pub agrees_full : IfOk answer (λ code. AgreeFull (object code) (body (scopes_of t) t m l))
   -- the scopes by which names are read there are those that the uses of names give
   pub resolved : OnOk answer (ScopesFollow t)
-  -- each use of a cell, in chains of functions that are made one within another, comes to the scope that binds its name
+  -- each use of a cell, in chains of functions that are made one within another, reaches the scope that binds its name
   pub captures : IfOk answer (λ code. CapturesCells t m l (object code))
   -- it is made of what is emitted of the tree
-  pub emission : IfOk answer (λ code. IsEmitted code (around_tree t source l) (emission_outcome t m (around_tree t source l)))
-  -- and each code object within it, at every depth, is so too
+  pub emission : IfOk answer (λ code. IsEmitted code (tree_context t source l) (emission_outcome t m (tree_context t source l)))
+  -- and each code object nested in it, at every depth, is so too
   pub ends : IfOk answer (λ code. Everywhere AlwaysEnds (object code))
   pub sound : IfOk answer (λ code. Everywhere sound (object code))
   pub depth : IfOk answer (λ code. Everywhere NoHigher (object code))
@@ -61,7 +61,8 @@ pub record IsCompiled (answer : Result CodeObject (LocatedError CodegenErrorType
 -- a code is the one that what is emitted of its tree determines: a tree, a path, a mode and a level have one code
 abbrev pub CompiledIsSealed : Type 0
 CompiledIsSealed =
-    (t : tree.Mod) (source : List ℕ) (m : Mode) (l : ℕ) (a : CodeObject) → IsCompiled (Ok a) t source m l → IsSealed (object a) (around_tree t source l) (emission_outcome t m (around_tree t source l))
+    (t : tree.Mod) (source : List ℕ) (m : Mode) (l : ℕ) (a : CodeObject) → IsCompiled (Ok a) t source m l
+    → IsSealed (object a) (tree_context t source l) (emission_outcome t m (tree_context t source l))
 
 -- two answers for equal trees, paths, modes and levels are equal codes, where both are codes
 abbrev pub EqualTreesHaveEqualCode : Type 0

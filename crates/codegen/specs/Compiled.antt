@@ -37,7 +37,7 @@ abbrev pub stack_height : {K P : Type 0} → Config K P → ℕ
 stack_height (At p s bs slot w) = length s
 stack_height (Over events o) = 0
 
--- what follows is said of one code object, and holds of each within it where it holds everywhere
+-- what follows is said of one code object, and holds of each nested in it where it holds everywhere
 
 -- no state of a run is higher than the code object says
 abbrev pub NoHigher : Object → Type 0
@@ -72,11 +72,11 @@ abbrev pub IsFirst : LocatedError CodegenErrorType → List Fault → Type 0
 IsFirst e fs = e.error ≢ error.OutOfMemory → (rest : List Fault) × (fs ≡ record { error = e.error; location = e.location } ∷ rest)
 
 -- the context of a tree: its scopes are those that its scan resolves
-abbrev pub around_tree : tree.Mod → (source : List ℕ) → (level : ℕ) → Context
-around_tree t source level = outermost level source (scopes_of t)
+abbrev pub tree_context : tree.Mod → (source : List ℕ) → (level : ℕ) → Context
+tree_context t source level = outermost level source (scopes_of t)
 
 -- what a name is in each scope of the tree is what the uses of names say: the scopes are those of a table that follows from the uses of the tree's scan,
--- and each name that a scope needs from outside leads to the cell of its binder
+-- and each free name of a scope leads to the cell of its binder
 abbrev pub ScopesFollow : tree.Mod → Type 0
 ScopesFollow t =
     (s : State) → ScansTo t s → ((table : SymbolTable) × (scopes_of t ≡ flat_table table 0) × TableFollows s.scopes.rows table) × Stands s.scopes.rows

@@ -9,9 +9,9 @@ ghost use Rattle.py_emission.specs.EmissionMods.{emission_of_mod, emission_outco
 ghost use Rattle.py_meaning.specs.Faults.{compile_faults};
 ghost use Rattle.py_meaning.specs.Scanned.{scan_faults, scopes_of};
 ghost use Rattle.codegen.specs.Calls.{IsChecked, IsCompiled, IsWhole, tree_of};
-ghost use Rattle.codegen.specs.Compiled.{IsFirst, IsRefused, IsScan, IsScanned, around_tree};
+ghost use Rattle.codegen.specs.Compiled.{IsFirst, IsRefused, IsScan, IsScanned, tree_context};
 ghost use Rattle.py_emit.specs.Emitted.{IsEmitted};
-ghost use Rattle.py_emit.specs.States.{AreMade, Emits, IsTold, rest};
+ghost use Rattle.py_emit.specs.States.{AreMade, Emits, IsReported, rest};
 
 use crate::program::{Program, emit_interactive, emit_program};
 use crate::whole::{body_fault, expr_fault, tree_fault};
@@ -70,7 +70,8 @@ pub fn compile_program(
     source_path: Text,
     opts: CompileOpts,
 ) -> Result<CodeObject, CodegenError>
-    ensures { IsCompiled result (tree.Module (stmts stmt_tree ast.now)) source_path Mode.Exec opts.optimize }
+    ensures { IsCompiled result (tree.Module (stmts stmt_tree ast.now)) source_path Mode.Exec
+        opts.optimize }
 {
     let program = Program::Module(ast);
     let fault = body_fault(ast);
@@ -87,7 +88,8 @@ pub fn compile_program_single(
     source_path: Text,
     opts: CompileOpts,
 ) -> Result<CodeObject, CodegenError>
-    ensures { IsCompiled result (tree.Interactive (stmts stmt_tree ast.now)) source_path Mode.Single opts.optimize }
+    ensures { IsCompiled result (tree.Interactive (stmts stmt_tree ast.now)) source_path Mode.Single
+        opts.optimize }
 {
     let program = Program::Interactive(ast);
     let fault = body_fault(ast);
@@ -104,7 +106,8 @@ pub fn compile_block_expression(
     source_path: Text,
     opts: CompileOpts,
 ) -> Result<CodeObject, CodegenError>
-    ensures { IsCompiled result (tree.Interactive (stmts stmt_tree ast.now)) source_path Mode.BlockExpr opts.optimize }
+    ensures { IsCompiled result (tree.Interactive (stmts stmt_tree ast.now)) source_path
+        Mode.BlockExpr opts.optimize }
 {
     let program = Program::Interactive(ast);
     let fault = body_fault(ast);
@@ -121,7 +124,8 @@ pub fn compile_expression(
     source_path: Text,
     opts: CompileOpts,
 ) -> Result<CodeObject, CodegenError>
-    ensures { IsCompiled result (tree.Expression (expr_tree ast.now)) source_path Mode.Eval opts.optimize }
+    ensures { IsCompiled result (tree.Expression (expr_tree ast.now)) source_path Mode.Eval
+        opts.optimize }
 {
     let program = Program::Expression(ast);
     let fault = expr_fault(ast);
@@ -198,10 +202,13 @@ fn compile_scanned(
     requires whole { IsWhole (tree_of program.now) mode }
     requires scanned { IsScan (tree_of program.now) table }
     requires told { IfErr table IsTextOrMemory }
-    ensures emission { IfOk result (λ code. IsEmitted code (around_tree (tree_of program.now) source_path opts.optimize) (emission_outcome (tree_of program.now) mode (around_tree (tree_of program.now) source_path opts.optimize))) }
+    ensures emission { IfOk result
+        (λ code. IsEmitted code (tree_context (tree_of program.now) source_path opts.optimize)
+        (emission_outcome (tree_of program.now) mode
+        (tree_context (tree_of program.now) source_path opts.optimize))) }
     ensures clean { OnOk result (scan_faults (tree_of program.now) ≡ []) }
     ensures first { IfErr result (λ e. IsScanned e (tree_of program.now) mode opts.optimize) }
-    ensures told { IfErr result (λ e. IsTold e source_path) }
+    ensures told { IfErr result (λ e. IsReported e source_path) }
 {
     let table = match table {
         Ok(table) => table,
@@ -214,7 +221,7 @@ fn compile_scanned(
 }
 
 /// The code of a program with these scopes, which are those of its scan. Where it has no fault, each cell is there; so
-/// where one is missing, its first fault is told, which is the same without scopes.
+/// where one is missing, its first fault is reported, which is the same without scopes.
 fn compile_mod(
     alloc: Global,
     program: &Program<'_>,
@@ -226,9 +233,13 @@ fn compile_mod(
     requires whole { IsWhole (tree_of program.now) mode }
     requires clean { scan_faults (tree_of program.now) ≡ [] }
     requires scanned { scopes ≡ scopes_of (tree_of program.now) }
-    ensures emission { IfOk result (λ code. IsEmitted code (outermost opts.optimize source_path scopes) (emission_outcome (tree_of program.now) mode (outermost opts.optimize source_path scopes))) }
-    ensures first { IfErr result (λ e. IsFirst e (compile_faults mode opts.optimize (tree_of program.now))) }
-    ensures told { IfErr result (λ e. IsTold e source_path) }
+    ensures emission { IfOk result
+        (λ code. IsEmitted code (outermost opts.optimize source_path scopes)
+        (emission_outcome (tree_of program.now) mode
+        (outermost opts.optimize source_path scopes))) }
+    ensures first { IfErr result (λ e.
+        IsFirst e (compile_faults mode opts.optimize (tree_of program.now))) }
+    ensures told { IfErr result (λ e. IsReported e source_path) }
 {
     let error = match compile_over(alloc, program, source_path, mode, opts, scopes) {
         Ok(code) => return Ok(code),
@@ -260,9 +271,14 @@ fn compile_over(
     requires whole { IsWhole (tree_of program.now) mode }
     requires clean { scan_faults (tree_of program.now) ≡ [] }
     requires scanned { scopes ≡ scopes_of (tree_of program.now) }
-    ensures emission { IfOk result (λ code. IsEmitted code (outermost opts.optimize source_path scopes) (emission_outcome (tree_of program.now) mode (outermost opts.optimize source_path scopes))) }
-    ensures refused { IfErr result (λ e. IsRefused e (emission_outcome (tree_of program.now) mode (outermost opts.optimize source_path scopes))) }
-    ensures told { IfErr result (λ e. IsTold e source_path) }
+    ensures emission { IfOk result
+        (λ code. IsEmitted code (outermost opts.optimize source_path scopes)
+        (emission_outcome (tree_of program.now) mode
+        (outermost opts.optimize source_path scopes))) }
+    ensures refused { IfErr result
+        (λ e. IsRefused e (emission_outcome (tree_of program.now) mode
+        (outermost opts.optimize source_path scopes))) }
+    ensures told { IfErr result (λ e. IsReported e source_path) }
 {
     let mut em = Emitter::over(alloc, opts, source_path, scopes)?;
     emit_mod(&mut em, program, mode)?;
@@ -280,7 +296,7 @@ fn first_fault(
     requires whole { IsWhole (tree_of program.now) mode }
     requires faulty { compile_faults mode opts.optimize (tree_of program.now) ≢ [] }
     ensures first { IsFirst result (compile_faults mode opts.optimize (tree_of program.now)) }
-    ensures told { IsTold result source_path }
+    ensures told { IsReported result source_path }
 {
     match emit_without_scopes(alloc, program, source_path, mode, opts) {
         Ok(()) => unreachable!(),
@@ -298,8 +314,9 @@ fn emit_without_scopes(
 ) -> Result<(), CodegenError>
     requires { IsWhole (tree_of program.now) mode }
     ensures ok { OnOk result (compile_faults mode opts.optimize (tree_of program.now) ≡ []) }
-    ensures first { IfErr result (λ e. IsFirst e (compile_faults mode opts.optimize (tree_of program.now))) }
-    ensures told { IfErr result (λ e. IsTold e source_path) }
+    ensures first { IfErr result (λ e.
+        IsFirst e (compile_faults mode opts.optimize (tree_of program.now))) }
+    ensures told { IfErr result (λ e. IsReported e source_path) }
 {
     let mut em = Emitter::over(alloc, opts, source_path, FlatScopes::empty(alloc))?;
     emit_mod(&mut em, program, mode)

@@ -4,7 +4,7 @@ ghost use Rattle.py_bytecode.specs.Objects.{none};
 ghost use Rattle.py_tree.specs.View.{stmt_tree, stmts};
 ghost use Rattle.py_emission_parts.specs.Emitting.{◌▸◌, by_level, emit_constant};
 ghost use Rattle.py_emission.specs.EmissionStmts.{emission_of_stmts};
-ghost use Rattle.py_emission.specs.EmissionFutures.{emission_behind};
+ghost use Rattle.py_emission.specs.EmissionFutures.{emission_after};
 ghost use Rattle.py_emission.specs.EmissionMods.{emission_of_doc, emission_of_interactive, emission_of_program};
 ghost use Rattle.py_emission.specs.Texts.{after_doc, doc_of};
 ghost use Rattle.py_emit.specs.States.{AreMade, Emits, rest};
@@ -42,7 +42,8 @@ pub(crate) fn emit_program(em: &mut Emitter, body: &Stmts) -> Result<(), Codegen
 #[tactic(auto, using(py_bytecode::proofs::View::views))]
 fn emit_rest(em: &mut Emitter, body: &[Stmt]) -> Result<(), CodegenError>
     requires loops { AreMade (rest em.old).context.loop_blocks }
-    ensures { Emits result (emission_behind emission_of_stmts (stmts stmt_tree body.now) ▸ emit_constant Instruction.ReturnConst none) em.old em.new }
+    ensures { Emits result (emission_after emission_of_stmts (stmts stmt_tree body.now)
+        ▸ emit_constant Instruction.ReturnConst none) em.old em.new }
 {
     compile_file(em, body)?;
     em.return_const(ConstantData::None)
@@ -51,8 +52,10 @@ fn emit_rest(em: &mut Emitter, body: &[Stmt]) -> Result<(), CodegenError>
 /// Emits what stores the docstring, where one is kept. Answers the place at which the other statements begin.
 #[tactic(auto, unfolding(py_emission_parts::specs::Emitting::by_level, py_emit::specs::States::rest))]
 fn emit_doc(em: &mut Emitter, body: &Stmts) -> Result<usize, CodegenError>
-    ensures emits { Emits result (by_level (λ l. emission_of_doc (doc_of l (stmts stmt_tree body.now)))) em.old em.new }
-    ensures from { IfOk result (λ from. stmts stmt_tree (drop from body.now) ≡ after_doc (stmts stmt_tree body.now)) }
+    ensures emits { Emits result (by_level
+        (λ l. emission_of_doc (doc_of l (stmts stmt_tree body.now)))) em.old em.new }
+    ensures from { IfOk result (λ from.
+        stmts stmt_tree (drop from body.now) ≡ after_doc (stmts stmt_tree body.now)) }
     ensures within { IfOk result (λ from. from ≤ length body.now) }
 {
     match split_doc(em.alloc(), body, em.opts()) {

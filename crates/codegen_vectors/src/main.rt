@@ -1,5 +1,5 @@
 //! Codes of cases. Standard input holds the cases, each a line with a mode or a call, a level and the source, and a line with the rows
-//! of its tree; on standard output the listing of its code, or why it is refused, stands in the place of its rows. Behind the
+//! of its tree; on standard output the listing of its code, or why it is refused, stands in the place of its rows. After the
 //! listing of a code that does not verify stands its verification error.
 #![tactic(auto)]
 

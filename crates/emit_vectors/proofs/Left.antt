@@ -31,8 +31,10 @@ some_within t u us e =
 left_in : (e : ScopeEntry) (es : List ScopeEntry) → e.next ≡ suc (length es) → 0 < length es → Stand (e ∷ es) (beyond (e ∷ es) 0) 1 1
 left_in e es n l = (omega (arith, n, l), omega (arith, l), tt)
 
--- the first scope within is left at the start
+-- the first nested scope is left at the start
 pub left_one_left : (level : ℕ) (source : List ℕ) (t u : SymbolTable) (us : List SymbolTable) → (out-SymbolTable t).sub_tables ≡ u ∷ us → AreLeft 1 (nothing (outermost level source (flat_table t 0)))
 unfolding inside
 left_one_left level source t u us e =
-    subst (λ es. Stand es (beyond es 0) 1 1) (sym (flat_is t 0)) (left_in (record { typ = (out-SymbolTable t).typ; symbols = (out-SymbolTable t).symbols; next = suc 0 + length (left_first t 0) }) (left_first t 0) (omega arith) (some_within t u us e))
+    subst (λ es. Stand es (beyond es 0) 1 1) (sym (flat_is t 0))
+    (left_in (record { typ = (out-SymbolTable t).typ; symbols = (out-SymbolTable t).symbols; next = suc 0 + length (left_first t 0) })
+    (left_first t 0) (omega arith) (some_within t u us e))

@@ -43,7 +43,7 @@ fn call_made(alloc: Global, em: &mut Emitter, call: &str) -> Result<String, Fail
             on_names(alloc, em, name, rest)
         }
         "set_class" | "push_path" | "pop_path" | "set_path" | "mangled" | "qualified_name" => {
-            on_around(alloc, em, name, rest)
+            on_enclosing(alloc, em, name, rest)
         }
         "scope" | "symbol" | "close" | "function" | "made_with" | "error" => {
             on_scope(alloc, em, name, rest)
@@ -178,8 +178,13 @@ fn parts(alloc: Global, path: &str) -> Result<Names, AllocError> {
     Ok(List::from_vec(parts))
 }
 
-/// A call that speaks of the class and of the names of what stands around.
-fn on_around(alloc: Global, em: &mut Emitter, name: &str, rest: &str) -> Result<String, Failure> {
+/// A call that speaks of the class and of the names of the context.
+fn on_enclosing(
+    alloc: Global,
+    em: &mut Emitter,
+    name: &str,
+    rest: &str,
+) -> Result<String, Failure> {
     match name {
         "set_class" => {
             let class = if rest.is_empty() {
@@ -246,11 +251,11 @@ fn close_over(alloc: Global, em: &mut Emitter, free: &str) -> Result<String, Fai
 }
 
 /// Goes into a function.
-#[tactic(auto, using(py_emit::proofs::Within::within_inner))]
+#[tactic(auto, using(py_emit::proofs::Nested::nested_inner))]
 fn open(em: &mut Emitter, head: ScopeHead) -> Result<(), CodegenError>
     ensures { OnOk result ((rest em.new).outer ≢ []) }
 {
-    em.open_scope(head, SymbolTableType::Function, Naming::AsAround)
+    em.open_scope(head, SymbolTableType::Function, Naming::AsEnclosing)
 }
 
 /// Leaves a generator that returns None.

@@ -76,7 +76,7 @@ pub fn in_file(alloc: Global, optimize: u8) -> Result<Emitter, Failure> {
 pub fn in_function(alloc: Global, optimize: u8) -> Result<Emitter, Failure> {
     let head = head_of_function(alloc)?;
     let mut em = in_file(alloc, optimize)?;
-    match em.open_scope(head, SymbolTableType::Function, Naming::AsAround) {
+    match em.open_scope(head, SymbolTableType::Function, Naming::AsEnclosing) {
         Ok(()) => Ok(em),
         Err(error) => Err(Failure::Refused(error)),
     }

@@ -1,5 +1,5 @@
 //! What lies below the tree, by its calls: py_base, py_bytecode, py_ir, py_scope and py_emit. Each line of standard input is a
-//! case; on standard output its answer stands in its place. A line that begins with `#` is copied: it tells what follows.
+//! case; on standard output its answer stands in its place. A line that begins with `#` is copied: it says what follows.
 #![tactic(auto)]
 
 mod answers;

@@ -18,7 +18,8 @@ pub fn laid_out(alloc: Global, blocks: CodeInfo) -> Result<CodeObject, FinalizeE
     // No walk over the units is refused, so no run of the code is wrong.
     ensures safe { IfOk result (λ code. sound (object code)) }
     // The units do what the blocks do, in as many steps.
-    ensures same { IfOk result (λ code. (answers : List Answer) → machine (object code) answers ≡ runs_of blocks (length code.instructions) answers) }
+    ensures same { IfOk result (λ code. (answers : List Answer)
+        → machine (object code) answers ≡ runs_of blocks (length code.instructions) answers) }
 {
     blocks.finalize_code(alloc, 0)
 }

@@ -21,7 +21,9 @@ use std::alloc::Global;
 /// The first fault of the tree, or OutOfMemory.
 pub fn code_of_file(alloc: Global, tree: &Mod, path: Text) -> Result<CodeObject, CodegenError>
     // For every finite list of answers the code does what the tree means.
-    ensures does { IfOk result (λ code. Agree (object code) (body (scopes_of (mod_tree tree.now)) (mod_tree tree.now) Mode.Exec 0)) }
+    ensures does { IfOk result (λ code.
+        Agree (object code) (body (scopes_of (mod_tree tree.now))
+        (mod_tree tree.now) Mode.Exec 0)) }
     // There is code only where nothing is wrong, and an error is the first of what is wrong.
     ensures clean { OnOk result (faults (mod_tree tree.now) Mode.Exec 0 ≡ []) }
     ensures first { IfErr result (λ e. IsFirst e (faults (mod_tree tree.now) Mode.Exec 0)) }

@@ -9,13 +9,13 @@ use py_codefile::{ReadCodeError, read_code};
 use py_verify::{Verdict, verify};
 use std::alloc::{AllocError, Global};
 
-/// Whether a code object and those within it have no verification error.
+/// Whether a code object and those nested in it have no verification error.
 ///
 /// # Errors
 /// There is no memory for what is known of the units.
 pub fn may_run(alloc: Global, code: &CodeObject) -> Result<bool, AllocError>
     ensures exact { IfOk result (λ may. IsTrue may ↔ Flawless (object code.now)) }
-    // No run of the code, or of one within it, is Wrong, whatever the answers.
+    // No run of the code, or of one nested in it, is Wrong, whatever the answers.
     ensures safe { IfOk result (λ may. IsTrue may → NeverWrong (object code.now)) }
 {
     let verdict = verify(alloc, code)?;

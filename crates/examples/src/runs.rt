@@ -30,9 +30,12 @@ pub fn run_in_memory(
     // The status is what the words and the rows ask for, unless there was no memory, or no room.
     ensures due { IfSome (due_of words.now (Some rows)) (IsDue result.report.status) }
     // The code that is reported is the one that is due, and what is held is the text of it, or the line.
-    ensures code { IfSome result.report.code (λ code. IfSome (due_of words.now (Some rows)) (λ d. IsCodeOf d code)) }
-    ensures text { OutGets (written_sides words.now (Some rows) result.report) result.report.status (text_of words.now (Some rows) result.report.code) (Some []) (Some result.out.held) }
-    ensures line { ErrGets (written_sides words.now (Some rows) result.report) result.report.status (line_of words.now (Some rows)) (Some []) (Some result.err.held) }
+    ensures code { IfSome result.report.code
+        (λ code. IfSome (due_of words.now (Some rows)) (λ d. IsCodeOf d code)) }
+    ensures text { OutGets (written_sides words.now (Some rows) result.report) result.report.status
+        (text_of words.now (Some rows) result.report.code) (Some []) (Some result.out.held) }
+    ensures line { ErrGets (written_sides words.now (Some rows) result.report) result.report.status
+        (line_of words.now (Some rows)) (Some []) (Some result.err.held) }
 {
     let mut source = CleanSource::new(rows);
     let mut out = CleanSink::new(out);

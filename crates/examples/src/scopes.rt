@@ -12,7 +12,8 @@ use symboltable::{ScanFault, scan_program};
 /// # Errors
 /// There is no memory for the table.
 pub fn has_right_scopes(alloc: Global, program: &Stmts) -> Result<bool, AllocError>
-    ensures { IfOk result (λ right. IsTrue right ↔ (program_faults (stmts stmt_tree program.now) ≡ [])) }
+    ensures { IfOk result (λ right. IsTrue right
+        ↔ (program_faults (stmts stmt_tree program.now) ≡ [])) }
 {
     match scan_program(alloc, program) {
         Ok(_) => Ok(true),

@@ -24,7 +24,11 @@ pub fn text_of_runs(
     tree: &Mod,
     script: &Script,
 ) -> Result<String, AllocError>
-    ensures { IfOk result (λ s. (scopes : List ScopeEntry) → string_bytes s ≡ report_text (short (machine (object code.now) (answers_of script.now.answers))) (short (meaning (body scopes (mod_tree tree.now) Mode.Exec 0) (answers_of script.now.answers)))) }
+    ensures { IfOk result (λ s. (scopes : List ScopeEntry)
+        → string_bytes s ≡ report_text
+        (short (machine (object code.now) (answers_of script.now.answers)))
+        (short (meaning (body scopes (mod_tree tree.now) Mode.Exec 0)
+        (answers_of script.now.answers)))) }
 {
     let report = run_script(alloc, code, tree, Mode::Exec, 0, script)?;
     report.to_text(alloc)

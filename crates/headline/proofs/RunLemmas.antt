@@ -1,5 +1,6 @@
 -- What a run of the program over rows in memory owes follows from the clauses of `run`.
-use Rattle.std.proofs.Common.{◌≡◌, ℕ, ◌^◌, Bool, true, false, List, [], ◌∷◌, length, nat_lt, Option, Some, None, IfSome, option_map, option_and_then, Result, Ok, Err, codes, refl, ap, arith, subst, ◌∙◌, if◌then◌else◌}
+use Rattle.std.proofs.Common.{◌≡◌, ℕ, ◌^◌, Bool, true, false, List, [], ◌∷◌, length, nat_lt, Option, Some, None, IfSome, option_map}
+use Rattle.std.proofs.Common.{option_and_then, Result, Ok, Err, codes, refl, ap, arith, subst, ◌∙◌, if◌then◌else◌}
 use Rattle.std.specs.Str.{bytes_eq}
 use Rattle.py_tree.specs.Tree as tree
 use Rattle.py_tree.specs.declared.modules.Mode.{Mode}

@@ -38,7 +38,7 @@ pub record Compiles (rows : List ℕ) (m : Mode) (l : ℕ) (path : List ℕ) (te
   pub named : (head code).source_path ≡ path
   pub listed : text ≡ listing code
 
--- the line tells the first fault of the tree
+-- the line reports the first fault of the tree
 pub record Refuses (rows : List ℕ) (m : Mode) (l : ℕ) (line : List ℕ) : Type 0 where
   pub t : tree.Mod
   pub fault : Fault
@@ -47,7 +47,7 @@ pub record Refuses (rows : List ℕ) (m : Mode) (l : ℕ) (line : List ℕ) : Ty
   pub first : faults t m l ≡ fault ∷ rest
   pub told : line ≡ refusal_line fault
 
--- the line tells what is wrong with the rows
+-- the line says what is wrong with the rows
 abbrev pub Misreads : (rows line : List ℕ) → Type 0
 Misreads rows line = (text : List ℕ) × (input_tree rows ≡ Err text) × (line ≡ input_line text)
 
@@ -63,7 +63,7 @@ CompilesTo rows mode level path text = (m : Mode) × (l : ℕ) × (mode_of mode 
 abbrev pub IsRefusedWith : (rows mode level line : List ℕ) → Type 0
 IsRefusedWith rows mode level line = (m : Mode) × (l : ℕ) × (mode_of mode ≡ Some m) × (level_of level ≡ Some l) × Refuses rows m l line
 
--- the words say a mode and a level, and the line tells what is wrong with the rows
+-- the words say a mode and a level, and the line says what is wrong with the rows
 abbrev pub IsMisreadWith : (rows mode level line : List ℕ) → Type 0
 IsMisreadWith rows mode level line = (m : Mode) × (l : ℕ) × (mode_of mode ≡ Some m) × (level_of level ≡ Some l) × Misreads rows line
 

@@ -25,7 +25,7 @@ Gets rows m l path (answer.Input line) = Misreads rows (string_bytes line)
 Gets rows m l path answer.Usage = ⊥
 Gets rows m l path answer.Memory = Unit {0}
 
--- a line that tells what is wrong with the rows, unless memory ran out
+-- a line that says what is wrong with the rows, unless memory ran out
 abbrev pub Tells : (text : List ℕ) → Answer → Type 0
 Tells text (answer.Input line) = string_bytes line ≡ input_line text
 Tells text answer.Memory = Unit {0}
@@ -64,7 +64,7 @@ IsListed o (answer.Done text) = string_bytes text ≡ listing o
 IsListed o answer.Memory = Unit {0}
 IsListed o other = ⊥
 
--- the line tells the fault, unless memory ran out
+-- the line reports the fault, unless memory ran out
 abbrev pub IsRefused : Fault → Answer → Type 0
 IsRefused f (answer.Refused line) = string_bytes line ≡ refusal_line f
 IsRefused f answer.Memory = Unit {0}

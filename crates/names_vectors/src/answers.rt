@@ -83,7 +83,7 @@ fn told_text(
     Ok(out)
 }
 
-/// What is told of the names of the tree whose rows these are, or the line that says why there is no report.
+/// What is reported of the names of the tree whose rows these are, or the line that says why there is no report.
 pub fn answer(alloc: Global, rows: &str) -> Result<String, AllocError> {
     if rows.len() >= 1 << 26 {
         return String::from_str(alloc, "input: too long\n");

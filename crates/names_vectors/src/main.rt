@@ -1,5 +1,5 @@
 //! Reports on names of cases. Standard input holds the cases, each a line that names it and a line with the rows of its tree;
-//! on standard output what is told of the tree's names stands in the place of its rows.
+//! on standard output what is reported of the tree's names stands in the place of its rows.
 #![tactic(auto)]
 
 mod answers;

@@ -1,4 +1,4 @@
--- What lists come to that have no element, one or more.
+-- What lists reach that have no element, one or more.
 use Rattle.std.proofs.Common.{◌≡◌, ◌≢◌, ◌≤◌, ℕ, List, [], ◌∷◌, length, nat_eq, false, codes, refl, arith}
 use Rattle.py_tree.specs.Tree as tree
 use Rattle.py_tree.specs.View.{args, expr_tree, exprs, literal_list, literal_of}

@@ -18,6 +18,7 @@ positional_appended {before = before} {old = old} m n m' n' new next xs xs' ys y
     (subst (λ (zs : List (ArgWithDefaultOf Expr)). IsAppended before (positional (texts xs) (texts zs)) old new next) f (both_appended (both_appended p q) r))
 
 pub keyword_only_appended : {before old : List ℕ} (m n m' n' new next : List ℕ) (vararg kwarg : tree.OptArg) (xs xs' : List (ArgWithDefaultOf Expr)) → xs ≡ xs'
-    → IsAppended before (star vararg (texts xs)) old m n → IsAppended n (texts xs) m m' n' → IsAppended n' (double_star kwarg) m' new next → IsAppended before (keyword_only vararg (texts xs') kwarg) old new next
+    → IsAppended before (star vararg (texts xs)) old m n → IsAppended n (texts xs) m m' n' → IsAppended n' (double_star kwarg) m' new next
+    → IsAppended before (keyword_only vararg (texts xs') kwarg) old new next
 keyword_only_appended {before = before} {old = old} m n m' n' new next vararg kwarg xs xs' e p q r =
     subst (λ (zs : List (ArgWithDefaultOf Expr)). IsAppended before (keyword_only vararg (texts zs) kwarg) old new next) e (both_appended (both_appended p q) r)

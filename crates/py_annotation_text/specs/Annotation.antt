@@ -94,7 +94,7 @@ abbrev mutual
   show (tree.DictComp at key value clauses) low = codes "{" ++ show key 2 ++ codes ": " ++ show value 2 ++ clause_texts clauses ++ codes "}"
   show (tree.GeneratorExp at elt clauses) low = codes "(" ++ show elt 2 ++ clause_texts clauses ++ codes ")"
   show (tree.Await at value) low = in_brackets 15 low (codes "await " ++ show value 16)
-  show (tree.Yield at value) low = codes "(yield" ++ behind (codes " ") value 1 ++ codes ")"
+  show (tree.Yield at value) low = codes "(yield" ++ after (codes " ") value 1 ++ codes ")"
   show (tree.YieldFrom at value) low = codes "(yield from " ++ show value 2 ++ codes ")"
   show (tree.Compare at left ops comparators) low = in_brackets 6 low (show left 7 ++ links ops (expr_texts comparators 7))
   show (tree.Call at func args named) low = show func 16 ++ codes "(" ++ separated_text [] comma (expr_texts args 2 ++ keyword_texts named) ++ codes ")"
@@ -107,16 +107,16 @@ abbrev mutual
   show (tree.Name at id) low = id
   show (tree.List at elts) low = codes "[" ++ separated_text [] comma (expr_texts elts 2) ++ codes "]"
   show (tree.Tuple at elts) low = tuple_display low (expr_texts elts 2)
-  show (tree.Slice at lower upper step) low = in_brackets 1 low (behind [] lower 2 ++ codes ":" ++ behind [] upper 2 ++ behind (codes ":") step 2)
+  show (tree.Slice at lower upper step) low = in_brackets 1 low (after [] lower 2 ++ codes ":" ++ after [] upper 2 ++ after (codes ":") step 2)
 
   pub expr_texts : tree.Exprs → (low : ℕ) → List (List ℕ)
   expr_texts tree.no_exprs low = []
   expr_texts (tree.more_exprs e es) low = show e low ∷ expr_texts es low
 
   -- after a mark, and nothing where it is missing
-  pub behind : (mark : List ℕ) → tree.OptExpr → (low : ℕ) → List ℕ
-  behind mark tree.no_expr low = []
-  behind mark (tree.some_expr e) low = mark ++ show e low
+  pub after : (mark : List ℕ) → tree.OptExpr → (low : ℕ) → List ℕ
+  after mark tree.no_expr low = []
+  after mark (tree.some_expr e) low = mark ++ show e low
 
   pub key_text : tree.OptExpr → Option (List ℕ)
   key_text tree.no_expr = None
@@ -141,7 +141,7 @@ abbrev mutual
   -- parameters with their defaults, without their annotations
   pub parameter_texts : tree.Args → List (List ℕ)
   parameter_texts tree.no_args = []
-  parameter_texts (tree.more_args a default rest) = (arg_name a ++ behind (codes "=") default 2) ∷ parameter_texts rest
+  parameter_texts (tree.more_args a default rest) = (arg_name a ++ after (codes "=") default 2) ∷ parameter_texts rest
 
   pub parameters : tree.Arguments → List (List ℕ)
   parameters (tree.arguments posonlyargs args vararg kwonlyargs kwarg) =

@@ -1,4 +1,4 @@
--- Whether an f-string stands in an expression, or in one within it.
+-- Whether an f-string stands in an expression, or in one nested in it.
 use Rattle.std.specs.Prelude.{Bool, true, false, ◌||◌}
 use Rattle.py_tree.specs.Tree as tree
 

@@ -15,7 +15,8 @@ use std::fmt::Write;
 /// Appends a constant that is an expression.
 #[tactic(auto, using(py_tree::proofs::View::literals))]
 pub(crate) fn push_constant(out: &mut String, value: &Constant, low: u8) -> Result<(), AllocError>
-    ensures { OnOk result (string_bytes out.new ≡ string_bytes out.old ++ constant_text (literal_of value.now) low) }
+    ensures { OnOk result (string_bytes out.new ≡ string_bytes out.old
+        ++ constant_text (literal_of value.now) low) }
 {
     match value {
         Constant::Int(n) => push_integer(out, *n, low),
@@ -30,7 +31,8 @@ pub(crate) fn push_constant(out: &mut String, value: &Constant, low: u8) -> Resu
 
 /// Appends an integer, in parentheses where it is below the level.
 fn push_integer(out: &mut String, value: i128, low: u8) -> Result<(), AllocError>
-    ensures { OnOk result (string_bytes out.new ≡ string_bytes out.old ++ in_brackets (integer_level value) low (signed_decimal value)) }
+    ensures { OnOk result (string_bytes out.new ≡ string_bytes out.old
+        ++ in_brackets (integer_level value) low (signed_decimal value)) }
 {
     let level = integer_level(value);
     push_opening(out, level, low)?;
@@ -48,7 +50,8 @@ fn integer_level(value: i128) -> u8
 #[cycle(literal)]
 #[tactic(auto, using(py_tree::proofs::View::literals))]
 fn push_literal(out: &mut String, value: &Constant) -> Result<(), AllocError>
-    ensures { OnOk result (string_bytes out.new ≡ string_bytes out.old ++ literal_text (literal_of value.now)) }
+    ensures { OnOk result (string_bytes out.new ≡ string_bytes out.old
+        ++ literal_text (literal_of value.now)) }
 {
     match value {
         Constant::None => out.push_str("None"),
@@ -63,7 +66,8 @@ fn push_literal(out: &mut String, value: &Constant) -> Result<(), AllocError>
 
 #[cycle(literal)]
 fn push_tuple(out: &mut String, items: &[Constant]) -> Result<(), AllocError>
-    ensures { OnOk result (string_bytes out.new ≡ string_bytes out.old ++ literal_text (literal.Tuple (literal_list literal_of items.now))) }
+    ensures { OnOk result (string_bytes out.new ≡ string_bytes out.old
+        ++ literal_text (literal.Tuple (literal_list literal_of items.now))) }
 {
     out.push_str("(")?;
     push_literals(out, items)?;
@@ -73,7 +77,8 @@ fn push_tuple(out: &mut String, items: &[Constant]) -> Result<(), AllocError>
 /// Appends constants with commas between them.
 #[cycle(literal)]
 fn push_literals(out: &mut String, items: &[Constant]) -> Result<(), AllocError>
-    ensures { OnOk result (string_bytes out.new ≡ string_bytes out.old ++ separated_text [] comma (literal_texts (literal_list literal_of items.now))) }
+    ensures { OnOk result (string_bytes out.new ≡ string_bytes out.old
+        ++ separated_text [] comma (literal_texts (literal_list literal_of items.now))) }
 {
     let mut before = "";
     for item in items {
@@ -86,7 +91,8 @@ fn push_literals(out: &mut String, items: &[Constant]) -> Result<(), AllocError>
 
 /// Appends what closes a tuple: one element has a comma after it.
 fn push_tuple_end(out: &mut String, items: &[Constant]) -> Result<(), AllocError>
-    ensures { OnOk result (string_bytes out.new ≡ string_bytes out.old ++ tuple_end (literal_list literal_of items.now)) }
+    ensures { OnOk result (string_bytes out.new ≡ string_bytes out.old
+        ++ tuple_end (literal_list literal_of items.now)) }
 {
     if items.len() == 1 {
         out.push_str(",)")

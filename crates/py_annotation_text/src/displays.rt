@@ -13,7 +13,9 @@ use std::alloc::AllocError;
 
 #[cycle(text)]
 pub(crate) fn push_list(out: &mut String, items: &[Expr]) -> Result<(), AllocError>
-    ensures { OnOk result (string_bytes out.new ≡ string_bytes out.old ++ (codes "[" ++ separated_text [] comma (expr_texts (exprs expr_tree items.now) 2) ++ codes "]")) }
+    ensures { OnOk result (string_bytes out.new ≡ string_bytes out.old
+        ++ (codes "[" ++ separated_text [] comma (expr_texts (exprs expr_tree items.now) 2)
+        ++ codes "]")) }
 {
     out.push_str("[")?;
     push_exprs(out, "", ", ", items, 2)?;
@@ -23,7 +25,8 @@ pub(crate) fn push_list(out: &mut String, items: &[Expr]) -> Result<(), AllocErr
 /// Appends a set. Braces without elements are a dict, so the empty set is written otherwise.
 #[cycle(text)]
 pub(crate) fn push_set(out: &mut String, items: &[Expr]) -> Result<(), AllocError>
-    ensures { OnOk result (string_bytes out.new ≡ string_bytes out.old ++ set_display (expr_texts (exprs expr_tree items.now) 2)) }
+    ensures { OnOk result (string_bytes out.new ≡ string_bytes out.old
+        ++ set_display (expr_texts (exprs expr_tree items.now) 2)) }
 {
     match items {
         [] => out.push_str("{*()}"),
@@ -40,7 +43,8 @@ pub(crate) fn push_set(out: &mut String, items: &[Expr]) -> Result<(), AllocErro
 #[cycle(text)]
 #[tactic(auto, using(crate::proofs::Lengths::several))]
 pub(crate) fn push_tuple(out: &mut String, items: &[Expr], low: u8) -> Result<(), AllocError>
-    ensures { OnOk result (string_bytes out.new ≡ string_bytes out.old ++ tuple_display low (expr_texts (exprs expr_tree items.now) 2)) }
+    ensures { OnOk result (string_bytes out.new ≡ string_bytes out.old
+        ++ tuple_display low (expr_texts (exprs expr_tree items.now) 2)) }
 {
     match items {
         [] => out.push_str("()"),
@@ -52,7 +56,8 @@ pub(crate) fn push_tuple(out: &mut String, items: &[Expr], low: u8) -> Result<()
 /// Appends a tuple of one element.
 #[cycle(text)]
 fn push_single(out: &mut String, only: &Expr, low: u8) -> Result<(), AllocError>
-    ensures { OnOk result (string_bytes out.new ≡ string_bytes out.old ++ tuple_display low (show (expr_tree only.now) 2 ∷ [])) }
+    ensures { OnOk result (string_bytes out.new ≡ string_bytes out.old
+        ++ tuple_display low (show (expr_tree only.now) 2 ∷ [])) }
 {
     push_opening(out, 1, low)?;
     push_expr(out, only, 2)?;
@@ -63,7 +68,8 @@ fn push_single(out: &mut String, only: &Expr, low: u8) -> Result<(), AllocError>
 /// Appends a tuple of several elements.
 #[cycle(text)]
 fn push_several(out: &mut String, items: &[Expr], low: u8) -> Result<(), AllocError>
-    ensures { OnOk result (string_bytes out.new ≡ string_bytes out.old ++ in_brackets 1 low (separated_text [] comma (expr_texts (exprs expr_tree items.now) 2))) }
+    ensures { OnOk result (string_bytes out.new ≡ string_bytes out.old
+        ++ in_brackets 1 low (separated_text [] comma (expr_texts (exprs expr_tree items.now) 2))) }
 {
     push_opening(out, 1, low)?;
     push_exprs(out, "", ", ", items, 2)?;
@@ -72,7 +78,8 @@ fn push_several(out: &mut String, items: &[Expr], low: u8) -> Result<(), AllocEr
 
 #[cycle(text)]
 pub(crate) fn push_dict(out: &mut String, e: &ExprDict) -> Result<(), AllocError>
-    ensures { OnOk result (string_bytes out.new ≡ string_bytes out.old ++ show (dict_tree e.now) 16) }
+    ensures { OnOk result (string_bytes out.new ≡ string_bytes out.old
+        ++ show (dict_tree e.now) 16) }
 {
     out.push_str("{")?;
     push_pairs(out, e)?;
@@ -82,7 +89,9 @@ pub(crate) fn push_dict(out: &mut String, e: &ExprDict) -> Result<(), AllocError
 /// Appends keys with their values.
 #[cycle(text)]
 fn push_pairs(out: &mut String, e: &ExprDict) -> Result<(), AllocError>
-    ensures { OnOk result (string_bytes out.new ≡ string_bytes out.old ++ separated_text [] comma (pairs (key_texts (opt_exprs expr_tree e.now.keys)) (value_texts (exprs expr_tree e.now.values)))) }
+    ensures { OnOk result (string_bytes out.new ≡ string_bytes out.old
+        ++ separated_text [] comma (pairs (key_texts (opt_exprs expr_tree e.now.keys))
+        (value_texts (exprs expr_tree e.now.values)))) }
 {
     let keys = e.keys.as_slice();
     let values = e.values.as_slice();
@@ -101,7 +110,8 @@ fn push_pairs(out: &mut String, e: &ExprDict) -> Result<(), AllocError>
 /// Appends what stands before a value: its key, or the mark of a value that is unpacked.
 #[cycle(text)]
 fn push_key(out: &mut String, key: &Option<Expr>) -> Result<(), AllocError>
-    ensures { OnOk result (string_bytes out.new ≡ string_bytes out.old ++ key_part (key_text (opt_expr expr_tree key.now))) }
+    ensures { OnOk result (string_bytes out.new ≡ string_bytes out.old
+        ++ key_part (key_text (opt_expr expr_tree key.now))) }
 {
     match key {
         Some(key) => {
@@ -124,7 +134,8 @@ fn value_level(key: &Option<Expr>) -> u8
 
 #[cycle(text)]
 pub(crate) fn push_list_comp(out: &mut String, e: &ExprListComp) -> Result<(), AllocError>
-    ensures { OnOk result (string_bytes out.new ≡ string_bytes out.old ++ show (list_comp_tree e.now) 16) }
+    ensures { OnOk result (string_bytes out.new ≡ string_bytes out.old
+        ++ show (list_comp_tree e.now) 16) }
 {
     out.push_str("[")?;
     push_expr(out, &e.elt, 2)?;
@@ -134,7 +145,8 @@ pub(crate) fn push_list_comp(out: &mut String, e: &ExprListComp) -> Result<(), A
 
 #[cycle(text)]
 pub(crate) fn push_set_comp(out: &mut String, e: &ExprSetComp) -> Result<(), AllocError>
-    ensures { OnOk result (string_bytes out.new ≡ string_bytes out.old ++ show (set_comp_tree e.now) 16) }
+    ensures { OnOk result (string_bytes out.new ≡ string_bytes out.old
+        ++ show (set_comp_tree e.now) 16) }
 {
     out.push_str("{")?;
     push_expr(out, &e.elt, 2)?;
@@ -144,7 +156,8 @@ pub(crate) fn push_set_comp(out: &mut String, e: &ExprSetComp) -> Result<(), All
 
 #[cycle(text)]
 pub(crate) fn push_dict_comp(out: &mut String, e: &ExprDictComp) -> Result<(), AllocError>
-    ensures { OnOk result (string_bytes out.new ≡ string_bytes out.old ++ show (dict_comp_tree e.now) 16) }
+    ensures { OnOk result (string_bytes out.new ≡ string_bytes out.old
+        ++ show (dict_comp_tree e.now) 16) }
 {
     out.push_str("{")?;
     push_expr(out, &e.key, 2)?;
@@ -156,7 +169,8 @@ pub(crate) fn push_dict_comp(out: &mut String, e: &ExprDictComp) -> Result<(), A
 
 #[cycle(text)]
 pub(crate) fn push_generator_exp(out: &mut String, e: &ExprGeneratorExp) -> Result<(), AllocError>
-    ensures { OnOk result (string_bytes out.new ≡ string_bytes out.old ++ show (generator_exp_tree e.now) 16) }
+    ensures { OnOk result (string_bytes out.new ≡ string_bytes out.old
+        ++ show (generator_exp_tree e.now) 16) }
 {
     out.push_str("(")?;
     push_expr(out, &e.elt, 2)?;
@@ -167,7 +181,8 @@ pub(crate) fn push_generator_exp(out: &mut String, e: &ExprGeneratorExp) -> Resu
 /// Appends the clauses of a comprehension.
 #[cycle(text)]
 fn push_clauses(out: &mut String, clauses: &[Comprehension]) -> Result<(), AllocError>
-    ensures { OnOk result (string_bytes out.new ≡ string_bytes out.old ++ clause_texts (generators expr_tree clauses.now)) }
+    ensures { OnOk result (string_bytes out.new ≡ string_bytes out.old
+        ++ clause_texts (generators expr_tree clauses.now)) }
 {
     for clause in clauses {
         push_clause(out, clause)?;
@@ -177,7 +192,10 @@ fn push_clauses(out: &mut String, clauses: &[Comprehension]) -> Result<(), Alloc
 
 #[cycle(text)]
 fn push_clause(out: &mut String, clause: &Comprehension) -> Result<(), AllocError>
-    ensures { OnOk result (string_bytes out.new ≡ string_bytes out.old ++ clause_text clause.now.is_async (show (expr_tree clause.now.target.value) 1) (show (expr_tree clause.now.iter.value) 3) (expr_texts (exprs expr_tree clause.now.ifs) 3)) }
+    ensures { OnOk result (string_bytes out.new ≡ string_bytes out.old
+        ++ clause_text clause.now.is_async (show (expr_tree clause.now.target.value) 1)
+        (show (expr_tree clause.now.iter.value) 3)
+        (expr_texts (exprs expr_tree clause.now.ifs) 3)) }
 {
     out.push_str(clause_word(clause.is_async))?;
     push_expr(out, &clause.target, 1)?;

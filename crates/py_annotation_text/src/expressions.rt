@@ -1,7 +1,7 @@
 //! Expressions as Python writes them.
 ghost use Rattle.std.specs.Prelude.{◌≡◌, ◌++◌, string_bytes, OnOk};
 ghost use Rattle.py_tree.specs.View.{attribute_tree, await_tree, expr_tree, exprs, if_exp_tree, named_expr_tree, opt_box, slice_tree, starred_tree, subscript_tree, yield_tree, yield_from_tree};
-ghost use Rattle.py_annotation_text.specs.Annotation.{behind, show, expr_texts};
+ghost use Rattle.py_annotation_text.specs.Annotation.{after, show, expr_texts};
 ghost use Rattle.py_annotation_text.specs.Lists.{separated_text};
 
 use crate::constants::push_constant;
@@ -22,7 +22,8 @@ use std::alloc::AllocError;
 #[cycle(text)]
 #[tactic(auto, using(py_tree::proofs::View::trees))]
 pub(crate) fn push_expr(out: &mut String, expr: &Expr, low: u8) -> Result<(), AllocError>
-    ensures { OnOk result (string_bytes out.new ≡ string_bytes out.old ++ show (expr_tree expr.now) low) }
+    ensures { OnOk result (string_bytes out.new ≡ string_bytes out.old
+        ++ show (expr_tree expr.now) low) }
 {
     match expr {
         Expr::BoolOp(e) => push_bool_op(out, e, low),
@@ -63,7 +64,8 @@ pub(crate) fn push_exprs(
     items: &[Expr],
     low: u8,
 ) -> Result<(), AllocError>
-    ensures { OnOk result (string_bytes out.new ≡ string_bytes out.old ++ separated_text before.now between.now (expr_texts (exprs expr_tree items.now) low)) }
+    ensures { OnOk result (string_bytes out.new ≡ string_bytes out.old
+        ++ separated_text before.now between.now (expr_texts (exprs expr_tree items.now) low)) }
 {
     let mut before = before;
     for item in items {
@@ -76,13 +78,14 @@ pub(crate) fn push_exprs(
 
 /// Appends an expression after a mark, or nothing where it is missing.
 #[cycle(text)]
-pub(crate) fn push_behind(
+pub(crate) fn push_after(
     out: &mut String,
     mark: &str,
     value: &Option<Box<Expr>>,
     low: u8,
 ) -> Result<(), AllocError>
-    ensures { OnOk result (string_bytes out.new ≡ string_bytes out.old ++ behind mark.now (opt_box expr_tree value.now) low) }
+    ensures { OnOk result (string_bytes out.new ≡ string_bytes out.old
+        ++ after mark.now (opt_box expr_tree value.now) low) }
 {
     match value {
         Some(e) => {
@@ -95,7 +98,8 @@ pub(crate) fn push_behind(
 
 #[cycle(text)]
 fn push_named_expr(out: &mut String, e: &ExprNamedExpr) -> Result<(), AllocError>
-    ensures { OnOk result (string_bytes out.new ≡ string_bytes out.old ++ show (named_expr_tree e.now) 16) }
+    ensures { OnOk result (string_bytes out.new ≡ string_bytes out.old
+        ++ show (named_expr_tree e.now) 16) }
 {
     out.push_str("(")?;
     push_expr(out, &e.target, 16)?;
@@ -106,7 +110,8 @@ fn push_named_expr(out: &mut String, e: &ExprNamedExpr) -> Result<(), AllocError
 
 #[cycle(text)]
 fn push_if_exp(out: &mut String, e: &ExprIfExp, low: u8) -> Result<(), AllocError>
-    ensures { OnOk result (string_bytes out.new ≡ string_bytes out.old ++ show (if_exp_tree e.now) low) }
+    ensures { OnOk result (string_bytes out.new ≡ string_bytes out.old
+        ++ show (if_exp_tree e.now) low) }
 {
     push_opening(out, 2, low)?;
     push_expr(out, &e.body, 3)?;
@@ -119,7 +124,8 @@ fn push_if_exp(out: &mut String, e: &ExprIfExp, low: u8) -> Result<(), AllocErro
 
 #[cycle(text)]
 fn push_await(out: &mut String, e: &ExprAwait, low: u8) -> Result<(), AllocError>
-    ensures { OnOk result (string_bytes out.new ≡ string_bytes out.old ++ show (await_tree e.now) low) }
+    ensures { OnOk result (string_bytes out.new ≡ string_bytes out.old
+        ++ show (await_tree e.now) low) }
 {
     push_opening(out, 15, low)?;
     out.push_str("await ")?;
@@ -129,16 +135,18 @@ fn push_await(out: &mut String, e: &ExprAwait, low: u8) -> Result<(), AllocError
 
 #[cycle(text)]
 fn push_yield(out: &mut String, e: &ExprYield) -> Result<(), AllocError>
-    ensures { OnOk result (string_bytes out.new ≡ string_bytes out.old ++ show (yield_tree e.now) 16) }
+    ensures { OnOk result (string_bytes out.new ≡ string_bytes out.old
+        ++ show (yield_tree e.now) 16) }
 {
     out.push_str("(yield")?;
-    push_behind(out, " ", &e.value, 1)?;
+    push_after(out, " ", &e.value, 1)?;
     out.push_str(")")
 }
 
 #[cycle(text)]
 fn push_yield_from(out: &mut String, e: &ExprYieldFrom) -> Result<(), AllocError>
-    ensures { OnOk result (string_bytes out.new ≡ string_bytes out.old ++ show (yield_from_tree e.now) 16) }
+    ensures { OnOk result (string_bytes out.new ≡ string_bytes out.old
+        ++ show (yield_from_tree e.now) 16) }
 {
     out.push_str("(yield from ")?;
     push_expr(out, &e.value, 2)?;
@@ -148,7 +156,8 @@ fn push_yield_from(out: &mut String, e: &ExprYieldFrom) -> Result<(), AllocError
 
 #[cycle(text)]
 fn push_attribute(out: &mut String, e: &ExprAttribute) -> Result<(), AllocError>
-    ensures { OnOk result (string_bytes out.new ≡ string_bytes out.old ++ show (attribute_tree e.now) 16) }
+    ensures { OnOk result (string_bytes out.new ≡ string_bytes out.old
+        ++ show (attribute_tree e.now) 16) }
 {
     push_expr(out, &e.value, 16)?;
     out.push_str(".")?;
@@ -157,7 +166,8 @@ fn push_attribute(out: &mut String, e: &ExprAttribute) -> Result<(), AllocError>
 
 #[cycle(text)]
 fn push_subscript(out: &mut String, e: &ExprSubscript) -> Result<(), AllocError>
-    ensures { OnOk result (string_bytes out.new ≡ string_bytes out.old ++ show (subscript_tree e.now) 16) }
+    ensures { OnOk result (string_bytes out.new ≡ string_bytes out.old
+        ++ show (subscript_tree e.now) 16) }
 {
     push_expr(out, &e.value, 16)?;
     out.push_str("[")?;
@@ -167,7 +177,8 @@ fn push_subscript(out: &mut String, e: &ExprSubscript) -> Result<(), AllocError>
 
 #[cycle(text)]
 fn push_starred(out: &mut String, e: &ExprStarred) -> Result<(), AllocError>
-    ensures { OnOk result (string_bytes out.new ≡ string_bytes out.old ++ show (starred_tree e.now) 16) }
+    ensures { OnOk result (string_bytes out.new ≡ string_bytes out.old
+        ++ show (starred_tree e.now) 16) }
 {
     out.push_str("*")?;
     push_expr(out, &e.value, 7)
@@ -175,12 +186,13 @@ fn push_starred(out: &mut String, e: &ExprStarred) -> Result<(), AllocError>
 
 #[cycle(text)]
 fn push_slice(out: &mut String, e: &ExprSlice, low: u8) -> Result<(), AllocError>
-    ensures { OnOk result (string_bytes out.new ≡ string_bytes out.old ++ show (slice_tree e.now) low) }
+    ensures { OnOk result (string_bytes out.new ≡ string_bytes out.old
+        ++ show (slice_tree e.now) low) }
 {
     push_opening(out, 1, low)?;
-    push_behind(out, "", &e.lower, 2)?;
+    push_after(out, "", &e.lower, 2)?;
     out.push_str(":")?;
-    push_behind(out, "", &e.upper, 2)?;
-    push_behind(out, ":", &e.step, 2)?;
+    push_after(out, "", &e.upper, 2)?;
+    push_after(out, ":", &e.step, 2)?;
     push_closing(out, 1, low)
 }

@@ -118,7 +118,9 @@ fn in_clauses(clauses: &[Comprehension]) -> bool
 
 #[cycle(f_strings)]
 fn in_clause(clause: &Comprehension) -> bool
-    ensures { result ≡ (has_f_string (expr_tree clause.now.target.value) || (has_f_string (expr_tree clause.now.iter.value) || some_f_string (exprs expr_tree clause.now.ifs))) }
+    ensures { result ≡ (has_f_string (expr_tree clause.now.target.value) ||
+        (has_f_string (expr_tree clause.now.iter.value) || some_f_string
+        (exprs expr_tree clause.now.ifs))) }
 {
     has_f_string(&clause.target)
         || has_f_string(&clause.iter)
@@ -150,7 +152,8 @@ fn in_args(items: &[ArgWithDefault]) -> bool
 
 #[cycle(f_strings)]
 fn in_default_arg(item: &ArgWithDefault) -> bool
-    ensures { result ≡ (in_arg (arg expr_tree item.now.def) || in_optional (opt_box expr_tree item.now.default)) }
+    ensures { result ≡ (in_arg (arg expr_tree item.now.def) || in_optional
+        (opt_box expr_tree item.now.default)) }
 {
     in_arg(&item.def) || in_optional(&item.default)
 }

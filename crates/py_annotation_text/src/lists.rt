@@ -6,7 +6,8 @@ use std::alloc::AllocError;
 
 /// Opens parentheses, where the level is below the one that is asked for.
 pub(crate) fn push_opening(out: &mut String, level: u8, low: u8) -> Result<(), AllocError>
-    ensures { OnOk result (string_bytes out.new ≡ string_bytes out.old ++ opening_bracket level low) }
+    ensures { OnOk result (string_bytes out.new ≡ string_bytes out.old
+        ++ opening_bracket level low) }
 {
     if level < low {
         return out.push_str("(");
@@ -16,7 +17,8 @@ pub(crate) fn push_opening(out: &mut String, level: u8, low: u8) -> Result<(), A
 
 /// Closes the parentheses of `push_opening`.
 pub(crate) fn push_closing(out: &mut String, level: u8, low: u8) -> Result<(), AllocError>
-    ensures { OnOk result (string_bytes out.new ≡ string_bytes out.old ++ closing_bracket level low) }
+    ensures { OnOk result (string_bytes out.new ≡ string_bytes out.old
+        ++ closing_bracket level low) }
 {
     if level < low {
         return out.push_str(")");

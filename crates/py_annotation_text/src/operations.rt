@@ -15,7 +15,8 @@ use std::alloc::AllocError;
 
 #[cycle(text)]
 pub(crate) fn push_bool_op(out: &mut String, e: &ExprBoolOp, low: u8) -> Result<(), AllocError>
-    ensures { OnOk result (string_bytes out.new ≡ string_bytes out.old ++ show (bool_op_tree e.now) low) }
+    ensures { OnOk result (string_bytes out.new ≡ string_bytes out.old
+        ++ show (bool_op_tree e.now) low) }
 {
     let level = bool_level(e.op);
     let word = bool_word(e.op);
@@ -27,7 +28,8 @@ pub(crate) fn push_bool_op(out: &mut String, e: &ExprBoolOp, low: u8) -> Result<
 
 #[cycle(text)]
 pub(crate) fn push_bin_op(out: &mut String, e: &ExprBinOp, low: u8) -> Result<(), AllocError>
-    ensures { OnOk result (string_bytes out.new ≡ string_bytes out.old ++ show (bin_op_tree e.now) low) }
+    ensures { OnOk result (string_bytes out.new ≡ string_bytes out.old
+        ++ show (bin_op_tree e.now) low) }
 {
     let level = binary_level(e.op);
     push_opening(out, level, low)?;
@@ -39,7 +41,8 @@ pub(crate) fn push_bin_op(out: &mut String, e: &ExprBinOp, low: u8) -> Result<()
 
 #[cycle(text)]
 pub(crate) fn push_unary_op(out: &mut String, e: &ExprUnaryOp, low: u8) -> Result<(), AllocError>
-    ensures { OnOk result (string_bytes out.new ≡ string_bytes out.old ++ show (unary_op_tree e.now) low) }
+    ensures { OnOk result (string_bytes out.new ≡ string_bytes out.old
+        ++ show (unary_op_tree e.now) low) }
 {
     let level = unary_level(e.op);
     push_opening(out, level, low)?;
@@ -50,7 +53,8 @@ pub(crate) fn push_unary_op(out: &mut String, e: &ExprUnaryOp, low: u8) -> Resul
 
 #[cycle(text)]
 pub(crate) fn push_compare(out: &mut String, e: &ExprCompare, low: u8) -> Result<(), AllocError>
-    ensures { OnOk result (string_bytes out.new ≡ string_bytes out.old ++ show (compare_tree e.now) low) }
+    ensures { OnOk result (string_bytes out.new ≡ string_bytes out.old
+        ++ show (compare_tree e.now) low) }
 {
     push_opening(out, 6, low)?;
     push_expr(out, &e.left, 7)?;
@@ -61,7 +65,8 @@ pub(crate) fn push_compare(out: &mut String, e: &ExprCompare, low: u8) -> Result
 /// Appends operators, each with what it compares with.
 #[cycle(text)]
 fn push_links(out: &mut String, ops: &[CmpOp], values: &[Expr]) -> Result<(), AllocError>
-    ensures { OnOk result (string_bytes out.new ≡ string_bytes out.old ++ links ops.now (expr_texts (exprs expr_tree values.now) 7)) }
+    ensures { OnOk result (string_bytes out.new ≡ string_bytes out.old
+        ++ links ops.now (expr_texts (exprs expr_tree values.now) 7)) }
 {
     for i in 0..ops.len().min(values.len()) {
         let value = &values[i];
@@ -73,7 +78,8 @@ fn push_links(out: &mut String, ops: &[CmpOp], values: &[Expr]) -> Result<(), Al
 
 #[cycle(text)]
 pub(crate) fn push_call(out: &mut String, e: &ExprCall) -> Result<(), AllocError>
-    ensures { OnOk result (string_bytes out.new ≡ string_bytes out.old ++ show (call_tree e.now) 16) }
+    ensures { OnOk result (string_bytes out.new ≡ string_bytes out.old
+        ++ show (call_tree e.now) 16) }
 {
     push_expr(out, &e.func, 16)?;
     out.push_str("(")?;
@@ -84,7 +90,9 @@ pub(crate) fn push_call(out: &mut String, e: &ExprCall) -> Result<(), AllocError
 /// Appends the arguments of a call.
 #[cycle(text)]
 fn push_arguments(out: &mut String, e: &ExprCall) -> Result<(), AllocError>
-    ensures { OnOk result (string_bytes out.new ≡ string_bytes out.old ++ separated_text [] comma (expr_texts (exprs expr_tree e.now.args) 2 ++ keyword_texts (keywords expr_tree e.now.keywords))) }
+    ensures { OnOk result (string_bytes out.new ≡ string_bytes out.old
+        ++ separated_text [] comma (expr_texts (exprs expr_tree e.now.args) 2
+        ++ keyword_texts (keywords expr_tree e.now.keywords))) }
 {
     let args = e.args.as_slice();
     let named = e.keywords.as_slice();
@@ -107,7 +115,8 @@ fn push_keywords(
     before: &'static str,
     items: &[Keyword],
 ) -> Result<(), AllocError>
-    ensures { OnOk result (string_bytes out.new ≡ string_bytes out.old ++ separated_text before.now comma (keyword_texts (keywords expr_tree items.now))) }
+    ensures { OnOk result (string_bytes out.new ≡ string_bytes out.old
+        ++ separated_text before.now comma (keyword_texts (keywords expr_tree items.now))) }
 {
     let mut before = before;
     for keyword in items {
@@ -121,7 +130,8 @@ fn push_keywords(
 /// Appends an argument with its name, or one that is unpacked.
 #[cycle(text)]
 fn push_keyword(out: &mut String, keyword: &Keyword) -> Result<(), AllocError>
-    ensures { OnOk result (string_bytes out.new ≡ string_bytes out.old ++ argument_text keyword.now.arg (λ low. show (expr_tree keyword.now.value) low)) }
+    ensures { OnOk result (string_bytes out.new ≡ string_bytes out.old
+        ++ argument_text keyword.now.arg (λ low. show (expr_tree keyword.now.value) low)) }
 {
     match &keyword.arg {
         Some(name) => {

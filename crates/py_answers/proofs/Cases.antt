@@ -1,4 +1,4 @@
--- Cases are told by the kind of their instruction.
+-- Cases are given by the kind of their instruction.
 use Rattle.std.proofs.Common.{◌≡◌, ◌++◌, ℕ, List, Bool, true, false, refl, codes, decimal}
 use Rattle.std.specs.Prelude.{if◌then◌else◌}
 use Rattle.py_bytecode.specs.declared.instruction.OperandKind.{OperandKind}

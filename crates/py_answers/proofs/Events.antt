@@ -1,4 +1,4 @@
--- What is told of events, one more at the end.
+-- What is reported of events, one more at the end.
 use Rattle.std.proofs.Common.{◌≡◌, ◌++◌, ◌<◌, ℕ, zero, suc, List, [], ◌∷◌, Bool, true, false, refl, ap, ◌∙◌, drop, length, get_or, arith, ◌+◌, add-one}
 use Rattle.std.specs.Prelude.{◌&&◌, if◌then◌else◌}
 use Rattle.py_bytecode.specs.Values.{Event}

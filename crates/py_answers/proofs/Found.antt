@@ -1,5 +1,6 @@
 -- The answers that a text spells are those that it is written of.
-use Rattle.std.proofs.Common.{◌≡◌, ◌≢◌, ◌==◌, ◌<◌, ◌≤◌, ◌^◌, ◌+◌, ◌-◌, ℕ, suc, List, [], ◌∷◌, Bool, true, false, refl, sym, ap, ◌∙◌, map, length, arith, Option, Some, None, option_and_then, option_map, if◌then◌else◌, Bor}
+use Rattle.std.proofs.Common.{◌≡◌, ◌≢◌, ◌==◌, ◌<◌, ◌≤◌, ◌^◌, ◌+◌, ◌-◌, ℕ, suc, List, [], ◌∷◌, Bool, true, false, refl, sym, ap, ◌∙◌, map}
+use Rattle.std.proofs.Common.{length, arith, Option, Some, None, option_and_then, option_map, if◌then◌else◌, Bor}
 use Rattle.std.specs.Prelude.{◌&&◌, nat_lt}
 use Rattle.std.specs.List.{slice_split, join_with_byte, after_first}
 use Rattle.std.specs.Option.{is_some, MatchOption}
@@ -79,15 +80,15 @@ pub record Spells (ps : List (List ℕ)) (answers : List Answer) : Type 0 where
   pub written : map answer_text answers ≡ ps
   pub counts : all_counted answers ≡ true
 
-both_true : (x y : Bool) → x ≡ true → y ≡ true → x && y ≡ true
-both_true true true h k = refl
-both_true true false h k = cc
-both_true false y h k = cc
+found_both_true : (x y : Bool) → x ≡ true → y ≡ true → x && y ≡ true
+found_both_true true true h k = refl
+found_both_true true false h k = cc
+found_both_true false y h k = cc
 
 found_one_more : (p : List ℕ) (a : Answer) (ps : List (List ℕ)) (rest : List Answer) → (p ≡ answer_text a) × (is_counted a ≡ true) → Spells ps rest → Spells (p ∷ ps) (a ∷ rest)
 found_one_more p a ps rest h k = record {
   written = ap (λ x. x ∷ map answer_text rest) (sym h.0) ∙ ap (λ xs. p ∷ xs) k.written;
-  counts = both_true (is_counted a) (all_counted rest) h.1 k.counts;
+  counts = found_both_true (is_counted a) (all_counted rest) h.1 k.counts;
 }
 
 all_spelled : (ps : List (List ℕ)) (answers : List Answer) → answers_in ps ≡ Some answers → Spells ps answers
@@ -168,8 +169,8 @@ pub record FoundReads (text rest : List ℕ) (room : ℕ) : Type 0 where
   pub count : length (pieces text) + room ≡ 65536 + length (pieces rest)
   pub found : is_some (answers_in (pieces text)) ≡ is_some (answers_in (pieces rest))
 
-abbrev pub Splits : (text piece behind : List ℕ) → Type 0
-Splits text piece behind = pieces text ≡ piece ∷ pieces behind
+abbrev pub Splits : (text piece after : List ℕ) → Type 0
+Splits text piece after = pieces text ≡ piece ∷ pieces after
 
 pub cut : (text : List ℕ) (r : Option (Bor (List ℕ) × Bor (List ℕ))) → IsSplitOnceResult 44 text r → MatchOption r (pieces text ≡ text ∷ []) (λ x. Splits text x.0.now x.1.now)
 cut text None h = slice_split_none (λ b. b == 44) text (λ k e m. fails_before_first (λ b. b == 44) text k e (let l = split_once_first 44 text None h (omega arith) in omega (arith, l, m)))
@@ -194,25 +195,25 @@ none_found ps h = by (nat_lt (length ps) (2 ^ 16))
     by false = refl
 
 -- the next piece is an answer
-pub go_on : (text rest piece behind : List ℕ) (room : ℕ) → FoundReads text rest room → Splits rest piece behind → 1 < room → is_some (answer_in piece) ≡ true → FoundReads text behind (room - 1)
-go_on text rest piece behind room h s few is = record {
+pub go_on : (text rest piece after : List ℕ) (room : ℕ) → FoundReads text rest room → Splits rest piece after → 1 < room → is_some (answer_in piece) ≡ true → FoundReads text after (room - 1)
+go_on text rest piece after room h s few is = record {
   some = omega (arith, few);
   count = let n = h.count in let m = ap length s in omega (arith, n, m, few);
-  found = h.found ∙ ap (λ ps. is_some (answers_in ps)) s ∙ some_more (answer_in piece) (answers_in (pieces behind)) is;
+  found = h.found ∙ ap (λ ps. is_some (answers_in ps)) s ∙ some_more (answer_in piece) (answers_in (pieces after)) is;
 }
 
 -- it is none
-pub found_no_answer : (text rest piece behind : List ℕ) (room : ℕ) → FoundReads text rest room → Splits rest piece behind → is_some (answer_in piece) ≡ false
+pub found_no_answer : (text rest piece after : List ℕ) (room : ℕ) → FoundReads text rest room → Splits rest piece after → is_some (answer_in piece) ≡ false
     → false ≡ is_some (few_answers (pieces text))
-found_no_answer text rest piece behind room h s is =
-    none_found (pieces text) (h.found ∙ ap (λ ps. is_some (answers_in ps)) s ∙ found_none_more (answer_in piece) (answers_in (pieces behind)) is)
+found_no_answer text rest piece after room h s is =
+    none_found (pieces text) (h.found ∙ ap (λ ps. is_some (answers_in ps)) s ∙ found_none_more (answer_in piece) (answers_in (pieces after)) is)
 
 -- too many pieces
-pub full : (text rest piece behind : List ℕ) (room : ℕ) → FoundReads text rest room → Splits rest piece behind → room ≤ 1 → false ≡ is_some (few_answers (pieces text))
-full text rest piece behind room h s few =
+pub full : (text rest piece after : List ℕ) (room : ℕ) → FoundReads text rest room → Splits rest piece after → room ≤ 1 → false ≡ is_some (few_answers (pieces text))
+full text rest piece after room h s few =
     let n = h.count in
     let m = ap length s in
-    let l = length-slice_split (λ b. b == 44) behind in
+    let l = length-slice_split (λ b. b == 44) after in
     ap (λ b. is_some (if b then answers_in (pieces text) else None)) (sym (le-ltb (length (pieces text)) (2 ^ 16) (omega (arith, n, m, few, l))))
 
 -- the last piece

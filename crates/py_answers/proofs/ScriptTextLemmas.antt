@@ -1,5 +1,6 @@
 -- Scripts, and the pieces of their texts.
-use Rattle.std.proofs.Common.{◌≡◌, ◌≢◌, ◌==◌, ◌<◌, ◌≤◌, ◌^◌, ◌+◌, ℕ, zero, suc, List, [], ◌∷◌, ◌++◌, Bool, true, false, refl, sym, ap, ◌∙◌, map, take, length, get_or, decimal, arith, add-one, Bor, Option, Some, None}
+use Rattle.std.proofs.Common.{◌≡◌, ◌≢◌, ◌==◌, ◌<◌, ◌≤◌, ◌^◌, ◌+◌, ℕ, zero, suc, List, [], ◌∷◌, ◌++◌, Bool, true, false, refl, sym, ap, ◌∙◌}
+use Rattle.std.proofs.Common.{map, take, length, get_or, decimal, arith, add-one, Bor, Option, Some, None}
 use Rattle.std.specs.Option.{MatchOption}
 use Rattle.std.specs.Prelude.{◌&&◌, nat_lt, IsTrue}
 use Rattle.std.specs.List.{All, slice_split, join_with_byte}
@@ -134,7 +135,8 @@ pub written_more : (items : List (Bor (List ℕ))) (i : ℕ) (d : Bor (List ℕ)
     → map answer_text answers ≡ take i (texts items) → i < length items → (get_or items i d).now ≡ answer_text a
     → map answer_text new ≡ take (i + 1) (texts items)
 written_more items i d answers new a push so l is =
-    ap (map answer_text) push ∙ spelled_more answers a ∙ ap (λ t. t ++ answer_text a ∷ []) so ∙ ap (λ t. take i (texts items) ++ t ∷ []) (sym is) ∙ sym (next_text items i d l) ∙ ap (λ n. take n (texts items)) (sym (add-one i))
+    ap (map answer_text) push ∙ spelled_more answers a ∙ ap (λ t. t ++ answer_text a ∷ []) so
+    ∙ ap (λ t. take i (texts items) ++ t ∷ []) (sym is) ∙ sym (next_text items i d l) ∙ ap (λ n. take n (texts items)) (sym (add-one i))
 
 pub counts_more : (answers new : List Answer) (a : Answer) → new ≡ answers ++ a ∷ [] → all_counted answers ≡ true → is_counted a ≡ true → all_counted new ≡ true
 counts_more answers new a push h is = ap all_counted push ∙ counted_more answers a h is

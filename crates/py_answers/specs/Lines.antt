@@ -4,7 +4,9 @@ use Rattle.py_bytecode.specs.declared.instruction.OperandKind.{OperandKind}
 use Rattle.py_listing.specs.Listing.{case_text, comma, constant_text}
 use Rattle.py_quote.specs.Quote.{quote}
 use Rattle.py_bytecode.specs.Table.{row_of}
-use Rattle.py_bytecode.specs.Values.{Operation, Detail, Bare, Number, Named, Value, Constant, Given, Child, Entry, It, Cells, Event, Operates, Makes, Accesses, StoresCells, AsksTruth, AsksNext, Load, Store, Delete, Outcome, Returned, RaisedOut, Stopped, Wrong, Leaked, Going, Ran}
+use Rattle.py_bytecode.specs.Values.{Operation, Detail, Bare, Number, Named, Value, Constant, Given, Child, Entry, It, Cells, Event}
+use Rattle.py_bytecode.specs.Values.{Operates, Makes, Accesses, StoresCells, AsksTruth, AsksNext, Load, Store, Delete, Outcome, Returned}
+use Rattle.py_bytecode.specs.Values.{RaisedOut, Stopped, Wrong, Leaked, Going, Ran}
 use Rattle.py_answers.specs.Told.{Known, AChild, SomeCells, has_cases}
 
 abbrev pub value_text : Value Known → List ℕ
@@ -31,7 +33,7 @@ operands_text (x ∷ xs) = codes ": " ++ value_text x ++ further_text xs
 abbrev pub operation_text : Operation → List (Value Known) → List ℕ
 operation_text o xs = codes "op " ++ (row_of o.instruction).name ++ detail_text (row_of o.instruction).kind o.detail ++ operands_text xs
 
--- nothing stands for what is not told
+-- nothing stands for what is not reported
 abbrev pub event_text : Event Known → List ℕ
 event_text (Operates o xs) = operation_text o xs
 event_text (Makes fl xs cs) = []

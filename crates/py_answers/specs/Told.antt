@@ -1,4 +1,4 @@
--- How a run is told: of a child no more than that it is one, no kinds and places of accesses, and no cells.
+-- How a run is reported: of a child no more than that it is one, no kinds and places of accesses, and no cells.
 use Rattle.std.specs.Prelude.{ℕ, List, [], ◌∷◌, ◌++◌, Bool, true, false, not, ◌&&◌}
 use Rattle.py_bytecode.specs.declared.instruction.Instruction.{Instruction}
 use Rattle.py_bytecode.specs.declared.instruction.Instruction.TheVariants as op
@@ -7,7 +7,9 @@ use Rattle.py_bytecode.specs.declared.instruction.OperandKind.TheVariants as kin
 use Rattle.py_bytecode.specs.Objects as const
 use Rattle.py_bytecode.specs.Table.{row_of}
 use Rattle.py_bytecode.specs.View.{constant}
-use Rattle.py_bytecode.specs.Values.{Operation, operation, Bare, Number, Named, Value, Constant, Given, Child, Entry, It, Cells, Event, Operates, Makes, Accesses, StoresCells, AsksTruth, AsksNext, Unsaid, Load, Store, Delete, Outcome, Returned, RaisedOut, Stopped, Wrong, Leaked, Going, Ran, ran}
+use Rattle.py_bytecode.specs.Values.{Operation, operation, Bare, Number, Named, Value, Constant, Given, Child, Entry, It, Cells, Event}
+use Rattle.py_bytecode.specs.Values.{Operates, Makes, Accesses, StoresCells, AsksTruth, AsksNext, Unsaid, Load, Store, Delete, Outcome}
+use Rattle.py_bytecode.specs.Values.{Returned, RaisedOut, Stopped, Wrong, Leaked, Going, Ran, ran}
 use Rattle.py_bytecode.specs.Values as values
 use Rattle.py_answers.specs.declared.trace.StepValue.{StepValue}
 use Rattle.py_answers.specs.declared.trace.Detail.{Detail}
@@ -15,7 +17,7 @@ use Rattle.py_answers.specs.declared.trace.Event.{Event as Event1}
 use Rattle.py_answers.specs.declared.trace.Outcome.{Outcome as Outcome1}
 use Rattle.py_answers.specs.declared.trace.Trace.{Trace}
 
--- what is told of a child; cells are never told, though there is a word for them
+-- what is reported of a child; cells are never reported, though there is a word for them
 pub data Known : Type 0 where
   AChild : Known
   SomeCells : Known
@@ -32,7 +34,7 @@ module _ {K : Type 0} where
   short_values [] = []
   short_values (x ∷ xs) = short_value x ∷ short_values xs
 
-  -- what makes a function is an operation as others; a silent store is not told
+  -- what makes a function is an operation as others; a silent store is not reported
   abbrev pub short_event : Event K → List (Event Known)
   short_event (Operates o vs) = Operates o (short_values vs) ∷ []
   short_event (Makes fl vs cs) = Operates (operation op.MakeFunction (Number fl)) (short_values vs) ∷ []
@@ -123,7 +125,7 @@ is_case kind.RaiseKind kind.RaiseKind = true
 is_case kind.Conversion kind.Conversion = true
 is_case _ _ = false
 
--- a number is told as a case exactly where the kind has cases
+-- a number is reported as a case exactly where the kind has cases
 abbrev pub is_of_kind : OperandKind → Detail → Bool
 is_of_kind k Detail.Nothing = true
 is_of_kind k (Detail.Case j number) = is_case j k

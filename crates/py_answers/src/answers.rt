@@ -43,7 +43,8 @@ impl Script {
     pub fn parse(alloc: Global, text: &str) -> Result<Option<Script>, AllocError>
         ensures found { IfOk result (λ r. option_map (λ s. s.answers) r ≡ script_in text.now) }
         ensures some { IfOk result (λ r. IfSome r (λ s. text.now ≡ script_text s.answers)) }
-        ensures none { IfOk result (λ r. IfNone r ((answers : Items Answer) → IsScript answers → text.now ≢ script_text answers)) }
+        ensures none { IfOk result (λ r. IfNone r
+            ((answers : Items Answer) → IsScript answers → text.now ≢ script_text answers)) }
     {
         if text.is_empty() {
             return Ok(Some(Script {
@@ -80,12 +81,12 @@ fn are_answers(text: &str) -> bool
 {
     let mut room = MOST;
     let mut rest = text;
-    while let Some((piece, behind)) = rest.split_once(',') {
+    while let Some((piece, after)) = rest.split_once(',') {
         room -= 1;
         if room == 0 || !is_answer(piece) {
             return false;
         }
-        rest = behind;
+        rest = after;
     }
     room > 1 && is_answer(rest)
 }

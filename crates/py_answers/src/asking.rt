@@ -69,7 +69,8 @@ impl<'a> Log<'a> {
     // Lists an event.
     fn list(&mut self, event: Event) -> Result<(), Halt>
         requires { is_told event ≡ true }
-        ensures ok { OnOk result (world_of self.new ≡ values.with_event (event_of event) (world_of self.old)) }
+        ensures ok { OnOk result (world_of self.new
+            ≡ values.with_event (event_of event) (world_of self.old)) }
         ensures err { IfErr result (λ h. h ≡ Halt.OutOfMemory) }
     {
         match self.events.push(event) {
@@ -104,7 +105,8 @@ impl<'a> Log<'a> {
     // The same for what is answered by so many values, or, with None, only raises.
     fn ask_for(&mut self, event: Event, gives: Option<u32>) -> Result<u32, Halt>
         requires { is_told event ≡ true }
-        ensures { Gets (counted_by gives) result (world_of self.new) (ask_for (event_of event) gives (world_of self.old)) }
+        ensures { Gets (counted_by gives) result (world_of self.new)
+            (ask_for (event_of event) gives (world_of self.old)) }
     {
         let (answer, number) = self.ask(event)?;
         match (answer, gives) {
@@ -126,7 +128,9 @@ impl<'a> Log<'a> {
         operands: List<StepValue>,
         gives: Option<u32>,
     ) -> Result<u32, Halt>
-        ensures { Gets (counted_by gives) result (world_of self.new) (ask_for (Operates (operation_of operation.entry) (values_of operands)) gives (world_of self.old)) }
+        ensures { Gets (counted_by gives) result (world_of self.new)
+            (ask_for (Operates (operation_of operation.entry) (values_of operands)) gives
+            (world_of self.old)) }
     {
         let Ok(detail) = detail(self.alloc, operation) else {
             return Err(Halt::OutOfMemory);
@@ -148,7 +152,8 @@ impl<'a> Log<'a> {
     /// `Raised` where the answer raised its exception, `Stopped` where no answer is left or one that does not fit,
     /// `OutOfMemory` where there is no memory for what the run lists.
     pub fn load(&mut self, name: &Text) -> Result<u32, Halt>
-        ensures { Gets (λ n. Given n 0) result (world_of self.new) (for_one (Accesses Unsaid Load name.now 0 []) (world_of self.old)) }
+        ensures { Gets (λ n. Given n 0) result (world_of self.new)
+            (for_one (Accesses Unsaid Load name.now 0 []) (world_of self.old)) }
     {
         let Ok(name) = name.try_clone(self.alloc) else {
             return Err(Halt::OutOfMemory);
@@ -162,7 +167,9 @@ impl<'a> Log<'a> {
     /// `Raised` where the answer raised its exception, `Stopped` where no answer is left or one that does not fit,
     /// `OutOfMemory` where there is no memory for what the run lists.
     pub fn store(&mut self, name: &Text, value: StepValue) -> Result<(), Halt>
-        ensures { Gets (λ u. u) result (world_of self.new) (for_none (Accesses Unsaid Store name.now 0 (value_of value ∷ [])) false (world_of self.old)) }
+        ensures { Gets (λ u. u) result (world_of self.new)
+            (for_none (Accesses Unsaid Store name.now 0 (value_of value ∷ [])) false
+            (world_of self.old)) }
     {
         let Ok(name) = name.try_clone(self.alloc) else {
             return Err(Halt::OutOfMemory);
@@ -177,7 +184,8 @@ impl<'a> Log<'a> {
     /// `Raised` where the answer raised its exception, `Stopped` where no answer is left or one that does not fit,
     /// `OutOfMemory` where there is no memory for what the run lists.
     pub fn delete(&mut self, name: &Text) -> Result<(), Halt>
-        ensures { Gets (λ u. u) result (world_of self.new) (for_none (Accesses Unsaid Delete name.now 0 []) false (world_of self.old)) }
+        ensures { Gets (λ u. u) result (world_of self.new)
+            (for_none (Accesses Unsaid Delete name.now 0 []) false (world_of self.old)) }
     {
         let Ok(name) = name.try_clone(self.alloc) else {
             return Err(Halt::OutOfMemory);
@@ -192,7 +200,8 @@ impl<'a> Log<'a> {
     /// `Raised` where the answer raised its exception, `Stopped` where no answer is left or one that does not fit,
     /// `OutOfMemory` where there is no memory for what the run lists.
     pub fn truth(&mut self, value: StepValue) -> Result<bool, Halt>
-        ensures { Gets (λ b. b) result (world_of self.new) (truth_of (value_of value) (world_of self.old)) }
+        ensures { Gets (λ b. b) result (world_of self.new)
+            (truth_of (value_of value) (world_of self.old)) }
     {
         let (answer, number) = self.ask(Event::Truth(value))?;
         match answer {
@@ -208,7 +217,8 @@ impl<'a> Log<'a> {
     /// `Raised` where the answer raised its exception, `Stopped` where no answer is left or one that does not fit,
     /// `OutOfMemory` where there is no memory for what the run lists.
     pub fn next(&mut self, value: StepValue) -> Result<Option<u32>, Halt>
-        ensures { Gets next_given result (world_of self.new) (next_of (value_of value) (world_of self.old)) }
+        ensures { Gets next_given result (world_of self.new)
+            (next_of (value_of value) (world_of self.old)) }
     {
         let (answer, number) = self.ask(Event::Next(value))?;
         match answer {
@@ -219,7 +229,7 @@ impl<'a> Log<'a> {
         }
     }
 
-    /// What the run is told as, with this outcome.
+    /// What the run is reported as, with this outcome.
     pub fn told(self, outcome: Outcome) -> Trace
         ensures same { trace_of result ≡ ran (world_of self.entry).events (outcome_of outcome) }
         ensures told { all_told result.events ≡ true }

@@ -1,4 +1,4 @@
-//! Scripts of answers, what a run over one is told as, and a line of text for each thing told.
+//! Scripts of answers, what a run over one is reported as, and a line of text for each thing told.
 #![tactic(auto)]
 
 pub mod answers;

@@ -21,7 +21,8 @@ use std::fmt::Write;
 #[tactic(auto, unfolding(crate::specs::Lines::lines))]
 pub fn push_trace(out: &mut String, trace: &Trace) -> Result<(), AllocError>
     requires { all_told trace.now.events ≡ true }
-    ensures { OnOk result (string_bytes out.new ≡ string_bytes out.old ++ lines (trace_of trace.now)) }
+    ensures { OnOk result (string_bytes out.new ≡ string_bytes out.old
+        ++ lines (trace_of trace.now)) }
 {
     push_events(out, trace.events.as_slice())?;
     push_outcome(out, &trace.outcome)?;
@@ -31,7 +32,8 @@ pub fn push_trace(out: &mut String, trace: &Trace) -> Result<(), AllocError>
 #[tactic(auto, using(crate::proofs::Events::event_told_at))]
 fn push_events(out: &mut String, events: &[Event]) -> Result<(), AllocError>
     requires { all_told events.now ≡ true }
-    ensures { OnOk result (string_bytes out.new ≡ string_bytes out.old ++ event_lines (events_of events.now)) }
+    ensures { OnOk result (string_bytes out.new ≡ string_bytes out.old
+        ++ event_lines (events_of events.now)) }
 {
     for event in events {
         push_event(out, event)?;
@@ -42,7 +44,8 @@ fn push_events(out: &mut String, events: &[Event]) -> Result<(), AllocError>
 
 fn push_event(out: &mut String, event: &Event) -> Result<(), AllocError>
     requires { is_told event.now ≡ true }
-    ensures { OnOk result (string_bytes out.new ≡ string_bytes out.old ++ event_text (event_of event.now)) }
+    ensures { OnOk result (string_bytes out.new ≡ string_bytes out.old
+        ++ event_text (event_of event.now)) }
 {
     match event {
         Event::Op {
@@ -65,7 +68,8 @@ fn push_operation(
     operands: &[StepValue],
 ) -> Result<(), AllocError>
     requires { is_of_kind (row_of op).kind detail.now ≡ true }
-    ensures { OnOk result (string_bytes out.new ≡ string_bytes out.old ++ operation_text (operation op (detail_of detail.now)) (values_of operands.now)) }
+    ensures { OnOk result (string_bytes out.new ≡ string_bytes out.old
+        ++ operation_text (operation op (detail_of detail.now)) (values_of operands.now)) }
 {
     out.push_str("op ")?;
     out.push_str(op.name())?;
@@ -76,7 +80,8 @@ fn push_operation(
 #[tactic(auto, using(crate::proofs::Cases::case_detail))]
 fn push_detail(out: &mut String, op: Instruction, detail: &Detail) -> Result<(), AllocError>
     requires { is_of_kind (row_of op).kind detail.now ≡ true }
-    ensures { OnOk result (string_bytes out.new ≡ string_bytes out.old ++ detail_text (row_of op).kind (detail_of detail.now)) }
+    ensures { OnOk result (string_bytes out.new ≡ string_bytes out.old
+        ++ detail_text (row_of op).kind (detail_of detail.now)) }
 {
     match detail {
         Detail::Nothing => Ok(()),
@@ -87,7 +92,8 @@ fn push_detail(out: &mut String, op: Instruction, detail: &Detail) -> Result<(),
 }
 
 fn push_operands(out: &mut String, operands: &[StepValue]) -> Result<(), AllocError>
-    ensures { OnOk result (string_bytes out.new ≡ string_bytes out.old ++ operands_text (values_of operands.now)) }
+    ensures { OnOk result (string_bytes out.new ≡ string_bytes out.old
+        ++ operands_text (values_of operands.now)) }
 {
     let Some((first, rest)) = operands.split_first() else {
         return Ok(());
@@ -97,7 +103,8 @@ fn push_operands(out: &mut String, operands: &[StepValue]) -> Result<(), AllocEr
 }
 
 fn push_further(out: &mut String, operands: &[StepValue]) -> Result<(), AllocError>
-    ensures { OnOk result (string_bytes out.new ≡ string_bytes out.old ++ further_text (values_of operands.now)) }
+    ensures { OnOk result (string_bytes out.new ≡ string_bytes out.old
+        ++ further_text (values_of operands.now)) }
 {
     for value in operands {
         push_asked(out, ", ", value)?;
@@ -107,7 +114,8 @@ fn push_further(out: &mut String, operands: &[StepValue]) -> Result<(), AllocErr
 
 // Appends a word and a value.
 fn push_asked(out: &mut String, word: &str, value: &StepValue) -> Result<(), AllocError>
-    ensures { OnOk result (string_bytes out.new ≡ string_bytes out.old ++ word.now ++ value_text (value_of value.now)) }
+    ensures { OnOk result (string_bytes out.new ≡ string_bytes out.old ++ word.now
+        ++ value_text (value_of value.now)) }
 {
     out.push_str(word)?;
     push_value(out, value)
@@ -115,21 +123,24 @@ fn push_asked(out: &mut String, word: &str, value: &StepValue) -> Result<(), All
 
 // Appends a word and a name in quotes.
 fn push_access(out: &mut String, word: &str, name: &Text) -> Result<(), AllocError>
-    ensures { OnOk result (string_bytes out.new ≡ string_bytes out.old ++ word.now ++ quote name.now) }
+    ensures { OnOk result (string_bytes out.new ≡ string_bytes out.old ++ word.now
+        ++ quote name.now) }
 {
     out.push_str(word)?;
     push_quote(out, name.as_str())
 }
 
 fn push_store(out: &mut String, name: &Text, value: &StepValue) -> Result<(), AllocError>
-    ensures { OnOk result (string_bytes out.new ≡ string_bytes out.old ++ codes "store " ++ quote name.now ++ codes " " ++ value_text (value_of value.now)) }
+    ensures { OnOk result (string_bytes out.new ≡ string_bytes out.old ++ codes "store "
+        ++ quote name.now ++ codes " " ++ value_text (value_of value.now)) }
 {
     push_access(out, "store ", name)?;
     push_asked(out, " ", value)
 }
 
 fn push_value(out: &mut String, value: &StepValue) -> Result<(), AllocError>
-    ensures { OnOk result (string_bytes out.new ≡ string_bytes out.old ++ value_text (value_of value.now)) }
+    ensures { OnOk result (string_bytes out.new ≡ string_bytes out.old
+        ++ value_text (value_of value.now)) }
 {
     match value {
         StepValue::Constant(constant) => push_constant(out, constant),
@@ -140,7 +151,8 @@ fn push_value(out: &mut String, value: &StepValue) -> Result<(), AllocError>
 }
 
 fn push_outcome(out: &mut String, outcome: &Outcome) -> Result<(), AllocError>
-    ensures { OnOk result (string_bytes out.new ≡ string_bytes out.old ++ outcome_text (outcome_of outcome.now)) }
+    ensures { OnOk result (string_bytes out.new ≡ string_bytes out.old
+        ++ outcome_text (outcome_of outcome.now)) }
 {
     match outcome {
         Outcome::Returned(value) => push_asked(out, "returned ", value),

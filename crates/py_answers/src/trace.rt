@@ -1,4 +1,4 @@
-//! What a run is told as.
+//! What a run is reported as.
 use py_base::{List, Text};
 use py_bytecode::{ConstantData, Instruction, OperandKind};
 

@@ -12,10 +12,10 @@ less_underscore [] = []
 less_underscore (c ∷ cs) = if c == 95 then cs else c ∷ cs
 
 -- an underscore, the class name less one underscore at its start, and the name; None where the name stays, as it does without a class
-abbrev pub mangling : Option (List ℕ) → List ℕ → Option (List ℕ)
-mangling None name = None
-mangling (Some class) name = if stays name then None else Some (95 ∷ (less_underscore class ++ name))
+abbrev pub mangling_of : Option (List ℕ) → List ℕ → Option (List ℕ)
+mangling_of None name = None
+mangling_of (Some class) name = if stays name then None else Some (95 ∷ (less_underscore class ++ name))
 
 -- the name as it is in the class: mangled, or as it stands
 abbrev pub mangled_in : Option (List ℕ) → List ℕ → List ℕ
-mangled_in class name = elim (mangling class name) [ None ↦ name | Some other ↦ other ]
+mangled_in class name = elim (mangling_of class name) [ None ↦ name | Some other ↦ other ]

@@ -52,7 +52,7 @@ pub enum CodegenErrorType {
     MalformedTree(Malformed),
     /// The tree reaches a limit.
     TooLarge(TreeLimit),
-    /// A function that is made has a free variable which is no cell of the enclosing scope, and does not come to that
+    /// A function that is made has a free variable which is no cell of the enclosing scope, and does not reach that
     /// from outside either. So it may be where an emitter is over a table that is not the tree's, or where the next
     /// scope is not the node's. Never given by the compile calls.
     MissingCell,

@@ -2,7 +2,7 @@
 ghost use Rattle.std.specs.Prelude.{◌≡◌, ◌++◌, ◌∷◌, [], IfOk, OnOk, nat_eq, string_bytes};
 ghost use Rattle.std.specs.Cmp.Lexicographic.{pointwise};
 ghost use Rattle.std.specs.Option.{option_copied};
-ghost use Rattle.py_base.specs.Mangle.{stays, less_underscore, mangling, mangled_in};
+ghost use Rattle.py_base.specs.Mangle.{stays, less_underscore, mangling_of, mangled_in};
 
 use crate::Text;
 use std::alloc::{AllocError, Global};
@@ -17,7 +17,8 @@ fn stays(name: &str) -> bool
 
 /// Writes an underscore, and the class name less one underscore at its start.
 fn push_class(out: &mut String, class_name: &str) -> Result<(), AllocError>
-    ensures { OnOk result (string_bytes out.new ≡ string_bytes out.old ++ (95 ∷ less_underscore class_name.now)) }
+    ensures { OnOk result (string_bytes out.new ≡ string_bytes out.old
+        ++ (95 ∷ less_underscore class_name.now)) }
 {
     match class_name.as_bytes() {
         [b'_', ..] => out.push_str(class_name),
@@ -38,7 +39,8 @@ pub fn mangle_name(
     class_name: Option<&str>,
     name: &str,
 ) -> Result<Option<Text>, AllocError>
-    ensures { IfOk result (λ answer. answer ≡ mangling (option_copied class_name.entry) name.now) }
+    ensures { IfOk result (λ answer. answer
+        ≡ mangling_of (option_copied class_name.entry) name.now) }
 {
     let Some(class_name) = class_name else {
         return Ok(None);
@@ -65,7 +67,8 @@ fn less_underscore(class_name: &str) -> &[u8]
 /// Whether the text is what the private name of the class is outside it.
 #[tactic(auto, using(crate::proofs::Mangled::written))]
 fn is_written(text: &str, class_name: &str, name: &str) -> bool
-    ensures { result ≡ pointwise nat_eq text.now (95 ∷ (less_underscore class_name.now ++ name.now)) }
+    ensures { result ≡ pointwise nat_eq text.now
+        (95 ∷ (less_underscore class_name.now ++ name.now)) }
 {
     let Some(rest) = text.as_bytes().strip_prefix(b"_") else {
         return false;
@@ -79,7 +82,8 @@ fn is_written(text: &str, class_name: &str, name: &str) -> bool
 /// Whether two names are one as they are written in the class, or as they are without a class. No text is made.
 #[tactic(auto, using(crate::proofs::Mangled::mangled_same))]
 pub fn same_mangled(class_name: Option<&str>, left: &str, right: &str) -> bool
-    ensures { result ≡ pointwise nat_eq (mangled_in (option_copied class_name.entry) left.now) (mangled_in (option_copied class_name.entry) right.now) }
+    ensures { result ≡ pointwise nat_eq (mangled_in (option_copied class_name.entry) left.now)
+        (mangled_in (option_copied class_name.entry) right.now) }
 {
     let Some(class_name) = class_name else {
         return left == right;

@@ -15,6 +15,8 @@ pub constants_keep_places : ConstantsKeepPlaces
 constants_keep_places xs x = (
   constants_entered xs x,
   constant_place x xs,
-  ap (λ cs. slice_get cs (position_or_len (equal x) xs)) (constants_entered xs x) ∙ ap (slice_get (insert_if_new const_eq (map constant xs) (constant x))) (constant_place x xs) ∙ constant_stands (map constant xs) (constant x),
+  ap (λ cs. slice_get cs (position_or_len (equal x) xs)) (constants_entered xs x)
+      ∙ ap (slice_get (insert_if_new const_eq (map constant xs) (constant x))) (constant_place x xs)
+      ∙ constant_stands (map constant xs) (constant x),
   λ i y e. entered_keeps equal xs x y i e,
 )

@@ -23,7 +23,23 @@ raising_fits P (suc (suc (suc n))) h = absurd (omega arith)
 
 -- the closure's flag and the others
 flags_apart : (n : ℕ) → n < 32 → (choose (n % 2 == 1) 1 0 + bits_of (n - n % 2)) ≡ bits_of n
-flags_apart = effect_each _ 31 (effect_each _ 30 (effect_each _ 29 (effect_each _ 28 (effect_each _ 27 (effect_each _ 26 (effect_each _ 25 (effect_each _ 24 (effect_each _ 23 (effect_each _ 22 (effect_each _ 21 (effect_each _ 20 (effect_each _ 19 (effect_each _ 18 (effect_each _ 17 (effect_each _ 16 (effect_each _ 15 (effect_each _ 14 (effect_each _ 13 (effect_each _ 12 (effect_each _ 11 (effect_each _ 10 (effect_each _ 9 (effect_each _ 8 (effect_each _ 7 (effect_each _ 6 (effect_each _ 5 (effect_each _ 4 (effect_each _ 3 (effect_each _ 2 (effect_each _ 1 (effect_each _ 0 (λ n h. absurd (omega arith)) refl) refl) refl) refl) refl) refl) refl) refl) refl) refl) refl) refl) refl) refl) refl) refl) refl) refl) refl) refl) refl) refl) refl) refl) refl) refl) refl) refl) refl) refl) refl) refl
+flags_apart = effect_each _ 31
+    (effect_each _ 30 (effect_each _ 29
+    (effect_each _ 28 (effect_each _ 27
+    (effect_each _ 26 (effect_each _ 25
+    (effect_each _ 24 (effect_each _ 23
+    (effect_each _ 22 (effect_each _ 21
+    (effect_each _ 20 (effect_each _ 19
+    (effect_each _ 18 (effect_each _ 17
+    (effect_each _ 16 (effect_each _ 15
+    (effect_each _ 14 (effect_each _ 13
+    (effect_each _ 12 (effect_each _ 11
+    (effect_each _ 10 (effect_each _ 9
+    (effect_each _ 8 (effect_each _ 7
+    (effect_each _ 6 (effect_each _ 5
+    (effect_each _ 4 (effect_each _ 3 (effect_each _ 2 (effect_each _ 1 (effect_each _ 0 (λ n h. absurd (omega arith)) refl) refl) refl)
+    refl) refl) refl) refl) refl) refl) refl) refl) refl) refl) refl) refl) refl) refl) refl) refl) refl) refl) refl) refl) refl) refl)
+    refl) refl) refl) refl) refl) refl) refl
 
 module _ {P : Type 0} where
   -- what holds of each instruction that may come of an entry

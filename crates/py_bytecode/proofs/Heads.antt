@@ -154,7 +154,8 @@ head_of f po a ko sp ln on d us ls ns vs cs fs ps = record {
 }
 
 head_is : (h : Head)
-    → head_of h.flags h.posonlyarg_count h.arg_count h.kwonlyarg_count h.source_path h.first_line_number h.obj_name h.max_stackdepth h.instructions h.locations h.names h.varnames h.cellvars h.freevars h.cell2arg ≡ h
+    → head_of h.flags h.posonlyarg_count h.arg_count h.kwonlyarg_count h.source_path h.first_line_number h.obj_name h.max_stackdepth
+    h.instructions h.locations h.names h.varnames h.cellvars h.freevars h.cell2arg ≡ h
 unfolding head_of
 head_is h = refl
 
@@ -189,7 +190,10 @@ head_sound h k e =
     let e13 : h.freevars ≡ k.freevars = texts_sound h.freevars k.freevars (left (pointwise text_eq h.freevars k.freevars) _ r12) in
     let r13 = right (pointwise text_eq h.freevars k.freevars) _ r12 in
     let e14 : h.cell2arg ≡ k.cell2arg = places_sound h.cell2arg k.cell2arg r13 in
-    let same : head_of h.flags h.posonlyarg_count h.arg_count h.kwonlyarg_count h.source_path h.first_line_number h.obj_name h.max_stackdepth h.instructions h.locations h.names h.varnames h.cellvars h.freevars h.cell2arg ≡ head_of k.flags k.posonlyarg_count k.arg_count k.kwonlyarg_count k.source_path k.first_line_number k.obj_name k.max_stackdepth k.instructions k.locations k.names k.varnames k.cellvars k.freevars k.cell2arg = cc in
+    let same : head_of h.flags h.posonlyarg_count h.arg_count h.kwonlyarg_count h.source_path h.first_line_number h.obj_name
+    h.max_stackdepth h.instructions h.locations h.names h.varnames h.cellvars h.freevars h.cell2arg
+    ≡ head_of k.flags k.posonlyarg_count k.arg_count k.kwonlyarg_count k.source_path k.first_line_number k.obj_name k.max_stackdepth
+    k.instructions k.locations k.names k.varnames k.cellvars k.freevars k.cell2arg = cc in
     sym (head_is h) ∙ same ∙ head_is k
 
 pub head_full : Full head_eq

@@ -196,7 +196,7 @@ spins = instruction_sample_coded 0 (instruction_sample_unit op.Jump 0 ∷ []) []
 spinning_goes_on : machine spins [] ≡ ran [] Going
 spinning_goes_on = refl
 
--- `try: break finally: a` and `try: continue finally: a` with no loop around: the last part is not entered
+-- `try: break finally: a` and `try: continue finally: a` with no enclosing loop: the finally block is not entered
 abbrev break_alone : Object
 break_alone = instruction_sample_coded 1 (instruction_sample_unit op.SetupFinally 4 ∷ instruction_sample_unit op.Break 7 ∷ instruction_sample_unit op.PopBlock 0 ∷ instruction_sample_unit op.EnterFinally 0 ∷ instruction_sample_unit op.LoadNameAny 0 ∷ instruction_sample_unit op.Pop 0 ∷ instruction_sample_unit op.EndFinally 0 ∷ instruction_sample_unit op.ReturnConst 0 ∷ []) (codes "a" ∷ []) [] [] [] (obj.none ∷ [])
 
@@ -209,7 +209,7 @@ continue_alone = instruction_sample_coded 1 (instruction_sample_unit op.SetupFin
 continue_alone_is_wrong : machine continue_alone (Gives 1 ∷ []) ≡ ran [] Wrong
 continue_alone_is_wrong = refl
 
--- in a loop the same break goes by the last part
+-- in a loop the same break goes by the finally block
 abbrev break_in_loop : Object
 break_in_loop = instruction_sample_coded 1 (instruction_sample_unit op.SetupLoop 0 ∷ instruction_sample_unit op.SetupFinally 5 ∷ instruction_sample_unit op.Break 9 ∷ instruction_sample_unit op.PopBlock 0 ∷ instruction_sample_unit op.EnterFinally 0 ∷ instruction_sample_unit op.LoadNameAny 0 ∷ instruction_sample_unit op.Pop 0 ∷ instruction_sample_unit op.EndFinally 0 ∷ instruction_sample_unit op.PopBlock 0 ∷ instruction_sample_unit op.ReturnConst 0 ∷ []) (codes "a" ∷ []) [] [] [] (obj.none ∷ [])
 

@@ -3,7 +3,9 @@ use Rattle.std.proofs.Common.{◌≡◌, Bool, true, false, List, [], ◌∷◌,
 use Rattle.std.specs.Cmp.Lexicographic.{pointwise}
 use Rattle.std.specs.Option.{option_eq}
 use Rattle.std.specs.Ordering.{int_eq}
-use Rattle.py_bytecode.specs.declared.code.ConstantData.{ConstantData, ConstantData-F, map-ConstantData, ind-ConstantData, roll-ConstantData, out-ConstantData, roll-out-ConstantData, out-roll-ConstantData, fold-roll-ConstantData}
+use Rattle.py_bytecode.specs.declared.code.ConstantData.{ConstantData, ConstantData-F, map-ConstantData, ind-ConstantData}
+use Rattle.py_bytecode.specs.declared.code.ConstantData.{roll-ConstantData, out-ConstantData, roll-out-ConstantData, out-roll-ConstantData}
+use Rattle.py_bytecode.specs.declared.code.ConstantData.{fold-roll-ConstantData}
 use Rattle.py_bytecode.specs.declared.code.CodeObject.{CodeObject, CodeObject-F, map-CodeObject, ind-CodeObject, roll-CodeObject, out-CodeObject, roll-out-CodeObject, fold-roll-CodeObject}
 use Rattle.py_bytecode.specs.contracts.code.ConstantDataPartialEq.TheImpl as constants
 use Rattle.py_bytecode.specs.contracts.code.CodeObjectPartialEq.TheImpl as objects
@@ -105,23 +107,32 @@ module _ {A B : Type 0} (v : A → ConstantData) (w : B → CodeObject) (h : (a 
   same_both (ConstantData-F.Str s) (ConstantData-F.Str t) = same_opened (side (ConstantData-F.Str s)) (ConstantData-F.Str t) ∙ simp (out-roll-ConstantData, fold-roll-ConstantData)
   same_both (ConstantData-F.Bytes s) (ConstantData-F.Bytes t) = same_opened (side (ConstantData-F.Bytes s)) (ConstantData-F.Bytes t) ∙ simp (out-roll-ConstantData, fold-roll-ConstantData)
   same_both (ConstantData-F.Integer m) (ConstantData-F.Integer n) = same_opened (side (ConstantData-F.Integer m)) (ConstantData-F.Integer n) ∙ simp (out-roll-ConstantData, fold-roll-ConstantData)
-  same_both (ConstantData-F.Tuple xs) (ConstantData-F.Tuple ys) = same_opened (side (ConstantData-F.Tuple xs)) (ConstantData-F.Tuple ys) ∙ simp (out-roll-ConstantData, fold-roll-ConstantData) (lists v h xs ys)
+  same_both (ConstantData-F.Tuple xs) (ConstantData-F.Tuple ys) =
+      same_opened (side (ConstantData-F.Tuple xs)) (ConstantData-F.Tuple ys)
+      ∙ simp (out-roll-ConstantData, fold-roll-ConstantData) (lists v h xs ys)
   same_both ConstantData-F.Ellipsis ConstantData-F.Ellipsis = same_opened (side ConstantData-F.Ellipsis) ConstantData-F.Ellipsis ∙ simp (out-roll-ConstantData, fold-roll-ConstantData)
-  same_both (ConstantData-F.Code c) (ConstantData-F.Code d) = same_opened (side (ConstantData-F.Code c)) (ConstantData-F.Code d) ∙ simp (out-roll-ConstantData, fold-roll-ConstantData) (k c.value d.value)
+  same_both (ConstantData-F.Code c) (ConstantData-F.Code d) =
+      same_opened (side (ConstantData-F.Code c)) (ConstantData-F.Code d)
+      ∙ simp (out-roll-ConstantData, fold-roll-ConstantData) (k c.value d.value)
   same_both x y = same_opened (side x) y ∙ simp (out-roll-ConstantData, fold-roll-ConstantData)
 
   same_here : (x : ConstantData-F A B) → SameAt (roll-ConstantData (side x))
-  same_here x b = subst (λ (c : ConstantData). eq (roll-ConstantData (side x)) c ≡ const_eq (constant (roll-ConstantData (side x))) (constant c)) (roll-out-ConstantData b) (same_both x (out-ConstantData b))
+  same_here x b = subst (λ (c : ConstantData). eq (roll-ConstantData (side x)) c
+      ≡ const_eq (constant (roll-ConstantData (side x))) (constant c)) (roll-out-ConstantData b) (same_both x (out-ConstantData b))
 
   abbrev object_side : CodeObject-F A B → CodeObject-F ConstantData CodeObject
   object_side y = map-CodeObject A B ConstantData CodeObject v w y
 
   both_objects : (x : CodeObject-F A B) (y : CodeObject-F ConstantData CodeObject)
       → eq_objects (roll-CodeObject (object_side x)) (roll-CodeObject y) ≡ object_eq (object (roll-CodeObject (object_side x))) (object (roll-CodeObject y))
-  both_objects x y = object_law.is (roll-CodeObject (object_side x)) (roll-CodeObject y) ∙ simp fold-roll-CodeObject (rw (lists v h x.constants y.constants) (same_between (layer_head x) (layer_head y) (consts_eq (consts_of (map constant (map v x.constants))) (consts_of (map constant y.constants)))))
+  both_objects x y = object_law.is (roll-CodeObject (object_side x)) (roll-CodeObject y)
+      ∙ simp fold-roll-CodeObject (rw (lists v h x.constants y.constants)
+      (same_between (layer_head x) (layer_head y)
+      (consts_eq (consts_of (map constant (map v x.constants))) (consts_of (map constant y.constants)))))
 
   here_object : (x : CodeObject-F A B) → SameAtObject (roll-CodeObject (object_side x))
-  here_object x b = subst (λ (c : CodeObject). eq_objects (roll-CodeObject (object_side x)) c ≡ object_eq (object (roll-CodeObject (object_side x))) (object c)) (roll-out-CodeObject b) (both_objects x (out-CodeObject b))
+  here_object x b = subst (λ (c : CodeObject). eq_objects (roll-CodeObject (object_side x)) c
+      ≡ object_eq (object (roll-CodeObject (object_side x))) (object c)) (roll-out-CodeObject b) (both_objects x (out-CodeObject b))
 
 -- two constants are equal where what they are is
 pub bytecode_same : (a b : ConstantData) → eq a b ≡ const_eq (constant a) (constant b)

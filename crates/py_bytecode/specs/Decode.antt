@@ -8,7 +8,10 @@ use Rattle.py_bytecode.specs.Table.{range_of, bits_of}
 use Rattle.py_bytecode.specs.Objects as obj
 use Rattle.py_bytecode.specs.Objects.{Const, Object}
 use Rattle.py_bytecode.specs.Values.{Bare, Number, Named, operation, Value, Constant, Child, It, Cells, Load, Store, Delete, Fast, ByName, Global, Deref, ClassDeref}
-use Rattle.py_bytecode.specs.Machine.{Instr, Push, Access, Operate, MakeFunction, Import, Append, Unpack, Nop, Pop, Rotate2, Rotate3, Duplicate, Duplicate2, JumpIf, JumpIfOrPop, Jump, SetupLoop, PopBlock, Break, Continue, ReturnValue, ReturnConst, SetupExcept, SetupFinally, PopException, EnterFinally, EndFinally, Reraise, ForIter, SetupWith, WithCleanupStart, WithCleanupFinish}
+use Rattle.py_bytecode.specs.Machine.{Instr, Push, Access, Operate, MakeFunction, Import, Append, Unpack, Nop, Pop, Rotate2, Rotate3}
+use Rattle.py_bytecode.specs.Machine.{Duplicate, Duplicate2, JumpIf, JumpIfOrPop, Jump, SetupLoop, PopBlock, Break, Continue, ReturnValue}
+use Rattle.py_bytecode.specs.Machine.{ReturnConst, SetupExcept, SetupFinally, PopException, EnterFinally, EndFinally, Reraise, ForIter}
+use Rattle.py_bytecode.specs.Machine.{SetupWith, WithCleanupStart, WithCleanupFinish}
 
 -- the tables that operands name; the cells and then the free names are one table
 pub record Tables : Type 0 where

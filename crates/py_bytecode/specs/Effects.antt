@@ -4,7 +4,10 @@ use Rattle.py_bytecode.specs.declared.instruction.Instruction.{Instruction}
 use Rattle.py_bytecode.specs.Objects.{Object}
 use Rattle.py_bytecode.specs.Values.{Usage, Load, Store, Delete, choose}
 use Rattle.py_bytecode.specs.Table.{row_of}
-use Rattle.py_bytecode.specs.Machine.{Instr, Push, Access, Operate, MakeFunction, Import, Append, Unpack, Nop, Pop, Rotate2, Rotate3, Duplicate, Duplicate2, JumpIf, JumpIfOrPop, Jump, SetupLoop, PopBlock, Break, Continue, ReturnValue, ReturnConst, SetupExcept, SetupFinally, PopException, EnterFinally, EndFinally, Reraise, ForIter, SetupWith, WithCleanupStart, WithCleanupFinish}
+use Rattle.py_bytecode.specs.Machine.{Instr, Push, Access, Operate, MakeFunction, Import, Append, Unpack, Nop, Pop, Rotate2, Rotate3}
+use Rattle.py_bytecode.specs.Machine.{Duplicate, Duplicate2, JumpIf, JumpIfOrPop, Jump, SetupLoop, PopBlock, Break, Continue, ReturnValue}
+use Rattle.py_bytecode.specs.Machine.{ReturnConst, SetupExcept, SetupFinally, PopException, EnterFinally, EndFinally, Reraise, ForIter}
+use Rattle.py_bytecode.specs.Machine.{SetupWith, WithCleanupStart, WithCleanupFinish}
 use Rattle.py_bytecode.specs.Decode.{Tables, instr_of}
 
 -- a store takes a value, a load gives one, a delete does neither

@@ -4,7 +4,10 @@ use Rattle.std.specs.Cmp.Lexicographic.{pointwise}
 use Rattle.py_bytecode.specs.declared.instruction.Instruction.{Instruction}
 use Rattle.py_bytecode.specs.declared.instruction.Instruction.TheVariants as op
 use Rattle.py_bytecode.specs.Objects as const
-use Rattle.py_bytecode.specs.Values.{Operation, raise_again, enter_with, exit_with, Value, Constant, Cell, Entry, It, Cells, Usage, Load, Store, Delete, Kind, Unsaid, Fast, ByName, Global, Deref, ClassDeref, Answer, Event, Operates, Makes, Accesses, StoresCells, World, with_event, on_got, ask_for, for_one, for_none, truth_of, next_of, on_some, choose, meets, Outcome, Returned, RaisedOut, Stopped, Wrong, Leaked, Going, Ran, ran}
+use Rattle.py_bytecode.specs.Values.{Operation, raise_again, enter_with, exit_with, Value, Constant, Cell, Entry, It, Cells, Usage, Load}
+use Rattle.py_bytecode.specs.Values.{Store, Delete, Kind, Unsaid, Fast, ByName, Global, Deref, ClassDeref, Answer, Event, Operates, Makes}
+use Rattle.py_bytecode.specs.Values.{Accesses, StoresCells, World, with_event, on_got, ask_for, for_one, for_none, truth_of, next_of}
+use Rattle.py_bytecode.specs.Values.{on_some, choose, meets, Outcome, Returned, RaisedOut, Stopped, Wrong, Leaked, Going, Ran, ran}
 
 pub data Instr (K P : Type 0) : Type 0 where
   Push : Entry K → Instr K P
@@ -119,8 +122,8 @@ abbrev pub leaked_config : {K P : Type 0} → World K → Config K P
 leaked_config w = Over w.events Leaked
 
 -- the stack cut to a height
-abbrev pub cut : {K P : Type 0} → ℕ → List (Entry K) → World K → (List (Entry K) → Config K P) → Config K P
-cut h s w k = choose (nat_le h (length s)) (k (drop (length s - h) s)) (wrong w)
+abbrev pub stack_cut : {K P : Type 0} → ℕ → List (Entry K) → World K → (List (Entry K) → Config K P) → Config K P
+stack_cut h s w k = choose (nat_le h (length s)) (k (drop (length s - h) s)) (wrong w)
 
 abbrev pub unwind_out : {K P : Type 0} → Reason K P → World K → Config K P
 unwind_out (BreakTo p) w = wrong w
@@ -130,16 +133,16 @@ unwind_out (RaiseOf e) w = Over w.events (RaisedOut e)
 
 -- at a loop's block; go is what follows where the block does not take it
 abbrev pub unwind_loop : {K P : Type 0} → Reason K P → ℕ → List (Entry K) → List (Block K P) → Option (Value K) → World K → (List (Entry K) → Config K P) → Config K P
-unwind_loop (BreakTo p) h s bs slot w go = cut h s w (λ s1. At p s1 bs slot w)
+unwind_loop (BreakTo p) h s bs slot w go = stack_cut h s w (λ s1. At p s1 bs slot w)
 unwind_loop (ContinueTo p) h s bs slot w go = At p s (Loop h ∷ bs) slot w
-unwind_loop (ReturnOf v) h s bs slot w go = cut h s w go
-unwind_loop (RaiseOf e) h s bs slot w go = cut h s w go
+unwind_loop (ReturnOf v) h s bs slot w go = stack_cut h s w go
+unwind_loop (RaiseOf e) h s bs slot w go = stack_cut h s w go
 
 abbrev pub unwind_except : {K P : Type 0} → Reason K P → ℕ → P → List (Entry K) → List (Block K P) → Option (Value K) → World K → (List (Entry K) → Config K P) → Config K P
-unwind_except (BreakTo p) h q s bs slot w go = cut h s w go
-unwind_except (ContinueTo p) h q s bs slot w go = cut h s w go
-unwind_except (ReturnOf v) h q s bs slot w go = cut h s w go
-unwind_except (RaiseOf e) h q s bs slot w go = cut h s w (λ s1. At q (It e ∷ s1) (ExceptHandler h slot ∷ bs) (Some e) w)
+unwind_except (BreakTo p) h q s bs slot w go = stack_cut h s w go
+unwind_except (ContinueTo p) h q s bs slot w go = stack_cut h s w go
+unwind_except (ReturnOf v) h q s bs slot w go = stack_cut h s w go
+unwind_except (RaiseOf e) h q s bs slot w go = stack_cut h s w (λ s1. At q (It e ∷ s1) (ExceptHandler h slot ∷ bs) (Some e) w)
 
 abbrev pub slot_for : {K P : Type 0} → Reason K P → Option (Value K) → Option (Value K)
 slot_for (BreakTo p) slot = slot
@@ -151,9 +154,9 @@ abbrev pub unwind : {K P : Type 0} → Reason K P → List (Entry K) → List (B
 unwind r s [] slot w = unwind_out r w
 unwind r s (Loop h ∷ bs) slot w = unwind_loop r h s bs slot w (λ s1. unwind r s1 bs slot w)
 unwind r s (Except h q ∷ bs) slot w = unwind_except r h q s bs slot w (λ s1. unwind r s1 bs slot w)
-unwind r s (Finally h q ∷ bs) slot w = cut h s w (λ s1. At q s1 (FinallyHandler h (Some r) slot ∷ bs) (slot_for r slot) w)
-unwind r s (ExceptHandler h old ∷ bs) slot w = cut h s w (λ s1. unwind r s1 bs old w)
-unwind r s (FinallyHandler h k old ∷ bs) slot w = cut h s w (λ s1. unwind r s1 bs old w)
+unwind r s (Finally h q ∷ bs) slot w = stack_cut h s w (λ s1. At q s1 (FinallyHandler h (Some r) slot ∷ bs) (slot_for r slot) w)
+unwind r s (ExceptHandler h old ∷ bs) slot w = stack_cut h s w (λ s1. unwind r s1 bs old w)
+unwind r s (FinallyHandler h k old ∷ bs) slot w = stack_cut h s w (λ s1. unwind r s1 bs old w)
 
 -- n values off the stack, the lowest first, before those in acc
 abbrev pub pop : {K C : Type 0} → ℕ → List (Entry K) → List (Value K) → (few leaks : C) → (List (Value K) → List (Entry K) → C) → C
@@ -221,7 +224,7 @@ abbrev pub go_on : {K P : Type 0} → Option (Reason K P) → P → List (Entry 
 go_on None next s bs slot w = At next s bs slot w
 go_on (Some r) next s bs slot w = unwind r s bs slot w
 
--- the handler of a last part on top, with its reason and the slot that it keeps
+-- the handler of a finally block on top, with its reason and the slot that it keeps
 abbrev pub on_last : {K P : Type 0} → List (Block K P) → World K → (ℕ → Option (Reason K P) → Option (Value K) → List (Block K P) → Config K P) → Config K P
 on_last [] w k = wrong w
 on_last (Loop h ∷ bs) w k = wrong w
@@ -312,7 +315,11 @@ act (Access k u n p) next s bs slot w = access u k n p next s bs slot w
 act (Operate o n k) next s bs slot w =
     pop n s [] (wrong w) (joins (is_tuple o) n next s bs slot w) (λ vs rest. on_got (ask_for (Operates o vs) k w) (λ gs w1. At next (push gs rest) bs slot w1) (raise rest bs slot) stopped_config)
 act (MakeFunction fl c n) next s bs slot w =
-    pop 2 s [] (wrong w) (leaked_config w) (λ kn rest. pop_closure c rest w (λ cs rest1. pop n rest1 [] (wrong w) (leaked_config w) (λ vs rest2. on_got (for_one (Makes fl (vs ++ kn) cs) w) (λ v w1. At next (It v ∷ rest2) bs slot w1) (raise rest2 bs slot) stopped_config)))
+    pop 2 s [] (wrong w) (leaked_config w)
+    (λ kn rest. pop_closure c rest w
+    (λ cs rest1. pop n rest1 [] (wrong w) (leaked_config w)
+    (λ vs rest2. on_got (for_one (Makes fl (vs ++ kn) cs) w) (λ v w1. At next (It v ∷ rest2) bs slot w1)
+    (raise rest2 bs slot) stopped_config)))
 act (Import o) next s bs slot w = on_top s w (λ v rest. on_got (for_one (Operates o (v ∷ [])) w) (λ x w1. At next (It x ∷ It v ∷ rest) bs slot w1) (raise (It v ∷ rest) bs slot) stopped_config)
 act (Append o n d) next s bs slot w =
     pop n s [] (wrong w) (leaked_config w) (λ vs rest. below d rest w (λ c. on_got (for_none (Operates o (c ∷ vs)) false w) (λ u w1. At next rest bs slot w1) (raise rest bs slot) stopped_config))
@@ -338,11 +345,16 @@ act PopException next s bs slot w = pop_exception next s bs w
 act EnterFinally next s bs slot w = At next s (FinallyHandler (length s) None slot ∷ bs) slot w
 act EndFinally next s bs slot w = on_last bs w (λ h r old bs1. go_on r next s bs1 old w)
 act Reraise next s bs slot w = reraise slot next s bs w
-act (ForIter p) next s bs slot w = on_top s w (λ v rest. on_got (next_of v w) (λ x w1. on_some x (λ u. At next (It u ∷ It v ∷ rest) bs slot w1) (At p rest bs slot w1)) (raise (It v ∷ rest) bs slot) stopped_config)
+act (ForIter p) next s bs slot w =
+    on_top s w (λ v rest. on_got (next_of v w) (λ x w1. on_some x (λ u. At next (It u ∷ It v ∷ rest) bs slot w1) (At p rest bs slot w1))
+    (raise (It v ∷ rest) bs slot) stopped_config)
 act (SetupWith p) next s bs slot w =
-    on_top s w (λ v rest. on_got (ask_for (Operates enter_with (v ∷ [])) (Some 2) w) (λ gs w1. At next (push gs rest) (Finally (length (It v ∷ rest)) p ∷ bs) slot w1) (raise rest bs slot) stopped_config)
+    on_top s w (λ v rest. on_got (ask_for (Operates enter_with (v ∷ [])) (Some 2) w)
+    (λ gs w1. At next (push gs rest) (Finally (length (It v ∷ rest)) p ∷ bs) slot w1) (raise rest bs slot) stopped_config)
 act WithCleanupStart next s bs slot w =
-    on_last bs w (λ h r old bs1. on_top s w (λ x rest. on_got (for_one (Operates exit_with (x ∷ exception r ∷ [])) w) (λ a w1. At next (It a ∷ rest) bs slot w1) (raise (It x ∷ rest) bs slot) stopped_config))
+    on_last bs w (λ h r old bs1. on_top s w
+    (λ x rest. on_got (for_one (Operates exit_with (x ∷ exception r ∷ [])) w) (λ a w1. At next (It a ∷ rest) bs slot w1)
+    (raise (It x ∷ rest) bs slot) stopped_config))
 act WithCleanupFinish next s bs slot w =
     on_last bs w (λ h r old bs1. on_top s w (λ a rest. on_got (truth_of a w) (λ t w1. after_exit t r next rest bs1 old w1) (raise rest bs1 old) stopped_config))
 

@@ -35,7 +35,7 @@ pub data Value (K : Type 0) : Type 0 where
   Given : (n k : ℕ) → Value K
   Child : K → Value K
 
--- a cell: its name, and its place where places are told
+-- a cell: its name, and its place where places are reported
 pub record Cell : Type 0 where
   pub name : List ℕ
   pub place : ℕ

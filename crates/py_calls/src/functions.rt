@@ -4,7 +4,7 @@ ghost use Rattle.py_tree.specs.View.{arguments, expr_tree};
 ghost use Rattle.py_emission_parts.specs.Children.{flags_of_defaults};
 ghost use Rattle.py_emission_parts.specs.Emitting.{Refused};
 ghost use Rattle.py_emission.specs.Emission.{default_emissions};
-ghost use Rattle.py_emit.specs.States.{IsTold, rest, state};
+ghost use Rattle.py_emit.specs.States.{IsReported, rest, state};
 ghost use Rattle.py_calls.specs.Entering.{IsEntered, entry};
 
 use py_base::{CodegenError, CodegenErrorType};
@@ -27,14 +27,18 @@ pub fn enter_function(
     name: &str,
     args: &Arguments,
 ) -> Result<MakeFunctionFlags, CodegenError>
-    ensures flags { IfOk result (λ flags. flags.0 ≡ flags_of_defaults (default_emissions (arguments expr_tree args.now))) }
-    ensures entered { OnOk result (IsEntered (arguments expr_tree args.now) name.now em.old em.new) }
-    ensures refused { IfErr result (λ e. e.error ≢ CodegenErrorType.OutOfMemory → entry (arguments expr_tree args.now) (state em.old) ≡ Refused e.error e.location) }
-    ensures told { IfErr result (λ e. IsTold e (rest em.old).path) }
+    ensures flags { IfOk result (λ flags.
+        flags.0 ≡ flags_of_defaults (default_emissions (arguments expr_tree args.now))) }
+    ensures entered { OnOk result (IsEntered
+        (arguments expr_tree args.now) name.now em.old em.new) }
+    ensures refused { IfErr result
+        (λ e. e.error ≢ CodegenErrorType.OutOfMemory
+        → entry (arguments expr_tree args.now) (state em.old) ≡ Refused e.error e.location) }
+    ensures told { IfErr result (λ e. IsReported e (rest em.old).path) }
 {
     let defaults = compile_defaults(em, args)?;
     let name = em.text(name)?;
-    functions::enter_function(em, args, name, Naming::AsAround)?;
+    functions::enter_function(em, args, name, Naming::AsEnclosing)?;
     begin_function(em, args)?;
     Ok(function_flags(defaults, false))
 }

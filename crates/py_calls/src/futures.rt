@@ -17,7 +17,10 @@ use py_tree::{Alias, List};
 /// taken from the future; or OutOfMemory.
 #[tactic(auto, unfolding(py_emit::specs::States::rest))]
 pub fn compile_future_features(em: &mut Emitter, features: &List<Alias>) -> Result<(), CodegenError>
-    ensures { EmitsInto result (emission_of_features (rest em.old).context.future_over features.now) (record (rest em.old).context { future_annotations = (rest em.old).context.future_annotations || names_annotations features.now }) em.old em.new }
+    ensures { EmitsInto result (emission_of_features (rest em.old).context.future_over features.now)
+        (record (rest
+        em.old).context { future_annotations = (rest em.old).context.future_annotations || names_annotations features.now })
+        em.old em.new }
 {
     let context = em.context();
     if context.future_over {

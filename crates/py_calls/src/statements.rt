@@ -13,14 +13,17 @@ use py_tree::{Stmt, Stmts};
 use std::slice;
 
 /// Emits one statement. The context has the blocks to which the innermost loop of this scope goes. An import from
-/// `__future__` is taken where it may still stand, which it may behind another statement no more, and postpones the
+/// `__future__` is taken where it may still stand, which it may after another statement no more, and postpones the
 /// annotations of what follows where it says so.
 ///
 /// # Errors
 /// The first compile fault of the statement, with its location; MissingCell; or OutOfMemory.
 pub fn compile_statement(em: &mut Emitter, statement: &Stmt) -> Result<(), CodegenError>
     requires loops { AreMade (rest em.old).context.loop_blocks }
-    ensures { EmitsInto result (emission_placed (rest em.old).context.future_over (more_stmts (stmt_tree statement.now) no_stmts)) (context_after (rest em.old).context (more_stmts (stmt_tree statement.now) no_stmts)) em.old em.new }
+    ensures { EmitsInto result (emission_placed (rest em.old).context.future_over
+        (more_stmts (stmt_tree statement.now) no_stmts))
+        (context_after (rest em.old).context (more_stmts (stmt_tree statement.now) no_stmts)) em.old
+        em.new }
 {
     compile_placed(em, slice::from_ref(statement))
 }
@@ -33,7 +36,9 @@ pub fn compile_statement(em: &mut Emitter, statement: &Stmt) -> Result<(), Codeg
 pub fn compile_statements(em: &mut Emitter, body: &Stmts, from: usize) -> Result<(), CodegenError>
     requires loops { AreMade (rest em.old).context.loop_blocks }
     requires within { from ≤ length body.now }
-    ensures { EmitsInto result (emission_placed (rest em.old).context.future_over (stmts stmt_tree (drop from body.now))) (context_after (rest em.old).context (stmts stmt_tree (drop from body.now))) em.old em.new }
+    ensures { EmitsInto result (emission_placed (rest em.old).context.future_over
+        (stmts stmt_tree (drop from body.now)))
+        (context_after (rest em.old).context (stmts stmt_tree (drop from body.now))) em.old em.new }
 {
     compile_placed(em, statements_from(body, from))
 }

@@ -7,7 +7,8 @@ use Rattle.py_bytecode.specs.Objects as obj
 use Rattle.py_bytecode.specs.Objects.{Head, Const, Consts, Object, consts_of, const_list}
 use Rattle.py_bytecode.specs.Nesting.{const_nesting, consts_nesting, nesting}
 use Rattle.py_codefile.specs.Fits.{AreConsts, AreNames, AreCells, IsConst, IsFlags, IsLine, IsList, IsLocation, IsNumber, IsObject, IsText, IsUnit}
-use Rattle.py_codefile.specs.Spelling.{cells_spelling, const_spelling, consts_spelling, heading_spelling, line_spelling, list_spelling, location_spelling, names_spelling, object_spelling, tables_spelling, text_spelling, unit_spelling}
+use Rattle.py_codefile.specs.Spelling.{cells_spelling, const_spelling, consts_spelling, heading_spelling, line_spelling, list_spelling}
+use Rattle.py_codefile.specs.Spelling.{location_spelling, names_spelling, object_spelling, tables_spelling, text_spelling, unit_spelling}
 use Rattle.py_codefile.specs.Places.{both}
 use Rattle.py_codefile.specs.Reading.{HeadingParts, Parts, TablesParts, code_at, constant_at, heading_at, list_at, location_at, object_of, tables_at, unit_at}
 use Rattle.py_codefile.proofs.Formats.{IsFormat, both_format, seen_format}

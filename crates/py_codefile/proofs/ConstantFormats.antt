@@ -16,7 +16,7 @@ use Rattle.py_codefile.proofs.EntryFormats.{tag_format}
 use Rattle.py_codefile.proofs.CodeFormats.{IsWithin, code_format, consts_back, consts_there, spelled_consts}
 use Rattle.py_codefile.proofs.Room.{after_its_tag, constant_is}
 
--- how the constants within are spelled and read, where there is room for them
+-- how the nested constants are spelled and read, where there is room for them
 Inner : ℕ → Type 0
 Inner zero = Unit {0}
 Inner (suc room) = IsFormat (IsWithin room) const_spelling (constant_at room)
@@ -97,7 +97,9 @@ constant_again room inner (obj.boolean true) at rest fits = tagged room at tag.T
 constant_again room inner (obj.str t) at rest fits =
     tagged room at tag.Str (text_spelling t ++ rest) ∙ rw (text_format.again t (at + 1) rest fits.0) (constant_format_moved (obj.str t) at 3 (text_spelling t) rest)
 constant_again room inner (obj.bytes bs) at rest fits =
-    tagged room at tag.Bytes (list_spelling byte_spelling bs ++ rest) ∙ rw ((list_format byte_format).again bs (at + 1) rest fits.0) (constant_format_moved (obj.bytes bs) at 4 (list_spelling byte_spelling bs) rest)
+    tagged room at tag.Bytes (list_spelling byte_spelling bs ++ rest)
+    ∙ rw ((list_format byte_format).again bs (at + 1) rest fits.0)
+    (constant_format_moved (obj.bytes bs) at 4 (list_spelling byte_spelling bs) rest)
 constant_again room inner (obj.integer z) at rest fits =
     tagged room at tag.Integer (signed_spelling w128 z ++ rest) ∙ rw (signed128.again z (at + 1) rest fits.0) (constant_format_moved (obj.integer z) at 5 (signed_spelling w128 z) rest)
 constant_again room inner obj.ellipsis at rest fits = tagged room at tag.Ellipsis rest

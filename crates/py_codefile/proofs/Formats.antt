@@ -54,7 +54,13 @@ module _ {A B : Type 0} {F : A → Type 0} {s : A → List ℕ} {p : Reading A} 
       let one = first.takes here a.0.0 a.0.1 bytes a.1 in
       let two = second.takes a.0.1 b.0.0 b.0.1 one.rest b.1 in
       let made : (A × B) × Place = ((a.0.0, b.0.0), b.0.1) in
-      let all : Took FormatFits spelled here made.0 made.1 = record { fits = (one.fits, two.fits); parts = format_joined here.bytes (s a.0.0) a.0.1.bytes (t b.0.0) b.0.1.bytes one.parts two.parts; rest = two.rest } in
+      let all : Took FormatFits spelled here made.0 made.1 =
+      record {
+        fits = (one.fits, two.fits);
+        parts = format_joined here.bytes (s a.0.0) a.0.1.bytes
+            (t b.0.0) b.0.1.bytes one.parts two.parts;
+        rest = two.rest;
+      } in
       subst (λ (y : (A × B) × Place). Took FormatFits spelled here y.0 y.1) (ok_is made (x, there) b.2) all
 
   both_again : (x : A × B) (at : ℕ) (rest : List ℕ) → FormatFits x → both p q (place at (spelled x ++ rest)) ≡ Ok (x, place (at + length (spelled x)) rest)

@@ -24,7 +24,8 @@ entry_ok d None x e = absurd cc
 entry_ok d (Some y) x e = cc
 
 -- an entry is read by its number
-module _ {A : Type 0} (number : A → ℕ) (table : List A) (fault : ℕ → ReadCodeError) (numbered : Numbered number 0 table) (stands : (x : A) → slice_get table (number x) ≡ Some x) (few : length table < 256) where
+module _ {A : Type 0} (number : A → ℕ) (table : List A) (fault : ℕ → ReadCodeError) (numbered : Numbered number 0 table)
+    (stands : (x : A) → slice_get table (number x) ≡ Some x) (few : length table < 256) where
   abbrev table_entry_at : Reading A
   table_entry_at p = byte_at p >>= λ n. or_fault (fault p.at) (slice_get table n.0) >>= λ x. Ok (x, n.1)
 

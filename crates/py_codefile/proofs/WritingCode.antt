@@ -21,8 +21,8 @@ use Rattle.py_codefile.proofs.WritingLoop.{appends}
 abbrev pub WritingCodeFits : ConstantData → Type 0
 WritingCodeFits c = IsConst (constant c)
 
-abbrev pub spelled : ConstantData → List ℕ
-spelled c = const_spelling (constant c)
+abbrev pub constant_bytes : ConstantData → List ℕ
+constant_bytes c = const_spelling (constant c)
 
 abbrev pub writing_code_long : List ConstantData → ℕ
 writing_code_long cs = consts_longest (constants_of cs)
@@ -37,9 +37,9 @@ pub all_fit : (cs : List ConstantData) → AllByRecursion WritingCodeFits cs →
 all_fit [] h = tt
 all_fit (c ∷ cs) h = (h.0, all_fit cs h.1)
 
-pub all_spelled : (cs : List ConstantData) → flat_map spelled cs ≡ consts_spelling (constants_of cs)
+pub all_spelled : (cs : List ConstantData) → flat_map constant_bytes cs ≡ consts_spelling (constants_of cs)
 all_spelled [] = refl
-all_spelled (c ∷ cs) = flat_map-cons spelled c cs ∙ ap (λ (x : List ℕ). const_spelling (constant c) ++ x) (all_spelled cs)
+all_spelled (c ∷ cs) = flat_map-cons constant_bytes c cs ∙ ap (λ (x : List ℕ). const_spelling (constant c) ++ x) (all_spelled cs)
 
 pub list_written : (k n : ℕ) (cs : Consts) (old mid new : List ℕ) → k ≡ n → (n < 2 ^ 32) × (mid ≡ old ++ to_be_bytes w32 n) → AreConsts cs × (new ≡ mid ++ consts_spelling cs)
     → ((k < 2 ^ 32) × AreConsts cs) × (new ≡ old ++ (to_be_bytes w32 k ++ consts_spelling cs))

@@ -187,7 +187,7 @@ unfoldable pub constant_at : ℕ → Reading Const
 constant_at zero = constant_with None
 constant_at (suc room) = constant_with (Some (constant_at room))
 
--- how the constants within are read, where there is room for them
+-- how the nested constants are read, where there is room for them
 abbrev pub within : ℕ → Option (Reading Const)
 within zero = None
 within (suc room) = Some (constant_at room)

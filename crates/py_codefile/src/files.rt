@@ -34,7 +34,8 @@ pub fn write_code(alloc: Global, code: &CodeObject) -> Result<List<u8>, WriteCod
     ensures spelled { IfOk result (λ bytes. Spells bytes (object code.now)) }
     ensures short { OnOk result (longest (object code.now) < 2 ^ 32) }
     ensures deep { IsErrOf result WriteCodeError.TooDeep → 2 ^ 11 ≤ nesting (object code.now) }
-    ensures long { IsErrOf result WriteCodeError.TooLong → (nesting (object code.now) < 2 ^ 11) × (2 ^ 32 ≤ longest (object code.now)) }
+    ensures long { IsErrOf result WriteCodeError.TooLong
+        → (nesting (object code.now) < 2 ^ 11) × (2 ^ 32 ≤ longest (object code.now)) }
 {
     if !code_nests_within(code, NESTING_LIMIT - 1) {
         return Err(WriteCodeError::TooDeep);

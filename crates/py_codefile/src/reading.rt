@@ -30,7 +30,8 @@ pub fn code(
     reader: &mut Reader<'_>,
     room: u32,
 ) -> Result<Box<CodeObject>, ReadCodeError>
-    ensures { Gives (λ c. (object c.value, reader.new)) result (code_at (constant_at room) reader.old) }
+    ensures { Gives (λ c. (object c.value, reader.new)) result
+        (code_at (constant_at room) reader.old) }
 {
     let heading = heading(alloc, reader)?;
     let instructions = unit_list(alloc, reader)?;
@@ -52,7 +53,11 @@ fn joined(
     constants: List<ConstantData>,
     tables: Box<Tables>,
 ) -> Result<Box<CodeObject>, AllocError>
-    ensures { IfOk result (λ c. object c.value ≡ object_of (heading_parts heading.value, (instructions, (locations, (map constant constants, tables_parts tables.value))))) }
+    ensures { IfOk result (λ c. object c.value
+        ≡ object_of (
+          heading_parts heading.value,
+          (instructions, (locations, (map constant constants, tables_parts tables.value))),
+        )) }
 {
     let heading = Box::into_inner(heading);
     let tables = Box::into_inner(tables);
@@ -131,7 +136,8 @@ fn constant_list(
     reader: &mut Reader<'_>,
     room: u32,
 ) -> Result<List<ConstantData>, ReadCodeError>
-    ensures { Gives (λ cs. (map constant cs, reader.new)) result (list_at (constant_at room) reader.old) }
+    ensures { Gives (λ cs. (map constant cs, reader.new)) result
+        (list_at (constant_at room) reader.old) }
 {
     let count = reader.u32()?;
     constants(alloc, reader, room, count)
@@ -144,7 +150,8 @@ fn constants(
     room: u32,
     count: u32,
 ) -> Result<List<ConstantData>, ReadCodeError>
-    ensures { Gives (λ cs. (map constant cs, reader.new)) result (many (constant_at room) count reader.old) }
+    ensures { Gives (λ cs. (map constant cs, reader.new)) result
+        (many (constant_at room) count reader.old) }
 {
     let mut items = Vec::new(alloc);
     for _ in 0..count {
@@ -188,7 +195,8 @@ fn rest_of_constant(
     at: u64,
     kind: Tag,
 ) -> Result<ConstantData, ReadCodeError>
-    ensures { Gives (λ c. (constant c, reader.new)) result (after_tag at (within room) kind reader.old) }
+    ensures { Gives (λ c. (constant c, reader.new)) result
+        (after_tag at (within room) kind reader.old) }
 {
     match kind {
         Tag::None => Ok(ConstantData::None),
@@ -215,7 +223,8 @@ fn string(alloc: Global, reader: &mut Reader<'_>) -> Result<ConstantData, ReadCo
 #[inline(never)]
 #[tactic(auto, using(py_bytecode::proofs::View::views))]
 fn byte_string(alloc: Global, reader: &mut Reader<'_>) -> Result<ConstantData, ReadCodeError>
-    ensures { Gives (λ c. (constant c, reader.new)) result (map_reading bytes (list_at byte_at) reader.old) }
+    ensures { Gives (λ c. (constant c, reader.new)) result
+        (map_reading bytes (list_at byte_at) reader.old) }
 {
     let value = byte_list(alloc, reader)?;
     Ok(ConstantData::Bytes { value })
@@ -224,7 +233,8 @@ fn byte_string(alloc: Global, reader: &mut Reader<'_>) -> Result<ConstantData, R
 #[inline(never)]
 #[tactic(auto, using(py_bytecode::proofs::View::views))]
 fn integer_constant(reader: &mut Reader<'_>) -> Result<ConstantData, ReadCodeError>
-    ensures { Gives (λ c. (constant c, reader.new)) result (map_reading integer (signed_at w128) reader.old) }
+    ensures { Gives (λ c. (constant c, reader.new)) result
+        (map_reading integer (signed_at w128) reader.old) }
 {
     let value = reader.i128()?;
     Ok(ConstantData::Integer { value })
@@ -257,7 +267,8 @@ fn inner_code(
     room: u32,
     at: u64,
 ) -> Result<ConstantData, ReadCodeError>
-    ensures { Gives (λ c. (constant c, reader.new)) result (inner_code_at at (within room) reader.old) }
+    ensures { Gives (λ c. (constant c, reader.new)) result
+        (inner_code_at at (within room) reader.old) }
 {
     if room == 0 {
         return Err(ReadCodeError::TooDeep { at });

@@ -26,7 +26,8 @@ use py_bytecode::{CodeFlags, CodeObject, ConstantData};
 #[cycle(writing)]
 #[tactic(auto, using(py_bytecode::proofs::View::views))]
 pub fn put_code(out: &mut Vec<u8>, code: &CodeObject) -> Result<(), WriteCodeError>
-    ensures { Writes result (IsObject (object code.now)) (object_spelling (object code.now)) (longest (object code.now)) out.old.items out.new.items }
+    ensures { Writes result (IsObject (object code.now)) (object_spelling (object code.now))
+        (longest (object code.now)) out.old.items out.new.items }
 {
     put_heading(out, code)?;
     put_unit_list(out, code.instructions.as_slice())?;
@@ -38,7 +39,8 @@ pub fn put_code(out: &mut Vec<u8>, code: &CodeObject) -> Result<(), WriteCodeErr
 
 /// Appends what stands before the units of a code.
 fn put_heading(out: &mut Vec<u8>, code: &CodeObject) -> Result<(), WriteCodeError>
-    ensures { Writes result (IsHeading (head_of code.now)) (heading_spelling (head_of code.now)) (longest_in_heading (head_of code.now)) out.old.items out.new.items }
+    ensures { Writes result (IsHeading (head_of code.now)) (heading_spelling (head_of code.now))
+        (longest_in_heading (head_of code.now)) out.old.items out.new.items }
 {
     put_flags(out, code.flags)?;
     put_number(out, code.posonlyarg_count)?;
@@ -52,7 +54,8 @@ fn put_heading(out: &mut Vec<u8>, code: &CodeObject) -> Result<(), WriteCodeErro
 }
 
 fn put_flags(out: &mut Vec<u8>, flags: CodeFlags) -> Result<(), WriteCodeError>
-    ensures { Writes result (IsFlags flags.0) (to_be_bytes w16 flags.0) 0 out.old.items out.new.items }
+    ensures { Writes result (IsFlags flags.0)
+        (to_be_bytes w16 flags.0) 0 out.old.items out.new.items }
 {
     out.extend_from_slice(&flags.bits().to_be_bytes())?;
     Ok(())
@@ -60,7 +63,8 @@ fn put_flags(out: &mut Vec<u8>, flags: CodeFlags) -> Result<(), WriteCodeError>
 
 /// Appends what stands after the constants of a code.
 fn put_tables(out: &mut Vec<u8>, code: &CodeObject) -> Result<(), WriteCodeError>
-    ensures { Writes result (AreTables (head_of code.now)) (tables_spelling (head_of code.now)) (longest_in_tables (head_of code.now)) out.old.items out.new.items }
+    ensures { Writes result (AreTables (head_of code.now)) (tables_spelling (head_of code.now))
+        (longest_in_tables (head_of code.now)) out.old.items out.new.items }
 {
     put_names(out, code.names.as_slice())?;
     put_names(out, code.varnames.as_slice())?;
@@ -72,7 +76,12 @@ fn put_tables(out: &mut Vec<u8>, code: &CodeObject) -> Result<(), WriteCodeError
 /// Appends a list of constants.
 #[cycle(writing)]
 fn put_constant_list(out: &mut Vec<u8>, constants: &[ConstantData]) -> Result<(), WriteCodeError>
-    ensures { Writes result ((length (const_list (constants_of constants.now)) < 2 ^ 32) × AreConsts (constants_of constants.now)) (to_be_bytes w32 (length (const_list (constants_of constants.now))) ++ consts_spelling (constants_of constants.now)) (max (length (const_list (constants_of constants.now))) (consts_longest (constants_of constants.now))) out.old.items out.new.items }
+    ensures { Writes result ((length (const_list (constants_of constants.now)) < 2 ^ 32)
+        × AreConsts (constants_of constants.now))
+        (to_be_bytes w32 (length (const_list (constants_of constants.now)))
+        ++ consts_spelling (constants_of constants.now))
+        (max (length (const_list (constants_of constants.now)))
+        (consts_longest (constants_of constants.now))) out.old.items out.new.items }
 {
     put_count(out, constants.len())?;
     put_constants(out, constants)?;
@@ -81,7 +90,9 @@ fn put_constant_list(out: &mut Vec<u8>, constants: &[ConstantData]) -> Result<()
 
 #[cycle(writing)]
 fn put_constants(out: &mut Vec<u8>, constants: &[ConstantData]) -> Result<(), WriteCodeError>
-    ensures { Writes result (AreConsts (constants_of constants.now)) (consts_spelling (constants_of constants.now)) (consts_longest (constants_of constants.now)) out.old.items out.new.items }
+    ensures { Writes result (AreConsts (constants_of constants.now))
+        (consts_spelling (constants_of constants.now))
+        (consts_longest (constants_of constants.now)) out.old.items out.new.items }
 {
     for item in constants {
         put_constant(out, item)?;
@@ -93,7 +104,8 @@ fn put_constants(out: &mut Vec<u8>, constants: &[ConstantData]) -> Result<(), Wr
 #[cycle(writing)]
 #[tactic(auto, using(py_bytecode::proofs::View::views))]
 fn put_constant(out: &mut Vec<u8>, item: &ConstantData) -> Result<(), WriteCodeError>
-    ensures { Writes result (IsConst (constant item.now)) (const_spelling (constant item.now)) (const_longest (constant item.now)) out.old.items out.new.items }
+    ensures { Writes result (IsConst (constant item.now)) (const_spelling (constant item.now))
+        (const_longest (constant item.now)) out.old.items out.new.items }
 {
     match item {
         ConstantData::None => put_tag(out, Tag::None),
@@ -130,7 +142,8 @@ fn put_tag(out: &mut Vec<u8>, tag: Tag) -> Result<(), WriteCodeError>
 }
 
 fn put_integer(out: &mut Vec<u8>, value: i128) -> Result<(), WriteCodeError>
-    ensures { Writes result (FitsSigned w128 value) (signed_spelling w128 value) 0 out.old.items out.new.items }
+    ensures { Writes result (FitsSigned w128 value)
+        (signed_spelling w128 value) 0 out.old.items out.new.items }
 {
     out.extend_from_slice(&value.to_be_bytes())?;
     Ok(())

@@ -3,8 +3,16 @@ use Rattle.std.specs.Prelude.{ℕ, suc, ◌+◌, List, [], ◌∷◌, ◌++◌, 
 use Rattle.py_bytecode.specs.declared.instruction.Instruction.TheVariants as op
 use Rattle.py_bytecode.specs.Objects as const
 use Rattle.py_bytecode.specs.Values.{Operation, operation, Number, match_exception, Value, Constant, Child, Cell, It, Cells, Usage, Load, Store, Delete, ByName, gives_of, flip}
-use Rattle.py_control.specs.Form.{VForm, VConst, VLoad, VOp, VMake, VShort, VChain, VChoice, VKeep, VSwap, VAt, VForms, VNone, VMore, VMethod, Shorts, OneShort, MoreShort, Links, LastLink, MoreLink, TForm, TTruth, TNot, TAll, Tests, OneTest, MoreTest, Target, GStore, GPut, GUnder, GUnpack, GDrop, Targets, NoTarget, MoreTarget, SForm, SSkip, SThen, SDo, SInto, SRemove, SIf, SIfElse, SWhile, SFor, SBreak, SContinue, SReturn, SClassEnd, SReraise, SAugment, SAugmentTwo, STry, STryFinal, SFinally, SWith, SGather, SGenerate, SAt, Handlers, HNone, HAny, HTyped, Clauses, CLast, CEach, Filters, NoFilter, MoreFilter, Fixed, Interp, targets}
-use Rattle.py_bytecode.specs.Machine.{Instr, Push, Access, Operate, MakeFunction, Import, Append, Unpack, Pop, Rotate2, Rotate3, Duplicate, Duplicate2, JumpIf, JumpIfOrPop, Jump, SetupLoop, PopBlock, Break, Continue, ReturnValue, ReturnConst, SetupExcept, SetupFinally, PopException, EnterFinally, EndFinally, Reraise, ForIter, SetupWith, WithCleanupStart, WithCleanupFinish, classcell}
+use Rattle.py_control.specs.Form.{VForm, VConst, VLoad, VOp, VMake, VShort, VChain, VChoice, VKeep, VSwap, VAt, VForms, VNone, VMore}
+use Rattle.py_control.specs.Form.{VMethod, Shorts, OneShort, MoreShort, Links, LastLink, MoreLink, TForm, TTruth, TNot, TAll, Tests}
+use Rattle.py_control.specs.Form.{OneTest, MoreTest, Target, GStore, GPut, GUnder, GUnpack, GDrop, Targets, NoTarget, MoreTarget, SForm}
+use Rattle.py_control.specs.Form.{SSkip, SThen, SDo, SInto, SRemove, SIf, SIfElse, SWhile, SFor, SBreak, SContinue, SReturn, SClassEnd}
+use Rattle.py_control.specs.Form.{SReraise, SAugment, SAugmentTwo, STry, STryFinal, SFinally, SWith, SGather, SGenerate, SAt, Handlers}
+use Rattle.py_control.specs.Form.{HNone, HAny, HTyped, Clauses, CLast, CEach, Filters, NoFilter, MoreFilter, Fixed, Interp, targets}
+use Rattle.py_bytecode.specs.Machine.{Instr, Push, Access, Operate, MakeFunction, Import, Append, Unpack, Pop, Rotate2, Rotate3, Duplicate}
+use Rattle.py_bytecode.specs.Machine.{Duplicate2, JumpIf, JumpIfOrPop, Jump, SetupLoop, PopBlock, Break, Continue, ReturnValue, ReturnConst}
+use Rattle.py_bytecode.specs.Machine.{SetupExcept, SetupFinally, PopException, EnterFinally, EndFinally, Reraise, ForIter, SetupWith}
+use Rattle.py_bytecode.specs.Machine.{WithCleanupStart, WithCleanupFinish, classcell}
 use Rattle.py_control.specs.Fit.{Loops}
 
 -- an instruction whose places are labels, or a label's place
@@ -295,9 +303,13 @@ module _ {K : Type 0} (i : Interp K) where
     code (SIfElse t a b) l n =
         choice_code n (1 + n) (code_t t false n (2 + n)) (code a l (2 + n + labels_t t false)) (code b l (2 + n + labels_t t false + labels a))
     code (SWhile t a b) l n =
-        while_code n (1 + n) (2 + n) (code_t t false (1 + n) (3 + n)) (code a (record { inside = true; on_break = 2 + n; on_continue = n }) (3 + n + labels_t t false)) (code b l (3 + n + labels_t t false + labels a))
+        while_code n (1 + n) (2 + n) (code_t t false (1 + n) (3 + n))
+        (code a (record { inside = true; on_break = 2 + n; on_continue = n }) (3 + n + labels_t t false))
+        (code b l (3 + n + labels_t t false + labels a))
     code (SFor f t a b) l n =
-        for_code n (1 + n) (2 + n) (code_v f (3 + n)) (code_g t (3 + n + labels_v f) ++ code a (record { inside = true; on_break = 2 + n; on_continue = n }) (3 + n + labels_v f + labels_g t)) (code b l (3 + n + labels_v f + labels_g t + labels a))
+        for_code n (1 + n) (2 + n) (code_v f (3 + n))
+        (code_g t (3 + n + labels_v f) ++ code a (record { inside = true; on_break = 2 + n; on_continue = n })
+        (3 + n + labels_v f + labels_g t)) (code b l (3 + n + labels_v f + labels_g t + labels a))
     code SBreak l n = Do (Break l.on_break) ∷ []
     code SContinue l n = Do (Continue l.on_continue) ∷ []
     code (SReturn f) l n = return_code f n
@@ -309,7 +321,8 @@ module _ {K : Type 0} (i : Interp K) where
     code (STry a hs b) l n =
         try_code false n (1 + n) (code a l (3 + n)) (code_h hs false l (2 + n) (3 + n + labels a)) (code b l (3 + n + labels a + labels_h hs)) ++ Label (2 + n) ∷ []
     code (STryFinal a hs b c) l n =
-        last_code (2 + n) (try_code true n (1 + n) (code a l (3 + n)) (code_h hs true l (2 + n) (3 + n + labels a)) (code b l (3 + n + labels a + labels_h hs))) (code c l (3 + n + labels a + labels_h hs + labels b))
+        last_code (2 + n) (try_code true n (1 + n) (code a l (3 + n)) (code_h hs true l (2 + n) (3 + n + labels a))
+        (code b l (3 + n + labels a + labels_h hs))) (code c l (3 + n + labels a + labels_h hs + labels b))
     code (SFinally a c) l n = last_code n (code a l (1 + n) ++ tail_code true) (code c l (1 + n + labels a))
     code (SWith f t a) l n =
         with_code n (code_v f (1 + n)) (code_g t (1 + n + labels_v f) ++ code a l (1 + n + labels_v f + labels_g t))

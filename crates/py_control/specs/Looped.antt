@@ -1,6 +1,8 @@
 -- Where breaks and continues stand.
 use Rattle.std.specs.Prelude.{Bool, true, false}
-use Rattle.py_control.specs.Form.{SForm, SSkip, SThen, SDo, SInto, SRemove, SIf, SIfElse, SWhile, SFor, SBreak, SContinue, SReturn, SClassEnd, SReraise, SAugment, SAugmentTwo, STry, STryFinal, SFinally, SWith, SGather, SGenerate, SAt, Handlers, HNone, HAny, HTyped}
+use Rattle.py_control.specs.Form.{SForm, SSkip, SThen, SDo, SInto, SRemove, SIf, SIfElse, SWhile, SFor, SBreak, SContinue, SReturn}
+use Rattle.py_control.specs.Form.{SClassEnd, SReraise, SAugment, SAugmentTwo, STry, STryFinal, SFinally, SWith, SGather, SGenerate, SAt}
+use Rattle.py_control.specs.Form.{Handlers, HNone, HAny, HTyped}
 
 -- a break or a continue only within a loop
 abbrev mutual

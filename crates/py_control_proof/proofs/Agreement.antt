@@ -2,7 +2,9 @@
 use Rattle.py_bytecode.specs.Objects as const
 use Rattle.py_bytecode.specs.Machine.{start}
 use Rattle.std.proofs.Common.{◌≡◌, ℕ, List, [], ◌∷◌, ◌++◌, true, None, refl, sym, ap, ◌∙◌, append-nil, inl, inr}
-use Rattle.py_bytecode.specs.Values.{Value, Constant, Given, Child, Cell, Entry, It, Cells, Usage, Kind, Event, Operates, Makes, Accesses, StoresCells, AsksTruth, AsksNext, Answer, World, with_event, Leave, Breaks, Continues, Returns, Throws, Ended, Normal, Leaves, Halts, Outcome, Returned, RaisedOut, Stopped, Wrong, Leaked, Going, Ran, choose}
+use Rattle.py_bytecode.specs.Values.{Value, Constant, Given, Child, Cell, Entry, It, Cells, Usage, Kind, Event, Operates, Makes, Accesses}
+use Rattle.py_bytecode.specs.Values.{StoresCells, AsksTruth, AsksNext, Answer, World, with_event, Leave, Breaks, Continues, Returns, Throws}
+use Rattle.py_bytecode.specs.Values.{Ended, Normal, Leaves, Halts, Outcome, Returned, RaisedOut, Stopped, Wrong, Leaked, Going, Ran, choose}
 use Rattle.py_control.specs.Form.{Scope, Interp, run, ended_so, class_end}
 use Rattle.py_control.specs.View.{View, without_places, whole, plain, value_to, values_to, event_to, events_to, entry_to, world_to, ended_to, outcome_to, ran_to}
 use Rattle.py_control.specs.Agree.{head_of, form_of, cells_of, exactly, fully, plainly, meaning_by, SameValue, SameValues, SameEvent, SameEvents, SameEntry, SameOutcome, SameRan, OneOf, AllOf}
@@ -26,7 +28,9 @@ shown_ends {K} {L} c v s cs ds e n cons w = ap (λ z. class_end z (world_to c v 
     finish : (y : Cell) (ys xs : List Cell) → v.cells xs ≡ y ∷ ys → class_end (y ∷ ys) (world_to c v w) ≡ Leaves (Returns (entry_to c v (Cells xs))) (world_to c v (with_event (StoresCells xs) w))
     finish y ys xs q =
         sym (ap (λ b. Leaves (Returns (choose b (Cells (v.cells xs)) (It (Constant const.none)))) (world_to c v (with_event (StoresCells xs) w))) s
-        ∙ ap (λ es. Leaves (Returns (Cells (v.cells xs))) (record { events = es; answers = w.answers; taken = w.taken })) (events-append c v w.events (StoresCells xs ∷ []) ∙ ap (λ b. events_to c v w.events ++ (choose b (StoresCells (v.cells xs) ∷ []) [] ++ [])) s)
+        ∙ ap (λ es. Leaves (Returns (Cells (v.cells xs))) (record { events = es; answers = w.answers; taken = w.taken }))
+        (events-append c v w.events (StoresCells xs ∷ [])
+        ∙ ap (λ b. events_to c v w.events ++ (choose b (StoresCells (v.cells xs) ∷ []) [] ++ [])) s)
         ∙ ap (λ z. Leaves (Returns (Cells z)) (record { events = events_to c v w.events ++ (StoresCells z ∷ []); answers = w.answers; taken = w.taken })) q)
 
     go : (cs : List Cell) → class_end (v.cells cs) (world_to c v w) ≡ ended_to c v (class_end cs w)
@@ -35,7 +39,9 @@ shown_ends {K} {L} c v s cs ds e n cons w = ap (λ z. class_end z (world_to c v 
 
 hidden_ends : {K L : Type 0} (c : K → L) (cs : List Cell) (w : World K) → class_end [] (world_to c plain w) ≡ ended_to c plain (class_end cs w)
 hidden_ends c [] w = refl
-hidden_ends c (x ∷ xs) w = ap (λ es. Leaves (Returns (It (Constant const.none))) (record { events = es; answers = w.answers; taken = w.taken })) (sym (events-append c plain w.events (StoresCells (x ∷ xs) ∷ []) ∙ append-nil (events_to c plain w.events)))
+hidden_ends c (x ∷ xs) w = ap (λ es. Leaves (Returns (It (Constant const.none)))
+    (record { events = es; answers = w.answers; taken = w.taken }))
+    (sym (events-append c plain w.events (StoresCells (x ∷ xs) ∷ []) ∙ append-nil (events_to c plain w.events)))
 
 without_is : (place : List ℕ → ℕ) (ns : List (List ℕ)) → cells_of (λ n. 0) ns ≡ without_places (cells_of place ns)
 without_is place [] = refl
@@ -178,4 +184,5 @@ module _ {K : Type 0} where
   again_outcome Going = refl
 
   pub again : (r : Ran K) → ran_to (λ k. k) plain (ran_to (λ k. k) whole r) ≡ ran_to (λ k. k) plain r
-  again r = ap (λ es. record { events = es; outcome = outcome_to (λ k. k) plain (outcome_to (λ k. k) whole r.outcome) }) (again_events r.events) ∙ ap (λ o. record { events = events_to (λ k. k) plain r.events; outcome = o }) (again_outcome r.outcome)
+  again r = ap (λ es. record { events = es; outcome = outcome_to (λ k. k) plain (outcome_to (λ k. k) whole r.outcome) })
+      (again_events r.events) ∙ ap (λ o. record { events = events_to (λ k. k) plain r.events; outcome = o }) (again_outcome r.outcome)

@@ -1,20 +1,22 @@
 -- A scope's code, whose labels are placed once, stands in it; so the machine on it does what the form does.
 use Rattle.py_bytecode.specs.Objects as const
-use Rattle.std.proofs.Common.{◌≡◌, ℕ, zero, suc, ◌+◌, ◌-◌, ◌*◌, ◌≤◌, List, [], ◌∷◌, ◌++◌, length, Bool, true, false, Option, Some, None, refl, sym, ap, ◌∙◌, subst, arith, append_assoc, append-nil, length-append, zero-add, add_assoc, rules}
+use Rattle.std.proofs.Common.{◌≡◌, ℕ, zero, suc, ◌+◌, ◌-◌, ◌*◌, ◌≤◌, List, [], ◌∷◌, ◌++◌, length, Bool, true, false, Option, Some, None}
+use Rattle.std.proofs.Common.{refl, sym, ap, ◌∙◌, subst, arith, append_assoc, append-nil, length-append, zero-add, add_assoc, rules}
 use Rattle.std.specs.Prelude.{nat_eq, if◌then◌else◌, slice_get}
 use Rattle.std.proofs.Math.Seq.{get_or-append_seam}
 use Rattle.std.proofs.lemmas.Option.{slice_get-get_or}
-use Rattle.py_bytecode.specs.Values.{Value, Constant, Cell, It, Answer, Event, Operates, World, for_one, Leave, Breaks, Continues, Returns, Throws, Ended, Normal, Leaves, Halts, on_ended, Outcome, Returned}
+use Rattle.py_bytecode.specs.Values.{Value, Constant, Cell, It, Answer, Event, Operates, World, for_one, Leave, Breaks, Continues, Returns}
+use Rattle.py_bytecode.specs.Values.{Throws, Ended, Normal, Leaves, Halts, on_ended, Outcome, Returned}
 use Rattle.py_control.specs.Form.{Interp, SForm, SThen, SReturn, SClassEnd, SGather, SAt, run_value, run_clauses, append_run, class_end, returns, run, ended_so}
 use Rattle.py_bytecode.specs.Machine.{start, fuel, Instr, ReturnConst, at_places, Fetched, Found, Config, At, Over, stopped_config, steps, result, machine}
 use Rattle.py_control.specs.Looped.{Looped}
 use Rattle.py_control.specs.Fit.{Loops, leave}
 use Rattle.py_control.specs.Code.{Item, Do, Label, size, code, closes, closing_return, body_code}
 use Rattle.py_control.specs.CodeRuns.{instrs, place_of, found_item, fetch_at, runs_code}
-use Rattle.py_control_proof.specs.Live.{live}
+use Rattle.py_control_proof.specs.Reachable.{reachable_count}
 use Rattle.py_control_proof.proofs.Reach.{Ground, Reaches, steps_add, reach_more}
-use Rattle.py_control_proof.proofs.Falls.{falls, live-append, live_size, Never, never_do, never_use}
-use Rattle.py_control_proof.proofs.Moves.{size-append, MoveStands, move_split, does, lively, do_land}
+use Rattle.py_control_proof.proofs.Falls.{falls, reachable_count-append, reachable_size, Never, never_do, never_use}
+use Rattle.py_control_proof.proofs.Moves.{size-append, MoveStands, move_split, does, reachable_steps, do_land}
 use Rattle.py_control_proof.proofs.LoopedEnds.{LoopedEndEnds, looped_ends}
 use Rattle.py_control_proof.proofs.Program.{form_follows}
 
@@ -32,9 +34,9 @@ occurs-append k [] b = sym (zero-add _)
 occurs-append k (Do i ∷ a) b = occurs-append k a b
 occurs-append k (Label l ∷ a) b = ap (λ n. is_label k l + n) (occurs-append k a b) ∙ sym (add_assoc (is_label k l) (occurs k a) (occurs k b))
 
--- a code as a ground, where an answer pays for a pass over what can be come to
+-- a code as a ground, where an answer pays for a pass over what can be reached
 abbrev pub ground_of : {K : Type 0} → List (Item K) → Ground K ℕ
-ground_of is = record { fetch = fetch_at is; spot = λ l. place_of is l 0; weight = live true is }
+ground_of is = record { fetch = fetch_at is; spot = λ l. place_of is l 0; weight = reachable_count true is }
 
 place_if : (b : Bool) (n m : ℕ) → ◌≡◌ {A = ℕ} (if b then 1 else 0) 0 → (if b then n else m) ≡ m
 place_if true n m e = absurd (omega arith)
@@ -132,29 +134,37 @@ module _ {K P : Type 0} where
   never_land (Leaves why w) land land1 leaves h = refl
   never_land (Halts events) land land1 leaves h = refl
 
-  -- where a scope's code ends; b says whether its form's code may come to the closing
-  closing_lands : (g : Ground K P) (closed b : Bool) (r : Ended K) (m : ℕ) (c : Config K P) (q end : P) (l : Loops) → (closed ≡ true → Never r) → (b ≡ false → Never r) → MoveStands g (closing_return closed) q end → Reaches g m c (on_ended r (λ w. At q [] [] None w) (leave g.spot l [] [] None) stopped_config) → Reaches g (m + live {K = K} b (closing_return closed)) c (assembly_at_end g.spot l r)
+  -- where a scope's code ends; b says whether its form's code may reach the closing
+  closing_lands : (g : Ground K P) (closed b : Bool) (r : Ended K) (m : ℕ) (c : Config K P) (q end : P) (l : Loops)
+      → (closed ≡ true → Never r) → (b ≡ false → Never r) → MoveStands g (closing_return closed) q end
+      → Reaches g m c (on_ended r (λ w. At q [] [] None w) (leave g.spot l [] [] None) stopped_config)
+      → Reaches g (m + reachable_count {K = K} b (closing_return closed)) c (assembly_at_end g.spot l r)
   closing_lands g true b r m c q end l h never st body =
-      reach_more g m (m + 0) c _ (omega arith) (subst (Reaches g m c) (never_land r (λ w. At q [] [] None w) (λ w. Over w.events (Returned (It (Constant const.none)))) (leave g.spot l [] [] None) (h refl)) body)
+      reach_more g m (m + 0) c _ (omega arith)
+      (subst (Reaches g m c) (never_land r (λ w. At q [] [] None w) (λ w. Over w.events (Returned (It (Constant const.none))))
+      (leave g.spot l [] [] None) (h refl)) body)
   closing_lands g false b r m c q end l h never st body =
-      do_land g b r m (live {K = K} b (closing_return false)) c (λ w. At q [] [] None w) (λ w. Over w.events (Returned (It (Constant const.none)))) (leave g.spot l [] [] None) never body (λ e w. lively g b (closing_return false) _ _ e (does g (ReturnConst (Constant const.none)) q st.0 [] [] None w st.1))
+      do_land g b r m (reachable_count {K = K} b (closing_return false)) c (λ w. At q [] [] None w)
+      (λ w. Over w.events (Returned (It (Constant const.none)))) (leave g.spot l [] [] None) never body
+      (λ e w. reachable_steps g b (closing_return false) _ _ e (does g (ReturnConst (Constant const.none)) q st.0 [] [] None w st.1))
 
   -- the machine where a scope's code stands does what its form does
   pub simulated_at : (g : Ground K P) (i : Interp K) (f : SForm) (p q : P) → MoveStands g (body_code i f) p q → Looped false f
-      → live true (body_code i f) ≤ g.weight → (answers : List Answer) (n : ℕ) → g.weight * length answers + live true (body_code i f) ≤ n
+      → reachable_count true (body_code i f) ≤ g.weight → (answers : List Answer) (n : ℕ) → g.weight * length answers + reachable_count true (body_code i f) ≤ n
       → machine g.fetch n p (start answers) ≡ ended_so (run i f None (start answers))
   simulated_at g i f p q st ok heavy answers n le =
       let l : Loops = record { inside = false; on_break = 0; on_continue = 0 } in
       let a : List (Item K) = code i f l 1 in
-      let z : ℕ = live {K = K} (falls true a) (closing_return (closes f)) in
-      let sizes : live true (body_code i f) ≡ live true a + z = live-append true a (closing_return (closes f)) in
+      let z : ℕ = reachable_count {K = K} (falls true a) (closing_return (closes f)) in
+      let sizes : reachable_count true (body_code i f) ≡ reachable_count true a + z = reachable_count-append true a (closing_return (closes f)) in
       let r = move_split g a (closing_return (closes f)) p q st in
       let follows = form_follows i g f l 1 ok in
       let body = follows.by (omega (arith, sizes, heavy)) p r.0 r.1 [] [] None tt (λ e. absurd (let z : false ≡ true = e in cc)) (start answers) in
-      let all = closing_lands g (closes f) (falls true a) (run i f None (start answers)) (live true a) _ r.0 q l (λ e. closed_never i f e None (start answers)) (λ e. follows.never e None (start answers)) r.2 body in
-      simulated_by g p (run i f None (start answers)) l answers (live true a + z) n (looped_ends i false f ok None (start answers)) all (omega (arith, sizes, le))
+      let all = closing_lands g (closes f) (falls true a) (run i f None (start answers)) (reachable_count true a) _ r.0 q l
+      (λ e. closed_never i f e None (start answers)) (λ e. follows.never e None (start answers)) r.2 body in
+      simulated_by g p (run i f None (start answers)) l answers (reachable_count true a + z) n (looped_ends i false f ok None (start answers)) all (omega (arith, sizes, le))
 
--- steps for a pass over what can be come to are within its fuel, and more fuel pays for more
+-- steps for a pass over what can be reached are within its fuel, and more fuel pays for more
 pub fuel_covers : (m n : ℕ) (answers : List Answer) → fuel m answers ≤ n → m * length answers + m ≤ n
 fuel_covers m n answers h = grind arith
 
@@ -162,11 +172,11 @@ pub fuel_up : (m n : ℕ) (answers : List Answer) → m ≤ n → fuel m answers
 fuel_up m n answers h = grind arith
 
 module _ {K : Type 0} (i : Interp K) (f : SForm) (ok : Looped false f) (once : (k : ℕ) → occurs k (body_code i f) ≤ 1) (answers : List Answer) where
-  -- the machine on a form's code does what the form does, within the steps that what can be come to pays for
-  pub simulated_within : (n : ℕ) → fuel (live true (body_code i f)) answers ≤ n → machine (fetch_at (body_code i f)) n 0 (start answers) ≡ ended_so (run i f None (start answers))
+  -- the machine on a form's code does what the form does, within the steps that what can be reached pays for
+  pub simulated_within : (n : ℕ) → fuel (reachable_count true (body_code i f)) answers ≤ n → machine (fetch_at (body_code i f)) n 0 (start answers) ≡ ended_so (run i f None (start answers))
   simulated_within n enough =
       let is : List (Item K) = body_code i f in
-      simulated_at (ground_of is) i f 0 (size is) (stands_from is [] once) ok (omega arith) answers n (fuel_covers (live true is) n answers enough)
+      simulated_at (ground_of is) i f 0 (size is) (stands_from is [] once) ok (omega arith) answers n (fuel_covers (reachable_count true is) n answers enough)
 
   pub simulated : runs_code (body_code i f) answers ≡ ended_so (run i f None (start answers))
-  simulated = simulated_within (fuel (size (body_code i f)) answers) (fuel_up (live true (body_code i f)) (size (body_code i f)) answers (live_size true (body_code i f)))
+  simulated = simulated_within (fuel (size (body_code i f)) answers) (fuel_up (reachable_count true (body_code i f)) (size (body_code i f)) answers (reachable_size true (body_code i f)))

@@ -11,11 +11,11 @@ use Rattle.py_bytecode.specs.Blocks as blocks
 use Rattle.py_bytecode.specs.Blocks.{Place, Of, block_at, hop, settle, settled_place, arrives, at_index, fetch_block}
 use Rattle.py_control.specs.Code.{Item, Do, Label, size, code, body_code}
 use Rattle.py_control_proof.specs.Blocks.{Inside, IsItem, Stable, Lies, BlocksSimulate, BlocksRun}
-use Rattle.py_control_proof.specs.Live.{live, LiveRuns}
+use Rattle.py_control_proof.specs.Reachable.{reachable_count, ReachableRuns}
 use Rattle.py_control.specs.Form.{Interp}
 use Rattle.py_control.specs.Agree.{exactly, form_of}
 use Rattle.py_control_proof.proofs.Program.{form_follows}
-use Rattle.py_control_proof.proofs.Falls.{live_size}
+use Rattle.py_control_proof.proofs.Falls.{reachable_size}
 use Rattle.py_control_proof.proofs.Assembly.{simulated, simulated_at, simulated_within, fuel_covers}
 use Rattle.py_control_proof.proofs.Labels.{label_once}
 use Rattle.py_control_proof.proofs.Reach.{Ground}
@@ -83,8 +83,12 @@ block_ground t bs weight = record { fetch = fetch_block t bs; spot = spot_in bs;
 pub stands_in_blocks : (t : Tables) (bs : List blocks.Block) (weight n : ℕ) (is : List (Item Object)) (p q : Place) → Lies t bs n is p q → n ≤ length bs
     → MoveStands (block_ground t bs weight) is (settled_place bs p) (settled_place bs q)
 stands_in_blocks t bs weight n [] p q h le = ap (settled_place bs) h.0
-stands_in_blocks t bs weight n (Do x ∷ is) (Of b i) q h le =
-    (settled_place bs (Of b (suc i)), ap (fetch_block t bs) (settle_here bs (length bs) b i (item_at t bs b i x h.0)) ∙ finds t bs b i x (slice_get (block_at bs b).items i) h.0, stands_in_blocks t bs weight n is (Of b (suc i)) q h.1 le)
+stands_in_blocks t bs weight n (Do x ∷ is) (Of b i) q h le = (
+  settled_place bs (Of b (suc i)),
+  ap (fetch_block t bs) (settle_here bs (length bs) b i (item_at t bs b i x h.0))
+      ∙ finds t bs b i x (slice_get (block_at bs b).items i) h.0,
+  stands_in_blocks t bs weight n is (Of b (suc i)) q h.1 le,
+)
 stands_in_blocks t bs weight zero (Label l ∷ is) (Of b i) q h le = absurd h
 stands_in_blocks t bs weight (suc n) (Label l ∷ is) (Of b i) q h le =
     let st = lies_stable t bs n is (Of l 0) q h.2 in
@@ -97,7 +101,7 @@ stands_in_blocks t bs weight (suc n) (Label l ∷ is) (Of b i) q h le =
 pub blocks_simulate : BlocksSimulate
 blocks_simulate i t bs hops f l n p q lies le s entered slot w fit within ok =
     let g : Ground Object Place = block_ground t bs (size (code i f l n)) in
-    let least = live_size true (code i f l n) in
+    let least = reachable_size true (code i f l n) in
     let r = (form_follows i g f l n ok).by least (settled_place bs p) (settled_place bs q) (stands_in_blocks t bs (size (code i f l n)) hops (code i f l n) p q lies le) s entered slot fit within w in
     (r.cost, omega (arith, r.bound, least), r.runs)
 
@@ -105,11 +109,13 @@ pub blocks_run : BlocksRun
 blocks_run child s t bs hops q lies le ok answers n enough =
     let i : Interp Object = exactly child s in
     let is : List (Item Object) = body_code i (form_of s) in
-    let g : Ground Object Place = block_ground t bs (live true is) in
-    simulated_at g i (form_of s) (settled_place bs (Of 0 0)) (settled_place bs q) (stands_in_blocks t bs (live true is) hops is (Of 0 0) q lies le) ok (le_refl _) answers n (fuel_covers (live true is) n answers enough)
+    let g : Ground Object Place = block_ground t bs (reachable_count true is) in
+    simulated_at g i (form_of s) (settled_place bs (Of 0 0)) (settled_place bs q)
+    (stands_in_blocks t bs (reachable_count true is) hops is (Of 0 0) q lies le) ok (le_refl _) answers n
+    (fuel_covers (reachable_count true is) n answers enough)
     ∙ sym (simulated i (form_of s) ok (label_once i (form_of s)) answers)
 
-pub live_runs : LiveRuns
-live_runs child s ok answers n enough =
+pub reachable_runs : ReachableRuns
+reachable_runs child s ok answers n enough =
     let i : Interp Object = exactly child s in
     simulated_within i (form_of s) ok (label_once i (form_of s)) answers n enough ∙ sym (simulated i (form_of s) ok (label_once i (form_of s)) answers)

@@ -2,8 +2,22 @@
 use Rattle.py_bytecode.specs.Objects as const
 use Rattle.std.proofs.Common.{◌≡◌, ℕ, zero, suc, List, [], ◌∷◌, ◌++◌, length, Bool, true, false, Option, Some, None, refl, sym, ap, ◌∙◌, append_assoc}
 use Rattle.std.specs.Prelude.{nat_eq, if◌then◌else◌}
-use Rattle.py_bytecode.specs.Values.{Operation, raise_again, match_exception, enter_with, exit_with, Value, Constant, Given, Child, Answer, Gives, Truth, End, Raised, Usage, Load, Store, Delete, Event, Operates, Makes, Accesses, AsksTruth, AsksNext, World, Got, Fine, Raises, Stops, then_get, ask_of, ask, ask_for, fits, fits_truth, fits_next, given_values, gives_of, for_one, for_two, for_none, one_of, two_of, none_of, truth_of, next_of, on_some, Leave, Breaks, Continues, Returns, Throws, Ended, Normal, Leaves, Halts, on_ended, then_do, use_it, effect, choose, meets}
-use Rattle.py_control.specs.Form.{VForm, VConst, VLoad, VOp, VMake, VShort, VChain, VChoice, VKeep, VSwap, VAt, VForms, VNone, VMore, VMethod, Shorts, OneShort, MoreShort, Links, LastLink, MoreLink, TForm, TTruth, TNot, TAll, Tests, OneTest, MoreTest, Target, GStore, GPut, GUnder, GUnpack, GDrop, Targets, NoTarget, MoreTarget, SForm, SSkip, SThen, SDo, SInto, SRemove, SIf, SIfElse, SWhile, SFor, SBreak, SContinue, SReturn, SClassEnd, SReraise, SAugment, SAugmentTwo, STry, STryFinal, SFinally, SWith, SGather, SGenerate, SAt, Handlers, HNone, HAny, HTyped, Clauses, CLast, CEach, Filters, NoFilter, MoreFilter, Scope, Fixed, Interp, targets, decide, stop_test, link, keep_value, after_turn, turns, assign_then, rounds, for_run, clause_turn, circles, in_hand, handle, try_run, typed_run, finally_run, exit_run, exit_leave, with_run, class_end, reraise_end, augment_run, augment_two_run, access, run_value, run_values, run_shorts, run_links, run_test, run_tests, run_target, run_targets, run_filters, run_clauses, append_run, drop_run, run, run_handlers}
+use Rattle.py_bytecode.specs.Values.{Operation, raise_again, match_exception, enter_with, exit_with, Value, Constant, Given, Child, Answer}
+use Rattle.py_bytecode.specs.Values.{Gives, Truth, End, Raised, Usage, Load, Store, Delete, Event, Operates, Makes, Accesses, AsksTruth}
+use Rattle.py_bytecode.specs.Values.{AsksNext, World, Got, Fine, Raises, Stops, then_get, ask_of, ask, ask_for, fits, fits_truth, fits_next}
+use Rattle.py_bytecode.specs.Values.{given_values, gives_of, for_one, for_two, for_none, one_of, two_of, none_of, truth_of, next_of}
+use Rattle.py_bytecode.specs.Values.{on_some, Leave, Breaks, Continues, Returns, Throws, Ended, Normal, Leaves, Halts, on_ended, then_do}
+use Rattle.py_bytecode.specs.Values.{use_it, effect, choose, meets}
+use Rattle.py_control.specs.Form.{VForm, VConst, VLoad, VOp, VMake, VShort, VChain, VChoice, VKeep, VSwap, VAt, VForms, VNone, VMore}
+use Rattle.py_control.specs.Form.{VMethod, Shorts, OneShort, MoreShort, Links, LastLink, MoreLink, TForm, TTruth, TNot, TAll, Tests}
+use Rattle.py_control.specs.Form.{OneTest, MoreTest, Target, GStore, GPut, GUnder, GUnpack, GDrop, Targets, NoTarget, MoreTarget, SForm}
+use Rattle.py_control.specs.Form.{SSkip, SThen, SDo, SInto, SRemove, SIf, SIfElse, SWhile, SFor, SBreak, SContinue, SReturn, SClassEnd}
+use Rattle.py_control.specs.Form.{SReraise, SAugment, SAugmentTwo, STry, STryFinal, SFinally, SWith, SGather, SGenerate, SAt, Handlers}
+use Rattle.py_control.specs.Form.{HNone, HAny, HTyped, Clauses, CLast, CEach, Filters, NoFilter, MoreFilter, Scope, Fixed, Interp, targets}
+use Rattle.py_control.specs.Form.{decide, stop_test, link, keep_value, after_turn, turns, assign_then, rounds, for_run, clause_turn}
+use Rattle.py_control.specs.Form.{circles, in_hand, handle, try_run, typed_run, finally_run, exit_run, exit_leave, with_run, class_end}
+use Rattle.py_control.specs.Form.{reraise_end, augment_run, augment_two_run, access, run_value, run_values, run_shorts, run_links, run_test}
+use Rattle.py_control.specs.Form.{run_tests, run_target, run_targets, run_filters, run_clauses, append_run, drop_run, run, run_handlers}
 use Rattle.py_control.specs.View.{View, value_to, values_to, slot_to, event_to, events_to, entry_to, world_to, got_to, leave_to, ended_to}
 
 -- one interpretation carries to another
@@ -151,7 +165,9 @@ module _ {K L : Type 0} (c : K → L) (v : View) where
   decide_to : (d : Bool) (a b : World K → Got K (Value K)) (a1 b1 : World L → Got L (Value L)) → Runs1 (value_to c v) a a1 → Runs1 (value_to c v) b b1
       → Runs1 (value_to c v) (decide d a b) (decide d a1 b1)
   decide_to d a b a1 b1 ha hb w =
-      carry_then (a w) _ (value_to c v) (value_to c v) _ _ (ha w) (λ x w1. carry_then (truth_of x w1) _ (λ t. t) (value_to c v) _ _ (truth_to x w1) (λ t w2. carry_meets d t (Fine x w2) (b w2) _ _ (value_to c v) refl (hb w2)))
+      carry_then (a w) _ (value_to c v) (value_to c v) _ _ (ha w)
+      (λ x w1. carry_then (truth_of x w1) _ (λ t. t) (value_to c v) _ _ (truth_to x w1)
+      (λ t w2. carry_meets d t (Fine x w2) (b w2) _ _ (value_to c v) refl (hb w2)))
 
   stop_to : (d : Bool) (a b : World K → Got K Bool) (a1 b1 : World L → Got L Bool) → Runs1 (λ t. t) a a1 → Runs1 (λ t. t) b b1 → Runs1 (λ t. t) (stop_test d a b) (stop_test d a1 b1)
   stop_to d a b a1 b1 ha hb w = carry_then (a w) _ (λ t. t) (λ t. t) _ _ (ha w) (λ t w1. carry_meets d t (Fine t w1) (b w1) _ _ (λ t. t) refl (hb w1))
@@ -159,7 +175,9 @@ module _ {K L : Type 0} (c : K → L) (v : View) where
   link_to : (o : Operation) (l x : Value K) (rest : World K → Got K (Value K)) (rest1 : World L → Got L (Value L)) → Runs1 (value_to c v) rest rest1
       → Runs1 (value_to c v) (link o l x rest) (link o (value_to c v l) (value_to c v x) rest1)
   link_to o l x rest rest1 hr w =
-      carry_then (for_one (Operates o (l ∷ x ∷ [])) w) _ (value_to c v) (value_to c v) _ _ (for_one_to (Operates o (l ∷ x ∷ [])) _ refl w) (λ r w1. carry_then (truth_of r w1) _ (λ t. t) (value_to c v) _ _ (truth_to r w1) (λ t w2. carry_meets false t (Fine r w2) (rest w2) _ _ (value_to c v) refl (hr w2)))
+      carry_then (for_one (Operates o (l ∷ x ∷ [])) w) _ (value_to c v) (value_to c v) _ _ (for_one_to (Operates o (l ∷ x ∷ [])) _ refl w)
+      (λ r w1. carry_then (truth_of r w1) _ (λ t. t) (value_to c v) _ _ (truth_to r w1)
+      (λ t w2. carry_meets false t (Fine r w2) (rest w2) _ _ (value_to c v) refl (hr w2)))
 
   kept_to : (how : Option Operation) (x : Value K) → Runs1 (value_to c v) (keep_value how x) (keep_value how (value_to c v x))
   kept_to None x w = refl
@@ -179,7 +197,10 @@ module _ {K L : Type 0} (c : K → L) (v : View) where
       → CarryEndsAs a a1 → CarryEndsAs b b1 → CarryEndsAs (turns n t a b) (turns n t1 a1 b1)
   turns_to zero t t1 a b a1 b1 ht ha hb w = refl
   turns_to (suc n) t t1 a b a1 b1 ht ha hb w =
-      carry_use (t w) _ (λ x. x) _ _ (ht w) (λ x w1. carry_pick x _ (b w1) _ _ (carry_ended (a w1) _ _ _ _ _ (ha w1) (turns_to n t t1 a b a1 b1 ht ha hb) (λ why w2. after_to why w2 _ _ (turns_to n t t1 a b a1 b1 ht ha hb))) (hb w1))
+      carry_use (t w) _ (λ x. x) _ _ (ht w)
+      (λ x w1. carry_pick x _ (b w1)
+      _ _ (carry_ended (a w1) _ _ _ _ _ (ha w1) (turns_to n t t1 a b a1 b1 ht ha hb)
+      (λ why w2. after_to why w2 _ _ (turns_to n t t1 a b a1 b1 ht ha hb))) (hb w1))
 
   abbrev EndsOn : (Value K → World K → Ended K) → (Value L → World L → Ended L) → Type 0
   EndsOn m m1 = (x : Value K) (w : World K) → m1 (value_to c v x) (world_to c v w) ≡ ended_to c v (m x w)
@@ -190,7 +211,9 @@ module _ {K L : Type 0} (c : K → L) (v : View) where
   rounds_to (suc n) it t t1 b b1 ht hb w = carry_use (next_of it w) _ (slot_to c v) _ _ (next_to it w) (go (rounds_to n it t t1 b b1 ht hb))
     where
       go : CarryEndsAs (rounds n it t b) (rounds n (value_to c v it) t1 b1) → (x : Option (Value K)) (w1 : World K)
-          → on_some (slot_to c v x) (λ y. on_ended (t1 y (world_to c v w1)) (rounds n (value_to c v it) t1 b1) (λ r w2. after_turn r w2 (rounds n (value_to c v it) t1 b1)) Halts) (b1 (world_to c v w1)) ≡ ended_to c v (on_some x (λ y. on_ended (t y w1) (rounds n it t b) (λ r w2. after_turn r w2 (rounds n it t b)) Halts) (b w1))
+          → on_some (slot_to c v x) (λ y. on_ended (t1 y (world_to c v w1)) (rounds n (value_to c v it) t1 b1)
+          (λ r w2. after_turn r w2 (rounds n (value_to c v it) t1 b1)) Halts) (b1 (world_to c v w1))
+          ≡ ended_to c v (on_some x (λ y. on_ended (t y w1) (rounds n it t b) (λ r w2. after_turn r w2 (rounds n it t b)) Halts) (b w1))
       go ih (Some y) w1 = carry_ended (t y w1) _ _ _ _ _ (ht y w1) ih (λ why w2. after_to why w2 _ _ ih)
       go ih None w1 = hb w1
 
@@ -202,7 +225,8 @@ module _ {K L : Type 0} (c : K → L) (v : View) where
       → Runs1 (value_to c v) f f1 → EndsOn t t1 → CarryEndsAs b b1 → CarryEndsAs (for_run f t b) (for_run f1 t1 b1)
   for_to f f1 t t1 b b1 hf ht hb w = carry_use (f w) _ (value_to c v) _ _ (hf w) (λ it w1. rounds_to (suc (length w1.answers)) it t t1 b b1 ht hb w1)
 
-  turn_to : (t : Value K → World K → Got K (Unit {0})) (t1 : Value L → World L → Got L (Unit {0})) (f : World K → Got K Bool) (f1 : World L → Got L Bool) (b : World K → Got K (Unit {0})) (b1 : World L → Got L (Unit {0}))
+  turn_to : (t : Value K → World K → Got K (Unit {0})) (t1 : Value L → World L → Got L (Unit {0})) (f : World K → Got K Bool)
+      (f1 : World L → Got L Bool) (b : World K → Got K (Unit {0})) (b1 : World L → Got L (Unit {0}))
       → ((x : Value K) → Runs1 (λ d. d) (t x) (t1 (value_to c v x))) → Runs1 (λ x. x) f f1 → Runs1 (λ d. d) b b1 → (x : Value K)
       → Runs1 (λ d. d) (clause_turn t f b x) (clause_turn t1 f1 b1 (value_to c v x))
   turn_to t t1 f f1 b b1 ht hf hb x w =
@@ -214,7 +238,9 @@ module _ {K L : Type 0} (c : K → L) (v : View) where
   circles_to (suc n) it t t1 ht w = carry_then (next_of it w) _ (slot_to c v) (λ d. d) _ _ (next_to it w) (go (circles_to n it t t1 ht))
     where
       go : Runs1 (λ d. d) (circles n it t) (circles n (value_to c v it) t1) → (x : Option (Value K)) (w1 : World K)
-          → on_some (slot_to c v x) (λ y. then_get (t1 y (world_to c v w1)) (λ d w2. circles n (value_to c v it) t1 w2)) (Fine tt (world_to c v w1)) ≡ got_to c v (λ d. d) (on_some x (λ y. then_get (t y w1) (λ d w2. circles n it t w2)) (Fine tt w1))
+          → on_some (slot_to c v x) (λ y. then_get (t1 y (world_to c v w1)) (λ d w2. circles n (value_to c v it) t1 w2))
+          (Fine tt (world_to c v w1)) ≡ got_to c v (λ d. d)
+          (on_some x (λ y. then_get (t y w1) (λ d w2. circles n it t w2)) (Fine tt w1))
       go ih (Some y) w1 = carry_then (t y w1) _ (λ d. d) (λ d. d) _ _ (ht y w1) (λ d w2. ih w2)
       go ih None w1 = refl
 
@@ -234,7 +260,10 @@ module _ {K L : Type 0} (c : K → L) (v : View) where
       → ((w : World K) → o1 (value_to c v e) (world_to c v w) ≡ ended_to c v (o e w)) → (w : World K)
       → typed_run f1 b1 o1 (value_to c v e) (world_to c v w) ≡ ended_to c v (typed_run f b o e w)
   typed_to f f1 b o b1 o1 hf e hb ho w =
-      carry_use (f w) _ (value_to c v) _ _ (hf w) (λ x w1. carry_use (for_one (Operates match_exception (e ∷ x ∷ [])) w1) _ (value_to c v) _ _ (for_one_to (Operates match_exception (e ∷ x ∷ [])) _ refl w1) (λ m w2. carry_use (truth_of m w2) _ (λ t. t) _ _ (truth_to m w2) (λ t w3. carry_pick t (b e w3) (o e w3) _ _ (hb w3) (ho w3))))
+      carry_use (f w) _ (value_to c v) _ _ (hf w)
+      (λ x w1. carry_use (for_one (Operates match_exception (e ∷ x ∷ [])) w1) _ (value_to c v)
+      _ _ (for_one_to (Operates match_exception (e ∷ x ∷ [])) _ refl w1)
+      (λ m w2. carry_use (truth_of m w2) _ (λ t. t) _ _ (truth_to m w2) (λ t w3. carry_pick t (b e w3) (o e w3) _ _ (hb w3) (ho w3))))
 
   hand_to : (why : Leave K) (slot : Option (Value K)) → in_hand (leave_to c v why) (slot_to c v slot) ≡ slot_to c v (in_hand why slot)
   hand_to Breaks slot = refl
@@ -251,18 +280,25 @@ module _ {K L : Type 0} (c : K → L) (v : View) where
   exit_to : (x e : Value K) (ends : Bool → World K → Ended K) (ends1 : Bool → World L → Ended L) → ((t : Bool) → CarryEndsAs (ends t) (ends1 t))
       → CarryEndsAs (exit_run x e ends) (exit_run (value_to c v x) (value_to c v e) ends1)
   exit_to x e ends ends1 he w =
-      carry_use (for_one (Operates exit_with (x ∷ e ∷ [])) w) _ (value_to c v) _ _ (for_one_to (Operates exit_with (x ∷ e ∷ [])) _ refl w) (λ a w1. carry_use (truth_of a w1) _ (λ t. t) _ _ (truth_to a w1) (λ t w2. he t w2))
+      carry_use (for_one (Operates exit_with (x ∷ e ∷ [])) w) _ (value_to c v) _ _ (for_one_to (Operates exit_with (x ∷ e ∷ [])) _ refl w)
+      (λ a w1. carry_use (truth_of a w1) _ (λ t. t) _ _ (truth_to a w1) (λ t w2. he t w2))
 
   exit_leave_to : (x : Value K) (why : Leave K) (w : World K) → exit_leave (value_to c v x) (leave_to c v why) (world_to c v w) ≡ ended_to c v (exit_leave x why w)
   exit_leave_to x Breaks w = exit_to x (Constant const.none) (λ t w1. Leaves Breaks w1) (λ t w1. Leaves Breaks w1) (λ t w1. refl) w
   exit_leave_to x Continues w = exit_to x (Constant const.none) (λ t w1. Leaves Continues w1) (λ t w1. Leaves Continues w1) (λ t w1. refl) w
   exit_leave_to x (Returns e) w = exit_to x (Constant const.none) (λ t w1. Leaves (Returns e) w1) (λ t w1. Leaves (Returns (entry_to c v e)) w1) (λ t w1. refl) w
-  exit_leave_to x (Throws e) w = exit_to x e (λ t w1. choose t (Normal w1) (Leaves (Throws e) w1)) (λ t w1. choose t (Normal w1) (Leaves (Throws (value_to c v e)) w1)) (λ t w1. carry_pick t (Normal w1) (Leaves (Throws e) w1) _ _ refl refl) w
+  exit_leave_to x (Throws e) w = exit_to x e (λ t w1. choose t (Normal w1) (Leaves (Throws e) w1))
+      (λ t w1. choose t (Normal w1) (Leaves (Throws (value_to c v e)) w1))
+      (λ t w1. carry_pick t (Normal w1) (Leaves (Throws e) w1) _ _ refl refl) w
 
   with_to : (f : World K → Got K (Value K)) (f1 : World L → Got L (Value L)) (b : Value K → World K → Ended K) (b1 : Value L → World L → Ended L)
       → Runs1 (value_to c v) f f1 → EndsOn b b1 → CarryEndsAs (with_run f b) (with_run f1 b1)
   with_to f f1 b b1 hf hb w =
-      carry_use (f w) _ (value_to c v) _ _ (hf w) (λ x w1. carry_use (for_two (Operates enter_with (x ∷ [])) w1) _ pair_to _ _ (for_two_to (Operates enter_with (x ∷ [])) _ refl w1) (λ xu w2. carry_ended (b xu.1 w2) _ _ _ _ _ (hb xu.1 w2) (λ w3. exit_to xu.0 (Constant const.none) (λ t w4. Normal w4) (λ t w4. Normal w4) (λ t w4. refl) w3) (λ why w3. exit_leave_to xu.0 why w3)))
+      carry_use (f w) _ (value_to c v) _ _ (hf w)
+      (λ x w1. carry_use (for_two (Operates enter_with (x ∷ [])) w1) _ pair_to _ _ (for_two_to (Operates enter_with (x ∷ [])) _ refl w1)
+      (λ xu w2. carry_ended (b xu.1 w2) _ _ _ _ _ (hb xu.1 w2)
+      (λ w3. exit_to xu.0 (Constant const.none) (λ t w4. Normal w4) (λ t w4. Normal w4) (λ t w4. refl) w3)
+      (λ why w3. exit_leave_to xu.0 why w3)))
 
   reraised_to : (slot : Option (Value K)) → CarryEndsAs (reraise_end slot) (reraise_end (slot_to c v slot))
   reraised_to None w = carry_effect (for_none (Operates raise_again []) true w) _ (for_none_to (Operates raise_again []) _ true refl w)
@@ -270,12 +306,16 @@ module _ {K L : Type 0} (c : K → L) (v : View) where
 
   module _ (i : Interp K) (j : Interp L) (h : Carries c v i j) where
     access_to : (u : Usage) (x : Fixed) (n : List ℕ) (vs : List (Value K)) → event_to c v (access i u x n vs) ≡ access j u x n (values_to c v vs) ∷ []
-    access_to u x n vs = sym (ap (λ k. Accesses k u n (j.place u x n) (values_to c v vs) ∷ []) (h.kind u x n) ∙ ap (λ p. Accesses (v.kind (i.kind u x n)) u n p (values_to c v vs) ∷ []) (h.place u x n))
+    access_to u x n vs = sym (ap (λ k. Accesses k u n (j.place u x n) (values_to c v vs) ∷ []) (h.kind u x n)
+        ∙ ap (λ p. Accesses (v.kind (i.kind u x n)) u n p (values_to c v vs) ∷ []) (h.place u x n))
 
     make_to : (flags : ℕ) (us vs : List (Value K)) (s : Scope) (n : List ℕ)
-        → event_to c v (Makes flags (us ++ (vs ++ (Child (i.child s) ∷ Constant (const.str n) ∷ []))) (i.closure s)) ≡ Makes flags (values_to c v us ++ (values_to c v vs ++ (Child (j.child s) ∷ Constant (const.str n) ∷ []))) (j.closure s) ∷ []
+        → event_to c v (Makes flags (us ++ (vs ++ (Child (i.child s) ∷ Constant (const.str n) ∷ []))) (i.closure s))
+        ≡ Makes flags (values_to c v us ++ (values_to c v vs ++ (Child (j.child s) ∷ Constant (const.str n) ∷ []))) (j.closure s) ∷ []
     make_to flags us vs s n =
-        ap (λ l. Makes flags l (v.cells (i.closure s)) ∷ []) (values-append us (vs ++ (Child (i.child s) ∷ Constant (const.str n) ∷ [])) ∙ ap (λ l. values_to c v us ++ l) (values-append vs (Child (i.child s) ∷ Constant (const.str n) ∷ [])))
+        ap (λ l. Makes flags l (v.cells (i.closure s)) ∷ [])
+        (values-append us (vs ++ (Child (i.child s) ∷ Constant (const.str n) ∷ []))
+        ∙ ap (λ l. values_to c v us ++ l) (values-append vs (Child (i.child s) ∷ Constant (const.str n) ∷ [])))
         ∙ ap (λ k. Makes flags (values_to c v us ++ (values_to c v vs ++ (Child k ∷ Constant (const.str n) ∷ []))) (v.cells (i.closure s)) ∷ []) (sym (h.child s))
         ∙ ap (λ cs. Makes flags (values_to c v us ++ (values_to c v vs ++ (Child (j.child s) ∷ Constant (const.str n) ∷ []))) cs ∷ []) (sym (h.closure s))
 
@@ -285,23 +325,38 @@ module _ {K L : Type 0} (c : K → L) (v : View) where
       value_carries (VLoad x n) w = for_one_to (access i Load x n []) _ (access_to Load x n []) w
       value_carries (VOp o fs) w = carry_then (run_values i fs w) _ (values_to c v) (value_to c v) _ _ (values_carry fs w) (λ vs w1. for_one_to (Operates o vs) _ refl w1)
       value_carries (VMake flags a s n b) w =
-          carry_then (run_values i a w) _ (values_to c v) (value_to c v) _ _ (values_carry a w) (λ us w1. carry_then (run_values i b w1) _ (values_to c v) (value_to c v) _ _ (values_carry b w1) (λ vs w2. for_one_to _ _ (make_to flags us vs s n) w2))
+          carry_then (run_values i a w) _ (values_to c v) (value_to c v) _ _ (values_carry a w)
+          (λ us w1. carry_then (run_values i b w1) _ (values_to c v) (value_to c v) _ _ (values_carry b w1)
+          (λ vs w2. for_one_to _ _ (make_to flags us vs s n) w2))
       value_carries (VShort d ss) w = shorts_carry ss d w
       value_carries (VChain f o g ls) w =
-          carry_then (run_value i f w) _ (value_to c v) (value_to c v) _ _ (value_carries f w) (λ l w1. carry_then (run_value i g w1) _ (value_to c v) (value_to c v) _ _ (value_carries g w1) (λ x w2. link_to o l x (run_links i ls x) (run_links j ls (value_to c v x)) (links_carry ls x) w2))
-      value_carries (VChoice t a b) w = carry_then (run_test i t w) _ (λ x. x) (value_to c v) _ _ (test_carries t w) (λ x w1. carry_choose x (run_value i a w1) (run_value i b w1) _ _ (value_to c v) (value_carries a w1) (value_carries b w1))
+          carry_then (run_value i f w) _ (value_to c v) (value_to c v) _ _ (value_carries f w)
+          (λ l w1. carry_then (run_value i g w1) _ (value_to c v) (value_to c v) _ _ (value_carries g w1)
+          (λ x w2. link_to o l x (run_links i ls x) (run_links j ls (value_to c v x)) (links_carry ls x) w2))
+      value_carries (VChoice t a b) w = carry_then (run_test i t w) _ (λ x. x) (value_to c v) _ _ (test_carries t w)
+          (λ x w1. carry_choose x (run_value i a w1) (run_value i b w1) _ _ (value_to c v) (value_carries a w1) (value_carries b w1))
       value_carries (VKeep f how t) w =
-          carry_then (run_value i f w) _ (value_to c v) (value_to c v) _ _ (value_carries f w) (λ x w1. carry_then (keep_value how x w1) _ (value_to c v) (value_to c v) _ _ (kept_to how x w1) (λ u w2. carry_then (run_target i t u w2) _ (λ d. d) (value_to c v) _ _ (target_carries t u w2) (λ d w3. refl)))
+          carry_then (run_value i f w) _ (value_to c v) (value_to c v) _ _ (value_carries f w)
+          (λ x w1. carry_then (keep_value how x w1) _ (value_to c v) (value_to c v) _ _ (kept_to how x w1)
+          (λ u w2. carry_then (run_target i t u w2) _ (λ d. d) (value_to c v) _ _ (target_carries t u w2) (λ d w3. refl)))
       value_carries (VSwap o a b fs) w =
-          carry_then (run_value i a w) _ (value_to c v) (value_to c v) _ _ (value_carries a w) (λ u w1. carry_then (run_value i b w1) _ (value_to c v) (value_to c v) _ _ (value_carries b w1) (λ x w2. carry_then (run_values i fs w2) _ (values_to c v) (value_to c v) _ _ (values_carry fs w2) (λ vs w3. for_one_to (Operates o (x ∷ u ∷ vs)) _ refl w3)))
+          carry_then (run_value i a w) _ (value_to c v) (value_to c v) _ _ (value_carries a w)
+          (λ u w1. carry_then (run_value i b w1) _ (value_to c v) (value_to c v) _ _ (value_carries b w1)
+          (λ x w2. carry_then (run_values i fs w2) _ (values_to c v) (value_to c v) _ _ (values_carry fs w2)
+          (λ vs w3. for_one_to (Operates o (x ∷ u ∷ vs)) _ refl w3)))
       value_carries (VAt p f) w = value_carries f w
 
       values_carry : (fs : VForms) → Runs1 (values_to c v) (run_values i fs) (run_values j fs)
       values_carry VNone w = refl
       values_carry (VMore f fs) w =
-          carry_then (run_value i f w) _ (value_to c v) (values_to c v) _ _ (value_carries f w) (λ x w1. carry_then (run_values i fs w1) _ (values_to c v) (values_to c v) _ _ (values_carry fs w1) (λ vs w2. refl))
+          carry_then (run_value i f w) _ (value_to c v) (values_to c v) _ _ (value_carries f w)
+          (λ x w1. carry_then (run_values i fs w1) _ (values_to c v) (values_to c v) _ _ (values_carry fs w1) (λ vs w2. refl))
       values_carry (VMethod o f fs) w =
-          carry_then (run_value i f w) _ (value_to c v) (values_to c v) _ _ (value_carries f w) (λ x w1. carry_then (ask_for (Operates o (x ∷ [])) (Some 3) w1) _ (values_to c v) (values_to c v) _ _ (ask_for_to (Operates o (x ∷ [])) _ (Some 3) refl w1) (λ us w2. carry_then (run_values i fs w2) _ (values_to c v) (values_to c v) _ _ (values_carry fs w2) (λ vs w3. ap (λ l. Fine l (world_to c v w3)) (sym (values-append us vs)))))
+          carry_then (run_value i f w) _ (value_to c v) (values_to c v) _ _ (value_carries f w)
+          (λ x w1. carry_then (ask_for (Operates o (x ∷ [])) (Some 3) w1) _ (values_to c v)
+          (values_to c v) _ _ (ask_for_to (Operates o (x ∷ [])) _ (Some 3) refl w1)
+          (λ us w2. carry_then (run_values i fs w2) _ (values_to c v) (values_to c v) _ _ (values_carry fs w2)
+          (λ vs w3. ap (λ l. Fine l (world_to c v w3)) (sym (values-append us vs)))))
 
       shorts_carry : (ss : Shorts) (d : Bool) → Runs1 (value_to c v) (run_shorts i ss d) (run_shorts j ss d)
       shorts_carry (OneShort f) d w = value_carries f w
@@ -325,7 +380,8 @@ module _ {K L : Type 0} (c : K → L) (v : View) where
       target_carries (GStore f n) x w = for_none_to (access i Store f n (x ∷ [])) _ false (access_to Store f n (x ∷ [])) w
       target_carries (GPut o fs) x w = carry_then (run_values i fs w) _ (values_to c v) (λ d. d) _ _ (values_carry fs w) (λ vs w1. for_none_to (Operates o (x ∷ vs)) _ false refl w1)
       target_carries (GUnder o f) x w = carry_then (run_value i f w) _ (value_to c v) (λ d. d) _ _ (value_carries f w) (λ y w1. for_none_to (Operates o (y ∷ x ∷ [])) _ false refl w1)
-      target_carries (GUnpack o ts) x w = carry_then (ask_for (Operates o (x ∷ [])) (Some (targets ts)) w) _ (values_to c v) (λ d. d) _ _ (ask_for_to (Operates o (x ∷ [])) _ (Some (targets ts)) refl w) (λ vs w1. targets_carry ts vs w1)
+      target_carries (GUnpack o ts) x w = carry_then (ask_for (Operates o (x ∷ [])) (Some (targets ts)) w) _ (values_to c v)
+          (λ d. d) _ _ (ask_for_to (Operates o (x ∷ [])) _ (Some (targets ts)) refl w) (λ vs w1. targets_carry ts vs w1)
       target_carries GDrop x w = refl
 
       targets_carry : (ts : Targets) (vs : List (Value K)) → Runs1 (λ d. d) (run_targets i ts vs) (run_targets j ts (values_to c v vs))
@@ -340,16 +396,33 @@ module _ {K L : Type 0} (c : K → L) (v : View) where
     clauses_carry : (cs : Clauses) (m : World K → Got K (Unit {0})) (m1 : World L → Got L (Unit {0})) → Runs1 (λ d. d) m m1 → Runs1 (λ d. d) (run_clauses i cs m) (run_clauses j cs m1)
     clauses_carry CLast m m1 hm w = hm w
     clauses_carry (CEach f t bs cs) m m1 hm w =
-        carry_then (run_value i f w) _ (value_to c v) (λ d. d) _ _ (value_carries f w) (λ it w1. circles_to (suc (length w1.answers)) it (clause_turn (run_target i t) (run_filters i bs) (run_clauses i cs m)) (clause_turn (run_target j t) (run_filters j bs) (run_clauses j cs m1)) (turn_to (run_target i t) (run_target j t) (run_filters i bs) (run_filters j bs) (run_clauses i cs m) (run_clauses j cs m1) (target_carries t) (filters_carry bs) (clauses_carry cs m m1 hm)) w1)
+        carry_then (run_value i f w) _ (value_to c v) (λ d. d) _ _ (value_carries f w)
+        (λ it w1. circles_to (suc (length w1.answers)) it (clause_turn (run_target i t) (run_filters i bs) (run_clauses i cs m))
+        (clause_turn (run_target j t) (run_filters j bs) (run_clauses j cs m1))
+        (turn_to (run_target i t) (run_target j t) (run_filters i bs) (run_filters j bs) (run_clauses i cs m) (run_clauses j cs m1)
+        (target_carries t) (filters_carry bs) (clauses_carry cs m m1 hm)) w1)
 
     augment_carries : (f g : VForm) (get op put : Operation) → Runs1 (λ d. d) (augment_run (run_value i f) get (run_value i g) op put) (augment_run (run_value j f) get (run_value j g) op put)
     augment_carries f g get op put w =
-        carry_then (run_value i f w) _ (value_to c v) (λ d. d) _ _ (value_carries f w) (λ x w1. carry_then (for_one (Operates get (x ∷ [])) w1) _ (value_to c v) (λ d. d) _ _ (for_one_to (Operates get (x ∷ [])) _ refl w1) (λ now w2. carry_then (run_value i g w2) _ (value_to c v) (λ d. d) _ _ (value_carries g w2) (λ y w3. carry_then (for_one (Operates op (now ∷ y ∷ [])) w3) _ (value_to c v) (λ d. d) _ _ (for_one_to (Operates op (now ∷ y ∷ [])) _ refl w3) (λ r w4. for_none_to (Operates put (r ∷ x ∷ [])) _ false refl w4))))
+        carry_then (run_value i f w) _ (value_to c v) (λ d. d) _ _ (value_carries f w)
+        (λ x w1. carry_then (for_one (Operates get (x ∷ [])) w1) _ (value_to c v)
+        (λ d. d) _ _ (for_one_to (Operates get (x ∷ [])) _ refl w1)
+        (λ now w2. carry_then (run_value i g w2) _ (value_to c v) (λ d. d) _ _ (value_carries g w2)
+        (λ y w3. carry_then (for_one (Operates op (now ∷ y ∷ [])) w3) _ (value_to c v)
+        (λ d. d) _ _ (for_one_to (Operates op (now ∷ y ∷ [])) _ refl w3)
+        (λ r w4. for_none_to (Operates put (r ∷ x ∷ [])) _ false refl w4))))
 
     augment_two_carries : (f e g : VForm) (get op put : Operation)
         → Runs1 (λ d. d) (augment_two_run (run_value i f) (run_value i e) get (run_value i g) op put) (augment_two_run (run_value j f) (run_value j e) get (run_value j g) op put)
     augment_two_carries f e g get op put w =
-        carry_then (run_value i f w) _ (value_to c v) (λ d. d) _ _ (value_carries f w) (λ a w0. carry_then (run_value i e w0) _ (value_to c v) (λ d. d) _ _ (value_carries e w0) (λ b w1. carry_then (for_one (Operates get (a ∷ b ∷ [])) w1) _ (value_to c v) (λ d. d) _ _ (for_one_to (Operates get (a ∷ b ∷ [])) _ refl w1) (λ now w2. carry_then (run_value i g w2) _ (value_to c v) (λ d. d) _ _ (value_carries g w2) (λ y w3. carry_then (for_one (Operates op (now ∷ y ∷ [])) w3) _ (value_to c v) (λ d. d) _ _ (for_one_to (Operates op (now ∷ y ∷ [])) _ refl w3) (λ r w4. for_none_to (Operates put (r ∷ a ∷ b ∷ [])) _ false refl w4)))))
+        carry_then (run_value i f w) _ (value_to c v) (λ d. d) _ _ (value_carries f w)
+        (λ a w0. carry_then (run_value i e w0) _ (value_to c v) (λ d. d) _ _ (value_carries e w0)
+        (λ b w1. carry_then (for_one (Operates get (a ∷ b ∷ [])) w1) _ (value_to c v)
+        (λ d. d) _ _ (for_one_to (Operates get (a ∷ b ∷ [])) _ refl w1)
+        (λ now w2. carry_then (run_value i g w2) _ (value_to c v) (λ d. d) _ _ (value_carries g w2)
+        (λ y w3. carry_then (for_one (Operates op (now ∷ y ∷ [])) w3) _ (value_to c v)
+        (λ d. d) _ _ (for_one_to (Operates op (now ∷ y ∷ [])) _ refl w3)
+        (λ r w4. for_none_to (Operates put (r ∷ a ∷ b ∷ [])) _ false refl w4)))))
 
     mutual
       pub form_carries : (f : SForm) (slot : Option (Value K)) (w : World K) → run j f (slot_to c v slot) (world_to c v w) ≡ ended_to c v (run i f slot w)
@@ -359,10 +432,15 @@ module _ {K L : Type 0} (c : K → L) (v : View) where
       form_carries (SInto f t) slot w = carry_effect _ _ (carry_then (run_value i f w) _ (value_to c v) (λ d. d) _ _ (value_carries f w) (λ x w1. target_carries t x w1))
       form_carries (SRemove x n) slot w = carry_effect _ _ (for_none_to (access i Delete x n []) _ false (access_to Delete x n []) w)
       form_carries (SIf t a) slot w = carry_use (run_test i t w) _ (λ x. x) _ _ (test_carries t w) (λ x w1. carry_pick x (run i a slot w1) (Normal w1) _ _ (form_carries a slot w1) refl)
-      form_carries (SIfElse t a b) slot w = carry_use (run_test i t w) _ (λ x. x) _ _ (test_carries t w) (λ x w1. carry_pick x (run i a slot w1) (run i b slot w1) _ _ (form_carries a slot w1) (form_carries b slot w1))
-      form_carries (SWhile t a b) slot w = turns_to (suc (length w.answers)) (run_test i t) (run_test j t) (run i a slot) (run i b slot) (run j a (slot_to c v slot)) (run j b (slot_to c v slot)) (test_carries t) (form_carries a slot) (form_carries b slot) w
+      form_carries (SIfElse t a b) slot w = carry_use (run_test i t w) _ (λ x. x) _ _ (test_carries t w)
+          (λ x w1. carry_pick x (run i a slot w1) (run i b slot w1) _ _ (form_carries a slot w1) (form_carries b slot w1))
+      form_carries (SWhile t a b) slot w = turns_to (suc (length w.answers)) (run_test i t) (run_test j t) (run i a slot) (run i b slot)
+          (run j a (slot_to c v slot)) (run j b (slot_to c v slot)) (test_carries t) (form_carries a slot) (form_carries b slot) w
       form_carries (SFor f t a b) slot w =
-          for_to (run_value i f) (run_value j f) (assign_then (run_target i t) (run i a slot)) (assign_then (run_target j t) (run j a (slot_to c v slot))) (run i b slot) (run j b (slot_to c v slot)) (value_carries f) (assigned_to (run_target i t) (run_target j t) (run i a slot) (run j a (slot_to c v slot)) (target_carries t) (form_carries a slot)) (form_carries b slot) w
+          for_to (run_value i f) (run_value j f) (assign_then (run_target i t) (run i a slot))
+          (assign_then (run_target j t) (run j a (slot_to c v slot))) (run i b slot) (run j b (slot_to c v slot)) (value_carries f)
+          (assigned_to (run_target i t) (run_target j t) (run i a slot) (run j a (slot_to c v slot)) (target_carries t)
+          (form_carries a slot)) (form_carries b slot) w
       form_carries SBreak slot w = refl
       form_carries SContinue slot w = refl
       form_carries (SReturn f) slot w = carry_use (run_value i f w) _ (value_to c v) _ _ (value_carries f w) (λ x w1. refl)
@@ -370,14 +448,25 @@ module _ {K L : Type 0} (c : K → L) (v : View) where
       form_carries SReraise slot w = reraised_to slot w
       form_carries (SAugment f get g op put) slot w = carry_effect _ _ (augment_carries f g get op put w)
       form_carries (SAugmentTwo f e get g op put) slot w = carry_effect _ _ (augment_two_carries f e g get op put w)
-      form_carries (STry a hs b) slot w = try_to (run i a slot) (run i b slot) (run j a (slot_to c v slot)) (run j b (slot_to c v slot)) (run_handlers i hs) (run_handlers j hs) (form_carries a slot) (handlers_carry hs) (form_carries b slot) w
+      form_carries (STry a hs b) slot w = try_to (run i a slot) (run i b slot) (run j a (slot_to c v slot)) (run j b (slot_to c v slot))
+          (run_handlers i hs) (run_handlers j hs) (form_carries a slot) (handlers_carry hs) (form_carries b slot) w
       form_carries (STryFinal a hs b e) slot w =
-          finally_to (try_run (run i a slot) (run_handlers i hs) (run i b slot)) (try_run (run j a (slot_to c v slot)) (run_handlers j hs) (run j b (slot_to c v slot))) (run i e) (run j e) (try_to (run i a slot) (run i b slot) (run j a (slot_to c v slot)) (run j b (slot_to c v slot)) (run_handlers i hs) (run_handlers j hs) (form_carries a slot) (handlers_carry hs) (form_carries b slot)) (form_carries e) slot w
+          finally_to (try_run (run i a slot) (run_handlers i hs) (run i b slot))
+          (try_run (run j a (slot_to c v slot)) (run_handlers j hs) (run j b (slot_to c v slot))) (run i e) (run j e)
+          (try_to (run i a slot) (run i b slot) (run j a (slot_to c v slot)) (run j b (slot_to c v slot)) (run_handlers i hs)
+          (run_handlers j hs) (form_carries a slot) (handlers_carry hs) (form_carries b slot)) (form_carries e) slot w
       form_carries (SFinally a e) slot w = finally_to (run i a slot) (run j a (slot_to c v slot)) (run i e) (run j e) (form_carries a slot) (form_carries e) slot w
       form_carries (SWith f t a) slot w =
-          with_to (run_value i f) (run_value j f) (assign_then (run_target i t) (run i a slot)) (assign_then (run_target j t) (run j a (slot_to c v slot))) (value_carries f) (assigned_to (run_target i t) (run_target j t) (run i a slot) (run j a (slot_to c v slot)) (target_carries t) (form_carries a slot)) w
+          with_to (run_value i f) (run_value j f) (assign_then (run_target i t) (run i a slot))
+          (assign_then (run_target j t) (run j a (slot_to c v slot))) (value_carries f)
+          (assigned_to (run_target i t) (run_target j t) (run i a slot) (run j a (slot_to c v slot)) (target_carries t)
+          (form_carries a slot)) w
       form_carries (SGather o cs p fs) slot w =
-          carry_use (for_one (Operates o []) w) _ (value_to c v) _ _ (for_one_to (Operates o []) _ refl w) (λ x w1. carry_use (run_clauses i cs (append_run i p fs x) w1) _ (λ d. d) _ _ (clauses_carry cs (append_run i p fs x) (append_run j p fs (value_to c v x)) (λ w2. carry_then (run_values i fs w2) _ (values_to c v) (λ d. d) _ _ (values_carry fs w2) (λ vs w3. for_none_to (Operates p (x ∷ vs)) _ false refl w3)) w1) (λ d w2. refl))
+          carry_use (for_one (Operates o []) w) _ (value_to c v) _ _ (for_one_to (Operates o []) _ refl w)
+          (λ x w1. carry_use (run_clauses i cs (append_run i p fs x) w1) _ (λ d. d)
+          _ _ (clauses_carry cs (append_run i p fs x) (append_run j p fs (value_to c v x))
+          (λ w2. carry_then (run_values i fs w2) _ (values_to c v) (λ d. d) _ _ (values_carry fs w2)
+          (λ vs w3. for_none_to (Operates p (x ∷ vs)) _ false refl w3)) w1) (λ d w2. refl))
       form_carries (SGenerate cs f) slot w =
           carry_effect _ _ (clauses_carry cs (drop_run i f) (drop_run j f) (λ w1. carry_then (run_value i f w1) _ (value_to c v) (λ d. d) _ _ (value_carries f w1) (λ x w2. refl)) w)
       form_carries (SAt p f) slot w = form_carries f slot w
@@ -386,4 +475,7 @@ module _ {K L : Type 0} (c : K → L) (v : View) where
       handlers_carry HNone e w = refl
       handlers_carry (HAny t b hs) e w = assigned_to (run_target i t) (run_target j t) (run i b (Some e)) (run j b (Some (value_to c v e))) (target_carries t) (form_carries b (Some e)) e w
       handlers_carry (HTyped f t b hs) e w =
-          typed_to (run_value i f) (run_value j f) (λ x w1. assign_then (run_target i t) (run i b (Some e)) x w1) (run_handlers i hs) (λ x w1. assign_then (run_target j t) (run j b (Some (value_to c v e))) x w1) (run_handlers j hs) (value_carries f) e (assigned_to (run_target i t) (run_target j t) (run i b (Some e)) (run j b (Some (value_to c v e))) (target_carries t) (form_carries b (Some e)) e) (handlers_carry hs e) w
+          typed_to (run_value i f) (run_value j f) (λ x w1. assign_then (run_target i t) (run i b (Some e)) x w1) (run_handlers i hs)
+          (λ x w1. assign_then (run_target j t) (run j b (Some (value_to c v e))) x w1) (run_handlers j hs) (value_carries f) e
+          (assigned_to (run_target i t) (run_target j t) (run i b (Some e)) (run j b (Some (value_to c v e))) (target_carries t)
+          (form_carries b (Some e)) e) (handlers_carry hs e) w

@@ -88,7 +88,9 @@ code_object_made v view h (suc n) o s m =
     let R : Object → Scope → Type 0 = Agrees v view n in
     let ih = code_object_made v view h n in
     let related : AllOf (λ p. R p.0 p.1) (children m.1) = all_as (λ p. IsMade n p.0 p.1) (λ p. R p.0 p.1) (λ p q. ih p.0 p.1 q) (children m.1) m.5 in
-    let same : code_object_scopes (children m.1) ≡ kids (form_of s) = sym (children_over (λ p. p.1) m.1) ∙ ap children m.3 ∙ kid_children_are (exactly (λ t. t) s) (form_of s) ∙ each_itself (kids (form_of s)) in (
+    let same : code_object_scopes (children m.1) ≡ kids (form_of s) =
+    sym (children_over (λ p. p.1) m.1) ∙ ap children m.3 ∙ kid_children_are (exactly (λ t. t) s) (form_of s)
+    ∙ each_itself (kids (form_of s)) in (
       λ answers. subst (λ x. SameRan R (ran_to (λ k. k) v x) (meaning_by view s answers)) (sym (m.2 answers)) (items_agree v view h R (λ p. p.0) (λ p. p.1) m.1 s m.3 m.0 related answers),
       subst (λ ts. AllOf (λ k. OneOf R k ts) (codes_in (obj.constants o))) same (codes_beside R (codes_in (obj.constants o)) (children m.1) m.4.0 related),
       subst (AllOf (λ t. OneOf (λ x k. R k x) t (codes_in (obj.constants o)))) same (scopes_beside R (codes_in (obj.constants o)) (children m.1) m.4.1 related),

@@ -2,10 +2,18 @@
 use Rattle.std.proofs.Common.{◌≡◌, ℕ, suc, ◌+◌, List, [], ◌∷◌, ◌++◌, Bool, true, false, Option, Some, None, refl, ap, ◌∙◌}
 use Rattle.py_bytecode.specs.Values.{Operation, Cell, flip}
 use Rattle.py_bytecode.specs.Machine.{Instr, PopBlock, Jump, SetupExcept}
-use Rattle.py_control.specs.Form.{VForm, VConst, VLoad, VOp, VMake, VShort, VChain, VChoice, VKeep, VSwap, VAt, VForms, VNone, VMore, VMethod, Shorts, OneShort, MoreShort, Links, LastLink, MoreLink, TForm, TTruth, TNot, TAll, Tests, OneTest, MoreTest, Target, GStore, GPut, GUnder, GUnpack, GDrop, Targets, NoTarget, MoreTarget, SForm, SSkip, SThen, SDo, SInto, SRemove, SIf, SIfElse, SWhile, SFor, SBreak, SContinue, SReturn, SClassEnd, SReraise, SAugment, SAugmentTwo, STry, STryFinal, SFinally, SWith, SGather, SGenerate, SAt, Handlers, HNone, HAny, HTyped, Clauses, CLast, CEach, Filters, NoFilter, MoreFilter, Interp}
+use Rattle.py_control.specs.Form.{VForm, VConst, VLoad, VOp, VMake, VShort, VChain, VChoice, VKeep, VSwap, VAt, VForms, VNone, VMore}
+use Rattle.py_control.specs.Form.{VMethod, Shorts, OneShort, MoreShort, Links, LastLink, MoreLink, TForm, TTruth, TNot, TAll, Tests}
+use Rattle.py_control.specs.Form.{OneTest, MoreTest, Target, GStore, GPut, GUnder, GUnpack, GDrop, Targets, NoTarget, MoreTarget, SForm}
+use Rattle.py_control.specs.Form.{SSkip, SThen, SDo, SInto, SRemove, SIf, SIfElse, SWhile, SFor, SBreak, SContinue, SReturn, SClassEnd}
+use Rattle.py_control.specs.Form.{SReraise, SAugment, SAugmentTwo, STry, STryFinal, SFinally, SWith, SGather, SGenerate, SAt, Handlers}
+use Rattle.py_control.specs.Form.{HNone, HAny, HTyped, Clauses, CLast, CEach, Filters, NoFilter, MoreFilter, Interp}
 use Rattle.py_control.specs.Fit.{Loops}
 use Rattle.py_control.specs.Places.{instr_over, items_over}
-use Rattle.py_control.specs.Code.{Item, Do, Label, labels_v, labels_vs, labels_t, labels_g, labels_bs, labels, labels_h, kept_code, cell_codes, closure_code, class_code, tail_code, code_v, code_vs, code_ss, code_ls, code_t, code_ts, code_g, code_gs, code_bs, code_c, return_code, append_code, drop_code, code, code_h, closes, closing_return, body_code}
+use Rattle.py_control.specs.Code.{Item, Do, Label, labels_v, labels_vs, labels_t, labels_g, labels_bs, labels, labels_h, kept_code}
+use Rattle.py_control.specs.Code.{cell_codes, closure_code, class_code, tail_code, code_v, code_vs, code_ss, code_ls, code_t, code_ts}
+use Rattle.py_control.specs.Code.{code_g, code_gs, code_bs, code_c, return_code, append_code, drop_code, code, code_h, closes}
+use Rattle.py_control.specs.Code.{closing_return, body_code}
 
 module _ {K L : Type 0} (c : K → L) where
   pub over-append : (a b : List (Item K)) → items_over c (a ++ b) ≡ items_over c a ++ items_over c b
@@ -71,9 +79,13 @@ module _ {K L : Type 0} (c : K → L) where
       over_v (VMake flags a s name b) n = code_over_both (over_vs a n) (code_over_both (over_vs b (n + labels_vs a)) (code_over_ended _ _ (closure_over (i.closure s)) refl))
       over_v (VShort d ss) n = code_over_ended _ _ (over_ss ss d n (1 + n)) refl
       over_v (VChain f o g ls) n =
-          code_over_both (over_v f (2 + n)) (code_over_ended _ _ (code_over_both (over_v g (2 + n + labels_v f)) (doing refl (doing refl (doing refl (doing refl (over_ls ls n (2 + n + labels_v f + labels_v g))))))) refl)
+          code_over_both (over_v f (2 + n))
+          (code_over_ended _ _ (code_over_both (over_v g (2 + n + labels_v f))
+          (doing refl (doing refl (doing refl (doing refl (over_ls ls n (2 + n + labels_v f + labels_v g))))))) refl)
       over_v (VChoice t a b) n =
-          code_over_both (over_t t false n (2 + n)) (code_over_both (over_v a (2 + n + labels_t t false)) (doing refl (code_over_mark (code_over_ended _ _ (over_v b (2 + n + labels_t t false + labels_v a)) refl))))
+          code_over_both (over_t t false n (2 + n))
+          (code_over_both (over_v a (2 + n + labels_t t false))
+          (doing refl (code_over_mark (code_over_ended _ _ (over_v b (2 + n + labels_t t false + labels_v a)) refl))))
       over_v (VKeep f how t) n = code_over_both (over_v f n) (doing (kept_over how) (over_g t (n + labels_v f)))
       over_v (VSwap o a b fs) n = code_over_both (over_v a n) (code_over_both (over_v b (n + labels_v a)) (doing refl (code_over_ended _ _ (over_vs fs (n + labels_v a + labels_v b)) refl)))
       over_v (VAt p f) n = over_v f n
@@ -131,10 +143,15 @@ module _ {K L : Type 0} (c : K → L) where
     over_c : (cs : Clauses) (leaf : ℕ → ℕ → List (Item K)) (leaf1 : ℕ → ℕ → List (Item L)) → ((d n : ℕ) → Over (leaf d n) (leaf1 d n)) → (d n : ℕ) → Over (code_c i cs leaf d n) (code_c j cs leaf1 d n)
     over_c CLast leaf leaf1 h d n = h d n
     over_c (CEach f t bs cs) leaf leaf1 h d n =
-        code_over_both (over_v f (2 + n)) (code_over_mark (doing refl (code_over_both (over_g t (2 + n + labels_v f)) (code_over_both (over_bs bs n (2 + n + labels_v f + labels_g t)) (code_over_ended _ _ (over_c cs leaf leaf1 h (suc d) (2 + n + labels_v f + labels_g t + labels_bs bs)) refl)))))
+        code_over_both (over_v f (2 + n))
+        (code_over_mark
+        (doing refl (code_over_both (over_g t (2 + n + labels_v f))
+        (code_over_both (over_bs bs n (2 + n + labels_v f + labels_g t))
+        (code_over_ended _ _ (over_c cs leaf leaf1 h (suc d) (2 + n + labels_v f + labels_g t + labels_bs bs)) refl)))))
 
     over_try : (final : Bool) (p q : ℕ) {a h b : List (Item K)} {x y z : List (Item L)} → Over a x → Over h y → Over b z
-        → Over (Do (SetupExcept p) ∷ (a ++ (Do PopBlock ∷ Do (Jump q) ∷ Label p ∷ (h ++ (Label q ∷ (b ++ tail_code final)))))) (Do (SetupExcept p) ∷ (x ++ (Do PopBlock ∷ Do (Jump q) ∷ Label p ∷ (y ++ (Label q ∷ (z ++ tail_code final))))))
+        → Over (Do (SetupExcept p) ∷ (a ++ (Do PopBlock ∷ Do (Jump q) ∷ Label p ∷ (h ++ (Label q ∷ (b ++ tail_code final))))))
+        (Do (SetupExcept p) ∷ (x ++ (Do PopBlock ∷ Do (Jump q) ∷ Label p ∷ (y ++ (Label q ∷ (z ++ tail_code final))))))
     over_try final p q ha hh hb = doing refl (code_over_both ha (doing refl (doing refl (code_over_mark (code_over_both hh (code_over_mark (code_over_both hb (tail_over final))))))))
 
     mutual
@@ -146,22 +163,35 @@ module _ {K L : Type 0} (c : K → L) where
       over_s (SRemove x m) l n = record { same = refl }
       over_s (SIf t a) l n = code_over_both (over_t t false n (1 + n)) (code_over_ended _ _ (over_s a l (1 + n + labels_t t false)) refl)
       over_s (SIfElse t a b) l n =
-          code_over_both (over_t t false n (2 + n)) (code_over_both (over_s a l (2 + n + labels_t t false)) (doing refl (code_over_mark (code_over_ended _ _ (over_s b l (2 + n + labels_t t false + labels a)) refl))))
+          code_over_both (over_t t false n (2 + n))
+          (code_over_both (over_s a l (2 + n + labels_t t false))
+          (doing refl (code_over_mark (code_over_ended _ _ (over_s b l (2 + n + labels_t t false + labels a)) refl))))
       over_s (SWhile t a b) l n =
-          doing refl (code_over_mark (code_over_both (over_t t false (1 + n) (3 + n)) (code_over_both (over_s a (record { inside = true; on_break = 2 + n; on_continue = n }) (3 + n + labels_t t false)) (doing refl (code_over_mark (doing refl (code_over_ended _ _ (over_s b l (3 + n + labels_t t false + labels a)) refl)))))))
+          doing refl (code_over_mark (code_over_both (over_t t false (1 + n) (3 + n))
+          (code_over_both (over_s a (record { inside = true; on_break = 2 + n; on_continue = n }) (3 + n + labels_t t false))
+          (doing refl (code_over_mark (doing refl (code_over_ended _ _ (over_s b l (3 + n + labels_t t false + labels a)) refl)))))))
       over_s (SFor f t a b) l n =
-          doing refl (code_over_both (over_v f (3 + n)) (code_over_mark (doing refl (code_over_both (code_over_both (over_g t (3 + n + labels_v f)) (over_s a (record { inside = true; on_break = 2 + n; on_continue = n }) (3 + n + labels_v f + labels_g t))) (doing refl (code_over_mark (doing refl (code_over_ended _ _ (over_s b l (3 + n + labels_v f + labels_g t + labels a)) refl))))))))
+          doing refl (code_over_both (over_v f (3 + n))
+          (code_over_mark
+          (doing refl (code_over_both (code_over_both (over_g t (3 + n + labels_v f))
+          (over_s a (record { inside = true; on_break = 2 + n; on_continue = n }) (3 + n + labels_v f + labels_g t)))
+          (doing refl (code_over_mark (doing refl
+          (code_over_ended _ _ (over_s b l (3 + n + labels_v f + labels_g t + labels a)) refl))))))))
       over_s SBreak l n = record { same = refl }
       over_s SContinue l n = record { same = refl }
       over_s (SReturn f) l n = over_return f n
       over_s SClassEnd l n = class_over i.class_cells
       over_s SReraise l n = record { same = refl }
       over_s (SAugment f get v op put) l n = code_over_both (over_v f n) (doing refl (doing refl (code_over_ended _ _ (over_v v (n + labels_v f)) refl)))
-      over_s (SAugmentTwo f g get v op put) l n = code_over_both (over_v f n) (code_over_both (over_v g (n + labels_v f)) (doing refl (doing refl (code_over_ended _ _ (over_v v (n + labels_v f + labels_v g)) refl))))
+      over_s (SAugmentTwo f g get v op put) l n = code_over_both (over_v f n)
+          (code_over_both (over_v g (n + labels_v f))
+          (doing refl (doing refl (code_over_ended _ _ (over_v v (n + labels_v f + labels_v g)) refl))))
       over_s (STry a hs b) l n =
           code_over_ended _ _ (over_try false n (1 + n) (over_s a l (3 + n)) (over_h hs false l (2 + n) (3 + n + labels a)) (over_s b l (3 + n + labels a + labels_h hs))) refl
       over_s (STryFinal a hs b e) l n =
-          doing refl (code_over_both (over_try true n (1 + n) (over_s a l (3 + n)) (over_h hs true l (2 + n) (3 + n + labels a)) (over_s b l (3 + n + labels a + labels_h hs))) (code_over_mark (code_over_ended _ _ (over_s e l (3 + n + labels a + labels_h hs + labels b)) refl)))
+          doing refl (code_over_both (over_try true n (1 + n) (over_s a l (3 + n)) (over_h hs true l (2 + n) (3 + n + labels a))
+          (over_s b l (3 + n + labels a + labels_h hs)))
+          (code_over_mark (code_over_ended _ _ (over_s e l (3 + n + labels a + labels_h hs + labels b)) refl)))
       over_s (SFinally a e) l n = doing refl (code_over_both (code_over_ended _ _ (over_s a l (1 + n)) refl) (code_over_mark (code_over_ended _ _ (over_s e l (1 + n + labels a)) refl)))
       over_s (SWith f t a) l n =
           code_over_both (over_v f (1 + n)) (doing refl (code_over_ended _ _ (code_over_both (over_g t (1 + n + labels_v f)) (over_s a l (1 + n + labels_v f + labels_g t))) refl))
@@ -172,9 +202,15 @@ module _ {K L : Type 0} (c : K → L) where
       over_h : (hs : Handlers) (final : Bool) (l : Loops) (end n : ℕ) → Over (code_h i hs final l end n) (code_h j hs final l end n)
       over_h HNone final l end n = record { same = refl }
       over_h (HAny t b hs) final l end n =
-          code_over_both (code_over_both (over_g t (1 + n)) (over_s b l (1 + n + labels_g t))) (doing refl (code_over_both (tail_over final) (doing refl (code_over_mark (over_h hs final l end (1 + n + labels_g t + labels b))))))
+          code_over_both (code_over_both (over_g t (1 + n)) (over_s b l (1 + n + labels_g t)))
+          (doing refl (code_over_both (tail_over final)
+          (doing refl (code_over_mark (over_h hs final l end (1 + n + labels_g t + labels b))))))
       over_h (HTyped f t b hs) final l end n =
-          doing refl (code_over_both (over_v f (1 + n)) (doing refl (doing refl (code_over_both (code_over_both (over_g t (1 + n + labels_v f)) (over_s b l (1 + n + labels_v f + labels_g t))) (doing refl (code_over_both (tail_over final) (doing refl (code_over_mark (over_h hs final l end (1 + n + labels_v f + labels_g t + labels b))))))))))
+          doing refl (code_over_both (over_v f (1 + n))
+          (doing refl (doing refl (code_over_both
+          (code_over_both (over_g t (1 + n + labels_v f)) (over_s b l (1 + n + labels_v f + labels_g t)))
+          (doing refl (code_over_both (tail_over final)
+          (doing refl (code_over_mark (over_h hs final l end (1 + n + labels_v f + labels_g t + labels b))))))))))
 
     pub code_over : (f : SForm) → items_over c (body_code i f) ≡ body_code j f
     code_over f = let r : Over (body_code i f) (body_code j f) = code_over_ended _ _ (over_s f (record { inside = false; on_break = 0; on_continue = 0 }) 1) (closing_over (closes f)) in r.same

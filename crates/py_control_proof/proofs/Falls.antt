@@ -1,12 +1,13 @@
--- What can be come to in a code, and where a run goes on to what follows it.
+-- What can be reached in a code, and where a run goes on to what follows it.
 use Rattle.std.proofs.Common.{◌≡◌, ℕ, ◌+◌, ◌≤◌, List, [], ◌∷◌, ◌++◌, Bool, true, false, Option, None, refl, sym, ap, ◌∙◌, arith, zero-add}
-use Rattle.py_bytecode.specs.Values.{Value, Answer, Gives, Truth, End, Raised, Event, World, Got, Fine, Raises, Stops, then_get, fits, ask_of, for_none, Ended, Normal, Leaves, Halts, on_ended, then_do, use_it, effect}
+use Rattle.py_bytecode.specs.Values.{Value, Answer, Gives, Truth, End, Raised, Event, World, Got, Fine, Raises, Stops, then_get, fits}
+use Rattle.py_bytecode.specs.Values.{ask_of, for_none, Ended, Normal, Leaves, Halts, on_ended, then_do, use_it, effect}
 use Rattle.py_bytecode.specs.Machine.{Instr}
 use Rattle.py_control.specs.Form.{in_hand}
 use Rattle.py_control.specs.Code.{Item, Do, Label, size}
-use Rattle.py_control_proof.specs.Live.{stays, live}
+use Rattle.py_control_proof.specs.Reachable.{stays, reachable_count}
 
--- whether what follows a code can be come to from it, or from before it where it is empty and b is true
+-- whether what follows a code can be reached from it, or from before it where it is empty and b is true
 abbrev pub falls : {K : Type 0} → (b : Bool) → List (Item K) → Bool
 falls b [] = b
 falls b (Label l ∷ is) = falls true is
@@ -22,11 +23,11 @@ falls_one i true e = e
 falls_one i false e = refl
 
 module _ {K : Type 0} where
-  pub live-append : (b : Bool) (a c : List (Item K)) → live b (a ++ c) ≡ live b a + live (falls b a) c
-  live-append b [] c = sym (zero-add (live b c))
-  live-append b (Label l ∷ a) c = live-append true a c
-  live-append true (Do i ∷ a) c = omega (arith, live-append (stays i) a c)
-  live-append false (Do i ∷ a) c = live-append false a c
+  pub reachable_count-append : (b : Bool) (a c : List (Item K)) → reachable_count b (a ++ c) ≡ reachable_count b a + reachable_count (falls b a) c
+  reachable_count-append b [] c = sym (zero-add (reachable_count b c))
+  reachable_count-append b (Label l ∷ a) c = reachable_count-append true a c
+  reachable_count-append true (Do i ∷ a) c = omega (arith, reachable_count-append (stays i) a c)
+  reachable_count-append false (Do i ∷ a) c = reachable_count-append false a c
 
   pub falls-append : (b : Bool) (a c : List (Item K)) → falls b (a ++ c) ≡ falls (falls b a) c
   falls-append b [] c = refl
@@ -34,16 +35,16 @@ module _ {K : Type 0} where
   falls-append true (Do i ∷ a) c = falls-append (stays i) a c
   falls-append false (Do i ∷ a) c = falls-append false a c
 
-  pub live_if : (b : Bool) (is : List (Item K)) → b ≡ true → live b is ≡ live true is
-  live_if b is e = ap (λ c. live c is) e
+  pub reachable_if : (b : Bool) (is : List (Item K)) → b ≡ true → reachable_count b is ≡ reachable_count true is
+  reachable_if b is e = ap (λ c. reachable_count c is) e
 
-  pub live_size : (b : Bool) (is : List (Item K)) → live b is ≤ size is
-  live_size b [] = omega arith
-  live_size b (Label l ∷ is) = live_size true is
-  live_size true (Do i ∷ is) = omega (arith, live_size (stays i) is)
-  live_size false (Do i ∷ is) = omega (arith, live_size false is)
+  pub reachable_size : (b : Bool) (is : List (Item K)) → reachable_count b is ≤ size is
+  reachable_size b [] = omega arith
+  reachable_size b (Label l ∷ is) = reachable_size true is
+  reachable_size true (Do i ∷ is) = omega (arith, reachable_size (stays i) is)
+  reachable_size false (Do i ∷ is) = omega (arith, reachable_size false is)
 
-  -- what follows it can be come to, whatever comes before it
+  -- what follows it can be reached, whatever comes before it
   pub record Opens (is : List (Item K)) : Type 0 where
     pub by : (b : Bool) → falls b is ≡ true
 
@@ -69,7 +70,7 @@ module _ {K : Type 0} where
   Never (Leaves why w) = Unit {0}
   Never (Halts events) = Unit {0}
 
-  -- a code from which what follows can be come to says nothing of its run
+  -- a code from which what follows can be reached says nothing of its run
   pub going : {A : Type 0} (is : List (Item K)) → falls true is ≡ true → falls true is ≡ false → A
   going is e f = absurd (cc)
 

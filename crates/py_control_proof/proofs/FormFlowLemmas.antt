@@ -2,8 +2,10 @@
 use Rattle.py_bytecode.specs.Values.{Operation}
 use Rattle.std.proofs.Common.{◌≡◌, ◌≤◌, ℕ, suc, ◌+◌, List, [], ◌∷◌, ◌++◌, Bool, true, Option, Some, inl, inr, refl, sym, ap, ◌∙◌, subst, arith}
 use Rattle.py_bytecode.specs.Machine.{Instr, Operate, Append, Unpack, JumpIf, JumpIfOrPop}
-use Rattle.py_control.specs.Code.{Item, Do, Label, choice_code, if_code, link_code, chain_code, while_code, for_code, each_code, tail_code, try_code, any_code, typed_code, last_code, with_code, augment_code}
-use Rattle.py_control_proof.specs.Walks.{LoopSort, ExceptSort, FinallySort, ExitSort, HandlerSort, LastSort, CleanupSort, OpenSort, Mark, Shape, shape, mark, floor, Then, Falls, Never, after, Joins, IsFine, Walks}
+use Rattle.py_control.specs.Code.{Item, Do, Label, choice_code, if_code, link_code, chain_code, while_code, for_code, each_code, tail_code}
+use Rattle.py_control.specs.Code.{try_code, any_code, typed_code, last_code, with_code, augment_code}
+use Rattle.py_control_proof.specs.Walks.{LoopSort, ExceptSort, FinallySort, ExitSort, HandlerSort, LastSort, CleanupSort, OpenSort, Mark}
+use Rattle.py_control_proof.specs.Walks.{Shape, shape, mark, floor, Then, Falls, Never, after, Joins, IsFine, Walks}
 
 module _ (K : Type 0) (at : ℕ → Option Shape) where
   walks_append : (a b : List (Item K)) (t u v : Then) → Walks at a t u → Walks at b u v → Walks at (a ++ b) t v
@@ -36,7 +38,7 @@ module _ (K : Type 0) (at : ℕ → Option Shape) where
       go (Falls s) e = let r = h.by (after i t) m in subst (λ z. (y : Then) × Maybe v y × Walks at (Do i ∷ is) (Falls z) y) e (r.0, r.1, (fine, r.2))
       go Never e = h.by Never tt
 
-  -- the walk that comes to a label joins what is known there
+  -- the walk that reaches a label joins what is known there
   pub walk_join : {l : ℕ} {is : List (Item K)} {t u v : Shape} → at l ≡ Some u → Joins t u → WalksOn is u v → WalksOn (Label l ∷ is) t v
   walk_join {l} {is} {t} {u} {v} e j h = record { by = go }
     where
@@ -87,7 +89,9 @@ module _ (K : Type 0) (at : ℕ → Option Shape) where
 
     pub chain_walks : (a : List (Item K)) (out end : ℕ) → at out ≡ Some (up 2) → at end ≡ Some (up 1) → WalksOn a (up 1) (up 1) → WalksOn (chain_code out end a) (up 1) (up 1)
     chain_walks a out end eo ee ha =
-        walk_then ha (walk_do (up 2) (up 1, ee, inl refl) tt (walk_label eo (walk_do (up 2) (omega (arith, low)) refl (walk_do (up 1) (omega (arith, low)) (level _ _ ms (omega arith)) (walk_label ee (walk_none (up 1)))))))
+        walk_then ha (walk_do (up 2) (up 1, ee, inl refl) tt
+        (walk_label eo (walk_do (up 2) (omega (arith, low)) refl
+        (walk_do (up 1) (omega (arith, low)) (level _ _ ms (omega arith)) (walk_label ee (walk_none (up 1)))))))
 
     abbrev pub form_flow_in_loop : Shape
     form_flow_in_loop = shape h (mark LoopSort h ∷ ms)
@@ -96,7 +100,12 @@ module _ (K : Type 0) (at : ℕ → Option Shape) where
         → at end ≡ Some form_flow_here → WalksOn test form_flow_in_loop form_flow_in_loop → WalksOn body form_flow_in_loop form_flow_in_loop
         → WalksOn orelse form_flow_here form_flow_here → WalksOn (while_code start other end test body orelse) form_flow_here form_flow_here
     while_walks start other end test body orelse es eo ee ht hb he =
-        walk_do form_flow_in_loop tt refl (walk_label es (walk_then ht (walk_then hb (walk_do form_flow_in_loop (form_flow_in_loop, es, inl refl) tt (walk_label eo (walk_do form_flow_here (tt, omega (arith, low)) refl (walk_then he (walk_label ee (walk_none form_flow_here)))))))))
+        walk_do form_flow_in_loop tt refl
+        (walk_label es
+        (walk_then ht
+        (walk_then hb (walk_do form_flow_in_loop (form_flow_in_loop, es, inl refl) tt
+        (walk_label eo (walk_do form_flow_here (tt, omega (arith, low)) refl
+        (walk_then he (walk_label ee (walk_none form_flow_here)))))))))
 
     abbrev pub in_for : Shape
     in_for = shape (1 + h) (mark LoopSort h ∷ ms)
@@ -108,14 +117,22 @@ module _ (K : Type 0) (at : ℕ → Option Shape) where
         → at end ≡ Some form_flow_here → WalksOn iter form_flow_in_loop in_for → WalksOn turn in_turn in_for → WalksOn orelse form_flow_here form_flow_here
         → WalksOn (for_code start other end iter turn orelse) form_flow_here form_flow_here
     for_walks start other end iter turn orelse es eo ee hi ht he =
-        walk_do form_flow_in_loop tt refl (walk_then hi (walk_label es (walk_do in_turn ((omega arith), eo ∙ ap Some (level _ _ (mark LoopSort h ∷ ms) (omega arith))) (level _ _ (mark LoopSort h ∷ ms) (omega arith))
-        (walk_then ht (walk_do form_flow_in_loop (in_for, es, inl refl) tt (walk_label eo (walk_do form_flow_here (tt, omega (arith, low)) refl (walk_then he (walk_label ee (walk_none form_flow_here))))))))))
+        walk_do form_flow_in_loop tt refl
+        (walk_then hi
+        (walk_label es (walk_do in_turn ((omega arith), eo ∙ ap Some (level _ _ (mark LoopSort h ∷ ms) (omega arith)))
+        (level _ _ (mark LoopSort h ∷ ms) (omega arith))
+        (walk_then ht (walk_do form_flow_in_loop (in_for, es, inl refl) tt
+        (walk_label eo (walk_do form_flow_here (tt, omega (arith, low)) refl
+        (walk_then he (walk_label ee (walk_none form_flow_here))))))))))
 
     pub each_walks : (start end : ℕ) (iter assign filter body : List (Item K)) → at start ≡ Some (up 1) → at end ≡ Some form_flow_here
         → WalksOn iter form_flow_here (up 1) → WalksOn assign (up 2) (up 1) → WalksOn filter (up 1) (up 1) → WalksOn body (up 1) (up 1)
         → WalksOn (each_code start end iter assign filter body) form_flow_here form_flow_here
     each_walks start end iter assign filter body es ee hi ha hf hb =
-        walk_then hi (walk_label es (walk_do (up 2) ((omega (arith, low)), ee ∙ ap Some (level _ _ ms (omega arith))) (level _ _ ms (omega arith)) (walk_then ha (walk_then hf (walk_then hb (walk_do form_flow_here (up 1, es, inl refl) tt (walk_label ee (walk_none form_flow_here))))))))
+        walk_then hi
+        (walk_label es (walk_do (up 2) ((omega (arith, low)), ee ∙ ap Some (level _ _ ms (omega arith))) (level _ _ ms (omega arith))
+        (walk_then ha
+        (walk_then hf (walk_then hb (walk_do form_flow_here (up 1, es, inl refl) tt (walk_label ee (walk_none form_flow_here))))))))
 
     abbrev pub in_try : Shape
     in_try = shape h (mark ExceptSort h ∷ ms)
@@ -126,13 +143,15 @@ module _ (K : Type 0) (at : ℕ → Option Shape) where
     abbrev pub in_body : Shape
     in_body = shape h (mark HandlerSort h ∷ ms)
 
-    -- a try: u is what its tails come to
+    -- a try: u is what its tails reach
     pub try_walks : (final : Bool) (handler other : ℕ) (body handlers orelse : List (Item K)) (u : Shape) → at handler ≡ Some in_handler
         → at other ≡ Some form_flow_here → WalksOn body in_try in_try → WalksOn handlers in_handler form_flow_here
         → WalksOn orelse form_flow_here form_flow_here → WalksOn (tail_code final) form_flow_here u
         → WalksOn (try_code final handler other body handlers orelse) form_flow_here u
     try_walks final handler other body handlers orelse u eh eo hb hh ho ht =
-        walk_do in_try eh refl (walk_then hb (walk_do form_flow_here (tt, omega (arith, low)) refl (walk_do in_handler (form_flow_here, eo, inl refl) tt (walk_label eh (walk_then hh (walk_label eo (walk_then ho ht)))))))
+        walk_do in_try eh refl (walk_then hb
+        (walk_do form_flow_here (tt, omega (arith, low)) refl
+        (walk_do in_handler (form_flow_here, eo, inl refl) tt (walk_label eh (walk_then hh (walk_label eo (walk_then ho ht)))))))
 
     pub any_walks : (final : Bool) (next end : ℕ) (body others : List (Item K)) (u w : Shape) → at next ≡ Some in_handler → at end ≡ Some w → Joins u w
         → WalksOn body in_handler in_body → WalksOn (tail_code final) form_flow_here u → WalksOn others in_handler form_flow_here
@@ -145,7 +164,10 @@ module _ (K : Type 0) (at : ℕ → Option Shape) where
         → WalksOn (typed_code final next end type body others) in_handler form_flow_here
     typed_walks final next end type body others u w en ee j hy hb ht ho =
         let hs : List Mark = mark HandlerSort h ∷ ms in
-        walk_do (shape (2 + h) hs) (omega arith) (level _ _ hs (omega arith)) (walk_then hy (walk_do (shape (2 + h) hs) (omega arith) (level _ _ hs (omega arith)) (walk_do in_handler ((omega arith), en ∙ ap Some (level _ _ hs (omega arith))) (level _ _ hs (omega arith)) (any_walks final next end body others u w en ee j hb ht ho))))
+        walk_do (shape (2 + h) hs) (omega arith) (level _ _ hs (omega arith))
+        (walk_then hy (walk_do (shape (2 + h) hs) (omega arith) (level _ _ hs (omega arith))
+        (walk_do in_handler ((omega arith), en ∙ ap Some (level _ _ hs (omega arith))) (level _ _ hs (omega arith))
+        (any_walks final next end body others u w en ee j hb ht ho))))
 
     abbrev pub in_finally : Shape
     in_finally = shape h (mark FinallySort h ∷ ms)
@@ -172,12 +194,21 @@ module _ (K : Type 0) (at : ℕ → Option Shape) where
     with_walks handler item body eh hi hb =
         let hs : List Mark = mark CleanupSort (1 + h) ∷ ms in
         walk_then hi (walk_do (shape (2 + h) (mark ExitSort (1 + h) ∷ ms)) ((omega (arith, low)), eh) (level _ _ (mark ExitSort (1 + h) ∷ ms) (omega arith))
-        (walk_then hb (walk_do (up 1) (tt, omega (arith, low)) refl (walk_do (shape (1 + h) (mark OpenSort (1 + h) ∷ ms)) tt refl (walk_join eh (inr (inr refl)) (walk_do (shape (1 + h) hs) (tt, (omega arith)) refl (walk_do form_flow_here (tt, (omega arith), refl, omega (arith, low)) (level _ _ ms (omega arith)) (walk_none form_flow_here))))))))
+        (walk_then hb (walk_do (up 1) (tt, omega (arith, low)) refl
+        (walk_do (shape (1 + h) (mark OpenSort (1 + h) ∷ ms)) tt refl
+        (walk_join eh (inr (inr refl))
+        (walk_do (shape (1 + h) hs) (tt, (omega arith)) refl
+        (walk_do form_flow_here (tt, (omega arith), refl, omega (arith, low)) (level _ _ ms (omega arith))
+        (walk_none form_flow_here))))))))
 
     pub augment_walks : (held value : List (Item K)) (get op put : Operation) → WalksOn held form_flow_here (up 1) → WalksOn value (up 2) (up 3)
         → WalksOn (augment_code held get value op put) form_flow_here form_flow_here
     augment_walks held value get op put hh hv =
-        walk_then hh (walk_do (up 2) (omega (arith, low)) (level _ _ ms (omega arith)) (walk_do (up 2) (omega (arith, low)) (level _ _ ms (omega arith)) (walk_then hv (walk_do (up 2) (omega (arith, low)) (level _ _ ms (omega arith)) (walk_do (up 2) (omega (arith, low)) refl (walk_do form_flow_here (omega (arith, low)) (level _ _ ms (omega arith)) (walk_none form_flow_here)))))))
+        walk_then hh (walk_do (up 2) (omega (arith, low)) (level _ _ ms (omega arith))
+        (walk_do (up 2) (omega (arith, low)) (level _ _ ms (omega arith))
+        (walk_then hv (walk_do (up 2) (omega (arith, low)) (level _ _ ms (omega arith))
+        (walk_do (up 2) (omega (arith, low)) refl
+        (walk_do form_flow_here (omega (arith, low)) (level _ _ ms (omega arith)) (walk_none form_flow_here)))))))
 
     pub append_walks : (a : List (Item K)) (o : Operation) (n d : ℕ) → suc d ≤ h → WalksOn a form_flow_here (up n) → WalksOn (a ++ Do (Append o n d) ∷ []) form_flow_here form_flow_here
     append_walks a o n d le ha = walk_then ha (walk_do form_flow_here ((omega (arith, low)), (omega (arith, le))) (level _ _ ms (omega arith)) (walk_none form_flow_here))

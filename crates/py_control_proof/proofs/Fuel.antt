@@ -57,7 +57,8 @@ height_of (At p s bs slot w) = length s
 height_of (Over events o) = 0
 
 -- a machine whose states keep what implies a height within the limit runs as if there were none
-module _ {K P : Type 0} (fetch : P → Fetched K P) (limit : ℕ) (Keeps : Config K P → Type 0) (next : (c : Config K P) → Keeps c → Keeps (step fetch c)) (low : (c : Config K P) → Keeps c → height_of c ≤ limit) where
+module _ {K P : Type 0} (fetch : P → Fetched K P) (limit : ℕ) (Keeps : Config K P → Type 0)
+    (next : (c : Config K P) → Keeps c → Keeps (step fetch c)) (low : (c : Config K P) → Keeps c → height_of c ≤ limit) where
   fuel_within : (b : Bool) (c d : Config K P) → b ≡ true → choose b c d ≡ c
   fuel_within true c d e = refl
   fuel_within false c d e = absurd cc

@@ -1,10 +1,17 @@
 -- No label of a form is higher than what the form's instructions give, and none has its stack below its innermost block.
 use Rattle.std.proofs.Common.{◌≡◌, ◌≤◌, ℕ, suc, ◌+◌, List, [], ◌∷◌, ◌++◌, Bool, true, false, Option, Some, None, refl, arith}
 use Rattle.py_bytecode.specs.Values.{Operation, flip}
-use Rattle.py_control.specs.Form.{VForm, VConst, VLoad, VOp, VMake, VShort, VChain, VChoice, VKeep, VSwap, VAt, VForms, VNone, VMore, VMethod, Shorts, OneShort, MoreShort, Links, LastLink, MoreLink, TForm, TTruth, TNot, TAll, Tests, OneTest, MoreTest, Target, GStore, GPut, GUnder, GUnpack, GDrop, Targets, NoTarget, MoreTarget, SForm, SSkip, SThen, SDo, SInto, SRemove, SIf, SIfElse, SWhile, SFor, SBreak, SContinue, SReturn, SClassEnd, SReraise, SAugment, SAugmentTwo, STry, STryFinal, SFinally, SWith, SGather, SGenerate, SAt, Handlers, HNone, HAny, HTyped, Clauses, CLast, CEach, Filters, NoFilter, MoreFilter, Interp, targets}
+use Rattle.py_control.specs.Form.{VForm, VConst, VLoad, VOp, VMake, VShort, VChain, VChoice, VKeep, VSwap, VAt, VForms, VNone, VMore}
+use Rattle.py_control.specs.Form.{VMethod, Shorts, OneShort, MoreShort, Links, LastLink, MoreLink, TForm, TTruth, TNot, TAll, Tests}
+use Rattle.py_control.specs.Form.{OneTest, MoreTest, Target, GStore, GPut, GUnder, GUnpack, GDrop, Targets, NoTarget, MoreTarget, SForm}
+use Rattle.py_control.specs.Form.{SSkip, SThen, SDo, SInto, SRemove, SIf, SIfElse, SWhile, SFor, SBreak, SContinue, SReturn, SClassEnd}
+use Rattle.py_control.specs.Form.{SReraise, SAugment, SAugmentTwo, STry, STryFinal, SFinally, SWith, SGather, SGenerate, SAt, Handlers}
+use Rattle.py_control.specs.Form.{HNone, HAny, HTyped, Clauses, CLast, CEach, Filters, NoFilter, MoreFilter, Interp, targets}
 use Rattle.py_control.specs.Fit.{Loops}
 use Rattle.py_control.specs.Agree.{AllOf}
-use Rattle.py_control.specs.Code.{Item, Do, Label, count, labels_v, labels_vs, labels_t, labels_g, labels_bs, labels, labels_h, kept_code, code_v, code_vs, code_ss, code_ls, code_t, code_ts, code_g, code_gs, code_bs, code_c, return_code, append_code, drop_code, code, code_h, body_code}
+use Rattle.py_control.specs.Code.{Item, Do, Label, count, labels_v, labels_vs, labels_t, labels_g, labels_bs, labels, labels_h, kept_code}
+use Rattle.py_control.specs.Code.{code_v, code_vs, code_ss, code_ls, code_t, code_ts, code_g, code_gs, code_bs, code_c, return_code}
+use Rattle.py_control.specs.Code.{append_code, drop_code, code, code_h, body_code}
 use Rattle.py_control_proof.specs.Walks.{LoopSort, ExceptSort, FinallySort, ExitSort, HandlerSort, LastSort, Mark, mark, Shape, floor, rise, rises}
 use Rattle.py_control_proof.proofs.LabelShapes.{shapes_v, shapes_vs, shapes_ss, shapes_ls, shapes_t, shapes_ts, shapes_g, shapes_gs, shapes_bs, shapes_c, shapes, shapes_h}
 
@@ -74,7 +81,9 @@ module _ {K : Type 0} (i : Interp K) where
           (
             (omega (arith, low), simp rises-append (omega (arith, r))),
             height_parts _ (h + rises (code_v i (VChain f o g ls) n)) _ _ _ (high_v f (2 + n) h ms low) (simp rises-append (omega arith))
-                (height_parts _ _ _ _ _ (high_v g (2 + n + labels_v f) (1 + h) ms (omega (arith, low))) (simp rises-append (omega (arith, r))) (high_ls ls n (2 + n + labels_v f + labels_v g) h ms low) (simp rises-append (omega (arith, r)))) (omega arith),
+                (height_parts _ _ _ _ _ (high_v g (2 + n + labels_v f) (1 + h) ms (omega (arith, low)))
+                (simp rises-append (omega (arith, r))) (high_ls ls n (2 + n + labels_v f + labels_v g) h ms low)
+                (simp rises-append (omega (arith, r)))) (omega arith),
           ),
         )
     high_v (VChoice t a b) n h ms low =
@@ -83,7 +92,8 @@ module _ {K : Type 0} (i : Interp K) where
           (
             (omega (arith, low), simp rises-append (omega (arith, r))),
             height_parts _ (h + rises (code_v i (VChoice t a b) n)) _ _ _ (high_t t false n (2 + n) h ms low) (simp rises-append (omega arith))
-                (height_parts _ _ _ _ _ (high_v a (2 + n + labels_t t false) h ms low) (simp rises-append (omega arith)) (high_v b (2 + n + labels_t t false + labels_v a) h ms low) (simp rises-append (omega arith))) (omega arith),
+                (height_parts _ _ _ _ _ (high_v a (2 + n + labels_t t false) h ms low) (simp rises-append (omega arith))
+                (high_v b (2 + n + labels_t t false + labels_v a) h ms low) (simp rises-append (omega arith))) (omega arith),
           ),
         )
     high_v (VKeep f how t) n h ms low =
@@ -94,7 +104,9 @@ module _ {K : Type 0} (i : Interp K) where
         let r = value_rise a n in
         let q = value_rise b (n + labels_v a) in
         height_parts _ (h + rises (code_v i (VSwap o a b fs) n)) _ _ _ (high_v a n h ms low) (simp rises-append (omega arith))
-        (height_parts _ _ _ _ _ (high_v b (n + labels_v a) (1 + h) ms (omega (arith, low))) (simp rises-append (omega (arith, r))) (high_vs fs (n + labels_v a + labels_v b) (2 + h) ms (omega (arith, low))) (simp rises-append (omega (arith, r, q)))) (omega arith)
+        (height_parts _ _ _ _ _ (high_v b (n + labels_v a) (1 + h) ms (omega (arith, low))) (simp rises-append (omega (arith, r)))
+        (high_vs fs (n + labels_v a + labels_v b) (2 + h) ms (omega (arith, low))) (simp rises-append (omega (arith, r, q))))
+        (omega arith)
     high_v (VAt p f) n h ms low = high_v f n h ms low
 
     high_vs : (fs : VForms) (n h : ℕ) (ms : List Mark) → floor ms ≤ h → AllBounded (h + rises (code_vs i fs n)) (shapes_vs fs h ms)
@@ -102,15 +114,18 @@ module _ {K : Type 0} (i : Interp K) where
     high_vs (VMore f fs) n h ms low =
         let r = value_rise f n in
         height_parts _ _ _ _ _ (high_v f n h ms low) (simp rises-append (omega arith)) (high_vs fs (n + labels_v f) (1 + h) ms (omega (arith, low))) (simp rises-append (omega (arith, r)))
-    high_vs (VMethod o f fs) n h ms low = height_parts _ _ _ _ _ (high_v f n h ms low) (simp rises-append (omega arith)) (high_vs fs (n + labels_v f) (3 + h) ms (omega (arith, low))) (simp rises-append (omega arith))
+    high_vs (VMethod o f fs) n h ms low = height_parts _ _ _ _ _ (high_v f n h ms low) (simp rises-append (omega arith))
+        (high_vs fs (n + labels_v f) (3 + h) ms (omega (arith, low))) (simp rises-append (omega arith))
 
     high_ss : (ss : Shorts) (d : Bool) (end n h : ℕ) (ms : List Mark) → floor ms ≤ h → AllBounded (h + rises (code_ss i ss d end n)) (shapes_ss ss h ms)
     high_ss (OneShort f) d end n h ms low = high_v f n h ms low
-    high_ss (MoreShort f ss) d end n h ms low = height_parts _ _ _ _ _ (high_v f n h ms low) (simp rises-append (omega arith)) (high_ss ss d end (n + labels_v f) h ms low) (simp rises-append (omega arith))
+    high_ss (MoreShort f ss) d end n h ms low = height_parts _ _ _ _ _ (high_v f n h ms low) (simp rises-append (omega arith))
+        (high_ss ss d end (n + labels_v f) h ms low) (simp rises-append (omega arith))
 
     high_ls : (ls : Links) (out n h : ℕ) (ms : List Mark) → floor ms ≤ h → AllBounded (1 + h + rises (code_ls i ls out n)) (shapes_ls ls h ms)
     high_ls (LastLink o f) out n h ms low = widened _ _ (simp rises-append (omega arith)) _ (high_v f n (1 + h) ms (omega (arith, low)))
-    high_ls (MoreLink o f ls) out n h ms low = height_parts _ _ _ _ _ (high_v f n (1 + h) ms (omega (arith, low))) (simp rises-append (omega arith)) (high_ls ls out (n + labels_v f) h ms low) (simp rises-append (omega arith))
+    high_ls (MoreLink o f ls) out n h ms low = height_parts _ _ _ _ _ (high_v f n (1 + h) ms (omega (arith, low)))
+        (simp rises-append (omega arith)) (high_ls ls out (n + labels_v f) h ms low) (simp rises-append (omega arith))
 
     high_t : (t : TForm) (c : Bool) (to n h : ℕ) (ms : List Mark) → floor ms ≤ h → AllBounded (h + rises (code_t i t c to n)) (shapes_t t c h ms)
     high_t (TTruth f) c to n h ms low = widened _ _ (simp rises-append (omega arith)) _ (high_v f n h ms low)
@@ -143,13 +158,22 @@ module _ {K : Type 0} (i : Interp K) where
   high_return : (f : VForm) (n h : ℕ) (ms : List Mark) → floor ms ≤ h → AllBounded (h + rises (return_code i f n)) (shapes_v f h ms)
   high_return (VConst c) n h ms low = tt
   high_return (VLoad x m) n h ms low = tt
-  high_return (VOp o fs) n h ms low = widened (h + rises (code_v i (VOp o fs) n)) (h + rises (return_code i (VOp o fs) n)) (simp rises-append (omega arith)) (shapes_v (VOp o fs) h ms) (high_v (VOp o fs) n h ms low)
-  high_return (VMake fl a s m b) n h ms low = widened (h + rises (code_v i (VMake fl a s m b) n)) (h + rises (return_code i (VMake fl a s m b) n)) (simp rises-append (omega arith)) (shapes_v (VMake fl a s m b) h ms) (high_v (VMake fl a s m b) n h ms low)
-  high_return (VShort d ss) n h ms low = widened (h + rises (code_v i (VShort d ss) n)) (h + rises (return_code i (VShort d ss) n)) (simp rises-append (omega arith)) (shapes_v (VShort d ss) h ms) (high_v (VShort d ss) n h ms low)
-  high_return (VChain f o g ls) n h ms low = widened (h + rises (code_v i (VChain f o g ls) n)) (h + rises (return_code i (VChain f o g ls) n)) (simp rises-append (omega arith)) (shapes_v (VChain f o g ls) h ms) (high_v (VChain f o g ls) n h ms low)
-  high_return (VChoice t a b) n h ms low = widened (h + rises (code_v i (VChoice t a b) n)) (h + rises (return_code i (VChoice t a b) n)) (simp rises-append (omega arith)) (shapes_v (VChoice t a b) h ms) (high_v (VChoice t a b) n h ms low)
-  high_return (VKeep f how t) n h ms low = widened (h + rises (code_v i (VKeep f how t) n)) (h + rises (return_code i (VKeep f how t) n)) (simp rises-append (omega arith)) (shapes_v (VKeep f how t) h ms) (high_v (VKeep f how t) n h ms low)
-  high_return (VSwap o a b fs) n h ms low = widened (h + rises (code_v i (VSwap o a b fs) n)) (h + rises (return_code i (VSwap o a b fs) n)) (simp rises-append (omega arith)) (shapes_v (VSwap o a b fs) h ms) (high_v (VSwap o a b fs) n h ms low)
+  high_return (VOp o fs) n h ms low = widened (h + rises (code_v i (VOp o fs) n)) (h + rises (return_code i (VOp o fs) n))
+      (simp rises-append (omega arith)) (shapes_v (VOp o fs) h ms) (high_v (VOp o fs) n h ms low)
+  high_return (VMake fl a s m b) n h ms low = widened (h + rises (code_v i (VMake fl a s m b) n))
+      (h + rises (return_code i (VMake fl a s m b) n)) (simp rises-append (omega arith)) (shapes_v (VMake fl a s m b) h ms)
+      (high_v (VMake fl a s m b) n h ms low)
+  high_return (VShort d ss) n h ms low = widened (h + rises (code_v i (VShort d ss) n)) (h + rises (return_code i (VShort d ss) n))
+      (simp rises-append (omega arith)) (shapes_v (VShort d ss) h ms) (high_v (VShort d ss) n h ms low)
+  high_return (VChain f o g ls) n h ms low = widened (h + rises (code_v i (VChain f o g ls) n))
+      (h + rises (return_code i (VChain f o g ls) n)) (simp rises-append (omega arith)) (shapes_v (VChain f o g ls) h ms)
+      (high_v (VChain f o g ls) n h ms low)
+  high_return (VChoice t a b) n h ms low = widened (h + rises (code_v i (VChoice t a b) n)) (h + rises (return_code i (VChoice t a b) n))
+      (simp rises-append (omega arith)) (shapes_v (VChoice t a b) h ms) (high_v (VChoice t a b) n h ms low)
+  high_return (VKeep f how t) n h ms low = widened (h + rises (code_v i (VKeep f how t) n)) (h + rises (return_code i (VKeep f how t) n))
+      (simp rises-append (omega arith)) (shapes_v (VKeep f how t) h ms) (high_v (VKeep f how t) n h ms low)
+  high_return (VSwap o a b fs) n h ms low = widened (h + rises (code_v i (VSwap o a b fs) n)) (h + rises (return_code i (VSwap o a b fs) n))
+      (simp rises-append (omega arith)) (shapes_v (VSwap o a b fs) h ms) (high_v (VSwap o a b fs) n h ms low)
   high_return (VAt p f) n h ms low = high_return f n h ms low
 
   high_c : (cs : Clauses) (part : ℕ → ℕ → List (Item K)) (leaf : ℕ → List Shape) (ms : List Mark)
@@ -164,7 +188,10 @@ module _ {K : Type 0} (i : Interp K) where
           (low, omega arith),
           height_parts _ top _ _ _ (high_v f (2 + n) h ms low) (simp rises-append (omega arith))
               (height_parts _ top _ _ _ (high_g t (2 + n + labels_v f) (1 + h) ms (omega (arith, low))) (simp rises-append (omega (arith, r)))
-              (height_parts _ _ _ _ _ (high_bs bs n (2 + n + labels_v f + labels_g t) (1 + h) ms (omega (arith, low))) (simp rises-append (omega (arith, r))) (high_c cs part leaf ms lf (suc d) (2 + n + labels_v f + labels_g t + labels_bs bs) (1 + h) (omega (arith, low))) (simp rises-append (omega (arith, r)))) (omega arith)) (omega arith),
+              (height_parts _ _ _ _ _ (high_bs bs n (2 + n + labels_v f + labels_g t) (1 + h) ms (omega (arith, low)))
+              (simp rises-append (omega (arith, r)))
+              (high_c cs part leaf ms lf (suc d) (2 + n + labels_v f + labels_g t + labels_bs bs) (1 + h) (omega (arith, low)))
+              (simp rises-append (omega (arith, r)))) (omega arith)) (omega arith),
         ),
       )
 
@@ -177,12 +204,37 @@ module _ {K : Type 0} (i : Interp K) where
         let r = value_rise f n in
         height_parts _ _ _ _ _ (high_v f n h ms low) (simp rises-append (omega arith)) (high_g t (n + labels_v f) h ms low) (simp rises-append (omega (arith, r)))
     high (SRemove x m) l n h ms low = tt
-    high (SIf t a) l n h ms low = ((low, omega arith), height_parts _ _ _ _ _ (high_t t false n (1 + n) h ms low) (simp rises-append (omega arith)) (high a l (1 + n + labels_t t false) h ms low) (simp rises-append (omega arith)))
+    high (SIf t a) l n h ms low = (
+      (low, omega arith),
+      height_parts _ _ _ _ _ (high_t t false n (1 + n) h ms low) (simp rises-append (omega arith))
+          (high a l (1 + n + labels_t t false) h ms low) (simp rises-append (omega arith)),
+    )
     high (SIfElse t a b) l n h ms low =
-        let top : ℕ = h + rises (code i (SIfElse t a b) l n) in ((low, omega arith), ((low, omega arith), height_parts _ top _ _ _ (high_t t false n (2 + n) h ms low) (simp rises-append (omega arith)) (height_parts _ _ _ _ _ (high a l (2 + n + labels_t t false) h ms low) (simp rises-append (omega arith)) (high b l (2 + n + labels_t t false + labels a) h ms low) (simp rises-append (omega arith))) (omega arith)))
+        let top : ℕ = h + rises (code i (SIfElse t a b) l n) in (
+          (low, omega arith),
+          (
+            (low, omega arith),
+            height_parts _ top _ _ _ (high_t t false n (2 + n) h ms low) (simp rises-append (omega arith))
+                (height_parts _ _ _ _ _ (high a l (2 + n + labels_t t false) h ms low) (simp rises-append (omega arith))
+                (high b l (2 + n + labels_t t false + labels a) h ms low) (simp rises-append (omega arith))) (omega arith),
+          ),
+        )
     high (SWhile t a b) l n h ms low =
         let top : ℕ = h + rises (code i (SWhile t a b) l n) in
-        let ns : List Mark = mark LoopSort h ∷ ms in ((omega arith, omega arith), ((omega arith, omega arith), ((low, omega arith), height_parts _ top _ _ _ (high_t t false (1 + n) (3 + n) h ns (omega arith)) (simp rises-append (omega arith)) (height_parts _ _ _ _ _ (high a (record { inside = true; on_break = 2 + n; on_continue = n }) (3 + n + labels_t t false) h ns (omega arith)) (simp rises-append (omega arith)) (high b l (3 + n + labels_t t false + labels a) h ms low) (simp rises-append (omega arith))) (omega arith))))
+        let ns : List Mark = mark LoopSort h
+        ∷ ms in (
+          (omega arith, omega arith),
+          (
+            (omega arith, omega arith),
+            (
+              (low, omega arith),
+              height_parts _ top _ _ _ (high_t t false (1 + n) (3 + n) h ns (omega arith)) (simp rises-append (omega arith))
+                  (height_parts _ _ _ _ _ (high a (record { inside = true; on_break = 2 + n; on_continue = n }) (3 + n + labels_t t false) h ns
+                  (omega arith)) (simp rises-append (omega arith)) (high b l (3 + n + labels_t t false + labels a) h ms low)
+                  (simp rises-append (omega arith))) (omega arith),
+            ),
+          ),
+        )
     high (SFor f t a b) l n h ms low =
         let r = value_rise f (3 + n) in
         let top : ℕ = h + rises (code i (SFor f t a b) l n) in
@@ -194,7 +246,10 @@ module _ {K : Type 0} (i : Interp K) where
               (low, omega arith),
               height_parts _ top _ _ _ (high_v f (3 + n) h ns (omega arith)) (simp rises-append (omega arith))
                   (height_parts _ top _ _ _ (high_g t (3 + n + labels_v f) (1 + h) ns (omega arith)) (simp rises-append (omega (arith, r)))
-                  (height_parts _ _ _ _ _ (high a (record { inside = true; on_break = 2 + n; on_continue = n }) (3 + n + labels_v f + labels_g t) (1 + h) ns (omega arith)) (simp rises-append (omega (arith, r))) (high b l (3 + n + labels_v f + labels_g t + labels a) h ms low) (simp rises-append (omega arith))) (omega arith)) (omega arith),
+                  (height_parts _ _ _ _ _ (high a (record { inside = true; on_break = 2 + n; on_continue = n })
+                  (3 + n + labels_v f + labels_g t) (1 + h) ns (omega arith)) (simp rises-append (omega (arith, r)))
+                  (high b l (3 + n + labels_v f + labels_g t + labels a) h ms low) (simp rises-append (omega arith))) (omega arith))
+                  (omega arith),
             ),
           ),
         )
@@ -210,9 +265,24 @@ module _ {K : Type 0} (i : Interp K) where
         let r = value_rise f n in
         let q = value_rise g (n + labels_v f) in
         let top : ℕ = h + rises (code i (SAugmentTwo f g get v op put) l n) in
-        height_parts _ top _ _ _ (high_v f n h ms low) (simp rises-append (omega arith)) (height_parts _ _ _ _ _ (high_v g (n + labels_v f) (1 + h) ms (omega (arith, low))) (simp rises-append (omega (arith, r))) (high_v v (n + labels_v f + labels_v g) (3 + h) ms (omega (arith, low))) (simp rises-append (omega (arith, r, q)))) (omega arith)
+        height_parts _ top _ _ _ (high_v f n h ms low) (simp rises-append (omega arith))
+        (height_parts _ _ _ _ _ (high_v g (n + labels_v f) (1 + h) ms (omega (arith, low))) (simp rises-append (omega (arith, r)))
+        (high_v v (n + labels_v f + labels_v g) (3 + h) ms (omega (arith, low))) (simp rises-append (omega (arith, r, q))))
+        (omega arith)
     high (STry a hs b) l n h ms low =
-        let top : ℕ = h + rises (code i (STry a hs b) l n) in ((omega arith, simp rises-append (omega arith)), ((low, omega arith), ((low, omega arith), height_parts _ top _ _ _ (high a l (3 + n) h (mark ExceptSort h ∷ ms) (omega arith)) (simp rises-append (omega arith)) (height_parts _ _ _ _ _ (high_h hs false l (2 + n) (3 + n + labels a) h ms low) (simp rises-append (omega arith)) (high b l (3 + n + labels a + labels_h hs) h ms low) (simp rises-append (omega arith))) (omega arith))))
+        let top : ℕ = h + rises (code i (STry a hs b) l n) in (
+          (omega arith, simp rises-append (omega arith)),
+          (
+            (low, omega arith),
+            (
+              (low, omega arith),
+              height_parts _ top _ _ _ (high a l (3 + n) h (mark ExceptSort h ∷ ms) (omega arith))
+                  (simp rises-append (omega arith))
+                  (height_parts _ _ _ _ _ (high_h hs false l (2 + n) (3 + n + labels a) h ms low) (simp rises-append (omega arith))
+                  (high b l (3 + n + labels a + labels_h hs) h ms low) (simp rises-append (omega arith))) (omega arith),
+            ),
+          ),
+        )
     high (STryFinal a hs b e) l n h ms low =
         let top : ℕ = h + rises (code i (STryFinal a hs b e) l n) in
         let ns : List Mark = mark FinallySort h ∷ ms in (
@@ -223,18 +293,31 @@ module _ {K : Type 0} (i : Interp K) where
               (omega arith, omega arith),
               height_parts _ top _ _ _ (high a l (3 + n) h (mark ExceptSort h ∷ ns) (omega arith)) (simp rises-append (omega arith))
                   (height_parts _ top _ _ _ (high_h hs true l (2 + n) (3 + n + labels a) h ns (omega arith)) (simp rises-append (omega arith))
-                  (height_parts _ _ _ _ _ (high b l (3 + n + labels a + labels_h hs) h ns (omega arith)) (simp rises-append (omega arith)) (high e l (3 + n + labels a + labels_h hs + labels b) h (mark LastSort h ∷ ms) (omega arith)) (simp rises-append (omega arith))) (omega arith)) (omega arith),
+                  (height_parts _ _ _ _ _ (high b l (3 + n + labels a + labels_h hs) h ns (omega arith)) (simp rises-append (omega arith))
+                  (high e l (3 + n + labels a + labels_h hs + labels b) h (mark LastSort h ∷ ms) (omega arith))
+                  (simp rises-append (omega arith))) (omega arith)) (omega arith),
             ),
           ),
         )
-    high (SFinally a e) l n h ms low =
-        ((omega arith, omega arith), height_parts _ _ _ _ _ (high a l (1 + n) h (mark FinallySort h ∷ ms) (omega arith)) (simp rises-append (omega arith)) (high e l (1 + n + labels a) h (mark LastSort h ∷ ms) (omega arith)) (simp rises-append (omega arith)))
+    high (SFinally a e) l n h ms low = (
+      (omega arith, omega arith),
+      height_parts _ _ _ _ _ (high a l (1 + n) h (mark FinallySort h ∷ ms) (omega arith))
+          (simp rises-append (omega arith)) (high e l (1 + n + labels a) h (mark LastSort h ∷ ms) (omega arith))
+          (simp rises-append (omega arith)),
+    )
     high (SWith f t a) l n h ms low =
         let r = value_rise f (1 + n) in
         let ns : List Mark = mark ExitSort (1 + h) ∷ ms in
-        let top : ℕ = h + rises (code i (SWith f t a) l n) in ((omega arith, simp rises-append (omega (arith, r))), height_parts _ top _ _ _ (high_v f (1 + n) h ms low) (simp rises-append (omega arith)) (height_parts _ _ _ _ _ (high_g t (1 + n + labels_v f) (1 + h) ns (omega arith)) (simp rises-append (omega (arith, r))) (high a l (1 + n + labels_v f + labels_g t) (1 + h) ns (omega arith)) (simp rises-append (omega (arith, r)))) (omega arith))
+        let top : ℕ = h + rises (code i (SWith f t a) l n) in (
+          (omega arith, simp rises-append (omega (arith, r))),
+          height_parts _ top _ _ _ (high_v f (1 + n) h ms low) (simp rises-append (omega arith))
+              (height_parts _ _ _ _ _ (high_g t (1 + n + labels_v f) (1 + h) ns (omega arith)) (simp rises-append (omega (arith, r)))
+              (high a l (1 + n + labels_v f + labels_g t) (1 + h) ns (omega arith)) (simp rises-append (omega (arith, r)))) (omega arith),
+        )
     high (SGather o cs p fs) l n h ms low =
-        widened _ _ (simp rises-append (omega arith)) _ (high_c cs (append_code i p fs) (λ k. shapes_vs fs k ms) ms (λ d m k lo. widened _ _ (simp rises-append (omega arith)) _ (high_vs fs m k ms lo)) 0 n (1 + h) (omega (arith, low)))
+        widened _ _ (simp rises-append (omega arith))
+        _ (high_c cs (append_code i p fs) (λ k. shapes_vs fs k ms) ms
+        (λ d m k lo. widened _ _ (simp rises-append (omega arith)) _ (high_vs fs m k ms lo)) 0 n (1 + h) (omega (arith, low)))
     high (SGenerate cs f) l n h ms low = high_c cs (drop_code i f) (λ k. shapes_v f k ms) ms (λ d m k lo. widened _ _ (simp rises-append (omega arith)) _ (high_v f m k ms lo)) 0 n h low
     high (SAt p f) l n h ms low = high f l n h ms low
 
@@ -242,14 +325,21 @@ module _ {K : Type 0} (i : Interp K) where
     high_h HNone final l end n h ms low = tt
     high_h (HAny t b hs) final l end n h ms low =
         let ns : List Mark = mark HandlerSort h ∷ ms in
-        let top : ℕ = 1 + h + rises (code_h i (HAny t b hs) final l end n) in ((omega arith, omega arith), height_parts _ top _ _ _ (high_g t (1 + n) h ns (omega arith)) (simp rises-append (omega arith)) (height_parts _ _ _ _ _ (high b l (1 + n + labels_g t) h ns (omega arith)) (simp rises-append (omega arith)) (high_h hs final l end (1 + n + labels_g t + labels b) h ms low) (simp rises-append (omega arith))) (omega arith))
+        let top : ℕ = 1 + h + rises (code_h i (HAny t b hs) final l end n) in (
+          (omega arith, omega arith),
+          height_parts _ top _ _ _ (high_g t (1 + n) h ns (omega arith)) (simp rises-append (omega arith))
+              (height_parts _ _ _ _ _ (high b l (1 + n + labels_g t) h ns (omega arith)) (simp rises-append (omega arith))
+              (high_h hs final l end (1 + n + labels_g t + labels b) h ms low) (simp rises-append (omega arith))) (omega arith),
+        )
     high_h (HTyped f t b hs) final l end n h ms low =
         let ns : List Mark = mark HandlerSort h ∷ ms in
         let top : ℕ = 1 + h + rises (code_h i (HTyped f t b hs) final l end n) in (
           (omega arith, omega arith),
           height_parts _ top _ _ _ (high_v f (1 + n) (2 + h) ns (omega arith)) (simp rises-append (omega arith))
               (height_parts _ top _ _ _ (high_g t (1 + n + labels_v f) h ns (omega arith)) (simp rises-append (omega arith))
-              (height_parts _ _ _ _ _ (high b l (1 + n + labels_v f + labels_g t) h ns (omega arith)) (simp rises-append (omega arith)) (high_h hs final l end (1 + n + labels_v f + labels_g t + labels b) h ms low) (simp rises-append (omega arith))) (omega arith)) (omega arith),
+              (height_parts _ _ _ _ _ (high b l (1 + n + labels_v f + labels_g t) h ns (omega arith)) (simp rises-append (omega arith))
+              (high_h hs final l end (1 + n + labels_v f + labels_g t + labels b) h ms low) (simp rises-append (omega arith)))
+              (omega arith)) (omega arith),
         )
 
   -- the labels of a body are no higher than what its instructions give

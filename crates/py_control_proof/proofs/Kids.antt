@@ -3,10 +3,18 @@ use Rattle.py_bytecode.specs.Objects as const
 use Rattle.py_bytecode.specs.Objects.{Const}
 use Rattle.std.proofs.Common.{◌≡◌, ℕ, suc, ◌+◌, List, [], ◌∷◌, ◌++◌, Bool, true, false, Option, Some, None, refl, sym, ap, ◌∙◌, subst, append_assoc, append-nil}
 use Rattle.py_bytecode.specs.Values.{Operation, Value, Constant, Child, Cell, Cells, flip}
-use Rattle.py_control.specs.Form.{VForm, VConst, VLoad, VOp, VMake, VShort, VChain, VChoice, VKeep, VSwap, VAt, VForms, VNone, VMore, VMethod, Shorts, OneShort, MoreShort, Links, LastLink, MoreLink, TForm, TTruth, TNot, TAll, Tests, OneTest, MoreTest, Target, GStore, GPut, GUnder, GUnpack, GDrop, Targets, NoTarget, MoreTarget, SForm, SSkip, SThen, SDo, SInto, SRemove, SIf, SIfElse, SWhile, SFor, SBreak, SContinue, SReturn, SClassEnd, SReraise, SAugment, SAugmentTwo, STry, STryFinal, SFinally, SWith, SGather, SGenerate, SAt, Handlers, HNone, HAny, HTyped, Clauses, CLast, CEach, Filters, NoFilter, MoreFilter, Scope, Interp}
+use Rattle.py_control.specs.Form.{VForm, VConst, VLoad, VOp, VMake, VShort, VChain, VChoice, VKeep, VSwap, VAt, VForms, VNone, VMore}
+use Rattle.py_control.specs.Form.{VMethod, Shorts, OneShort, MoreShort, Links, LastLink, MoreLink, TForm, TTruth, TNot, TAll, Tests}
+use Rattle.py_control.specs.Form.{OneTest, MoreTest, Target, GStore, GPut, GUnder, GUnpack, GDrop, Targets, NoTarget, MoreTarget, SForm}
+use Rattle.py_control.specs.Form.{SSkip, SThen, SDo, SInto, SRemove, SIf, SIfElse, SWhile, SFor, SBreak, SContinue, SReturn, SClassEnd}
+use Rattle.py_control.specs.Form.{SReraise, SAugment, SAugmentTwo, STry, STryFinal, SFinally, SWith, SGather, SGenerate, SAt, Handlers}
+use Rattle.py_control.specs.Form.{HNone, HAny, HTyped, Clauses, CLast, CEach, Filters, NoFilter, MoreFilter, Scope, Interp}
 use Rattle.py_bytecode.specs.Machine.{Instr, PopBlock, Jump, SetupExcept}
 use Rattle.py_control.specs.Fit.{Loops}
-use Rattle.py_control.specs.Code.{Item, Do, Label, count, labels_v, labels_vs, labels_t, labels_g, labels_bs, labels, labels_h, kept_code, has_cells, cell_codes, closure_code, class_code, tail_code, code_v, code_vs, code_ss, code_ls, code_t, code_ts, code_g, code_gs, code_bs, code_c, return_code, append_code, drop_code, code, code_h, closes, closing_return, body_code}
+use Rattle.py_control.specs.Code.{Item, Do, Label, count, labels_v, labels_vs, labels_t, labels_g, labels_bs, labels, labels_h, kept_code}
+use Rattle.py_control.specs.Code.{has_cells, cell_codes, closure_code, class_code, tail_code, code_v, code_vs, code_ss, code_ls, code_t}
+use Rattle.py_control.specs.Code.{code_ts, code_g, code_gs, code_bs, code_c, return_code, append_code, drop_code, code, code_h, closes}
+use Rattle.py_control.specs.Code.{closing_return, body_code}
 use Rattle.py_control.specs.Agree.{kids_v, kids_vs, kids_ss, kids_ls, kids_t, kids_ts, kids_g, kids_gs, kids_bs, kids_c, kids, kids_h}
 use Rattle.py_control.specs.CodeRuns.{loaded_children, children}
 use Rattle.py_control_proof.proofs.Agreement.{each_to}
@@ -71,7 +79,9 @@ module _ {K : Type 0} (i : Interp K) where
   kid_mark p = record { same = p.same }
 
   child_loaded : (s : Scope) (m : Const) (fl d : ℕ) (b : Bool)
-      → KidHas (Do (Rattle.py_bytecode.specs.Machine.Push (Rattle.py_bytecode.specs.Values.It (Child (i.child s)))) ∷ Do (Rattle.py_bytecode.specs.Machine.Push (Rattle.py_bytecode.specs.Values.It (Constant m))) ∷ Do (Rattle.py_bytecode.specs.Machine.MakeFunction fl b d) ∷ []) (s ∷ [])
+      → KidHas (Do (Rattle.py_bytecode.specs.Machine.Push (Rattle.py_bytecode.specs.Values.It (Child (i.child s))))
+      ∷ Do (Rattle.py_bytecode.specs.Machine.Push (Rattle.py_bytecode.specs.Values.It (Constant m)))
+      ∷ Do (Rattle.py_bytecode.specs.Machine.MakeFunction fl b d) ∷ []) (s ∷ [])
   child_loaded s m fl d b = record { same = refl }
 
   -- a target and a body, and the rest
@@ -83,9 +93,13 @@ module _ {K : Type 0} (i : Interp K) where
     in_v (VConst m) n = kid_none refl
     in_v (VLoad x m) n = kid_none refl
     in_v (VOp o fs) n = kid_ended _ (in_vs fs n) refl
-    in_v (VMake flags a s name b) n = kid_both (in_vs a n) (kid_both (in_vs b (n + labels_vs a)) (begun _ (kid_no_closure (i.closure s)) (child_loaded s (const.str name) flags (count a + count b) (has_cells (i.closure s)))))
+    in_v (VMake flags a s name b) n = kid_both (in_vs a n)
+        (kid_both (in_vs b (n + labels_vs a))
+        (begun _ (kid_no_closure (i.closure s)) (child_loaded s (const.str name) flags (count a + count b) (has_cells (i.closure s)))))
     in_v (VShort d ss) n = kid_ended _ (in_ss ss d n (1 + n)) refl
-    in_v (VChain f o g ls) n = kid_both (in_v f (2 + n)) (kid_ended _ (kid_both (in_v g (2 + n + labels_v f)) (skip refl (skip refl (skip refl (skip refl (in_ls ls n (2 + n + labels_v f + labels_v g))))))) refl)
+    in_v (VChain f o g ls) n = kid_both (in_v f (2 + n))
+        (kid_ended _ (kid_both (in_v g (2 + n + labels_v f))
+        (skip refl (skip refl (skip refl (skip refl (in_ls ls n (2 + n + labels_v f + labels_v g))))))) refl)
     in_v (VChoice t a b) n =
         kid_both (in_t t false n (2 + n)) (kid_both (in_v a (2 + n + labels_t t false)) (skip refl (kid_mark (kid_ended _ (in_v b (2 + n + labels_t t false + labels_v a)) refl))))
     in_v (VKeep f how t) n = kid_both (in_v f n) (skip (no_kept how) (in_g t (n + labels_v f)))
@@ -145,7 +159,10 @@ module _ {K : Type 0} (i : Interp K) where
   in_c : (cs : Clauses) (leaf : ℕ → ℕ → List (Item K)) (x : List Scope) → ((d n : ℕ) → KidHas (leaf d n) x) → (d n : ℕ) → KidHas (code_c i cs leaf d n) (kids_c cs x)
   in_c CLast leaf x h d n = h d n
   in_c (CEach f t bs cs) leaf x h d n =
-      kid_both (in_v f (2 + n)) (kid_mark (skip refl (kid_both (in_g t (2 + n + labels_v f)) (kid_both (in_bs bs n (2 + n + labels_v f + labels_g t)) (kid_ended _ (in_c cs leaf x h (suc d) (2 + n + labels_v f + labels_g t + labels_bs bs)) refl)))))
+      kid_both (in_v f (2 + n)) (kid_mark
+      (skip refl (kid_both (in_g t (2 + n + labels_v f))
+      (kid_both (in_bs bs n (2 + n + labels_v f + labels_g t))
+      (kid_ended _ (in_c cs leaf x h (suc d) (2 + n + labels_v f + labels_g t + labels_bs bs)) refl)))))
 
   in_try : (final : Bool) (j : Instr K ℕ) (p q : ℕ) {a h b : List (Item K)} {x y z : List Scope} → loaded_children j ≡ [] → KidHas a x → KidHas h y → KidHas b z
       → KidHas (Do j ∷ (a ++ (Do PopBlock ∷ Do (Jump q) ∷ Label p ∷ (h ++ (Label q ∷ (b ++ tail_code final)))))) (x ++ (y ++ z))
@@ -165,9 +182,14 @@ module _ {K : Type 0} (i : Interp K) where
     in_s (SIfElse t a b) l n =
         kid_both (in_t t false n (2 + n)) (kid_both (in_s a l (2 + n + labels_t t false)) (skip refl (kid_mark (kid_ended _ (in_s b l (2 + n + labels_t t false + labels a)) refl))))
     in_s (SWhile t a b) l n =
-        skip refl (kid_mark (kid_both (in_t t false (1 + n) (3 + n)) (kid_both (in_s a (record { inside = true; on_break = 2 + n; on_continue = n }) (3 + n + labels_t t false)) (skip refl (kid_mark (skip refl (kid_ended _ (in_s b l (3 + n + labels_t t false + labels a)) refl)))))))
+        skip refl (kid_mark (kid_both (in_t t false (1 + n) (3 + n))
+        (kid_both (in_s a (record { inside = true; on_break = 2 + n; on_continue = n }) (3 + n + labels_t t false))
+        (skip refl (kid_mark (skip refl (kid_ended _ (in_s b l (3 + n + labels_t t false + labels a)) refl)))))))
     in_s (SFor f t a b) l n =
-        skip refl (kid_both (in_v f (3 + n)) (kid_mark (skip refl (turn (in_g t (3 + n + labels_v f)) (in_s a (record { inside = true; on_break = 2 + n; on_continue = n }) (3 + n + labels_v f + labels_g t)) (skip refl (kid_mark (skip refl (kid_ended _ (in_s b l (3 + n + labels_v f + labels_g t + labels a)) refl))))))))
+        skip refl (kid_both (in_v f (3 + n))
+        (kid_mark (skip refl (turn (in_g t (3 + n + labels_v f))
+        (in_s a (record { inside = true; on_break = 2 + n; on_continue = n }) (3 + n + labels_v f + labels_g t))
+        (skip refl (kid_mark (skip refl (kid_ended _ (in_s b l (3 + n + labels_v f + labels_g t + labels a)) refl))))))))
     in_s SBreak l n = kid_none refl
     in_s SContinue l n = kid_none refl
     in_s (SReturn f) l n = in_return f n
@@ -178,7 +200,10 @@ module _ {K : Type 0} (i : Interp K) where
     in_s (STry a hs b) l n =
         kid_ended _ (in_try false (SetupExcept n) n (1 + n) refl (in_s a l (3 + n)) (in_h hs false l (2 + n) (3 + n + labels a)) (in_s b l (3 + n + labels a + labels_h hs))) refl
     in_s (STryFinal a hs b e) l n =
-        skip refl (final_kids (kids a) (kids_h hs) (kids b) (in_try true (SetupExcept n) n (1 + n) refl (in_s a l (3 + n)) (in_h hs true l (2 + n) (3 + n + labels a)) (in_s b l (3 + n + labels a + labels_h hs))) (kid_mark (kid_ended _ (in_s e l (3 + n + labels a + labels_h hs + labels b)) refl)))
+        skip refl (final_kids (kids a) (kids_h hs) (kids b)
+        (in_try true (SetupExcept n) n (1 + n) refl (in_s a l (3 + n)) (in_h hs true l (2 + n) (3 + n + labels a))
+        (in_s b l (3 + n + labels a + labels_h hs)))
+        (kid_mark (kid_ended _ (in_s e l (3 + n + labels a + labels_h hs + labels b)) refl)))
     in_s (SFinally a e) l n = skip refl (kid_both (kid_ended _ (in_s a l (1 + n)) refl) (kid_mark (kid_ended _ (in_s e l (1 + n + labels a)) refl)))
     in_s (SWith f t a) l n =
         kid_both (in_v f (1 + n)) (skip refl (kid_ended _ (kid_both (in_g t (1 + n + labels_v f)) (in_s a l (1 + n + labels_v f + labels_g t))) refl))
@@ -191,7 +216,10 @@ module _ {K : Type 0} (i : Interp K) where
     in_h (HAny t b hs) final l end n =
         turn (in_g t (1 + n)) (in_s b l (1 + n + labels_g t)) (skip refl (begun _ (kid_no_tail final) (skip refl (kid_mark (in_h hs final l end (1 + n + labels_g t + labels b))))))
     in_h (HTyped f t b hs) final l end n =
-        skip refl (kid_both (in_v f (1 + n)) (skip refl (skip refl (turn (in_g t (1 + n + labels_v f)) (in_s b l (1 + n + labels_v f + labels_g t)) (skip refl (begun _ (kid_no_tail final) (skip refl (kid_mark (in_h hs final l end (1 + n + labels_v f + labels_g t + labels b))))))))))
+        skip refl (kid_both (in_v f (1 + n))
+        (skip refl (skip refl (turn (in_g t (1 + n + labels_v f)) (in_s b l (1 + n + labels_v f + labels_g t))
+        (skip refl (begun _ (kid_no_tail final)
+        (skip refl (kid_mark (in_h hs final l end (1 + n + labels_v f + labels_g t + labels b))))))))))
 
   pub kid_children_are : (f : SForm) → children (body_code i f) ≡ each_to i.child (kids f)
   kid_children_are f = let r : KidHas (body_code i f) (kids f) = kid_ended _ (in_s f (record { inside = false; on_break = 0; on_continue = 0 }) 1) (kid_no_closing (closes f)) in r.same

@@ -3,9 +3,17 @@ use Rattle.std.proofs.Common.{◌≡◌, ℕ, suc, ◌+◌, List, [], ◌∷◌,
 use Rattle.py_bytecode.specs.Objects.{Object}
 use Rattle.py_bytecode.specs.Values.{Cell, flip}
 use Rattle.py_bytecode.specs.Machine.{Instr, ReturnValue}
-use Rattle.py_control.specs.Form.{VForm, VConst, VLoad, VOp, VMake, VShort, VChain, VChoice, VKeep, VSwap, VAt, VForms, VNone, VMore, VMethod, Shorts, OneShort, MoreShort, Links, LastLink, MoreLink, TForm, TTruth, TNot, TAll, Tests, OneTest, MoreTest, Target, GStore, GPut, GUnder, GUnpack, GDrop, Targets, NoTarget, MoreTarget, SForm, SSkip, SThen, SDo, SInto, SRemove, SIf, SIfElse, SWhile, SFor, SBreak, SContinue, SReturn, SClassEnd, SReraise, SAugment, SAugmentTwo, STry, STryFinal, SFinally, SWith, SGather, SGenerate, SAt, Handlers, HNone, HAny, HTyped, Clauses, CLast, CEach, Filters, NoFilter, MoreFilter, Interp}
+use Rattle.py_control.specs.Form.{VForm, VConst, VLoad, VOp, VMake, VShort, VChain, VChoice, VKeep, VSwap, VAt, VForms, VNone, VMore}
+use Rattle.py_control.specs.Form.{VMethod, Shorts, OneShort, MoreShort, Links, LastLink, MoreLink, TForm, TTruth, TNot, TAll, Tests}
+use Rattle.py_control.specs.Form.{OneTest, MoreTest, Target, GStore, GPut, GUnder, GUnpack, GDrop, Targets, NoTarget, MoreTarget, SForm}
+use Rattle.py_control.specs.Form.{SSkip, SThen, SDo, SInto, SRemove, SIf, SIfElse, SWhile, SFor, SBreak, SContinue, SReturn, SClassEnd}
+use Rattle.py_control.specs.Form.{SReraise, SAugment, SAugmentTwo, STry, STryFinal, SFinally, SWith, SGather, SGenerate, SAt, Handlers}
+use Rattle.py_control.specs.Form.{HNone, HAny, HTyped, Clauses, CLast, CEach, Filters, NoFilter, MoreFilter, Interp}
 use Rattle.py_control.specs.Fit.{Loops}
-use Rattle.py_control.specs.Code.{Item, Do, Label, labels_v, labels_vs, labels_ss, labels_ls, labels_t, labels_ts, labels_g, labels_gs, labels_bs, labels_c, labels, labels_h, cell_codes, closure_code, class_code, tail_code, code_v, code_vs, code_ss, code_ls, code_t, code_ts, code_g, code_gs, code_bs, code_c, return_code, append_code, drop_code, code, code_h, closes, closing_return, body_code}
+use Rattle.py_control.specs.Code.{Item, Do, Label, labels_v, labels_vs, labels_ss, labels_ls, labels_t, labels_ts, labels_g, labels_gs}
+use Rattle.py_control.specs.Code.{labels_bs, labels_c, labels, labels_h, cell_codes, closure_code, class_code, tail_code, code_v, code_vs}
+use Rattle.py_control.specs.Code.{code_ss, code_ls, code_t, code_ts, code_g, code_gs, code_bs, code_c, return_code, append_code, drop_code}
+use Rattle.py_control.specs.Code.{code, code_h, closes, closing_return, body_code}
 use Rattle.py_control_proof.specs.Blocks.{placed_labels}
 
 count-append : (a b : List (Item Object)) → placed_labels (a ++ b) ≡ placed_labels a + placed_labels b

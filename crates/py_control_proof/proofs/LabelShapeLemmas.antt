@@ -1,13 +1,19 @@
 -- A form's labels fit where they have the shapes of the form.
 use Rattle.std.proofs.Common.{◌≡◌, ℕ, ◌+◌, ◌-◌, List, [], ◌∷◌, ◌++◌, length, Bool, true, false, Option, Some, refl, sym, ap, ◌∙◌, subst, arith}
 use Rattle.py_bytecode.specs.Values.{flip}
-use Rattle.py_control.specs.Form.{VForm, VConst, VLoad, VOp, VMake, VShort, VChain, VChoice, VKeep, VSwap, VAt, VForms, VNone, VMore, VMethod, Shorts, OneShort, MoreShort, Links, LastLink, MoreLink, TForm, TTruth, TNot, TAll, Tests, OneTest, MoreTest, Target, GStore, GPut, GUnder, GUnpack, GDrop, Targets, NoTarget, MoreTarget, SForm, SSkip, SThen, SDo, SInto, SRemove, SIf, SIfElse, SWhile, SFor, SBreak, SContinue, SReturn, SClassEnd, SReraise, SAugment, SAugmentTwo, STry, STryFinal, SFinally, SWith, SGather, SGenerate, SAt, Handlers, HNone, HAny, HTyped, Clauses, CLast, CEach, Filters, NoFilter, MoreFilter, targets}
+use Rattle.py_control.specs.Form.{VForm, VConst, VLoad, VOp, VMake, VShort, VChain, VChoice, VKeep, VSwap, VAt, VForms, VNone, VMore}
+use Rattle.py_control.specs.Form.{VMethod, Shorts, OneShort, MoreShort, Links, LastLink, MoreLink, TForm, TTruth, TNot, TAll, Tests}
+use Rattle.py_control.specs.Form.{OneTest, MoreTest, Target, GStore, GPut, GUnder, GUnpack, GDrop, Targets, NoTarget, MoreTarget, SForm}
+use Rattle.py_control.specs.Form.{SSkip, SThen, SDo, SInto, SRemove, SIf, SIfElse, SWhile, SFor, SBreak, SContinue, SReturn, SClassEnd}
+use Rattle.py_control.specs.Form.{SReraise, SAugment, SAugmentTwo, STry, STryFinal, SFinally, SWith, SGather, SGenerate, SAt, Handlers}
+use Rattle.py_control.specs.Form.{HNone, HAny, HTyped, Clauses, CLast, CEach, Filters, NoFilter, MoreFilter, targets}
 use Rattle.py_control.specs.Code.{count, labels_v, labels_vs, labels_t, labels_g, labels_bs, labels, labels_h}
 use Rattle.py_control.specs.Fit.{Loops}
 use Rattle.py_control.specs.Looped.{Looped, LoopedAll}
 use Rattle.py_control_proof.specs.Walks.{LoopSort, ExceptSort, FinallySort, ExitSort, HandlerSort, LastSort, Mark, mark, Shape, shape, loop_at, cut_height, BreaksTo, ContinuesTo}
 use Rattle.py_control_proof.proofs.Fits.{FitsV, FitsVs, FitsSs, FitsLs, FitsT, FitsTs, FitsG, FitsGs, FitsBs, FitsC, ControlFits, FitsH}
-use Rattle.py_control_proof.proofs.LabelShapes.{shapes_v, shapes_vs, shapes_ss, shapes_ls, shapes_t, shapes_ts, shapes_g, shapes_gs, shapes_bs, shapes_c, shapes, shapes_h, len_v, len_vs, len_t, len_g, len_bs, len, len_h}
+use Rattle.py_control_proof.proofs.LabelShapes.{shapes_v, shapes_vs, shapes_ss, shapes_ls, shapes_t, shapes_ts, shapes_g, shapes_gs}
+use Rattle.py_control_proof.proofs.LabelShapes.{shapes_bs, shapes_c, shapes, shapes_h, len_v, len_vs, len_t, len_g, len_bs, len, len_h}
 
 module _ (at : ℕ → Option Shape) where
   abbrev pub LabelShapeHolds : ℕ → List Shape → Type 0
@@ -71,8 +77,11 @@ module _ (at : ℕ → Option Shape) where
         )
     fits_v (VKeep f how t) n h ms k = (fits_v f n h ms (label_shape_first _ k), fits_g t (n + labels_v f) (1 + h) ms (second _ _ _ (len_v f h ms) (omega arith) k))
     fits_v (VSwap o a b fs) n h ms k =
-        let r = second (shapes_v a h ms) _ (n + labels_v a) (len_v a h ms) (omega arith) k in
-        (fits_v a n h ms (label_shape_first _ k), fits_v b (n + labels_v a) (1 + h) ms (label_shape_first _ r), fits_vs fs (n + labels_v a + labels_v b) (2 + h) ms (second _ _ _ (len_v b (1 + h) ms) (omega arith) r))
+        let r = second (shapes_v a h ms) _ (n + labels_v a) (len_v a h ms) (omega arith) k in (
+          fits_v a n h ms (label_shape_first _ k),
+          fits_v b (n + labels_v a) (1 + h) ms (label_shape_first _ r),
+          fits_vs fs (n + labels_v a + labels_v b) (2 + h) ms (second _ _ _ (len_v b (1 + h) ms) (omega arith) r),
+        )
     fits_v (VAt p f) n h ms k = fits_v f n h ms k
 
     fits_vs : (fs : VForms) (n h : ℕ) (ms : List Mark) → LabelShapeKnown n (shapes_vs fs h ms) → FitsVs at fs n h ms
@@ -97,7 +106,10 @@ module _ (at : ℕ → Option Shape) where
     fits_ts : (ts : Tests) (c : Bool) (to out n h : ℕ) (ms : List Mark) → at to ≡ Some (shape h ms) → at out ≡ Some (shape h ms)
         → LabelShapeKnown n (shapes_ts ts c h ms) → FitsTs at ts c to out n h ms
     fits_ts (OneTest t) c to out n h ms e o k = fits_t t c to n h ms e k
-    fits_ts (MoreTest t ts) c to out n h ms e o k = (fits_t t false out n h ms o (label_shape_first _ k), fits_ts ts c to out (n + labels_t t false) h ms e o (second _ _ _ (len_t t false h ms) (omega arith) k))
+    fits_ts (MoreTest t ts) c to out n h ms e o k = (
+      fits_t t false out n h ms o (label_shape_first _ k),
+      fits_ts ts c to out (n + labels_t t false) h ms e o (second _ _ _ (len_t t false h ms) (omega arith) k),
+    )
 
     fits_g : (t : Target) (n h : ℕ) (ms : List Mark) → LabelShapeKnown n (shapes_g t h ms) → FitsG at t n h ms
     fits_g (GStore x m) n h ms k = tt
@@ -141,12 +153,18 @@ module _ (at : ℕ → Option Shape) where
 
   same_loop : (b : Bool) (l : Loops) (h : ℕ) (ms : List Mark) (ns : List Mark) → loop_at ms ≡ loop_at ns → cut_height ms h ≡ cut_height ns h → InLoop b l h ms → InLoop b l h ns
   same_loop false l h ms ns e f i = tt
-  same_loop true l h ms ns e f i = (subst (λ x. BreaksTo x (at l.on_break)) e i.0, subst (λ x. ContinuesTo x (cut_height ns h) (at l.on_continue)) e (subst (λ x. ContinuesTo (loop_at ms) x (at l.on_continue)) f i.1))
+  same_loop true l h ms ns e f i = (
+    subst (λ x. BreaksTo x (at l.on_break)) e i.0,
+    subst (λ x. ContinuesTo x (cut_height ns h) (at l.on_continue)) e (subst (λ x. ContinuesTo (loop_at ms) x (at l.on_continue)) f i.1),
+  )
 
   mutual
     pub label_shape_fits : (b : Bool) (f : SForm) → Looped b f → (l : Loops) (n h : ℕ) (ms : List Mark) → InLoop b l h ms → LabelShapeKnown n (shapes f h ms) → ControlFits at f l n h ms
     label_shape_fits b SSkip g l n h ms i k = tt
-    label_shape_fits b (SThen x y) g l n h ms i k = (label_shape_fits b x g.0 l n h ms i (label_shape_first _ k), label_shape_fits b y g.1 l (n + labels x) h ms i (second _ _ _ (len x h ms) (omega arith) k))
+    label_shape_fits b (SThen x y) g l n h ms i k = (
+      label_shape_fits b x g.0 l n h ms i (label_shape_first _ k),
+      label_shape_fits b y g.1 l (n + labels x) h ms i (second _ _ _ (len x h ms) (omega arith) k),
+    )
     label_shape_fits b (SDo o r fs) g l n h ms i k = fits_vs fs n h ms k
     label_shape_fits b (SInto f t) g l n h ms i k = (fits_v f n h ms (label_shape_first _ k), fits_g t (n + labels_v f) h ms (second _ _ _ (len_v f h ms) (omega arith) k))
     label_shape_fits b (SRemove x m) g l n h ms i k = tt
@@ -195,8 +213,11 @@ module _ (at : ℕ → Option Shape) where
     label_shape_fits b SReraise g l n h ms i k = tt
     label_shape_fits b (SAugment f get v op put) g l n h ms i k = (fits_v f n h ms (label_shape_first _ k), fits_v v (n + labels_v f) (2 + h) ms (second _ _ _ (len_v f h ms) (omega arith) k))
     label_shape_fits b (SAugmentTwo f e get v op put) g l n h ms i k =
-        let r2 = second (shapes_v f h ms) _ (n + labels_v f) (len_v f h ms) (omega arith) k in
-        (fits_v f n h ms (label_shape_first _ k), fits_v e (n + labels_v f) (1 + h) ms (label_shape_first _ r2), fits_v v (n + labels_v f + labels_v e) (3 + h) ms (second _ _ _ (len_v e (1 + h) ms) (omega arith) r2))
+        let r2 = second (shapes_v f h ms) _ (n + labels_v f) (len_v f h ms) (omega arith) k in (
+          fits_v f n h ms (label_shape_first _ k),
+          fits_v e (n + labels_v f) (1 + h) ms (label_shape_first _ r2),
+          fits_v v (n + labels_v f + labels_v e) (3 + h) ms (second _ _ _ (len_v e (1 + h) ms) (omega arith) r2),
+        )
     label_shape_fits b (STry x hs y) g l n h ms i k =
         let r = past_three k in
         let r2 = second (shapes x h (mark ExceptSort h ∷ ms)) _ (3 + n + labels x) (len x h (mark ExceptSort h ∷ ms)) (omega arith) r in (

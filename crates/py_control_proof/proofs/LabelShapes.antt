@@ -1,7 +1,12 @@
 -- The shapes that the labels of a form have, in the order of the labels, and how many they are.
 use Rattle.std.proofs.Common.{◌≡◌, ℕ, ◌+◌, List, [], ◌∷◌, ◌++◌, length, Bool, true, false, refl, arith, length-append}
 use Rattle.py_bytecode.specs.Values.{flip}
-use Rattle.py_control.specs.Form.{VForm, VConst, VLoad, VOp, VMake, VShort, VChain, VChoice, VKeep, VSwap, VAt, VForms, VNone, VMore, VMethod, Shorts, OneShort, MoreShort, Links, LastLink, MoreLink, TForm, TTruth, TNot, TAll, Tests, OneTest, MoreTest, Target, GStore, GPut, GUnder, GUnpack, GDrop, Targets, NoTarget, MoreTarget, SForm, SSkip, SThen, SDo, SInto, SRemove, SIf, SIfElse, SWhile, SFor, SBreak, SContinue, SReturn, SClassEnd, SReraise, SAugment, SAugmentTwo, STry, STryFinal, SFinally, SWith, SGather, SGenerate, SAt, Handlers, HNone, HAny, HTyped, Clauses, CLast, CEach, Filters, NoFilter, MoreFilter, targets}
+use Rattle.py_control.specs.Form.{VForm, VConst, VLoad, VOp, VMake, VShort, VChain, VChoice, VKeep, VSwap, VAt, VForms, VNone, VMore}
+use Rattle.py_control.specs.Form.{VMethod, Shorts, OneShort, MoreShort, Links, LastLink, MoreLink, TForm, TTruth, TNot, TAll, Tests}
+use Rattle.py_control.specs.Form.{OneTest, MoreTest, Target, GStore, GPut, GUnder, GUnpack, GDrop, Targets, NoTarget, MoreTarget, SForm}
+use Rattle.py_control.specs.Form.{SSkip, SThen, SDo, SInto, SRemove, SIf, SIfElse, SWhile, SFor, SBreak, SContinue, SReturn, SClassEnd}
+use Rattle.py_control.specs.Form.{SReraise, SAugment, SAugmentTwo, STry, STryFinal, SFinally, SWith, SGather, SGenerate, SAt, Handlers}
+use Rattle.py_control.specs.Form.{HNone, HAny, HTyped, Clauses, CLast, CEach, Filters, NoFilter, MoreFilter, targets}
 use Rattle.py_control.specs.Code.{count, labels_v, labels_vs, labels_ss, labels_ls, labels_t, labels_ts, labels_g, labels_gs, labels_bs, labels_c, labels, labels_h}
 use Rattle.py_control_proof.specs.Walks.{LoopSort, ExceptSort, FinallySort, ExitSort, HandlerSort, LastSort, CleanupSort, Mark, mark, Shape, shape}
 
@@ -73,7 +78,9 @@ abbrev mutual
   shapes (SWhile t a b) h ms =
       shape h (mark LoopSort h ∷ ms) ∷ shape h (mark LoopSort h ∷ ms) ∷ shape h ms ∷ (shapes_t t false h (mark LoopSort h ∷ ms) ++ (shapes a h (mark LoopSort h ∷ ms) ++ shapes b h ms))
   shapes (SFor f t a b) h ms =
-      shape (1 + h) (mark LoopSort h ∷ ms) ∷ shape h (mark LoopSort h ∷ ms) ∷ shape h ms ∷ (shapes_v f h (mark LoopSort h ∷ ms) ++ (shapes_g t (1 + h) (mark LoopSort h ∷ ms) ++ (shapes a (1 + h) (mark LoopSort h ∷ ms) ++ shapes b h ms)))
+      shape (1 + h) (mark LoopSort h ∷ ms) ∷ shape h (mark LoopSort h ∷ ms) ∷ shape h ms
+      ∷ (shapes_v f h (mark LoopSort h ∷ ms)
+      ++ (shapes_g t (1 + h) (mark LoopSort h ∷ ms) ++ (shapes a (1 + h) (mark LoopSort h ∷ ms) ++ shapes b h ms)))
   shapes SBreak h ms = []
   shapes SContinue h ms = []
   shapes (SReturn f) h ms = shapes_v f h ms
@@ -84,7 +91,9 @@ abbrev mutual
   shapes (STry a hs b) h ms =
       shape (1 + h) (mark HandlerSort h ∷ ms) ∷ shape h ms ∷ shape h ms ∷ (shapes a h (mark ExceptSort h ∷ ms) ++ (shapes_h hs h ms ++ shapes b h ms))
   shapes (STryFinal a hs b c) h ms =
-      shape (1 + h) (mark HandlerSort h ∷ mark FinallySort h ∷ ms) ∷ shape h (mark FinallySort h ∷ ms) ∷ shape h (mark LastSort h ∷ ms) ∷ (shapes a h (mark ExceptSort h ∷ mark FinallySort h ∷ ms) ++ (shapes_h hs h (mark FinallySort h ∷ ms) ++ (shapes b h (mark FinallySort h ∷ ms) ++ shapes c h (mark LastSort h ∷ ms))))
+      shape (1 + h) (mark HandlerSort h ∷ mark FinallySort h ∷ ms) ∷ shape h (mark FinallySort h ∷ ms) ∷ shape h (mark LastSort h ∷ ms)
+      ∷ (shapes a h (mark ExceptSort h ∷ mark FinallySort h ∷ ms)
+      ++ (shapes_h hs h (mark FinallySort h ∷ ms) ++ (shapes b h (mark FinallySort h ∷ ms) ++ shapes c h (mark LastSort h ∷ ms))))
   shapes (SFinally a c) h ms = shape h (mark LastSort h ∷ ms) ∷ (shapes a h (mark FinallySort h ∷ ms) ++ shapes c h (mark LastSort h ∷ ms))
   shapes (SWith f t a) h ms =
       shape (1 + h) (mark CleanupSort (1 + h) ∷ ms) ∷ (shapes_v f h ms ++ (shapes_g t (1 + h) (mark ExitSort (1 + h) ∷ ms) ++ shapes a (1 + h) (mark ExitSort (1 + h) ∷ ms)))
@@ -155,7 +164,13 @@ len_bs (MoreFilter t bs) h ms = label_shape_two_parts _ _ _ _ (len_t t false h m
 
 pub len_c : (cs : Clauses) (leaf : ℕ → List Shape) (x : ℕ) → ((k : ℕ) → length (leaf k) ≡ x) → (h : ℕ) (ms : List Mark) → length (shapes_c cs leaf h ms) ≡ labels_c cs + x
 len_c CLast leaf x e h ms = omega (arith, e h)
-len_c (CEach f t bs cs) leaf x e h ms = omega (arith, label_shape_two_parts _ _ _ _ (len_v f h ms) (label_shape_two_parts _ _ _ _ (len_g t (1 + h) ms) (label_shape_two_parts _ _ _ _ (len_bs bs (1 + h) ms) (len_c cs leaf x e (1 + h) ms))))
+len_c (CEach f t bs cs) leaf x e h ms =
+    omega (
+      arith,
+      label_shape_two_parts _ _ _ _ (len_v f h ms)
+          (label_shape_two_parts _ _ _ _ (len_g t (1 + h) ms)
+          (label_shape_two_parts _ _ _ _ (len_bs bs (1 + h) ms) (len_c cs leaf x e (1 + h) ms))),
+    )
 
 mutual
   pub len : (f : SForm) (h : ℕ) (ms : List Mark) → length (shapes f h ms) ≡ labels f
@@ -168,7 +183,12 @@ mutual
   len (SIfElse t a b) h ms = omega (arith, label_shape_two_parts _ _ _ _ (len_t t false h ms) (label_shape_two_parts _ _ _ _ (len a h ms) (len b h ms)))
   len (SWhile t a b) h ms = omega (arith, label_shape_two_parts _ _ _ _ (len_t t false h (mark LoopSort h ∷ ms)) (label_shape_two_parts _ _ _ _ (len a h (mark LoopSort h ∷ ms)) (len b h ms)))
   len (SFor f t a b) h ms =
-      omega (arith, label_shape_two_parts _ _ _ _ (len_v f h (mark LoopSort h ∷ ms)) (label_shape_two_parts _ _ _ _ (len_g t (1 + h) (mark LoopSort h ∷ ms)) (label_shape_two_parts _ _ _ _ (len a (1 + h) (mark LoopSort h ∷ ms)) (len b h ms))))
+      omega (
+        arith,
+        label_shape_two_parts _ _ _ _ (len_v f h (mark LoopSort h ∷ ms))
+            (label_shape_two_parts _ _ _ _ (len_g t (1 + h) (mark LoopSort h ∷ ms))
+            (label_shape_two_parts _ _ _ _ (len a (1 + h) (mark LoopSort h ∷ ms)) (len b h ms))),
+      )
   len SBreak h ms = refl
   len SContinue h ms = refl
   len (SReturn f) h ms = len_v f h ms
@@ -178,7 +198,12 @@ mutual
   len (SAugmentTwo f g get v op put) h ms = omega (arith, label_shape_two_parts _ _ _ _ (len_v f h ms) (label_shape_two_parts _ _ _ _ (len_v g (1 + h) ms) (len_v v (3 + h) ms)))
   len (STry a hs b) h ms = omega (arith, label_shape_two_parts _ _ _ _ (len a h (mark ExceptSort h ∷ ms)) (label_shape_two_parts _ _ _ _ (len_h hs h ms) (len b h ms)))
   len (STryFinal a hs b c) h ms =
-      omega (arith, label_shape_two_parts _ _ _ _ (len a h (mark ExceptSort h ∷ mark FinallySort h ∷ ms)) (label_shape_two_parts _ _ _ _ (len_h hs h (mark FinallySort h ∷ ms)) (label_shape_two_parts _ _ _ _ (len b h (mark FinallySort h ∷ ms)) (len c h (mark LastSort h ∷ ms)))))
+      omega (
+        arith,
+        label_shape_two_parts _ _ _ _ (len a h (mark ExceptSort h ∷ mark FinallySort h ∷ ms))
+            (label_shape_two_parts _ _ _ _ (len_h hs h (mark FinallySort h ∷ ms))
+            (label_shape_two_parts _ _ _ _ (len b h (mark FinallySort h ∷ ms)) (len c h (mark LastSort h ∷ ms)))),
+      )
   len (SFinally a c) h ms = omega (arith, label_shape_two_parts _ _ _ _ (len a h (mark FinallySort h ∷ ms)) (len c h (mark LastSort h ∷ ms)))
   len (SWith f t a) h ms =
       omega (arith, label_shape_two_parts _ _ _ _ (len_v f h ms) (label_shape_two_parts _ _ _ _ (len_g t (1 + h) (mark ExitSort (1 + h) ∷ ms)) (len a (1 + h) (mark ExitSort (1 + h) ∷ ms))))
@@ -190,4 +215,9 @@ mutual
   len_h HNone h ms = refl
   len_h (HAny t b hs) h ms = omega (arith, label_shape_two_parts _ _ _ _ (len_g t h (mark HandlerSort h ∷ ms)) (label_shape_two_parts _ _ _ _ (len b h (mark HandlerSort h ∷ ms)) (len_h hs h ms)))
   len_h (HTyped f t b hs) h ms =
-      omega (arith, label_shape_two_parts _ _ _ _ (len_v f (2 + h) (mark HandlerSort h ∷ ms)) (label_shape_two_parts _ _ _ _ (len_g t h (mark HandlerSort h ∷ ms)) (label_shape_two_parts _ _ _ _ (len b h (mark HandlerSort h ∷ ms)) (len_h hs h ms))))
+      omega (
+        arith,
+        label_shape_two_parts _ _ _ _ (len_v f (2 + h) (mark HandlerSort h ∷ ms))
+            (label_shape_two_parts _ _ _ _ (len_g t h (mark HandlerSort h ∷ ms))
+            (label_shape_two_parts _ _ _ _ (len b h (mark HandlerSort h ∷ ms)) (len_h hs h ms))),
+      )

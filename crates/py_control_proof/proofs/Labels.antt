@@ -3,10 +3,18 @@ use Rattle.std.proofs.Common.{◌≡◌, ℕ, suc, ◌+◌, ◌≤◌, ◌<◌, 
 use Rattle.std.proofs.lemmas.Bool.{cases_lt}
 use Rattle.std.proofs.lemmas.Bool.Decides.{nat_tests}
 use Rattle.py_bytecode.specs.Values.{Value, Child, Cell, flip}
-use Rattle.py_control.specs.Form.{VForm, VConst, VLoad, VOp, VMake, VShort, VChain, VChoice, VKeep, VSwap, VAt, VForms, VNone, VMore, VMethod, Shorts, OneShort, MoreShort, Links, LastLink, MoreLink, TForm, TTruth, TNot, TAll, Tests, OneTest, MoreTest, Target, GStore, GPut, GUnder, GUnpack, GDrop, Targets, NoTarget, MoreTarget, SForm, SSkip, SThen, SDo, SInto, SRemove, SIf, SIfElse, SWhile, SFor, SBreak, SContinue, SReturn, SClassEnd, SReraise, SAugment, SAugmentTwo, STry, STryFinal, SFinally, SWith, SGather, SGenerate, SAt, Handlers, HNone, HAny, HTyped, Clauses, CLast, CEach, Filters, NoFilter, MoreFilter, Interp}
+use Rattle.py_control.specs.Form.{VForm, VConst, VLoad, VOp, VMake, VShort, VChain, VChoice, VKeep, VSwap, VAt, VForms, VNone, VMore}
+use Rattle.py_control.specs.Form.{VMethod, Shorts, OneShort, MoreShort, Links, LastLink, MoreLink, TForm, TTruth, TNot, TAll, Tests}
+use Rattle.py_control.specs.Form.{OneTest, MoreTest, Target, GStore, GPut, GUnder, GUnpack, GDrop, Targets, NoTarget, MoreTarget, SForm}
+use Rattle.py_control.specs.Form.{SSkip, SThen, SDo, SInto, SRemove, SIf, SIfElse, SWhile, SFor, SBreak, SContinue, SReturn, SClassEnd}
+use Rattle.py_control.specs.Form.{SReraise, SAugment, SAugmentTwo, STry, STryFinal, SFinally, SWith, SGather, SGenerate, SAt, Handlers}
+use Rattle.py_control.specs.Form.{HNone, HAny, HTyped, Clauses, CLast, CEach, Filters, NoFilter, MoreFilter, Interp}
 use Rattle.py_bytecode.specs.Machine.{Instr, Operate}
 use Rattle.py_control.specs.Fit.{Loops}
-use Rattle.py_control.specs.Code.{closes, closing_return, tuple_of, Item, Do, Label, labels_v, labels_vs, labels_ss, labels_ls, labels_t, labels_ts, labels_g, labels_gs, labels_bs, labels_c, labels, labels_h, cell_codes, closure_code, class_code, tail_code, make_code, count, code_v, code_vs, code_ss, code_ls, code_t, code_ts, code_g, code_gs, code_bs, code_c, return_code, append_code, drop_code, code, code_h, body_code}
+use Rattle.py_control.specs.Code.{closes, closing_return, tuple_of, Item, Do, Label, labels_v, labels_vs, labels_ss, labels_ls, labels_t}
+use Rattle.py_control.specs.Code.{labels_ts, labels_g, labels_gs, labels_bs, labels_c, labels, labels_h, cell_codes, closure_code}
+use Rattle.py_control.specs.Code.{class_code, tail_code, make_code, count, code_v, code_vs, code_ss, code_ls, code_t, code_ts, code_g}
+use Rattle.py_control.specs.Code.{code_gs, code_bs, code_c, return_code, append_code, drop_code, code, code_h, body_code}
 use Rattle.py_control_proof.proofs.Assembly.{is_label, occurs, occurs-append}
 
 -- c is how often k is placed where labels from n on, and below m, are
@@ -48,7 +56,18 @@ module _ {K : Type 0} where
       go k u e z = record { below = λ h. omega (arith, u.below h); above = λ h. omega (arith, u.above h); within = λ h g. omega (arith, e, z, u.within h g); once = omega (arith, u.once) }
 
   from_to : {n m : ℕ} (p q : ℕ) {a : List (Item K)} → p ≡ n → m ≡ q → Places n m a → Places p q a
-  from_to {n} {m} p q {a} lo hi x = record { le = omega (arith, x.le); owns = λ k. let o = x.owns k in record { below = λ h. o.below (omega arith); above = λ h. o.above (omega arith); within = λ h g. o.within (omega arith) (omega arith); once = o.once } }
+  from_to {n} {m} p q {a} lo hi x =
+      record {
+        le = omega (arith, x.le);
+        owns = λ k. let o =
+            x.owns k in record {
+              below = λ h. o.below (omega arith);
+              above = λ h. o.above (omega arith);
+              within = λ h g.
+                  o.within (omega arith) (omega arith);
+              once = o.once;
+            };
+      }
 
   label_ends_at : {n m : ℕ} (q : ℕ) {a : List (Item K)} → m ≡ q → Places n m a → Places n q a
   label_ends_at {n} {m} q {a} e x = subst (λ z. Places n z a) e x
@@ -58,7 +77,16 @@ module _ {K : Type 0} where
   label_mark {n} {m} {a} x = record { le = omega (arith, x.le); owns = λ k. go k (x.owns k) }
     where
       go : (k : ℕ) → Owns k (1 + n) m (occurs k a) → Owns k n m (is_label k n + occurs k a)
-      go k u = let b : k < 1 + n → occurs k a ≡ 0 = u.below in let c : m ≤ k → occurs k a ≡ 0 = u.above in let o : occurs k a ≤ 1 = u.once in let w : 1 + n ≤ k → k < m → occurs k a ≡ 1 = u.within in let le = x.le in record { below = λ h. grind (arith, nat_tests, b); above = λ h. grind (arith, nat_tests, c); within = λ h g. grind (arith, nat_tests, b, w); once = grind (arith, nat_tests, b) }
+      go k u = let b : k < 1 + n → occurs k a ≡ 0 = u.below in let c : m ≤ k
+          → occurs k a ≡ 0 = u.above in let o : occurs k a ≤ 1 = u.once in let w : 1 + n ≤ k → k < m
+          → occurs k a ≡ 1 = u.within in let le =
+          x.le in record {
+            below = λ h. grind (arith, nat_tests, b);
+            above = λ h. grind (arith, nat_tests, c);
+            within = λ h g.
+                grind (arith, nat_tests, b, w);
+            once = grind (arith, nat_tests, b);
+          }
 
   mark_two : {n m : ℕ} {a : List (Item K)} → Places (2 + n) m a → Places n m (Label n ∷ Label (1 + n) ∷ a)
   mark_two {n} {m} {a} x = label_mark (label_mark (from_to (1 + (1 + n)) m (omega arith) (omega arith) x))
@@ -110,9 +138,15 @@ module _ {K : Type 0} (i : Interp K) where
         label_ends_at _ (omega arith) (label_both (in_vs a n) (label_ended _ (λ k. no_make K k flags (count a + count b) name (i.closure s) (Child (i.child s))) (in_vs b (n + labels_vs a))))
     in_v (VShort d ss) n = label_ends_at _ (omega arith) (reorder _ _ (label_mark (in_ss ss d n (1 + n))) (λ k. simp occurs-append (omega arith)))
     in_v (VChain f o g ls) n =
-        label_ends_at _ (omega arith) (reorder _ _ (mark_two (label_both (in_v f (2 + n)) (label_both (in_v g (2 + n + labels_v f)) (in_ls ls n (2 + n + labels_v f + labels_v g))))) (λ k. simp occurs-append (omega arith)))
+        label_ends_at _ (omega arith)
+        (reorder _ _ (mark_two (label_both (in_v f (2 + n))
+        (label_both (in_v g (2 + n + labels_v f)) (in_ls ls n (2 + n + labels_v f + labels_v g)))))
+        (λ k. simp occurs-append (omega arith)))
     in_v (VChoice t a b) n =
-        label_ends_at _ (omega arith) (reorder _ _ (mark_two (label_both (in_t t false n (2 + n)) (label_both (in_v a (2 + n + labels_t t false)) (in_v b (2 + n + labels_t t false + labels_v a))))) (λ k. simp occurs-append (omega arith)))
+        label_ends_at _ (omega arith)
+        (reorder _ _ (mark_two (label_both (in_t t false n (2 + n))
+        (label_both (in_v a (2 + n + labels_t t false)) (in_v b (2 + n + labels_t t false + labels_v a)))))
+        (λ k. simp occurs-append (omega arith)))
     in_v (VKeep f how t) n = label_ends_at _ (omega arith) (label_both (in_v f n) (skip (in_g t (n + labels_v f))))
     in_v (VSwap o a b fs) n =
         label_ends_at _ (omega arith) (label_both (in_v a n) (label_both (in_v b (n + labels_v a)) (skip (label_ended _ (λ k. refl) (in_vs fs (n + labels_v a + labels_v b))))))
@@ -171,7 +205,11 @@ module _ {K : Type 0} (i : Interp K) where
   in_c : (cs : Clauses) (leaf : ℕ → ℕ → List (Item K)) (x : ℕ) → ((d n : ℕ) → Places n (n + x) (leaf d n)) → (d n : ℕ) → Places n (n + (labels_c cs + x)) (code_c i cs leaf d n)
   in_c CLast leaf x h d n = label_ends_at _ (omega arith) (h d n)
   in_c (CEach f t bs cs) leaf x h d n =
-      label_ends_at _ (omega arith) (reorder _ _ (mark_two (label_both (in_v f (2 + n)) (label_both (in_g t (2 + n + labels_v f)) (label_both (in_bs bs n (2 + n + labels_v f + labels_g t)) (in_c cs leaf x h (suc d) (2 + n + labels_v f + labels_g t + labels_bs bs)))))) (λ k. simp occurs-append (omega arith)))
+      label_ends_at _ (omega arith)
+      (reorder _ _ (mark_two (label_both (in_v f (2 + n))
+      (label_both (in_g t (2 + n + labels_v f))
+      (label_both (in_bs bs n (2 + n + labels_v f + labels_g t))
+      (in_c cs leaf x h (suc d) (2 + n + labels_v f + labels_g t + labels_bs bs)))))) (λ k. simp occurs-append (omega arith)))
 
   mutual
     in_s : (f : SForm) (l : Loops) (n : ℕ) → Places n (n + labels f) (code i f l n)
@@ -182,11 +220,21 @@ module _ {K : Type 0} (i : Interp K) where
     in_s (SRemove x m) l n = label_ends_at _ (omega arith) (label_none n (λ k. refl))
     in_s (SIf t a) l n = label_ends_at _ (omega arith) (reorder _ _ (label_mark (label_both (in_t t false n (1 + n)) (in_s a l (1 + n + labels_t t false)))) (λ k. simp occurs-append (omega arith)))
     in_s (SIfElse t a b) l n =
-        label_ends_at _ (omega arith) (reorder _ _ (mark_two (label_both (in_t t false n (2 + n)) (label_both (in_s a l (2 + n + labels_t t false)) (in_s b l (2 + n + labels_t t false + labels a))))) (λ k. simp occurs-append (omega arith)))
+        label_ends_at _ (omega arith)
+        (reorder _ _ (mark_two (label_both (in_t t false n (2 + n))
+        (label_both (in_s a l (2 + n + labels_t t false)) (in_s b l (2 + n + labels_t t false + labels a)))))
+        (λ k. simp occurs-append (omega arith)))
     in_s (SWhile t a b) l n =
-        label_ends_at _ (omega arith) (reorder _ _ (mark_three (label_both (in_t t false (1 + n) (3 + n)) (label_both (in_s a (record { inside = true; on_break = 2 + n; on_continue = n }) (3 + n + labels_t t false)) (in_s b l (3 + n + labels_t t false + labels a))))) (λ k. simp occurs-append (omega arith)))
+        label_ends_at _ (omega arith)
+        (reorder _ _ (mark_three (label_both (in_t t false (1 + n) (3 + n))
+        (label_both (in_s a (record { inside = true; on_break = 2 + n; on_continue = n }) (3 + n + labels_t t false))
+        (in_s b l (3 + n + labels_t t false + labels a))))) (λ k. simp occurs-append (omega arith)))
     in_s (SFor f t a b) l n =
-        label_ends_at _ (omega arith) (reorder _ _ (mark_three (label_both (in_v f (3 + n)) (label_both (in_g t (3 + n + labels_v f)) (label_both (in_s a (record { inside = true; on_break = 2 + n; on_continue = n }) (3 + n + labels_v f + labels_g t)) (in_s b l (3 + n + labels_v f + labels_g t + labels a)))))) (λ k. simp occurs-append (omega arith)))
+        label_ends_at _ (omega arith)
+        (reorder _ _ (mark_three (label_both (in_v f (3 + n))
+        (label_both (in_g t (3 + n + labels_v f))
+        (label_both (in_s a (record { inside = true; on_break = 2 + n; on_continue = n }) (3 + n + labels_v f + labels_g t))
+        (in_s b l (3 + n + labels_v f + labels_g t + labels a)))))) (λ k. simp occurs-append (omega arith)))
     in_s SBreak l n = label_ends_at _ (omega arith) (label_none n (λ k. refl))
     in_s SContinue l n = label_ends_at _ (omega arith) (label_none n (λ k. refl))
     in_s (SReturn f) l n = in_return f n
@@ -196,13 +244,23 @@ module _ {K : Type 0} (i : Interp K) where
     in_s (SAugmentTwo f g get v op put) l n =
         label_ends_at _ (omega arith) (label_both (in_v f n) (label_both (in_v g (n + labels_v f)) (skip (skip (label_ended _ (λ k. refl) (in_v v (n + labels_v f + labels_v g)))))))
     in_s (STry a hs b) l n =
-        label_ends_at _ (omega arith) (reorder _ _ (mark_three (label_both (in_s a l (3 + n)) (label_both (in_h hs false l (2 + n) (3 + n + labels a)) (in_s b l (3 + n + labels a + labels_h hs))))) (λ k. simp occurs-append (omega arith)))
+        label_ends_at _ (omega arith)
+        (reorder _ _ (mark_three (label_both (in_s a l (3 + n))
+        (label_both (in_h hs false l (2 + n) (3 + n + labels a)) (in_s b l (3 + n + labels a + labels_h hs)))))
+        (λ k. simp occurs-append (omega arith)))
     in_s (STryFinal a hs b e) l n =
-        label_ends_at _ (omega arith) (reorder _ _ (mark_three (label_both (in_s a l (3 + n)) (label_both (in_h hs true l (2 + n) (3 + n + labels a)) (label_both (in_s b l (3 + n + labels a + labels_h hs)) (in_s e l (3 + n + labels a + labels_h hs + labels b)))))) (λ k. simp occurs-append (omega arith)))
+        label_ends_at _ (omega arith)
+        (reorder _ _ (mark_three (label_both (in_s a l (3 + n))
+        (label_both (in_h hs true l (2 + n) (3 + n + labels a))
+        (label_both (in_s b l (3 + n + labels a + labels_h hs)) (in_s e l (3 + n + labels a + labels_h hs + labels b))))))
+        (λ k. simp occurs-append (omega arith)))
     in_s (SFinally a e) l n =
         label_ends_at _ (omega arith) (reorder _ _ (label_mark (label_both (in_s a l (1 + n)) (in_s e l (1 + n + labels a)))) (λ k. simp occurs-append (omega arith)))
     in_s (SWith f t a) l n =
-        label_ends_at _ (omega arith) (reorder _ _ (label_mark (label_both (in_v f (1 + n)) (label_both (in_g t (1 + n + labels_v f)) (in_s a l (1 + n + labels_v f + labels_g t))))) (λ k. simp occurs-append (omega arith)))
+        label_ends_at _ (omega arith)
+        (reorder _ _ (label_mark (label_both (in_v f (1 + n))
+        (label_both (in_g t (1 + n + labels_v f)) (in_s a l (1 + n + labels_v f + labels_g t)))))
+        (λ k. simp occurs-append (omega arith)))
     in_s (SGather o cs p fs) l n = skip (label_ended _ (λ k. refl) (in_c cs (append_code i p fs) (labels_vs fs) (λ d m. label_ended _ (λ k. refl) (in_vs fs m)) 0 n))
     in_s (SGenerate cs f) l n = in_c cs (drop_code i f) (labels_v f) (λ d m. label_ended _ (λ k. refl) (in_v f m)) 0 n
     in_s (SAt p f) l n = in_s f l n
@@ -210,9 +268,16 @@ module _ {K : Type 0} (i : Interp K) where
     in_h : (hs : Handlers) (final : Bool) (l : Loops) (end n : ℕ) → Places n (n + labels_h hs) (code_h i hs final l end n)
     in_h HNone final l end n = label_ends_at _ (omega arith) (label_none n (λ k. refl))
     in_h (HAny t b hs) final l end n =
-        label_ends_at _ (omega arith) (reorder _ _ (label_mark (label_both (in_g t (1 + n)) (label_both (in_s b l (1 + n + labels_g t)) (in_h hs final l end (1 + n + labels_g t + labels b))))) (λ k. simp occurs-append (let z = label_no_tail K k final in omega arith)))
+        label_ends_at _ (omega arith)
+        (reorder _ _ (label_mark (label_both (in_g t (1 + n))
+        (label_both (in_s b l (1 + n + labels_g t)) (in_h hs final l end (1 + n + labels_g t + labels b)))))
+        (λ k. simp occurs-append (let z = label_no_tail K k final in omega arith)))
     in_h (HTyped f t b hs) final l end n =
-        label_ends_at _ (omega arith) (reorder _ _ (label_mark (label_both (in_v f (1 + n)) (label_both (in_g t (1 + n + labels_v f)) (label_both (in_s b l (1 + n + labels_v f + labels_g t)) (in_h hs final l end (1 + n + labels_v f + labels_g t + labels b)))))) (λ k. simp occurs-append (let z = label_no_tail K k final in omega arith)))
+        label_ends_at _ (omega arith)
+        (reorder _ _ (label_mark (label_both (in_v f (1 + n))
+        (label_both (in_g t (1 + n + labels_v f))
+        (label_both (in_s b l (1 + n + labels_v f + labels_g t)) (in_h hs final l end (1 + n + labels_v f + labels_g t + labels b))))))
+        (λ k. simp occurs-append (let z = label_no_tail K k final in omega arith)))
 
   pub label_once : (f : SForm) (k : ℕ) → occurs k (body_code i f) ≤ 1
   label_once f k =

@@ -8,7 +8,7 @@ use Rattle.py_bytecode.specs.Blocks.{Block, Place, Of, block_machine}
 use Rattle.py_control.specs.Form.{Scope}
 use Rattle.py_control.specs.Looped.{Looped}
 use Rattle.py_control.specs.Code.{labels, body_code}
-use Rattle.py_control_proof.specs.Live.{live}
+use Rattle.py_control_proof.specs.Reachable.{reachable_count}
 use Rattle.py_control.specs.Agree.{exactly, form_of}
 use Rattle.py_control.specs.CodeRuns.{runs_code}
 use Rattle.py_control_proof.specs.Blocks.{Lies, Laid, Ends}
@@ -20,10 +20,11 @@ use Rattle.py_control_proof.proofs.LabelCount.{labels_counted}
 pub body_lies : (child : Scope → Object) (s : Scope) (t : Tables) (bs : List Block) (q : Place) → Laid t bs (body_code (exactly child s) (form_of s)) (Of 0 0) q
     → Ends bs q → Lies t bs (labels (form_of s)) (body_code (exactly child s) (form_of s)) (Of 0 0) q
 body_lies child s t bs q laid ends =
-    subst (λ n. Lies t bs n (body_code (exactly child s) (form_of s)) (Of 0 0) q) (labels_counted (exactly child s) (form_of s)) (laid_lies t bs (body_code (exactly child s) (form_of s)) (Of 0 0) q laid ends)
+    subst (λ n. Lies t bs n (body_code (exactly child s) (form_of s)) (Of 0 0) q) (labels_counted (exactly child s) (form_of s))
+    (laid_lies t bs (body_code (exactly child s) (form_of s)) (Of 0 0) q laid ends)
 
 pub laid_runs : (child : Scope → Object) (s : Scope) (t : Tables) (bs : List Block) (q : Place) → Laid t bs (body_code (exactly child s) (form_of s)) (Of 0 0) q
     → Ends bs q → labels (form_of s) ≤ length bs → Looped false (form_of s) → (answers : List Answer) (n : ℕ)
-    → fuel (live true (body_code (exactly child s) (form_of s))) answers ≤ n
+    → fuel (reachable_count true (body_code (exactly child s) (form_of s))) answers ≤ n
     → block_machine t bs n answers ≡ runs_code (body_code (exactly child s) (form_of s)) answers
 laid_runs child s t bs q laid ends few ok answers n enough = blocks_run child s t bs (labels (form_of s)) q (body_lies child s t bs q laid ends) few ok answers n enough

@@ -2,8 +2,14 @@
 use Rattle.py_bytecode.specs.Objects as const
 use Rattle.py_bytecode.specs.Machine.{start}
 use Rattle.std.proofs.Common.{ℕ, zero, suc, List, [], ◌∷◌, length, Bool, true, false, Option, Some, None, sym, subst}
-use Rattle.py_bytecode.specs.Values.{Answer, raise_again, match_exception, enter_with, exit_with, Value, Constant, Cell, World, Got, Fine, Raises, Stops, Operates, for_none, for_one, for_two, truth_of, next_of, on_some, Leave, Breaks, Continues, Returns, Throws, Ended, Normal, Leaves, Halts, on_ended, then_do, use_it, effect, choose}
-use Rattle.py_control.specs.Form.{Scope, SForm, SSkip, SThen, SDo, SInto, SRemove, SIf, SIfElse, SWhile, SFor, SBreak, SContinue, SReturn, SClassEnd, SReraise, SAugment, SAugmentTwo, STry, STryFinal, SFinally, SWith, SGather, SGenerate, SAt, Handlers, HNone, HAny, HTyped, Interp, after_turn, turns, assign_then, rounds, in_hand, handle, try_run, finally_run, exit_run, exit_leave, class_end, reraise_end, returns, append_run, run_value, run_test, run_target, run_clauses, run, run_handlers, ended_so}
+use Rattle.py_bytecode.specs.Values.{Answer, raise_again, match_exception, enter_with, exit_with, Value, Constant, Cell, World, Got, Fine}
+use Rattle.py_bytecode.specs.Values.{Raises, Stops, Operates, for_none, for_one, for_two, truth_of, next_of, on_some, Leave, Breaks}
+use Rattle.py_bytecode.specs.Values.{Continues, Returns, Throws, Ended, Normal, Leaves, Halts, on_ended, then_do, use_it, effect, choose}
+use Rattle.py_control.specs.Form.{Scope, SForm, SSkip, SThen, SDo, SInto, SRemove, SIf, SIfElse, SWhile, SFor, SBreak, SContinue, SReturn}
+use Rattle.py_control.specs.Form.{SClassEnd, SReraise, SAugment, SAugmentTwo, STry, STryFinal, SFinally, SWith, SGather, SGenerate, SAt}
+use Rattle.py_control.specs.Form.{Handlers, HNone, HAny, HTyped, Interp, after_turn, turns, assign_then, rounds, in_hand, handle, try_run}
+use Rattle.py_control.specs.Form.{finally_run, exit_run, exit_leave, class_end, reraise_end, returns, append_run, run_value, run_test}
+use Rattle.py_control.specs.Form.{run_target, run_clauses, run, run_handlers, ended_so}
 use Rattle.py_control.specs.Agree.{exactly, form_of}
 use Rattle.py_control.specs.CodeRuns.{runs_code}
 use Rattle.py_control_proof.specs.Laws.{IsEnd, AlwaysEnds}
@@ -114,7 +120,9 @@ module _ {K : Type 0} where
       looped_ends b (SIf t x) h slot w = ends_use b (run_test i t w) _ (λ c w1. ends_choose b c (run i x slot w1) (Normal w1) (looped_ends b x h slot w1) tt)
       looped_ends b (SIfElse t x y) h slot w = ends_use b (run_test i t w) _ (λ c w1. ends_choose b c (run i x slot w1) (run i y slot w1) (looped_ends b x h.0 slot w1) (looped_ends b y h.1 slot w1))
       looped_ends b (SWhile t x y) h slot w = ends_turns b (suc (length w.answers)) (run_test i t) (run i x slot) (run i y slot) (looped_ends b y h.1 slot) w
-      looped_ends b (SFor f t x y) h slot w = ends_use b (run_value i f w) _ (λ it w1. ends_rounds b (suc (length w1.answers)) it (assign_then (run_target i t) (run i x slot)) (run i y slot) (looped_ends b y h.1 slot) w1)
+      looped_ends b (SFor f t x y) h slot w = ends_use b
+          (run_value i f w) _ (λ it w1. ends_rounds b (suc (length w1.answers)) it (assign_then (run_target i t) (run i x slot))
+          (run i y slot) (looped_ends b y h.1 slot) w1)
       looped_ends true SBreak h slot w = tt
       looped_ends false SBreak h slot w = h
       looped_ends true SContinue h slot w = tt
@@ -124,12 +132,20 @@ module _ {K : Type 0} where
       looped_ends b SReraise h slot w = ends_reraised b slot w
       looped_ends b (SAugment f get v op put) h slot w = ends_effect b _
       looped_ends b (SAugmentTwo f g get v op put) h slot w = ends_effect b _
-      looped_ends b (STry x hs y) h slot w = ends_leave b (run i x slot w) (run i y slot) _ (looped_ends b x h.0 slot w) (looped_ends b y h.2 slot) (λ why w1 e. ends_handle b why w1 (run_handlers i hs) e (handlers_end b hs h.1))
+      looped_ends b (STry x hs y) h slot w = ends_leave b (run i x slot w) (run i y slot) _ (looped_ends b x h.0 slot w)
+          (looped_ends b y h.2 slot) (λ why w1 e. ends_handle b why w1 (run_handlers i hs) e (handlers_end b hs h.1))
       looped_ends b (STryFinal x hs y z) h slot w =
-          ends_finally b (try_run (run i x slot) (run_handlers i hs) (run i y slot)) (run i z) slot (λ w1. ends_leave b (run i x slot w1) (run i y slot) _ (looped_ends b x h.0 slot w1) (looped_ends b y h.2 slot) (λ why w2 e. ends_handle b why w2 (run_handlers i hs) e (handlers_end b hs h.1))) (looped_ends b z h.3) w
+          ends_finally b (try_run (run i x slot) (run_handlers i hs) (run i y slot)) (run i z) slot
+          (λ w1. ends_leave b (run i x slot w1) (run i y slot) _ (looped_ends b x h.0 slot w1) (looped_ends b y h.2 slot)
+          (λ why w2 e. ends_handle b why w2 (run_handlers i hs) e (handlers_end b hs h.1))) (looped_ends b z h.3) w
       looped_ends b (SFinally x z) h slot w = ends_finally b (run i x slot) (run i z) slot (looped_ends b x h.0 slot) (looped_ends b z h.1) w
       looped_ends b (SWith f t x) h slot w =
-          ends_use b (run_value i f w) _ (λ v w1. ends_use b (for_two (Operates enter_with (v ∷ [])) w1) _ (λ xu w2. ends_leave b (assign_then (run_target i t) (run i x slot) xu.1 w2) _ _ (ends_use b (run_target i t xu.1 w2) _ (λ d w3. looped_ends b x h slot w3)) (λ w3. ends_exit b xu.0 (Constant const.none) (λ t w4. Normal w4) (λ t w4. tt) w3) (λ why w3 e. ends_exit_leave b xu.0 why w3 e)))
+          ends_use b (run_value i f w) _ (λ v w1. ends_use b
+          (for_two (Operates enter_with (v ∷ [])) w1) _ (λ xu w2.
+          ends_leave b (assign_then (run_target i t) (run i x slot) xu.1 w2)
+          _ _ (ends_use b (run_target i t xu.1 w2) _ (λ d w3. looped_ends b x h slot w3))
+          (λ w3. ends_exit b xu.0 (Constant const.none) (λ t w4. Normal w4) (λ t w4. tt) w3)
+          (λ why w3 e. ends_exit_leave b xu.0 why w3 e)))
       looped_ends b (SGather o cs p fs) h slot w = ends_use b (for_one (Operates o []) w) _ (λ c w1. ends_use b (run_clauses i cs (append_run i p fs c) w1) _ (λ d w2. tt))
       looped_ends b (SGenerate cs f) h slot w = ends_effect b _
       looped_ends b (SAt p x) h slot w = looped_ends b x h slot w
@@ -138,7 +154,11 @@ module _ {K : Type 0} where
       handlers_end b HNone h e w = tt
       handlers_end b (HAny t x hs) h e w = ends_use b (run_target i t e w) _ (λ d w1. looped_ends b x h.0 (Some e) w1)
       handlers_end b (HTyped f t x hs) h e w =
-          ends_use b (run_value i f w) _ (λ v w1. ends_use b (for_one (Operates match_exception (e ∷ v ∷ [])) w1) _ (λ m w2. ends_use b (truth_of m w2) _ (λ c w3. ends_choose b c _ (run_handlers i hs e w3) (ends_use b (run_target i t e w3) _ (λ d w4. looped_ends b x h.0 (Some e) w4)) (handlers_end b hs h.1 e w3))))
+          ends_use b (run_value i f w) _ (λ v w1. ends_use b
+          (for_one (Operates match_exception (e ∷ v ∷ [])) w1)
+          _ (λ m w2. ends_use b (truth_of m w2) _ (λ c w3.
+          ends_choose b c _ (run_handlers i hs e w3) (ends_use b (run_target i t e w3) _ (λ d w4. looped_ends b x h.0 (Some e) w4))
+          (handlers_end b hs h.1 e w3))))
 
   pub end_is : (r : Ended K) → LoopedEndEnds false r → IsEnd (ended_so r).outcome
   end_is (Normal w) h = tt

@@ -1,15 +1,16 @@
 -- Loops: while, for, and the clauses of a comprehension.
 use Rattle.std.proofs.Common.{◌≡◌, ℕ, zero, suc, ◌+◌, ◌≤◌, List, [], ◌∷◌, ◌++◌, length, Bool, true, false, Option, Some, None, refl, sym, ap, ◌∙◌, subst, arith, le_refl}
 use mathlib.Core.Path.{fun_ext}
-use Rattle.py_bytecode.specs.Values.{Value, Entry, It, World, Got, Fine, Raises, Stops, on_got, next_of, on_some, choose, meets, Breaks, Continues, Returns, Throws, Ended, Normal, Leaves, Halts, on_ended, use_it}
+use Rattle.py_bytecode.specs.Values.{Value, Entry, It, World, Got, Fine, Raises, Stops, on_got, next_of, on_some, choose, meets, Breaks}
+use Rattle.py_bytecode.specs.Values.{Continues, Returns, Throws, Ended, Normal, Leaves, Halts, on_ended, use_it}
 use Rattle.py_control.specs.Form.{after_turn, turns, while_run, assign_then, rounds, for_run}
-use Rattle.py_bytecode.specs.Machine.{Jump, SetupLoop, PopBlock, ForIter, Found, ReturnOf, RaiseOf, Block, Loop, Config, At, cut, unwind, stopped_config, raise}
+use Rattle.py_bytecode.specs.Machine.{Jump, SetupLoop, PopBlock, ForIter, Found, ReturnOf, RaiseOf, Block, Loop, Config, At, stack_cut, unwind, stopped_config, raise}
 use Rattle.py_control.specs.Fit.{IsFit, IsWithin, Loops, leave, answers_left}
 use Rattle.py_control.specs.Code.{Item, Do, Label, size, while_code, for_code}
-use Rattle.py_control_proof.specs.Live.{live}
+use Rattle.py_control_proof.specs.Reachable.{reachable_count}
 use Rattle.py_control_proof.proofs.Reach.{light, heavy, pay, reaches_left, Ground, Reaches, reach_more, follow}
-use Rattle.py_control_proof.proofs.Falls.{falls, surely, live-append, live_if, Never, opens_at, opens_mark, opens_do, opens_over, fall_opened, never_use}
-use Rattle.py_control_proof.proofs.Wholes.{WholeWhole, live_whole, falls_whole}
+use Rattle.py_control_proof.proofs.Falls.{falls, surely, reachable_count-append, reachable_if, Never, opens_at, opens_mark, opens_do, opens_over, fall_opened, never_use}
+use Rattle.py_control_proof.proofs.Wholes.{WholeWhole, reachable_whole, falls_whole}
 use Rattle.py_control_proof.proofs.Moves.{raise_drop, cut_exact, cut_drop, OnFine, MoveStands, move_split, does, FollowsValue, FollowsTarget, FollowsTest, Follows, use_then}
 use Rattle.py_control_proof.proofs.Ops.{next_takes}
 
@@ -19,17 +20,26 @@ loop_raise s bs slot = fun_ext (λ e. fun_ext (λ w. cut_exact s w (λ s1. raise
 
 module _ {K P : Type 0} (g : Ground K P) where
   -- what follows a turn of any loop: si is the stack in the loop, and s that below it
-  module _ (start end : ℕ) (l : Loops) (s si : List (Entry K)) (bs : List (Block K P)) (slot : Option (Value K)) (q at_jump after : P) (jumps : g.fetch at_jump ≡ Found (Jump (g.spot start)) after) (ends : g.spot end ≡ q) (cuts : (w : World K) (k : List (Entry K) → Config K P) → cut (length s) si w k ≡ k s) (f : Bool) (t b budget : ℕ) (room : t + b + live {K = K} f (Do (Jump start) ∷ []) ≤ g.weight) where
+  module _ (start end : ℕ) (l : Loops) (s si : List (Entry K)) (bs : List (Block K P)) (slot : Option (Value K)) (q at_jump after : P)
+      (jumps : g.fetch at_jump ≡ Found (Jump (g.spot start)) after) (ends : g.spot end ≡ q)
+      (cuts : (w : World K) (k : List (Entry K) → Config K P) → stack_cut (length s) si w k ≡ k s) (f : Bool) (t b budget : ℕ)
+      (room : t + b + reachable_count {K = K} f (Do (Jump start) ∷ []) ≤ g.weight) where
     abbrev pub top : World K → Config K P
     top w = At (g.spot start) si (Loop (length s) ∷ bs) slot w
 
     abbrev pub goal : Ended K → Config K P
     goal r = on_ended r (λ w1. At q s bs slot w1) (leave g.spot l s bs slot) stopped_config
 
-    pub turn_end : (again : World K → Ended K) (w : World K) (c : Config K P) → Reaches (light g) t (top w) c → suc (answers_left c) ≤ length w.answers → ((w2 : World K) → length w2.answers ≤ answers_left c → Reaches g budget (top w2) (goal (again w2))) → (r : Ended K) → (f ≡ false → Never r) → Reaches g b c (on_ended r (λ w2. At at_jump si (Loop (length s) ∷ bs) slot w2) (leave g.spot (record { inside = true; on_break = end; on_continue = start }) si (Loop (length s) ∷ bs) slot) stopped_config) → Reaches g budget (top w) (goal (on_ended r again (λ why w2. after_turn why w2 again) Halts))
+    pub turn_end : (again : World K → Ended K) (w : World K) (c : Config K P) → Reaches (light g) t (top w) c
+        → suc (answers_left c) ≤ length w.answers
+        → ((w2 : World K) → length w2.answers ≤ answers_left c → Reaches g budget (top w2) (goal (again w2))) → (r : Ended K)
+        → (f ≡ false → Never r) → Reaches g b c
+        (on_ended r (λ w2. At at_jump si (Loop (length s) ∷ bs) slot w2)
+        (leave g.spot (record { inside = true; on_break = end; on_continue = start }) si (Loop (length s) ∷ bs) slot) stopped_config)
+        → Reaches g budget (top w) (goal (on_ended r again (λ why w2. after_turn why w2 again) Halts))
     turn_end again w c rt lt next (Normal w2) never h =
         let back = follow g b 1 _ _ _ h (does g (Jump start) at_jump after si (Loop (length s) ∷ bs) slot w2 jumps) in
-        let turn = pay g t (b + 1) _ _ _ rt lt back (omega (arith, room, live_if {K = K} f (Do (Jump start) ∷ []) (surely f never))) in
+        let turn = pay g t (b + 1) _ _ _ rt lt back (omega (arith, room, reachable_if {K = K} f (Do (Jump start) ∷ []) (surely f never))) in
         reach_more g (0 + budget) budget _ _ (omega arith) (follow g 0 budget _ _ _ turn (next w2 (reaches_left g _ _ _ h)))
     turn_end again w c rt lt next (Leaves Continues w2) never h =
         let turn = pay g t b _ _ _ rt lt h (omega (arith, room)) in
@@ -78,18 +88,23 @@ module _ {K P : Type 0} (g : Ground K P) where
         ends = r3.2.0 ∙ r3.2.1;
       }
 
-  module _ (start other end : ℕ) (test body orelse : List (Item K)) (l : Loops) (mt : World K → Got K Bool) (mb mo : Option (Value K) → World K → Ended K) (ft : FollowsTest (light g) test false other mt) (fb : Follows g body (record { inside = true; on_break = end; on_continue = start }) mb) (fo : Follows g orelse l mo) (room : size test + live true body + live {K = K} (falls true body) (Do (Jump start) ∷ []) ≤ g.weight) (room_else : live true orelse ≤ g.weight) (p q : P) (la : LoopAt start other end test body orelse p q) (s : List (Entry K)) (bs : List (Block K P)) (slot : Option (Value K)) (fit : IsFit s bs) (within : IsWithin l bs) where
+  module _ (start other end : ℕ) (test body orelse : List (Item K)) (l : Loops) (mt : World K → Got K Bool)
+      (mb mo : Option (Value K) → World K → Ended K) (ft : FollowsTest (light g) test false other mt)
+      (fb : Follows g body (record { inside = true; on_break = end; on_continue = start }) mb) (fo : Follows g orelse l mo)
+      (room : size test + reachable_count true body + reachable_count {K = K} (falls true body) (Do (Jump start) ∷ []) ≤ g.weight)
+      (room_else : reachable_count true orelse ≤ g.weight) (p q : P) (la : LoopAt start other end test body orelse p q) (s : List (Entry K))
+      (bs : List (Block K P)) (slot : Option (Value K)) (fit : IsFit s bs) (within : IsWithin l bs) where
     abbrev budget : ℕ
-    budget = size test + (1 + live true orelse)
+    budget = size test + (1 + reachable_count true orelse)
 
     abbrev B : List (Block K P)
     B = Loop (length s) ∷ bs
 
     abbrev loop_out : Ended K → Config K P
-    loop_out r = goal start end l s s bs slot q la.at_jump (g.spot other) la.jumps la.ends (cut_exact s) (falls true body) (size test) (live true body) budget room r
+    loop_out r = goal start end l s s bs slot q la.at_jump (g.spot other) la.jumps la.ends (cut_exact s) (falls true body) (size test) (reachable_count true body) budget room r
 
-    else_part : (w : World K) → Reaches g (1 + live true orelse) (At (g.spot other) s B slot w) (loop_out (mo slot w))
-    else_part w = follow g 1 (live true orelse) _ _ _ (does g PopBlock (g.spot other) la.at_else s B slot w la.pops) (fo.by room_else la.at_else q la.elses s bs slot fit within w)
+    else_part : (w : World K) → Reaches g (1 + reachable_count true orelse) (At (g.spot other) s B slot w) (loop_out (mo slot w))
+    else_part w = follow g 1 (reachable_count true orelse) _ _ _ (does g PopBlock (g.spot other) la.at_else s B slot w la.pops) (fo.by room_else la.at_else q la.elses s bs slot fit within w)
 
     after_test : (again : World K → Ended K) (w : World K)
         → ((w2 : World K) → suc (length w2.answers) ≤ length w.answers → Reaches g budget (At (g.spot start) s B slot w2) (loop_out (again w2)))
@@ -97,36 +112,54 @@ module _ {K P : Type 0} (g : Ground K P) where
         → Reaches (light g) (size test) (At (g.spot start) s B slot w) (on_got r (λ t w1. At (meets false t (g.spot other) la.at_body) s B slot w1) (raise s bs slot) stopped_config)
         → Reaches g budget (At (g.spot start) s B slot w) (loop_out (use_it r (λ c w1. choose c (on_ended (mb slot w1) again (λ why w2. after_turn why w2 again) Halts) (mo slot w1))))
     after_test again w next (Fine true w1) lt h =
-        turn_end start end l s s bs slot q la.at_jump (g.spot other) la.jumps la.ends (cut_exact s) (falls true body) (size test) (live true body) budget room again w _ h lt (λ w2 le. next w2 (omega arith)) (mb slot w1) (λ e. fb.never e slot w1) (fb.by (omega (arith, room)) la.at_body la.at_jump la.turns_on s B slot (le_refl _) (λ e. refl) w1)
-    after_test again w next (Fine false w1) lt h = follow g (size test) (1 + live true orelse) _ _ _ (heavy g _ _ _ h) (else_part w1)
+        turn_end start end l s s bs slot q la.at_jump (g.spot other) la.jumps la.ends (cut_exact s) (falls true body) (size test)
+        (reachable_count true body) budget room again w _ h lt (λ w2 le. next w2 (omega arith)) (mb slot w1) (λ e. fb.never e slot w1)
+        (fb.by (omega (arith, room)) la.at_body la.at_jump la.turns_on s B slot (le_refl _) (λ e. refl) w1)
+    after_test again w next (Fine false w1) lt h = follow g (size test) (1 + reachable_count true orelse) _ _ _ (heavy g _ _ _ h) (else_part w1)
     after_test again w next (Raises e w1) lt h = reach_more g (size test) budget _ _ (omega arith) (heavy g _ _ _ h)
     after_test again w next (Stops events) lt h = reach_more g (size test) budget _ _ (omega arith) (heavy g _ _ _ h)
 
     turns_reach : (n : ℕ) (w : World K) → suc (length w.answers) ≤ n → Reaches g budget (At (g.spot start) s B slot w) (loop_out (turns n mt (mb slot) (mo slot) w))
     turns_reach zero w lt = absurd (omega arith)
     turns_reach (suc n) w lt =
-        let h = subst (λ R. Reaches (light g) (size test) (At (g.spot start) s B slot w) (on_got (mt w) (λ t w1. At (meets false t (g.spot other) la.at_body) s B slot w1) R stopped_config)) (loop_raise s bs slot) (ft.by (g.spot start) la.at_body la.tests s B slot (le_refl _) w) in
+        let h = subst (λ R. Reaches (light g) (size test) (At (g.spot start) s B slot w)
+        (on_got (mt w) (λ t w1. At (meets false t (g.spot other) la.at_body) s B slot w1) R stopped_config)) (loop_raise s bs slot)
+        (ft.by (g.spot start) la.at_body la.tests s B slot (le_refl _) w) in
         after_test (turns n mt (mb slot) (mo slot)) w (λ w2 le. turns_reach n w2 (omega arith)) (mt w) (ft.takes (g.spot start) la.at_body la.tests w) h
 
     loop_reach : (w : World K) → Reaches g (1 + budget) (At p s bs slot w) (loop_out (while_run mt (mb slot) (mo slot) w))
     loop_reach w = follow g 1 budget _ _ _ (does g SetupLoop p (g.spot start) s bs slot w la.setup) (turns_reach (suc (length w.answers)) w (le_refl _))
 
-  pub while_follows : (start other end : ℕ) (test body orelse : List (Item K)) (l : Loops) (mt : World K → Got K Bool) (mb mo : Option (Value K) → World K → Ended K) → WholeWhole test → FollowsTest (light g) test false other mt → Follows g body (record { inside = true; on_break = end; on_continue = start }) mb → Follows g orelse l mo → Follows g (while_code start other end test body orelse) l (λ slot w. while_run mt (mb slot) (mo slot) w)
+  pub while_follows : (start other end : ℕ) (test body orelse : List (Item K)) (l : Loops) (mt : World K → Got K Bool)
+      (mb mo : Option (Value K) → World K → Ended K) → WholeWhole test → FollowsTest (light g) test false other mt
+      → Follows g body (record { inside = true; on_break = end; on_continue = start }) mb → Follows g orelse l mo
+      → Follows g (while_code start other end test body orelse) l (λ slot w. while_run mt (mb slot) (mo slot) w)
   while_follows start other end test body orelse l mt mb mo x ft fb fo = record {
     by = λ room p q st s bs slot fit within w.
-        let sizes : live true (while_code start other end test body orelse) ≡ 1 + (size test + (live true body + (live {K = K} (falls true body) (Do (Jump start) ∷ []) + (1 + live true orelse)))) =
-        omega (arith, live_whole test (body ++ (Do (Jump start) ∷ Label other ∷ Do PopBlock ∷ (orelse ++ Label end ∷ []))) x, live-append true body (Do (Jump start) ∷ Label other ∷ Do PopBlock ∷ (orelse ++ Label end ∷ [])), live-append (falls true body) (Do (Jump start) ∷ []) (Label other ∷ Do PopBlock ∷ (orelse ++ Label end ∷ [])), live-append true orelse (Label end ∷ [])) in
-        reach_more g (1 + (size test + (1 + live true orelse))) _ _ _ (omega (arith, sizes))
-        (loop_reach start other end test body orelse l mt mb mo ft fb fo (omega (arith, room, sizes)) (omega (arith, room, sizes)) p q (loop_at start other end test body orelse p q st) s bs slot fit within w);
-    never = λ e slot w. fall_opened (while_code start other end test body orelse) (opens_do (opens_mark (opens_over test (opens_over body (opens_do (opens_mark (opens_do (opens_over orelse (opens_at refl))))))))) e;
+        let sizes : reachable_count true (while_code start other end test body orelse) ≡ 1
+        + (size test + (reachable_count true body
+        + (reachable_count {K = K} (falls true body) (Do (Jump start) ∷ []) + (1 + reachable_count true orelse)))) =
+        omega (
+          arith,
+          reachable_whole test (body ++ (Do (Jump start) ∷ Label other ∷ Do PopBlock ∷ (orelse ++ Label end ∷ []))) x,
+          reachable_count-append true body (Do (Jump start) ∷ Label other ∷ Do PopBlock ∷ (orelse ++ Label end ∷ [])),
+          reachable_count-append (falls true body) (Do (Jump start) ∷ []) (Label other ∷ Do PopBlock ∷ (orelse ++ Label end ∷ [])),
+          reachable_count-append true orelse (Label end ∷ []),
+        ) in
+        reach_more g (1 + (size test + (1 + reachable_count true orelse))) _ _ _ (omega (arith, sizes))
+        (loop_reach start other end test body orelse l mt mb mo ft fb fo (omega (arith, room, sizes)) (omega (arith, room, sizes)) p q
+        (loop_at start other end test body orelse p q st) s bs slot fit within w);
+    never = λ e slot w. fall_opened (while_code start other end test body orelse)
+        (opens_do (opens_mark (opens_over test (opens_over body (opens_do (opens_mark (opens_do (opens_over orelse (opens_at refl)))))))))
+        e;
   }
 
 module _ {K P : Type 0} (g : Ground K P) where
   -- a statement that begins with a value on the stack
   pub record FollowsTurn (is : List (Item K)) (l : Loops) (m : Option (Value K) → Value K → World K → Ended K) : Type 0 where
-    pub by : live true is ≤ g.weight → (p q : P) → MoveStands g is p q → (s : List (Entry K)) (bs : List (Block K P)) (slot : Option (Value K)) → IsFit s bs
+    pub by : reachable_count true is ≤ g.weight → (p q : P) → MoveStands g is p q → (s : List (Entry K)) (bs : List (Block K P)) (slot : Option (Value K)) → IsFit s bs
         → IsWithin l bs → (v : Value K) (w : World K)
-        → Reaches g (live true is) (At p (It v ∷ s) bs slot w) (on_ended (m slot v w) (λ w1. At q s bs slot w1) (leave g.spot l s bs slot) stopped_config)
+        → Reaches g (reachable_count true is) (At p (It v ∷ s) bs slot w) (on_ended (m slot v w) (λ w1. At q s bs slot w1) (leave g.spot l s bs slot) stopped_config)
     pub never : falls true is ≡ false → (slot : Option (Value K)) (v : Value K) (w : World K) → Never (m slot v w)
 
   pub turn_follows : (a b : List (Item K)) (l : Loops) (ma : Value K → World K → Got K (Unit {0})) (mb : Option (Value K) → World K → Ended K) → WholeWhole a
@@ -134,9 +167,10 @@ module _ {K P : Type 0} (g : Ground K P) where
   turn_follows a b l ma mb x fa fb = record {
     by = λ room p q st s bs slot fit within v w.
         let r = move_split g a b p q st in
-        let sizes = live_whole a b x in
-        reach_more g (size a + live true b) _ _ _ (omega (arith, sizes))
-        (use_then g (ma v w) _ (size a) (live true b) _ (λ d w1. At r.0 s bs slot w1) (λ w1. At q s bs slot w1) l s bs slot ((fa v).by p r.0 r.1 s bs slot fit w) (λ d w1. fb.by (omega (arith, room, sizes)) r.0 q r.2 s bs slot fit within w1));
+        let sizes = reachable_whole a b x in
+        reach_more g (size a + reachable_count true b) _ _ _ (omega (arith, sizes))
+        (use_then g (ma v w) _ (size a) (reachable_count true b) _ (λ d w1. At r.0 s bs slot w1) (λ w1. At q s bs slot w1) l s bs slot
+        ((fa v).by p r.0 r.1 s bs slot fit w) (λ d w1. fb.by (omega (arith, room, sizes)) r.0 q r.2 s bs slot fit within w1));
     never = λ e slot v w. never_use (ma v w) (λ d w1. mb slot w1) (λ d w1. fb.never (sym (falls_whole a b x) ∙ e) slot w1);
   }
 
@@ -178,9 +212,14 @@ module _ {K P : Type 0} (g : Ground K P) where
         ends = r3.2.0 ∙ r3.2.1;
       }
 
-  module _ (start other end : ℕ) (iter turn orelse : List (Item K)) (l : Loops) (mt : Option (Value K) → Value K → World K → Ended K) (mo : Option (Value K) → World K → Ended K) (ft : FollowsTurn turn (record { inside = true; on_break = end; on_continue = start }) mt) (fo : Follows g orelse l mo) (room : 1 + live true turn + live {K = K} (falls true turn) (Do (Jump start) ∷ []) ≤ g.weight) (room_else : live true orelse ≤ g.weight) (p q : P) (la : ForAt start other end iter turn orelse p q) (it : Value K) (s : List (Entry K)) (bs : List (Block K P)) (slot : Option (Value K)) (fit : IsFit s bs) (within : IsWithin l bs) where
+  module _ (start other end : ℕ) (iter turn orelse : List (Item K)) (l : Loops) (mt : Option (Value K) → Value K → World K → Ended K)
+      (mo : Option (Value K) → World K → Ended K) (ft : FollowsTurn turn (record { inside = true; on_break = end; on_continue = start }) mt)
+      (fo : Follows g orelse l mo) (room : 1 + reachable_count true turn + reachable_count {K = K} (falls true turn) (Do (Jump start) ∷ [])
+      ≤ g.weight) (room_else : reachable_count true orelse ≤ g.weight) (p q : P) (la : ForAt start other end iter turn orelse p q)
+      (it : Value K) (s : List (Entry K)) (bs : List (Block K P)) (slot : Option (Value K)) (fit : IsFit s bs)
+      (within : IsWithin l bs) where
     abbrev round_budget : ℕ
-    round_budget = 1 + (1 + live true orelse)
+    round_budget = 1 + (1 + reachable_count true orelse)
 
     abbrev RB : List (Block K P)
     RB = Loop (length s) ∷ bs
@@ -188,14 +227,14 @@ module _ {K P : Type 0} (g : Ground K P) where
     abbrev round_top : World K → Config K P
     round_top w = At (g.spot start) (It it ∷ s) RB slot w
 
-    cuts : (w : World K) (k : List (Entry K) → Config K P) → cut (length s) (It it ∷ s) w k ≡ k s
+    cuts : (w : World K) (k : List (Entry K) → Config K P) → stack_cut (length s) (It it ∷ s) w k ≡ k s
     cuts w k = cut_drop (length s) (It it) s w k (le_refl _) ∙ cut_exact s w k
 
     abbrev round_out : Ended K → Config K P
-    round_out r = goal g start end l s (It it ∷ s) bs slot q la.at_jump (g.spot other) la.jumps la.ends cuts (falls true turn) 1 (live true turn) round_budget room r
+    round_out r = goal g start end l s (It it ∷ s) bs slot q la.at_jump (g.spot other) la.jumps la.ends cuts (falls true turn) 1 (reachable_count true turn) round_budget room r
 
-    round_else : (w : World K) → Reaches g (1 + live true orelse) (At (g.spot other) s RB slot w) (round_out (mo slot w))
-    round_else w = follow g 1 (live true orelse) _ _ _ (does g PopBlock (g.spot other) la.at_else s RB slot w la.pops) (fo.by room_else la.at_else q la.elses s bs slot fit within w)
+    round_else : (w : World K) → Reaches g (1 + reachable_count true orelse) (At (g.spot other) s RB slot w) (round_out (mo slot w))
+    round_else w = follow g 1 (reachable_count true orelse) _ _ _ (does g PopBlock (g.spot other) la.at_else s RB slot w la.pops) (fo.by room_else la.at_else q la.elses s bs slot fit within w)
 
     loop_after_next : (again : World K → Ended K) (w : World K)
         → ((w2 : World K) → suc (length w2.answers) ≤ length w.answers → Reaches g round_budget (round_top w2) (round_out (again w2)))
@@ -203,28 +242,52 @@ module _ {K P : Type 0} (g : Ground K P) where
         → Reaches (light g) 1 (round_top w) (on_got r (λ x w1. on_some x (λ u. At la.at_turn (It u ∷ It it ∷ s) RB slot w1) (At (g.spot other) s RB slot w1)) (raise s bs slot) stopped_config)
         → Reaches g round_budget (round_top w) (round_out (use_it r (λ x w1. on_some x (λ v. on_ended (mt slot v w1) again (λ why w2. after_turn why w2 again) Halts) (mo slot w1))))
     loop_after_next again w next (Fine (Some v) w1) lt h =
-        turn_end g start end l s (It it ∷ s) bs slot q la.at_jump (g.spot other) la.jumps la.ends cuts (falls true turn) 1 (live true turn) round_budget room again w _ h lt (λ w2 le. next w2 (omega arith)) (mt slot v w1) (λ e. ft.never e slot v w1) (ft.by (omega (arith, room)) la.at_turn la.at_jump la.turns_on (It it ∷ s) RB slot (omega arith) (λ e. refl) v w1)
-    loop_after_next again w next (Fine None w1) lt h = follow g 1 (1 + live true orelse) _ _ _ (heavy g _ _ _ h) (round_else w1)
+        turn_end g start end l s (It it ∷ s) bs slot q la.at_jump (g.spot other) la.jumps la.ends cuts (falls true turn) 1
+        (reachable_count true turn) round_budget room again w _ h lt (λ w2 le. next w2 (omega arith)) (mt slot v w1)
+        (λ e. ft.never e slot v w1) (ft.by (omega (arith, room)) la.at_turn la.at_jump la.turns_on (It it ∷ s) RB slot (omega arith)
+        (λ e. refl) v w1)
+    loop_after_next again w next (Fine None w1) lt h = follow g 1 (1 + reachable_count true orelse) _ _ _ (heavy g _ _ _ h) (round_else w1)
     loop_after_next again w next (Raises e w1) lt h = reach_more g 1 round_budget _ _ (omega arith) (heavy g _ _ _ h)
     loop_after_next again w next (Stops events) lt h = reach_more g 1 round_budget _ _ (omega arith) (heavy g _ _ _ h)
 
     rounds_reach : (n : ℕ) (w : World K) → suc (length w.answers) ≤ n → Reaches g round_budget (round_top w) (round_out (rounds n it (mt slot) (mo slot) w))
     rounds_reach zero w lt = absurd (omega arith)
     rounds_reach (suc n) w lt =
-        let h = subst (λ R. Reaches (light g) 1 (round_top w) (on_got (next_of it w) (λ x w1. on_some x (λ u. At la.at_turn (It u ∷ It it ∷ s) RB slot w1) (At (g.spot other) s RB slot w1)) R stopped_config)) (raise_drop (It it) s RB slot (le_refl _) ∙ loop_raise s bs slot) (does (light g) (ForIter other) (g.spot start) la.at_turn (It it ∷ s) RB slot w la.nexts) in
+        let h = subst (λ R. Reaches (light g) 1 (round_top w)
+        (on_got (next_of it w) (λ x w1. on_some x (λ u. At la.at_turn (It u ∷ It it ∷ s) RB slot w1) (At (g.spot other) s RB slot w1)) R
+        stopped_config)) (raise_drop (It it) s RB slot (le_refl _) ∙ loop_raise s bs slot)
+        (does (light g) (ForIter other) (g.spot start) la.at_turn (It it ∷ s) RB slot w la.nexts) in
         loop_after_next (rounds n it (mt slot) (mo slot)) w (λ w2 le. rounds_reach n w2 (omega arith)) (next_of it w) (next_takes it w) h
 
-  pub for_follows : (start other end : ℕ) (iter turn orelse : List (Item K)) (l : Loops) (mi : World K → Got K (Value K)) (mt : Option (Value K) → Value K → World K → Ended K) (mo : Option (Value K) → World K → Ended K) → WholeWhole iter → FollowsValue g iter mi → FollowsTurn turn (record { inside = true; on_break = end; on_continue = start }) mt → Follows g orelse l mo → Follows g (for_code start other end iter turn orelse) l (λ slot w. for_run mi (mt slot) (mo slot) w)
+  pub for_follows : (start other end : ℕ) (iter turn orelse : List (Item K)) (l : Loops) (mi : World K → Got K (Value K))
+      (mt : Option (Value K) → Value K → World K → Ended K) (mo : Option (Value K) → World K → Ended K) → WholeWhole iter
+      → FollowsValue g iter mi → FollowsTurn turn (record { inside = true; on_break = end; on_continue = start }) mt → Follows g orelse l mo
+      → Follows g (for_code start other end iter turn orelse) l (λ slot w. for_run mi (mt slot) (mo slot) w)
   for_follows start other end iter turn orelse l mi mt mo x fi ft fo = record {
     by = λ room p q st s bs slot fit within w.
-        let n : ℕ = 1 + (1 + live true orelse) in
-        let sizes : live true (for_code start other end iter turn orelse) ≡ 1 + (size iter + (1 + (live true turn + (live {K = K} (falls true turn) (Do (Jump start) ∷ []) + (1 + live true orelse))))) =
-        omega (arith, live_whole iter (Label start ∷ Do (ForIter other) ∷ (turn ++ (Do (Jump start) ∷ Label other ∷ Do PopBlock ∷ (orelse ++ Label end ∷ [])))) x, live-append true turn (Do (Jump start) ∷ Label other ∷ Do PopBlock ∷ (orelse ++ Label end ∷ [])), live-append (falls true turn) (Do (Jump start) ∷ []) (Label other ∷ Do PopBlock ∷ (orelse ++ Label end ∷ [])), live-append true orelse (Label end ∷ [])) in
+        let n : ℕ = 1 + (1 + reachable_count true orelse) in
+        let sizes : reachable_count true (for_code start other end iter turn orelse) ≡ 1
+        + (size iter
+        + (1 + (reachable_count true turn
+        + (reachable_count {K = K} (falls true turn) (Do (Jump start) ∷ []) + (1 + reachable_count true orelse))))) =
+        omega (
+          arith,
+          reachable_whole iter
+              (Label start ∷ Do (ForIter other) ∷ (turn ++ (Do (Jump start) ∷ Label other ∷ Do PopBlock ∷ (orelse ++ Label end ∷ [])))) x,
+          reachable_count-append true turn (Do (Jump start) ∷ Label other ∷ Do PopBlock ∷ (orelse ++ Label end ∷ [])),
+          reachable_count-append (falls true turn) (Do (Jump start) ∷ []) (Label other ∷ Do PopBlock ∷ (orelse ++ Label end ∷ [])),
+          reachable_count-append true orelse (Label end ∷ []),
+        ) in
         let la = for_at start other end iter turn orelse p q st in
-        let first = subst (λ R. Reaches g (size iter) (At la.at_iter s (Loop (length s) ∷ bs) slot w) (on_got (mi w) (λ v w1. At (g.spot start) (It v ∷ s) (Loop (length s) ∷ bs) slot w1) R stopped_config)) (loop_raise s bs slot) (fi.by la.at_iter (g.spot start) la.iters s (Loop (length s) ∷ bs) slot (le_refl _) w) in
+        let first = subst (λ R. Reaches g (size iter) (At la.at_iter s (Loop (length s) ∷ bs) slot w)
+        (on_got (mi w) (λ v w1. At (g.spot start) (It v ∷ s) (Loop (length s) ∷ bs) slot w1) R stopped_config)) (loop_raise s bs slot)
+        (fi.by la.at_iter (g.spot start) la.iters s (Loop (length s) ∷ bs) slot (le_refl _) w) in
         reach_more g (1 + (size iter + n)) _ _ _ (omega (arith, sizes))
         (follow g 1 (size iter + n) _ _ _ (does g SetupLoop p la.at_iter s bs slot w la.setup)
         (use_then g (mi w) _ (size iter) n _ (λ v w1. At (g.spot start) (It v ∷ s) (Loop (length s) ∷ bs) slot w1) _ l s bs slot first
-        (λ it w2. rounds_reach start other end iter turn orelse l mt mo ft fo (omega (arith, room, sizes)) (omega (arith, room, sizes)) p q la it s bs slot fit within (suc (length w2.answers)) w2 (le_refl _))));
-    never = λ e slot w. fall_opened (for_code start other end iter turn orelse) (opens_do (opens_over iter (opens_mark (opens_do (opens_over turn (opens_do (opens_mark (opens_do (opens_over orelse (opens_at refl)))))))))) e;
+        (λ it w2. rounds_reach start other end iter turn orelse l mt mo ft fo (omega (arith, room, sizes))
+        (omega (arith, room, sizes)) p q la it s bs slot fit within (suc (length w2.answers)) w2 (le_refl _))));
+    never = λ e slot w. fall_opened (for_code start other end iter turn orelse)
+        (opens_do (opens_over iter (opens_mark
+        (opens_do (opens_over turn (opens_do (opens_mark (opens_do (opens_over orelse (opens_at refl)))))))))) e;
   }

@@ -1,6 +1,7 @@
 -- A machine over the same children at other places has the same runs.
 use Rattle.std.proofs.Common.{◌≡◌, ℕ, List, [], ◌∷◌, ◌++◌, refl, ap, ◌∙◌}
-use Rattle.py_bytecode.specs.Values.{Value, Constant, Given, Child, It, Cells, Event, Operates, Makes, Accesses, StoresCells, AsksTruth, AsksNext, Answer, Outcome, Returned, RaisedOut, Stopped, Wrong, Leaked, Going, Ran}
+use Rattle.py_bytecode.specs.Values.{Value, Constant, Given, Child, It, Cells, Event, Operates, Makes, Accesses, StoresCells, AsksTruth}
+use Rattle.py_bytecode.specs.Values.{AsksNext, Answer, Outcome, Returned, RaisedOut, Stopped, Wrong, Leaked, Going, Ran}
 use Rattle.py_bytecode.specs.Machine.{Fetched, machine, start}
 use Rattle.py_control.specs.View.{value_to, values_to, event_to, events_to, outcome_to, ran_to}
 use Rattle.py_control.specs.Places.{exact, fetched_over}

@@ -3,12 +3,13 @@ use Rattle.std.proofs.Common.{◌≡◌, ℕ, suc, ◌+◌, ◌-◌, ◌≤◌, 
 use Rattle.std.specs.Prelude.{nat_le}
 use mathlib.Core.Path.{fun_ext}
 use Rattle.py_bytecode.specs.Values.{Value, Entry, It, World, Got, Fine, Raises, Stops, on_got, then_get, choose, meets, Leave, Ended, Normal, Leaves, Halts, on_ended, then_do, use_it}
-use Rattle.py_bytecode.specs.Machine.{Instr, at_places, Found, RaiseOf, Block, Loop, Except, Finally, ExceptHandler, FinallyHandler, Config, At, wrong, cut, push, stack_of, stopped_config, raise, act, act_at}
+use Rattle.py_bytecode.specs.Machine.{Instr, at_places, Found, RaiseOf, Block, Loop, Except, Finally, ExceptHandler, FinallyHandler, Config}
+use Rattle.py_bytecode.specs.Machine.{At, wrong, stack_cut, push, stack_of, stopped_config, raise, act, act_at}
 use Rattle.py_control.specs.Fit.{IsFit, IsWithin, Loops, leave}
 use Rattle.py_control.specs.Code.{Item, Do, Label, size}
-use Rattle.py_control_proof.specs.Live.{live}
+use Rattle.py_control_proof.specs.Reachable.{reachable_count}
 use Rattle.py_control_proof.proofs.Reach.{Ground, Reaches, reach_more, follow, reach_one}
-use Rattle.py_control_proof.proofs.Falls.{falls, surely, live_if, Never}
+use Rattle.py_control_proof.proofs.Falls.{falls, surely, reachable_if, Never}
 
 pub fit_more : {K P : Type 0} (v : Entry K) (s : List (Entry K)) (bs : List (Block K P)) → IsFit s bs → IsFit (v ∷ s) bs
 fit_more v s [] h = tt
@@ -18,14 +19,14 @@ fit_more v s (b ∷ bs) h = omega arith
 move_cut_at : {K P : Type 0} (b c : Bool) (s t : List (Entry K)) (w : World K) (k : List (Entry K) → Config K P) → b ≡ c → s ≡ t → choose b (k s) (wrong w) ≡ choose c (k t) (wrong w)
 move_cut_at b c s t w k e f = ap (λ x. choose x (k s) (wrong w)) e ∙ ap (λ x. choose c (k x) (wrong w)) f
 
-pub cut_drop : {K P : Type 0} (h : ℕ) (v : Entry K) (s : List (Entry K)) (w : World K) (k : List (Entry K) → Config K P) → h ≤ length s → cut h (v ∷ s) w k ≡ cut h s w k
+pub cut_drop : {K P : Type 0} (h : ℕ) (v : Entry K) (s : List (Entry K)) (w : World K) (k : List (Entry K) → Config K P) → h ≤ length s → stack_cut h (v ∷ s) w k ≡ stack_cut h s w k
 cut_drop h v s w k le =
     let a : nat_le h (length (v ∷ s)) ≡ true = le-leb h (suc (length s)) (omega arith) in
     let b : nat_le h (length s) ≡ true = le-leb h (length s) le in
     let n : suc (length s) - h ≡ suc (length s - h) = omega arith in
     move_cut_at (nat_le h (length (v ∷ s))) (nat_le h (length s)) (drop (length (v ∷ s) - h) (v ∷ s)) (drop (length s - h) s) w k (a ∙ sym b) (ap (λ m. drop m (v ∷ s)) n)
 
-pub cut_exact : {K P : Type 0} (s : List (Entry K)) (w : World K) (k : List (Entry K) → Config K P) → cut (length s) s w k ≡ k s
+pub cut_exact : {K P : Type 0} (s : List (Entry K)) (w : World K) (k : List (Entry K) → Config K P) → stack_cut (length s) s w k ≡ k s
 cut_exact s w k =
     let a : nat_le (length s) (length s) ≡ true = le-leb (length s) (length s) (le_refl _) in
     let n : length s - length s ≡ 0 = omega arith in
@@ -106,15 +107,16 @@ module _ {K P : Type 0} (g : Ground K P) where
         → Reaches g (size is) (At p s bs slot w) (on_got (m w) (λ t w1. At (meets c t (g.spot to) q) s bs slot w1) (raise s bs slot) stopped_config)
     pub takes : (p q : P) → MoveStands is p q → (w : World K) → OnFine (m w) (λ t w1. suc (length w1.answers) ≤ length w.answers)
 
-  -- code of a statement; where what follows cannot be come to from it, its run never goes on
+  -- code of a statement; where what follows cannot be reached from it, its run never goes on
   pub record Follows (is : List (Item K)) (l : Loops) (m : Option (Value K) → World K → Ended K) : Type 0 where
-    pub by : live true is ≤ g.weight → (p q : P) → MoveStands is p q → (s : List (Entry K)) (bs : List (Block K P)) (slot : Option (Value K)) → IsFit s bs
+    pub by : reachable_count true is ≤ g.weight → (p q : P) → MoveStands is p q → (s : List (Entry K)) (bs : List (Block K P)) (slot : Option (Value K)) → IsFit s bs
         → IsWithin l bs → (w : World K)
-        → Reaches g (live true is) (At p s bs slot w) (on_ended (m slot w) (λ w1. At q s bs slot w1) (leave g.spot l s bs slot) stopped_config)
+        → Reaches g (reachable_count true is) (At p s bs slot w) (on_ended (m slot w) (λ w1. At q s bs slot w1) (leave g.spot l s bs slot) stopped_config)
     pub never : falls true is ≡ false → (slot : Option (Value K)) (w : World K) → Never (m slot w)
 
   -- two ends at which a run goes on alike
-  pub get_then : {A B : Type 0} (r : Got K A) (k : A → World K → Got K B) (m n : ℕ) (c : Config K P) (land1 : A → World K → Config K P) (land2 : B → World K → Config K P) (raises : Value K → World K → Config K P)
+  pub get_then : {A B : Type 0} (r : Got K A) (k : A → World K → Got K B) (m n : ℕ) (c : Config K P) (land1 : A → World K → Config K P)
+      (land2 : B → World K → Config K P) (raises : Value K → World K → Config K P)
       → Reaches g m c (on_got r land1 raises stopped_config) → ((a : A) (w : World K) → Reaches g n (land1 a w) (on_got (k a w) land2 raises stopped_config))
       → Reaches g (m + n) c (on_got (then_get r k) land2 raises stopped_config)
   get_then (Fine a w) k m n c land1 land2 raises h hk = follow g m n c _ _ h (hk a w)
@@ -122,7 +124,8 @@ module _ {K P : Type 0} (g : Ground K P) where
   get_then (Stops events) k m n c land1 land2 raises h hk = reach_more g m (m + n) c _ (omega arith) h
 
   -- the same where something is known of what is given
-  pub get_on : {A B : Type 0} (r : Got K A) (k : A → World K → Got K B) (m n : ℕ) (c : Config K P) (land1 : A → World K → Config K P) (land2 : B → World K → Config K P) (raises : Value K → World K → Config K P) (q : A → World K → Type 0)
+  pub get_on : {A B : Type 0} (r : Got K A) (k : A → World K → Got K B) (m n : ℕ) (c : Config K P) (land1 : A → World K → Config K P)
+      (land2 : B → World K → Config K P) (raises : Value K → World K → Config K P) (q : A → World K → Type 0)
       → OnFine r q → Reaches g m c (on_got r land1 raises stopped_config)
       → ((a : A) (w : World K) → q a w → Reaches g n (land1 a w) (on_got (k a w) land2 raises stopped_config))
       → Reaches g (m + n) c (on_got (then_get r k) land2 raises stopped_config)
@@ -139,7 +142,8 @@ module _ {K P : Type 0} (g : Ground K P) where
   get_land (Stops events) m n c land1 land2 raises h hk = reach_more g m (m + n) c _ (omega arith) h
 
   -- from a value to a statement, and from a statement to the next
-  pub use_then : {A : Type 0} (r : Got K A) (k : A → World K → Ended K) (m n : ℕ) (c : Config K P) (land1 : A → World K → Config K P) (land2 : World K → Config K P) (l : Loops) (s : List (Entry K)) (bs : List (Block K P)) (slot : Option (Value K))
+  pub use_then : {A : Type 0} (r : Got K A) (k : A → World K → Ended K) (m n : ℕ) (c : Config K P) (land1 : A → World K → Config K P)
+      (land2 : World K → Config K P) (l : Loops) (s : List (Entry K)) (bs : List (Block K P)) (slot : Option (Value K))
       → Reaches g m c (on_got r land1 (raise s bs slot) stopped_config)
       → ((a : A) (w : World K) → Reaches g n (land1 a w) (on_ended (k a w) land2 (leave g.spot l s bs slot) stopped_config))
       → Reaches g (m + n) c (on_ended (use_it r k) land2 (leave g.spot l s bs slot) stopped_config)
@@ -172,45 +176,60 @@ module _ {K P : Type 0} (g : Ground K P) where
   end_cases b (Leaves why w) F m n c land leaves never h hn hl hh = follow g m n c _ _ h (hl why w)
   end_cases b (Halts events) F m n c land leaves never h hn hl hh = follow g m n c _ _ h (hh events)
 
-  -- so many steps as a part has instructions that can be come to
-  pub lively : (b : Bool) (is : List (Item K)) (a c : Config K P) → b ≡ true → Reaches g (live true is) a c → Reaches g (live b is) a c
-  lively b is a c e r = subst (λ n. Reaches g n a c) (sym (live_if b is e)) r
+  -- so many steps as a part has instructions that can be reached
+  pub reachable_steps : (b : Bool) (is : List (Item K)) (a c : Config K P) → b ≡ true → Reaches g (reachable_count true is) a c → Reaches g (reachable_count b is) a c
+  reachable_steps b is a c e r = subst (λ n. Reaches g n a c) (sym (reachable_if b is e)) r
 
   -- THE LAWS OF MOVES: one after another, one instruction, under an entry
-  pub moves_on : {A B : Type 0} (a b : List (Item K)) (pre : List (Entry K) → List (Entry K)) (mid : A → List (Entry K) → List (Entry K)) (post : B → List (Entry K) → List (Entry K)) (m : World K → Got K A) (k : A → World K → Got K B) (known : A → Type 0)
+  pub moves_on : {A B : Type 0} (a b : List (Item K)) (pre : List (Entry K) → List (Entry K)) (mid : A → List (Entry K) → List (Entry K))
+      (post : B → List (Entry K) → List (Entry K)) (m : World K → Got K A) (k : A → World K → Got K B) (known : A → Type 0)
       → ((w : World K) → OnFine (m w) (λ x w1. known x)) → Moves a pre m mid → ((x : A) → known x → Moves b (mid x) (k x) post)
       → Moves (a ++ b) pre (λ w. then_get (m w) k) post
   moves_on a b pre mid post m k known knows fa fb = record {
     by = λ p q st s bs slot fit w.
         let r = move_split a b p q st in
         reach_more g (size a + size b) _ _ _ (omega (arith, size-append a b))
-        (get_on (m w) k (size a) (size b) _ (λ x w1. At r.0 (mid x s) bs slot w1) (λ x w1. At q (post x s) bs slot w1) (raise s bs slot) (λ x w1. known x) (knows w) (fa.by p r.0 r.1 s bs slot fit w) (λ x w1 h. (fb x h).by r.0 q r.2 s bs slot fit w1));
+        (get_on (m w) k (size a) (size b) _ (λ x w1. At r.0 (mid x s) bs slot w1) (λ x w1. At q (post x s) bs slot w1) (raise s bs slot)
+        (λ x w1. known x) (knows w) (fa.by p r.0 r.1 s bs slot fit w) (λ x w1 h. (fb x h).by r.0 q r.2 s bs slot fit w1));
   }
 
-  pub moves_then : {A B : Type 0} (a b : List (Item K)) (pre : List (Entry K) → List (Entry K)) (mid : A → List (Entry K) → List (Entry K)) (post : B → List (Entry K) → List (Entry K)) (m : World K → Got K A) (k : A → World K → Got K B)
+  pub moves_then : {A B : Type 0} (a b : List (Item K)) (pre : List (Entry K) → List (Entry K)) (mid : A → List (Entry K) → List (Entry K))
+      (post : B → List (Entry K) → List (Entry K)) (m : World K → Got K A) (k : A → World K → Got K B)
       → Moves a pre m mid → ((x : A) → Moves b (mid x) (k x) post) → Moves (a ++ b) pre (λ w. then_get (m w) k) post
   moves_then a b pre mid post m k fa fb = record {
     by = λ p q st s bs slot fit w.
         let r = move_split a b p q st in
         reach_more g (size a + size b) _ _ _ (omega (arith, size-append a b))
-        (get_then (m w) k (size a) (size b) _ (λ x w1. At r.0 (mid x s) bs slot w1) (λ x w1. At q (post x s) bs slot w1) (raise s bs slot) (fa.by p r.0 r.1 s bs slot fit w) (λ x w1. (fb x).by r.0 q r.2 s bs slot fit w1));
+        (get_then (m w) k (size a) (size b) _ (λ x w1. At r.0 (mid x s) bs slot w1) (λ x w1. At q (post x s) bs slot w1) (raise s bs slot)
+        (fa.by p r.0 r.1 s bs slot fit w) (λ x w1. (fb x).by r.0 q r.2 s bs slot fit w1));
   }
 
   -- an instruction, and what follows it
-  pub moves_do : {A B : Type 0} (i : Instr K ℕ) (b : List (Item K)) (pre : List (Entry K) → List (Entry K)) (mid : A → List (Entry K) → List (Entry K)) (post : B → List (Entry K) → List (Entry K)) (m : World K → Got K A) (k : A → World K → Got K B)
-      → ((n : P) (s : List (Entry K)) (bs : List (Block K P)) (slot : Option (Value K)) (w : World K) → IsFit s bs → act (at_places g.spot i) n (pre s) bs slot w ≡ on_got (m w) (λ x w1. At n (mid x s) bs slot w1) (raise s bs slot) stopped_config)
+  pub moves_do : {A B : Type 0} (i : Instr K ℕ) (b : List (Item K)) (pre : List (Entry K) → List (Entry K))
+      (mid : A → List (Entry K) → List (Entry K)) (post : B → List (Entry K) → List (Entry K)) (m : World K → Got K A)
+      (k : A → World K → Got K B)
+      → ((n : P) (s : List (Entry K)) (bs : List (Block K P)) (slot : Option (Value K)) (w : World K) → IsFit s bs
+      → act (at_places g.spot i) n (pre s) bs slot w ≡ on_got (m w) (λ x w1. At n (mid x s) bs slot w1)
+      (raise s bs slot) stopped_config)
       → ((x : A) → Moves b (mid x) (k x) post) → Moves (Do i ∷ b) pre (λ w. then_get (m w) k) post
   moves_do i b pre mid post m k op fb = record {
     by = λ p q st s bs slot fit w.
-        reach_more g (1 + size b) (size (Do i ∷ b)) _ _ (omega arith) (get_then (m w) k 1 (size b) _ (λ x w1. At st.0 (mid x s) bs slot w1) (λ x w1. At q (post x s) bs slot w1) (raise s bs slot) (subst (λ c. Reaches g 1 (At p (pre s) bs slot w) c) (op st.0 s bs slot w fit) (does i p st.0 (pre s) bs slot w st.1)) (λ x w1. (fb x).by st.0 q st.2 s bs slot fit w1));
+        reach_more g (1 + size b) (size (Do i ∷ b)) _ _ (omega arith)
+        (get_then (m w) k 1 (size b) _ (λ x w1. At st.0 (mid x s) bs slot w1) (λ x w1. At q (post x s) bs slot w1) (raise s bs slot)
+        (subst (λ c. Reaches g 1 (At p (pre s) bs slot w) c) (op st.0 s bs slot w fit) (does i p st.0 (pre s) bs slot w st.1))
+        (λ x w1. (fb x).by st.0 q st.2 s bs slot fit w1));
   }
 
   pub moves_one : {A : Type 0} (i : Instr K ℕ) (pre : List (Entry K) → List (Entry K)) (post : A → List (Entry K) → List (Entry K)) (m : World K → Got K A)
-      → ((n : P) (s : List (Entry K)) (bs : List (Block K P)) (slot : Option (Value K)) (w : World K) → IsFit s bs → act (at_places g.spot i) n (pre s) bs slot w ≡ on_got (m w) (λ x w1. At n (post x s) bs slot w1) (raise s bs slot) stopped_config)
+      → ((n : P) (s : List (Entry K)) (bs : List (Block K P)) (slot : Option (Value K)) (w : World K) → IsFit s bs
+      → act (at_places g.spot i) n (pre s) bs slot w ≡ on_got (m w) (λ x w1. At n (post x s) bs slot w1)
+      (raise s bs slot) stopped_config)
       → Moves (Do i ∷ []) pre m post
   moves_one i pre post m op = record {
     by = λ p q st s bs slot fit w.
-        subst (λ n. Reaches g 1 (At p (pre s) bs slot w) (on_got (m w) (λ x w1. At n (post x s) bs slot w1) (raise s bs slot) stopped_config)) st.2 (subst (λ c. Reaches g 1 (At p (pre s) bs slot w) c) (op st.0 s bs slot w fit) (does i p st.0 (pre s) bs slot w st.1));
+        subst (λ n. Reaches g 1 (At p (pre s) bs slot w)
+        (on_got (m w) (λ x w1. At n (post x s) bs slot w1) (raise s bs slot) stopped_config)) st.2
+        (subst (λ c. Reaches g 1 (At p (pre s) bs slot w) c) (op st.0 s bs slot w fit) (does i p st.0 (pre s) bs slot w st.1));
   }
 
   -- an instruction that only moves what lies on the stack
@@ -219,13 +238,18 @@ module _ {K P : Type 0} (g : Ground K P) where
       → Moves b mid m post → Moves (Do i ∷ b) pre m post
   moves_shuffle i b pre mid post m op fb = record {
     by = λ p q st s bs slot fit w.
-        reach_more g (1 + size b) (size (Do i ∷ b)) _ _ (omega arith) (follow g 1 (size b) _ _ _ (subst (λ c. Reaches g 1 (At p (pre s) bs slot w) c) (op st.0 s bs slot w) (does i p st.0 (pre s) bs slot w st.1)) (fb.by st.0 q st.2 s bs slot fit w));
+        reach_more g (1 + size b) (size (Do i ∷ b)) _ _ (omega arith)
+        (follow g 1 (size b) _ _ _ (subst (λ c. Reaches g 1 (At p (pre s) bs slot w) c) (op st.0 s bs slot w)
+        (does i p st.0 (pre s) bs slot w st.1)) (fb.by st.0 q st.2 s bs slot fit w));
   }
 
   pub framed : {A : Type 0} (e : Entry K) (is : List (Item K)) (pre : List (Entry K) → List (Entry K)) (m : World K → Got K A) (post : A → List (Entry K) → List (Entry K))
       → Moves is pre m post → Moves is (λ s. pre (e ∷ s)) m (λ x s. post x (e ∷ s))
   framed e is pre m post f = record {
-    by = λ p q st s bs slot fit w. subst (λ R. Reaches g (size is) (At p (pre (e ∷ s)) bs slot w) (on_got (m w) (λ x w1. At q (post x (e ∷ s)) bs slot w1) R stopped_config)) (raise_drop e s bs slot fit) (f.by p q st (e ∷ s) bs slot (fit_more e s bs fit) w);
+    by = λ p q st s bs slot fit w.
+        subst (λ R. Reaches g (size is) (At p (pre (e ∷ s)) bs slot w)
+        (on_got (m w) (λ x w1. At q (post x (e ∷ s)) bs slot w1) R stopped_config)) (raise_drop e s bs slot fit)
+        (f.by p q st (e ∷ s) bs slot (fit_more e s bs fit) w);
   }
 
   pub framed_push : {A : Type 0} (vs : List (Value K)) (is : List (Item K)) (pre : List (Entry K) → List (Entry K)) (m : World K → Got K A) (post : A → List (Entry K) → List (Entry K))
@@ -239,7 +263,8 @@ module _ {K P : Type 0} (g : Ground K P) where
   framed_stack (v ∷ vs) is pre m post f = framed_stack vs is (λ s. pre (It v ∷ s)) m (λ x s. post x (It v ∷ s)) (framed (It v) is pre m post f)
 
   -- what is given, changed
-  pub moves_map : {A B : Type 0} (is : List (Item K)) (pre : List (Entry K) → List (Entry K)) (m : World K → Got K A) (post : A → List (Entry K) → List (Entry K)) (f : A → B) (post1 : B → List (Entry K) → List (Entry K))
+  pub moves_map : {A B : Type 0} (is : List (Item K)) (pre : List (Entry K) → List (Entry K)) (m : World K → Got K A)
+      (post : A → List (Entry K) → List (Entry K)) (f : A → B) (post1 : B → List (Entry K) → List (Entry K))
       → ((a : A) (s : List (Entry K)) → post a s ≡ post1 (f a) s) → Moves is pre m post → Moves is pre (λ w. then_get (m w) (λ a w1. Fine (f a) w1)) post1
   moves_map is pre m post f post1 e fa = record { by = λ p q st s bs slot fit w. go q s bs slot _ (m w) (fa.by p q st s bs slot fit w) }
     where

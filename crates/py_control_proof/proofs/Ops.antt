@@ -1,7 +1,9 @@
 -- Operations: what is given, how many, and that answers are taken.
 use Rattle.std.proofs.Common.{◌≡◌, ℕ, zero, suc, ◌+◌, ◌≤◌, List, [], ◌∷◌, ◌++◌, length, Bool, true, false, Option, Some, refl, ap, ◌∙◌, arith, le_refl, zero-add, append-nil, length-append}
 use Rattle.std.specs.Prelude.{nat_eq, if◌then◌else◌}
-use Rattle.py_bytecode.specs.Values.{Value, Given, Cell, Entry, It, Cells, Answer, Gives, Truth, End, Raised, Event, AsksTruth, AsksNext, World, Got, Fine, Raises, Stops, on_got, then_get, ask_of, ask_for, fits, fits_truth, fits_next, for_one, for_two, for_none, one_of, two_of, none_of, gives_of, given_values, truth_of, next_of}
+use Rattle.py_bytecode.specs.Values.{Value, Given, Cell, Entry, It, Cells, Answer, Gives, Truth, End, Raised, Event, AsksTruth, AsksNext}
+use Rattle.py_bytecode.specs.Values.{World, Got, Fine, Raises, Stops, on_got, then_get, ask_of, ask_for, fits, fits_truth, fits_next}
+use Rattle.py_bytecode.specs.Values.{for_one, for_two, for_none, one_of, two_of, none_of, gives_of, given_values, truth_of, next_of}
 use Rattle.py_control.specs.Form.{Interp, VForms, VNone, VMore, VMethod, run_value, run_values}
 use Rattle.py_bytecode.specs.Machine.{pop, pop_cells, push}
 use Rattle.py_control.specs.Code.{count}
@@ -43,7 +45,8 @@ pub one_is : {K C : Type 0} (e : Event K) (w : World K) (land : List (Value K) �
 one_is e w land raises stops land1 h = go w.answers
   where
     go : (answers : List Answer)
-        → on_got (ask_of (w.events ++ e ∷ []) answers w.taken (fits (Some 1))) land raises stops ≡ on_got (then_get (ask_of (w.events ++ e ∷ []) answers w.taken (fits (Some 1))) one_of) land1 raises stops
+        → on_got (ask_of (w.events ++ e ∷ []) answers w.taken (fits (Some 1))) land raises stops
+        ≡ on_got (then_get (ask_of (w.events ++ e ∷ []) answers w.taken (fits (Some 1))) one_of) land1 raises stops
     go [] = refl
     go (Gives k ∷ rest) = one_if (nat_eq 1 k) w.taken _ land raises stops land1 h
     go (Truth b ∷ rest) = refl
@@ -62,7 +65,8 @@ pub two_is : {K C : Type 0} (e : Event K) (w : World K) (land : List (Value K) �
 two_is e w land raises stops land1 h = go w.answers
   where
     go : (answers : List Answer)
-        → on_got (ask_of (w.events ++ e ∷ []) answers w.taken (fits (Some 2))) land raises stops ≡ on_got (then_get (ask_of (w.events ++ e ∷ []) answers w.taken (fits (Some 2))) two_of) land1 raises stops
+        → on_got (ask_of (w.events ++ e ∷ []) answers w.taken (fits (Some 2))) land raises stops
+        ≡ on_got (then_get (ask_of (w.events ++ e ∷ []) answers w.taken (fits (Some 2))) two_of) land1 raises stops
     go [] = refl
     go (Gives k ∷ rest) = two_if (nat_eq 2 k) w.taken _ land raises stops land1 h
     go (Truth b ∷ rest) = refl
@@ -70,7 +74,8 @@ two_is e w land raises stops land1 h = go w.answers
     go (Raised ∷ rest) = refl
 
 none_if : {K C : Type 0} (b : Bool) (i : ℕ) (w : World K) (land : List (Value K) → World K → C) (raises : Value K → World K → C) (stops : List (Event K) → C)
-    → on_got (if b then Fine (given_values 0 i 0) w else Stops w.events) land raises stops ≡ on_got (then_get (if b then Fine (given_values 0 i 0) w else Stops w.events) none_of) (λ d w1. land [] w1) raises stops
+    → on_got (if b then Fine (given_values 0 i 0) w else Stops w.events) land raises stops
+    ≡ on_got (then_get (if b then Fine (given_values 0 i 0) w else Stops w.events) none_of) (λ d w1. land [] w1) raises stops
 none_if true i w land raises stops = refl
 none_if false i w land raises stops = refl
 
@@ -79,7 +84,8 @@ pub op_none_is : {K C : Type 0} (e : Event K) (r : Bool) (w : World K) (land : L
 op_none_is e r w land raises stops = go r w.answers
   where
     go : (r : Bool) (answers : List Answer)
-        → on_got (ask_of (w.events ++ e ∷ []) answers w.taken (fits (gives_of r))) land raises stops ≡ on_got (then_get (ask_of (w.events ++ e ∷ []) answers w.taken (fits (gives_of r))) none_of) (λ d w1. land [] w1) raises stops
+        → on_got (ask_of (w.events ++ e ∷ []) answers w.taken (fits (gives_of r))) land raises stops
+        ≡ on_got (then_get (ask_of (w.events ++ e ∷ []) answers w.taken (fits (gives_of r))) none_of) (λ d w1. land [] w1) raises stops
     go r [] = refl
     go true (Gives k ∷ rest) = refl
     go false (Gives k ∷ rest) = none_if (nat_eq 0 k) w.taken _ land raises stops
@@ -125,7 +131,9 @@ pub op_as_many : {K : Type 0} (i : Interp K) (fs : VForms) (w : World K) → OnF
 op_as_many i VNone w = refl
 op_as_many i (VMore f fs) w = fine_then (run_value i f w) _ _ _ (fine_any _) (λ v w1 h. fine_then (run_values i fs w1) _ _ _ (op_as_many i fs w1) (λ vs w2 e. ap suc e))
 op_as_many i (VMethod o f fs) w =
-    fine_then (run_value i f w) _ _ _ (fine_any _) (λ v w1 h. fine_then (ask_for _ (Some 3) w1) _ _ _ (gives_many _ 3 w1) (λ us w2 e. fine_then (run_values i fs w2) _ _ _ (op_as_many i fs w2) (λ vs w3 e1. omega (arith, length-append us vs))))
+    fine_then (run_value i f w) _ _ _ (fine_any _)
+    (λ v w1 h. fine_then (ask_for _ (Some 3) w1) _ _ _ (gives_many _ 3 w1)
+    (λ us w2 e. fine_then (run_values i fs w2) _ _ _ (op_as_many i fs w2) (λ vs w3 e1. omega (arith, length-append us vs))))
 
 -- the truth of a value takes an answer, and so does a next
 pub truth_takes : {K : Type 0} (v : Value K) (w : World K) → OnFine (truth_of v w) (λ t w1. suc (length w1.answers) ≤ length w.answers)

@@ -2,7 +2,10 @@
 use Rattle.std.proofs.Common.{◌≡◌, ℕ, zero, suc, List, [], ◌∷◌, ◌++◌, Bool, true, false, Option, Some, None, refl, sym, ap, ◌∙◌}
 use Rattle.std.specs.Prelude.{nat_eq, if◌then◌else◌, slice_get}
 use Rattle.py_bytecode.specs.Values.{Constant, Given, Child, It, Cells, Answer}
-use Rattle.py_bytecode.specs.Machine.{start, fuel, Instr, Push, Access, Operate, MakeFunction, Import, Append, Unpack, Nop, Pop, Rotate2, Rotate3, Duplicate, Duplicate2, JumpIf, JumpIfOrPop, Jump, SetupLoop, PopBlock, Break, Continue, ReturnValue, ReturnConst, SetupExcept, SetupFinally, PopException, EnterFinally, EndFinally, Reraise, ForIter, SetupWith, WithCleanupStart, WithCleanupFinish, at_places, Found, machine}
+use Rattle.py_bytecode.specs.Machine.{start, fuel, Instr, Push, Access, Operate, MakeFunction, Import, Append, Unpack, Nop, Pop, Rotate2}
+use Rattle.py_bytecode.specs.Machine.{Rotate3, Duplicate, Duplicate2, JumpIf, JumpIfOrPop, Jump, SetupLoop, PopBlock, Break, Continue}
+use Rattle.py_bytecode.specs.Machine.{ReturnValue, ReturnConst, SetupExcept, SetupFinally, PopException, EnterFinally, EndFinally, Reraise}
+use Rattle.py_bytecode.specs.Machine.{ForIter, SetupWith, WithCleanupStart, WithCleanupFinish, at_places, Found, machine}
 use Rattle.py_control.specs.Code.{Item, Do, Label, size}
 use Rattle.py_control.specs.View.{ran_to}
 use Rattle.py_control.specs.Places.{exact, instr_over, items_over, fetched_over}
@@ -100,5 +103,6 @@ module _ {K L : Type 0} (c : K → L) where
 
   pub children_over : (is : List (Item K)) → children (items_over c is) ≡ each_to c (children is)
   children_over [] = refl
-  children_over (Do i ∷ is) = ap (λ l. l ++ children (items_over c is)) (loaded_over i) ∙ ap (λ l. each_to c (loaded_children i) ++ l) (children_over is) ∙ sym (each-append (loaded_children i) (children is))
+  children_over (Do i ∷ is) = ap (λ l. l ++ children (items_over c is)) (loaded_over i)
+      ∙ ap (λ l. each_to c (loaded_children i) ++ l) (children_over is) ∙ sym (each-append (loaded_children i) (children is))
   children_over (Label l ∷ is) = children_over is

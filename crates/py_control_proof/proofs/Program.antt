@@ -1,18 +1,33 @@
 -- Each form's code follows its run.
 use Rattle.std.proofs.Common.{◌≡◌, ℕ, suc, ◌+◌, List, ◌∷◌, Bool, true, false, refl, ap}
 use Rattle.py_bytecode.specs.Values.{Value, Constant, Child, Entry, It, Load, Store, Delete, World, Got, choose, flip, Breaks, Continues, Returns, use_it}
-use Rattle.py_control.specs.Form.{VForm, VConst, VLoad, VOp, VMake, VShort, VChain, VChoice, VKeep, VSwap, VAt, VForms, VNone, VMore, VMethod, Shorts, OneShort, MoreShort, Links, LastLink, MoreLink, TForm, TTruth, TNot, TAll, Tests, OneTest, MoreTest, Target, GStore, GPut, GUnder, GUnpack, GDrop, Targets, NoTarget, MoreTarget, SForm, SSkip, SThen, SDo, SInto, SRemove, SIf, SIfElse, SWhile, SFor, SBreak, SContinue, SReturn, SClassEnd, SReraise, SAugment, SAugmentTwo, STry, STryFinal, SFinally, SWith, SGather, SGenerate, SAt, Handlers, HNone, HAny, HTyped, Clauses, CLast, CEach, Filters, NoFilter, MoreFilter, Interp, targets, run_value, run_values, run_shorts, run_links, run_test, run_tests, run_target, run_targets, run_filters, run_clauses, append_run, drop_run, run, run_handlers, returns}
+use Rattle.py_control.specs.Form.{VForm, VConst, VLoad, VOp, VMake, VShort, VChain, VChoice, VKeep, VSwap, VAt, VForms, VNone, VMore}
+use Rattle.py_control.specs.Form.{VMethod, Shorts, OneShort, MoreShort, Links, LastLink, MoreLink, TForm, TTruth, TNot, TAll, Tests}
+use Rattle.py_control.specs.Form.{OneTest, MoreTest, Target, GStore, GPut, GUnder, GUnpack, GDrop, Targets, NoTarget, MoreTarget, SForm}
+use Rattle.py_control.specs.Form.{SSkip, SThen, SDo, SInto, SRemove, SIf, SIfElse, SWhile, SFor, SBreak, SContinue, SReturn, SClassEnd}
+use Rattle.py_control.specs.Form.{SReraise, SAugment, SAugmentTwo, STry, STryFinal, SFinally, SWith, SGather, SGenerate, SAt, Handlers}
+use Rattle.py_control.specs.Form.{HNone, HAny, HTyped, Clauses, CLast, CEach, Filters, NoFilter, MoreFilter, Interp, targets, run_value}
+use Rattle.py_control.specs.Form.{run_values, run_shorts, run_links, run_test, run_tests, run_target, run_targets, run_filters, run_clauses}
+use Rattle.py_control.specs.Form.{append_run, drop_run, run, run_handlers, returns}
 use Rattle.py_bytecode.specs.Machine.{Break, Continue, ReturnConst, Block, has_loop, Config, wrong}
 use Rattle.py_control.specs.Fit.{Loops}
 use Rattle.py_control.specs.Looped.{Looped, LoopedAll}
-use Rattle.py_control.specs.Code.{Item, count, labels_v, labels_vs, labels_t, labels_g, labels_bs, labels, labels_h, code_v, code_vs, code_ss, code_ls, code_t, code_ts, code_g, code_gs, code_bs, code_c, return_code, append_code, drop_code, code, code_h}
+use Rattle.py_control.specs.Code.{Item, count, labels_v, labels_vs, labels_t, labels_g, labels_bs, labels, labels_h, code_v, code_vs}
+use Rattle.py_control.specs.Code.{code_ss, code_ls, code_t, code_ts, code_g, code_gs, code_bs, code_c, return_code, append_code, drop_code}
+use Rattle.py_control.specs.Code.{code, code_h}
 use Rattle.py_control_proof.proofs.Reach.{light, Ground}
 use Rattle.py_control_proof.proofs.Moves.{bare, none_on, moves_then, FollowsValue, FollowsValues, FollowsTarget, FollowsTest, Follows}
 use Rattle.py_control_proof.proofs.Wholes.{whole_nothing, whole_joined, whole_moved, value_whole, values_whole, test_whole, target_whole, gathers_whole, yields_whole, augment_whole, augment_two_whole}
 use Rattle.py_control_proof.proofs.Ops.{op_as_many}
-use Rattle.py_control_proof.proofs.Values.{const_follows, load_follows, delete_follows, store_follows, none_follows, more_follows, method_follows, op_follows, do_follows, make_follows, FollowsShort, short_one, short_more, short_follows, FollowsLinks, last_link, more_link, chain_follows, choice_value_follows, keep_follows, swap_follows, drop_follows, put_follows, under_follows, FollowsTargets, no_targets, more_targets, unpack_follows}
+use Rattle.py_control_proof.proofs.Values.{const_follows, load_follows, delete_follows, store_follows, none_follows, more_follows}
+use Rattle.py_control_proof.proofs.Values.{method_follows, op_follows, do_follows, make_follows, FollowsShort, short_one, short_more}
+use Rattle.py_control_proof.proofs.Values.{short_follows, FollowsLinks, last_link, more_link, chain_follows, choice_value_follows}
+use Rattle.py_control_proof.proofs.Values.{keep_follows, swap_follows, drop_follows, put_follows, under_follows, FollowsTargets, no_targets}
+use Rattle.py_control_proof.proofs.Values.{more_targets, unpack_follows}
 use Rattle.py_control_proof.proofs.Tests.{truth_follows, not_follows, FollowsTests, tests_one, tests_more, all_false, all_true, FollowsFilter, no_filter, more_filter}
-use Rattle.py_control_proof.proofs.Statements.{skip_follows, effect_follows, doing_follows, seq_follows, leave_follows, return_follows, class_follows, reraise_follows, if_follows, choice_follows, augment_follows, augment_two_follows}
+use Rattle.py_control_proof.proofs.Statements.{skip_follows, effect_follows, doing_follows, seq_follows, leave_follows, return_follows}
+use Rattle.py_control_proof.proofs.Statements.{class_follows, reraise_follows, if_follows, choice_follows, augment_follows}
+use Rattle.py_control_proof.proofs.Statements.{augment_two_follows}
 use Rattle.py_control_proof.proofs.Loops.{while_follows, turn_follows, for_follows}
 use Rattle.py_control_proof.proofs.Clauses.{LiesBelow, FollowsClause, append_follows, yield_follows, each_follows, gather_follows, clause_effect}
 use Rattle.py_control_proof.proofs.Handlers.{FollowsHandlers, none_handle, any_handle, typed_handle, try_follows, body_inner, try_inner, last_follows}
@@ -25,7 +40,8 @@ module _ {K P : Type 0} (i : Interp K) (g : Ground K P) where
     value_follows (VLoad x m) n = load_follows g (i.kind Load x m) m (i.place Load x m)
     value_follows (VOp o fs) n = op_follows g o (count fs) _ (run_values i fs) (op_as_many i fs) (values_follow fs n)
     value_follows (VMake flags a s name b) n =
-        make_follows g flags (i.closure s) (Child (i.child s)) name (count a) (count b) _ _ (run_values i a) (run_values i b) (op_as_many i a) (op_as_many i b) (values_follow a n) (values_follow b (n + labels_vs a))
+        make_follows g flags (i.closure s) (Child (i.child s)) name (count a) (count b) _ _ (run_values i a) (run_values i b)
+        (op_as_many i a) (op_as_many i b) (values_follow a n) (values_follow b (n + labels_vs a))
     value_follows (VShort d ss) n = short_follows g _ n _ (shorts_follow ss d n (1 + n))
     value_follows (VChain f o h ls) n =
         chain_follows g o n (1 + n) _ _ _ _ _ _ (value_follows f (2 + n)) (value_follows h (2 + n + labels_v f)) (links_follow ls n (2 + n + labels_v f + labels_v h))
@@ -33,7 +49,8 @@ module _ {K P : Type 0} (i : Interp K) (g : Ground K P) where
         choice_value_follows g _ _ _ n (1 + n) _ _ _ (test_follows t false n (2 + n)) (value_follows a (2 + n + labels_t t false)) (value_follows b (2 + n + labels_t t false + labels_v a))
     value_follows (VKeep f how t) n = keep_follows g how _ _ _ (run_target i t) (value_follows f n) (target_follows t (n + labels_v f))
     value_follows (VSwap o a b fs) n =
-        swap_follows g o (count fs) _ _ _ (run_value i a) (run_value i b) (run_values i fs) (op_as_many i fs) (value_follows a n) (value_follows b (n + labels_v a)) (values_follow fs (n + labels_v a + labels_v b))
+        swap_follows g o (count fs) _ _ _ (run_value i a) (run_value i b) (run_values i fs) (op_as_many i fs) (value_follows a n)
+        (value_follows b (n + labels_v a)) (values_follow fs (n + labels_v a + labels_v b))
     value_follows (VAt p f) n = value_follows f n
 
     pub values_follow : (fs : VForms) (n : ℕ) → FollowsValues g (code_vs i fs n) (run_values i fs)
@@ -68,7 +85,8 @@ module _ {K P : Type 0} (i : Interp K) (g : Ground K P) where
 
     pub targets_follow : (ts : Targets) (n : ℕ) → FollowsTargets g (targets ts) (code_gs i ts n) (run_targets i ts)
     targets_follow NoTarget n vs len = no_targets g (run_targets i NoTarget) (λ w. refl) vs len
-    targets_follow (MoreTarget t ts) n vs len = more_targets g (targets ts) _ _ (run_target i t) (run_targets i ts) (run_targets i (MoreTarget t ts)) (λ v us. refl) (target_follows t n) (targets_follow ts (n + labels_g t)) vs len
+    targets_follow (MoreTarget t ts) n vs len = more_targets g (targets ts) _ _ (run_target i t) (run_targets i ts)
+        (run_targets i (MoreTarget t ts)) (λ v us. refl) (target_follows t n) (targets_follow ts (n + labels_g t)) vs len
 
   pub filters_follow : (bs : Filters) (to n : ℕ) → FollowsFilter g (code_bs i bs to n) to (run_filters i bs)
   filters_follow NoFilter to n = no_filter g to
@@ -92,7 +110,9 @@ module _ {K P : Type 0} (i : Interp K) (g : Ground K P) where
       → FollowsClause g (code_c i cs leaf d n) (near d) (run_clauses i cs m)
   clauses_follow CLast leaf near m up fl d n = fl d n
   clauses_follow (CEach f t bs cs) leaf near m up fl d n =
-      each_follows g n (1 + n) _ _ _ _ (near d) (near (suc d)) _ (run_target i t) _ _ (up d) (value_follows f (2 + n)) (target_follows t (2 + n + labels_v f)) (filters_follow bs n (2 + n + labels_v f + labels_g t)) (clauses_follow cs leaf near m up fl (suc d) (2 + n + labels_v f + labels_g t + labels_bs bs))
+      each_follows g n (1 + n) _ _ _ _ (near d) (near (suc d)) _ (run_target i t) _ _ (up d) (value_follows f (2 + n))
+      (target_follows t (2 + n + labels_v f)) (filters_follow bs n (2 + n + labels_v f + labels_g t))
+      (clauses_follow cs leaf near m up fl (suc d) (2 + n + labels_v f + labels_g t + labels_bs bs))
 
 break_inside : (b : Bool) → Looped b SBreak → b ≡ true
 break_inside true ok = refl
@@ -111,35 +131,59 @@ module _ {K P : Type 0} (i : Interp K) (g : Ground K P) where
     pub form_follows : (f : SForm) (l : Loops) (n : ℕ) → Looped l.inside f → Follows g (code i f l n) l (run i f)
     form_follows SSkip l n ok = skip_follows g l
     form_follows (SThen a b) l n ok = seq_follows g _ _ l _ _ (form_follows a l n ok.0) (form_follows b l (n + labels a) ok.1)
-    form_follows (SDo o r fs) l n ok = doing_follows g o (count fs) r _ l (run_values i fs) (values_whole i fs n) (do_follows g o (count fs) r _ (run_values i fs) (op_as_many i fs) (values_follow i g fs n))
-    form_follows (SInto f t) l n ok = effect_follows g _ l _ (whole_joined (value_whole i f n) (target_whole i t (n + labels_v f))) (moves_then g _ _ (bare g) _ (none_on g) _ _ (value_follows i g f n) (target_follows i g t (n + labels_v f)))
+    form_follows (SDo o r fs) l n ok = doing_follows g o (count fs) r _ l (run_values i fs) (values_whole i fs n)
+        (do_follows g o (count fs) r _ (run_values i fs) (op_as_many i fs) (values_follow i g fs n))
+    form_follows (SInto f t) l n ok = effect_follows g _ l _ (whole_joined (value_whole i f n) (target_whole i t (n + labels_v f)))
+        (moves_then g _ _ (bare g) _ (none_on g) _ _ (value_follows i g f n) (target_follows i g t (n + labels_v f)))
     form_follows (SRemove x m) l n ok = effect_follows g _ l _ (whole_moved refl whole_nothing) (delete_follows g (i.kind Delete x m) m (i.place Delete x m))
     form_follows (SIf t a) l n ok = if_follows g _ _ n l _ _ (test_whole i t false n (1 + n)) (test_follows i g t false n (1 + n)) (form_follows a l (1 + n + labels_t t false) ok)
     form_follows (SIfElse t a b) l n ok =
-        choice_follows g _ _ _ n (1 + n) l _ _ _ (test_whole i t false n (2 + n)) (test_follows i g t false n (2 + n)) (form_follows a l (2 + n + labels_t t false) ok.0) (form_follows b l (2 + n + labels_t t false + labels a) ok.1)
+        choice_follows g _ _ _ n (1 + n) l _ _ _ (test_whole i t false n (2 + n)) (test_follows i g t false n (2 + n))
+        (form_follows a l (2 + n + labels_t t false) ok.0) (form_follows b l (2 + n + labels_t t false + labels a) ok.1)
     form_follows (SWhile t a b) l n ok =
-        while_follows g n (1 + n) (2 + n) _ _ _ l _ _ _ (test_whole i t false (1 + n) (3 + n)) (test_follows i (light g) t false (1 + n) (3 + n)) (form_follows a (record { inside = true; on_break = 2 + n; on_continue = n }) (3 + n + labels_t t false) ok.0) (form_follows b l (3 + n + labels_t t false + labels a) ok.1)
+        while_follows g n (1 + n) (2 + n) _ _ _ l _ _ _ (test_whole i t false (1 + n) (3 + n))
+        (test_follows i (light g) t false (1 + n) (3 + n))
+        (form_follows a (record { inside = true; on_break = 2 + n; on_continue = n }) (3 + n + labels_t t false) ok.0)
+        (form_follows b l (3 + n + labels_t t false + labels a) ok.1)
     form_follows (SFor f t a b) l n ok =
-        for_follows g n (1 + n) (2 + n) _ _ _ l _ _ _ (value_whole i f (3 + n)) (value_follows i g f (3 + n)) (turn_follows g _ _ (record { inside = true; on_break = 2 + n; on_continue = n }) (run_target i t) (run i a) (target_whole i t (3 + n + labels_v f)) (target_follows i g t (3 + n + labels_v f)) (form_follows a (record { inside = true; on_break = 2 + n; on_continue = n }) (3 + n + labels_v f + labels_g t) ok.0)) (form_follows b l (3 + n + labels_v f + labels_g t + labels a) ok.1)
+        for_follows g n (1 + n) (2 + n) _ _ _ l _ _ _ (value_whole i f (3 + n)) (value_follows i g f (3 + n))
+        (turn_follows g _ _ (record { inside = true; on_break = 2 + n; on_continue = n }) (run_target i t) (run i a)
+        (target_whole i t (3 + n + labels_v f)) (target_follows i g t (3 + n + labels_v f))
+        (form_follows a (record { inside = true; on_break = 2 + n; on_continue = n }) (3 + n + labels_v f + labels_g t) ok.0))
+        (form_follows b l (3 + n + labels_v f + labels_g t + labels a) ok.1)
     form_follows SBreak l n ok = leave_follows g (Break l.on_break) l Breaks (λ q s bs slot w within. program_in_loop bs _ w (within (break_inside l.inside ok)))
     form_follows SContinue l n ok = leave_follows g (Continue l.on_continue) l Continues (λ q s bs slot w within. program_in_loop bs _ w (within (continue_inside l.inside ok)))
     form_follows (SReturn f) l n ok = return_is i g f l n
     form_follows SClassEnd l n ok = class_follows g i.class_cells l
     form_follows SReraise l n ok = reraise_follows g l
-    form_follows (SAugment f get v op put) l n ok = effect_follows g _ l _ (augment_whole get op put (value_whole i f n) (value_whole i v (n + labels_v f))) (augment_follows g get op put _ _ _ _ (value_follows i g f n) (value_follows i g v (n + labels_v f)))
+    form_follows (SAugment f get v op put) l n ok =
+        effect_follows g _ l _ (augment_whole get op put (value_whole i f n) (value_whole i v (n + labels_v f)))
+        (augment_follows g get op put _ _ _ _ (value_follows i g f n) (value_follows i g v (n + labels_v f)))
     form_follows (SAugmentTwo f h get v op put) l n ok =
-        effect_follows g _ l _ (augment_two_whole get op put (value_whole i f n) (value_whole i h (n + labels_v f)) (value_whole i v (n + labels_v f + labels_v h))) (augment_two_follows g get op put _ _ _ _ _ _ (value_follows i g f n) (value_follows i g h (n + labels_v f)) (value_follows i g v (n + labels_v f + labels_v h)))
+        effect_follows g _ l _ (augment_two_whole get op put (value_whole i f n) (value_whole i h (n + labels_v f))
+        (value_whole i v (n + labels_v f + labels_v h)))
+        (augment_two_follows g get op put _ _ _ _ _ _ (value_follows i g f n) (value_follows i g h (n + labels_v f))
+        (value_follows i g v (n + labels_v f + labels_v h)))
     form_follows (STry a hs b) l n ok =
-        try_follows g n (1 + n) (2 + n) _ _ _ l _ _ (run_handlers i hs) (form_follows a l (3 + n) ok.0) (handlers_follow hs false l (2 + n) (3 + n + labels a) ok.1) (form_follows b l (3 + n + labels a + labels_h hs) ok.2)
+        try_follows g n (1 + n) (2 + n) _ _ _ l _ _ (run_handlers i hs) (form_follows a l (3 + n) ok.0)
+        (handlers_follow hs false l (2 + n) (3 + n + labels a) ok.1) (form_follows b l (3 + n + labels a + labels_h hs) ok.2)
     form_follows (STryFinal a hs b c) l n ok =
-        last_follows g (2 + n) _ _ l _ _ (try_inner g n (1 + n) (2 + n) _ _ _ l _ _ (run_handlers i hs) (form_follows a l (3 + n) ok.0) (handlers_follow hs true l (2 + n) (3 + n + labels a) ok.1) (form_follows b l (3 + n + labels a + labels_h hs) ok.2)) (form_follows c l (3 + n + labels a + labels_h hs + labels b) ok.3)
+        last_follows g (2 + n) _ _ l _ _ (try_inner g n (1 + n) (2 + n) _ _ _ l _ _ (run_handlers i hs) (form_follows a l (3 + n) ok.0)
+        (handlers_follow hs true l (2 + n) (3 + n + labels a) ok.1) (form_follows b l (3 + n + labels a + labels_h hs) ok.2))
+        (form_follows c l (3 + n + labels a + labels_h hs + labels b) ok.3)
     form_follows (SFinally a c) l n ok = last_follows g n _ _ l _ _ (body_inner g _ n l _ (form_follows a l (1 + n) ok.0)) (form_follows c l (1 + n + labels a) ok.1)
     form_follows (SWith f t a) l n ok =
-        with_follows g n _ _ l _ _ (value_whole i f (1 + n)) (value_follows i g f (1 + n)) (turn_follows g _ _ l (run_target i t) (run i a) (target_whole i t (1 + n + labels_v f)) (target_follows i g t (1 + n + labels_v f)) (form_follows a l (1 + n + labels_v f + labels_g t) ok))
+        with_follows g n _ _ l _ _ (value_whole i f (1 + n)) (value_follows i g f (1 + n))
+        (turn_follows g _ _ l (run_target i t) (run i a) (target_whole i t (1 + n + labels_v f))
+        (target_follows i g t (1 + n + labels_v f)) (form_follows a l (1 + n + labels_v f + labels_g t) ok))
     form_follows (SGather o cs p fs) l n ok =
-        gather_follows g o _ l _ (gathers_whole i cs p fs n) (λ c. clauses_follow i g cs (append_code i p fs) (λ d. LiesBelow P c d) (append_run i p fs c) (λ d it s h. h) (λ d m. append_follows g c p (count fs) d _ (run_values i fs) (op_as_many i fs) (values_follow i g fs m)) 0 n)
+        gather_follows g o _ l _ (gathers_whole i cs p fs n)
+        (λ c. clauses_follow i g cs (append_code i p fs) (λ d. LiesBelow P c d) (append_run i p fs c) (λ d it s h. h)
+        (λ d m. append_follows g c p (count fs) d _ (run_values i fs) (op_as_many i fs) (values_follow i g fs m)) 0 n)
     form_follows (SGenerate cs f) l n ok =
-        clause_effect g _ l _ (yields_whole i cs f n) (clauses_follow i g cs (drop_code i f) (λ d s. Unit {0}) (drop_run i f) (λ d it s h. tt) (λ d m. yield_follows g (λ s. Unit {0}) _ _ (value_follows i g f m)) 0 n)
+        clause_effect g _ l _ (yields_whole i cs f n)
+        (clauses_follow i g cs (drop_code i f) (λ d s. Unit {0}) (drop_run i f) (λ d it s h. tt)
+        (λ d m. yield_follows g (λ s. Unit {0}) _ _ (value_follows i g f m)) 0 n)
     form_follows (SAt p f) l n ok = form_follows f l n ok
 
     pub handlers_follow : (hs : Handlers) (final : Bool) (l : Loops) (end n : ℕ) → LoopedAll l.inside hs → FollowsHandlers g (code_h i hs final l end n) final end l (run_handlers i hs)
@@ -147,4 +191,7 @@ module _ {K P : Type 0} (i : Interp K) (g : Ground K P) where
     handlers_follow (HAny t b hs) final l end n ok =
         any_handle g final n end _ _ l _ (turn_follows g _ _ l (run_target i t) (run i b) (target_whole i t (1 + n)) (target_follows i g t (1 + n)) (form_follows b l (1 + n + labels_g t) ok.0))
     handlers_follow (HTyped f t b hs) final l end n ok =
-        typed_handle g final n end _ _ _ l _ _ (run_handlers i hs) (value_whole i f (1 + n)) (value_follows i g f (1 + n)) (turn_follows g _ _ l (run_target i t) (run i b) (target_whole i t (1 + n + labels_v f)) (target_follows i g t (1 + n + labels_v f)) (form_follows b l (1 + n + labels_v f + labels_g t) ok.0)) (handlers_follow hs final l end (1 + n + labels_v f + labels_g t + labels b) ok.1)
+        typed_handle g final n end _ _ _ l _ _ (run_handlers i hs) (value_whole i f (1 + n)) (value_follows i g f (1 + n))
+        (turn_follows g _ _ l (run_target i t) (run i b) (target_whole i t (1 + n + labels_v f))
+        (target_follows i g t (1 + n + labels_v f)) (form_follows b l (1 + n + labels_v f + labels_g t) ok.0))
+        (handlers_follow hs final l end (1 + n + labels_v f + labels_g t + labels b) ok.1)

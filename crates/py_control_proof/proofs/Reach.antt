@@ -1,9 +1,18 @@
 -- What the machine reaches, and at what cost.
 use Rattle.std.proofs.Common.{◌≡◌, ℕ, zero, suc, ◌+◌, ◌*◌, ◌≤◌, List, [], ◌∷◌, ◌++◌, length, Bool, true, false, Option, Some, None, refl, ap, ◌∙◌, subst, arith, suc-add, zero-add, le_refl}
 use Rattle.std.specs.Prelude.{nat_le, nat_eq, if◌then◌else◌}
-use Rattle.py_bytecode.specs.Values.{Value, Cell, Entry, It, Cells, Answer, Gives, Truth, End, Raised, Usage, Load, Store, Delete, Kind, Event, World, Got, Fine, Raises, Stops, on_got, then_get, ask_of, fits, fits_truth, ask_for, for_one, for_none, one_of, none_of, gives_of, truth_of, fits_next, next_of, on_some, choose, meets}
+use Rattle.py_bytecode.specs.Values.{Value, Cell, Entry, It, Cells, Answer, Gives, Truth, End, Raised, Usage, Load, Store, Delete, Kind}
+use Rattle.py_bytecode.specs.Values.{Event, World, Got, Fine, Raises, Stops, on_got, then_get, ask_of, fits, fits_truth, ask_for, for_one}
+use Rattle.py_bytecode.specs.Values.{for_none, one_of, none_of, gives_of, truth_of, fits_next, next_of, on_some, choose, meets}
 use Rattle.py_control.specs.Fit.{answers_left}
-use Rattle.py_bytecode.specs.Machine.{is_tuple, Instr, Push, Access, Operate, MakeFunction, Import, Append, Unpack, Nop, Pop, Rotate2, Rotate3, Duplicate, Duplicate2, JumpIf, JumpIfOrPop, Jump, SetupLoop, PopBlock, Break, Continue, ReturnValue, ReturnConst, SetupExcept, SetupFinally, PopException, EnterFinally, EndFinally, Reraise, ForIter, SetupWith, WithCleanupStart, WithCleanupFinish, Fetched, Found, Nothing, Reason, BreakTo, ContinueTo, ReturnOf, RaiseOf, Block, Loop, Except, Finally, ExceptHandler, FinallyHandler, has_loop, Config, At, Over, cut, unwind_out, slot_for, unwind, pop, pop_cells, stopped_config, raise, on_entry, on_top, below, pop_block, pop_exception, on_last, go_on, reraise, after_exit, joins, access, is_silent, rotate2, rotate3, duplicate2, pop_closure, act, act_at, step, steps}
+use Rattle.py_bytecode.specs.Machine.{is_tuple, Instr, Push, Access, Operate, MakeFunction, Import, Append, Unpack, Nop, Pop, Rotate2}
+use Rattle.py_bytecode.specs.Machine.{Rotate3, Duplicate, Duplicate2, JumpIf, JumpIfOrPop, Jump, SetupLoop, PopBlock, Break, Continue}
+use Rattle.py_bytecode.specs.Machine.{ReturnValue, ReturnConst, SetupExcept, SetupFinally, PopException, EnterFinally, EndFinally, Reraise}
+use Rattle.py_bytecode.specs.Machine.{ForIter, SetupWith, WithCleanupStart, WithCleanupFinish, Fetched, Found, Nothing, Reason, BreakTo}
+use Rattle.py_bytecode.specs.Machine.{ContinueTo, ReturnOf, RaiseOf, Block, Loop, Except, Finally, ExceptHandler, FinallyHandler, has_loop}
+use Rattle.py_bytecode.specs.Machine.{Config, At, Over, stack_cut, unwind_out, slot_for, unwind, pop, pop_cells, stopped_config, raise}
+use Rattle.py_bytecode.specs.Machine.{on_entry, on_top, below, pop_block, pop_exception, on_last, go_on, reraise, after_exit, joins, access}
+use Rattle.py_bytecode.specs.Machine.{is_silent, rotate2, rotate3, duplicate2, pop_closure, act, act_at, step, steps}
 
 -- no step gives an answer back
 module _ {K P : Type 0} where
@@ -15,7 +24,7 @@ module _ {K P : Type 0} where
   left_meets c true x y n hx hy = left_choose c x y n hx hy
   left_meets c false x y n hx hy = left_choose c y x n hy hx
 
-  left_cut : (h : ℕ) (s : List (Entry K)) (w : World K) (k : List (Entry K) → Config K P) (n : ℕ) → ((s1 : List (Entry K)) → answers_left (k s1) ≤ n) → answers_left (cut h s w k) ≤ n
+  left_cut : (h : ℕ) (s : List (Entry K)) (w : World K) (k : List (Entry K) → Config K P) (n : ℕ) → ((s1 : List (Entry K)) → answers_left (k s1) ≤ n) → answers_left (stack_cut h s w k) ≤ n
   left_cut h s w k n hk = left_choose (nat_le h (length s)) _ _ n (hk _) (omega arith)
 
   left_unwind_out : (r : Reason K P) (w : World K) (n : ℕ) → answers_left (unwind_out r w) ≤ n
@@ -233,7 +242,10 @@ module _ {K P : Type 0} where
   left_act (Operate o n k) next s bs slot w =
       left_pop n s [] _ _ _ _ (omega arith) (left_joins (is_tuple o) n next s bs slot w) (λ vs rest. left_got (ask_for _ k w) _ _ rest bs slot (ask_for_fewer _ k w) (λ gs w1. le_refl _))
   left_act (MakeFunction fl c n) next s bs slot w =
-      left_pop 2 s [] _ _ _ _ (omega arith) (omega arith) (λ kn rest. left_closure c rest w _ _ (λ cs rest1. left_pop n rest1 [] _ _ _ _ (omega arith) (omega arith) (λ vs rest2. left_got (for_one _ w) _ _ rest2 bs slot (one_fewer _ w) (λ v w1. le_refl _))))
+      left_pop 2 s [] _ _ _ _ (omega arith) (omega arith)
+      (λ kn rest. left_closure c rest w _ _ (λ cs rest1.
+      left_pop n rest1 [] _ _ _ _ (omega arith) (omega arith)
+      (λ vs rest2. left_got (for_one _ w) _ _ rest2 bs slot (one_fewer _ w) (λ v w1. le_refl _))))
   left_act (Import o) next s bs slot w = left_top s w _ _ (λ v rest. left_got (for_one _ w) _ _ (It v ∷ rest) bs slot (one_fewer _ w) (λ x w1. le_refl _))
   left_act (Append o n d) next s bs slot w =
       left_pop n s [] _ _ _ _ (omega arith) (omega arith) (λ vs rest. left_below d rest w _ _ (λ c. left_got (for_none _ false w) _ _ rest bs slot (none_fewer _ false w) (λ x w1. le_refl _)))

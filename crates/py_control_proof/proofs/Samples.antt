@@ -6,7 +6,7 @@ use Rattle.py_bytecode.specs.Objects.{Object}
 use Rattle.py_bytecode.specs.Values.{operation, Bare, Number, Constant, Given, It, Operates, Accesses, AsksTruth, Gives, Truth, Raised, Load, Store, ByName, Returned, RaisedOut, Ran, ran}
 use Rattle.py_control.specs.Form.{Scope, MkScope, Resolved, VConst, VLoad, VOp, VAt, VNone, VMore, TTruth, GStore, GDrop, SSkip, SThen, SDo, SInto, SWhile, SBreak, SReturn, STryFinal, SWith, SAt, HNone}
 use Rattle.py_control.specs.Code.{size, body_code}
-use Rattle.py_control_proof.specs.Live.{live}
+use Rattle.py_control_proof.specs.Reachable.{reachable_count}
 use Rattle.py_control.specs.Agree.{exactly, form_of}
 use Rattle.py_control_proof.proofs.SampleTools.{sample_tool_unit, sample_tool_coded, sample_tool_at, program_head, Does}
 
@@ -17,9 +17,9 @@ loop_code = sample_tool_coded (codes "<module>") 1 3 (sample_tool_unit op.SetupL
 abbrev loop : Scope
 loop = MkScope program_head (SThen (SThen (SAt (sample_tool_at 1 1) (SWhile (TTruth (VAt (sample_tool_at 1 7) (VLoad Resolved (codes "c")))) (SAt (sample_tool_at 1 10) SBreak) (SAt (sample_tool_at 2 7) (SDo (operation op.Raise (Number 0)) true (VMore (VAt (sample_tool_at 2 13) (VLoad Resolved (codes "x"))) VNone))))) (SAt (sample_tool_at 3 1) (SInto (VAt (sample_tool_at 3 1) (VOp (operation op.CallFunctionPositional (Number 2)) (VMore (VAt (sample_tool_at 3 1) (VLoad Resolved (codes "f"))) (VMore (VAt (sample_tool_at 3 3) (VLoad Resolved (codes "a"))) (VMore (VAt (sample_tool_at 3 6) (VLoad Resolved (codes "b"))) VNone))))) GDrop))) (SReturn (VConst obj.none)))
 
--- of its instructions only the jump after the break cannot be come to
-loop_lives : (size (body_code (exactly (λ t. t) loop) (form_of loop)) ≡ 14) × (live true (body_code (exactly (λ t. t) loop) (form_of loop)) ≡ 13)
-loop_lives = (refl, refl)
+-- of its instructions only the jump after the break cannot be reached
+loop_reachable : (size (body_code (exactly (λ t. t) loop) (form_of loop)) ≡ 14) × (reachable_count true (body_code (exactly (λ t. t) loop) (form_of loop)) ≡ 13)
+loop_reachable = (refl, refl)
 
 -- the test is true, so the loop is left and the call is made
 abbrev loop_broken_run : {K : Type 0} → Ran K
@@ -42,9 +42,9 @@ break_finally_code = sample_tool_coded (codes "<module>") 1 1 (sample_tool_unit 
 abbrev break_finally : Scope
 break_finally = MkScope program_head (SThen (SAt (sample_tool_at 1 1) (SWhile (TTruth (VAt (sample_tool_at 1 7) (VLoad Resolved (codes "a")))) (SAt (sample_tool_at 2 5) (STryFinal (SAt (sample_tool_at 2 10) SBreak) HNone SSkip (SAt (sample_tool_at 3 14) (SInto (VAt (sample_tool_at 3 14) (VLoad Resolved (codes "b"))) GDrop)))) SSkip)) (SReturn (VConst obj.none)))
 
--- of its instructions the two after the break cannot be come to
-break_finally_lives : (size (body_code (exactly (λ t. t) break_finally) (form_of break_finally)) ≡ 17) × (live true (body_code (exactly (λ t. t) break_finally) (form_of break_finally)) ≡ 15)
-break_finally_lives = (refl, refl)
+-- of its instructions the two after the break cannot be reached
+break_finally_reachable : (size (body_code (exactly (λ t. t) break_finally) (form_of break_finally)) ≡ 17) × (reachable_count true (body_code (exactly (λ t. t) break_finally) (form_of break_finally)) ≡ 15)
+break_finally_reachable = (refl, refl)
 
 -- the finally block runs, and then the loop is left
 abbrev break_finally_left_run : {K : Type 0} → Ran K

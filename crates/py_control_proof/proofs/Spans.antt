@@ -1,8 +1,12 @@
 -- Two runs that are images of one run are the same but for children; and so is what a code object does, and what a scope means.
 use Rattle.std.proofs.Common.{◌≡◌, ℕ, List, [], ◌∷◌, ◌++◌, Bool, true, false, refl, sym, ap, ◌∙◌, subst}
 use Rattle.py_bytecode.specs.Objects as const
-use Rattle.py_bytecode.specs.Values.{Value, Constant, Given, Child, Cell, Entry, It, Cells, Event, Operates, Makes, Accesses, StoresCells, AsksTruth, AsksNext, Answer, Outcome, Returned, RaisedOut, Stopped, Wrong, Leaked, Going, Ran, choose}
-use Rattle.py_bytecode.specs.Machine.{Instr, Push, Access, Operate, MakeFunction, Import, Append, Unpack, Nop, Pop, Rotate2, Rotate3, Duplicate, Duplicate2, JumpIf, JumpIfOrPop, Jump, SetupLoop, PopBlock, Break, Continue, ReturnValue, ReturnConst, SetupExcept, SetupFinally, PopException, EnterFinally, EndFinally, Reraise, ForIter, SetupWith, WithCleanupStart, WithCleanupFinish}
+use Rattle.py_bytecode.specs.Values.{Value, Constant, Given, Child, Cell, Entry, It, Cells, Event, Operates, Makes, Accesses, StoresCells}
+use Rattle.py_bytecode.specs.Values.{AsksTruth, AsksNext, Answer, Outcome, Returned, RaisedOut, Stopped, Wrong, Leaked, Going, Ran, choose}
+use Rattle.py_bytecode.specs.Machine.{Instr, Push, Access, Operate, MakeFunction, Import, Append, Unpack, Nop, Pop, Rotate2, Rotate3}
+use Rattle.py_bytecode.specs.Machine.{Duplicate, Duplicate2, JumpIf, JumpIfOrPop, Jump, SetupLoop, PopBlock, Break, Continue, ReturnValue}
+use Rattle.py_bytecode.specs.Machine.{ReturnConst, SetupExcept, SetupFinally, PopException, EnterFinally, EndFinally, Reraise, ForIter}
+use Rattle.py_bytecode.specs.Machine.{SetupWith, WithCleanupStart, WithCleanupFinish}
 use Rattle.py_control.specs.Form.{Scope, Interp}
 use Rattle.py_control.specs.Looped.{Looped}
 use Rattle.py_control.specs.Code.{Item, Do, Label, body_code}
@@ -130,7 +134,8 @@ module _ {P K L : Type 0} (R : K → L → Type 0) (c : P → K) (d : P → L) (
   both_events (Operates o vs ∷ es) = ((refl, both_values vs), both_events es)
   both_events (Makes f vs cs ∷ es) = ((refl, both_values vs, refl), both_events es)
   both_events (Accesses k u n p vs ∷ es) = ((refl, refl, refl, refl, both_values vs), both_events es)
-  both_events (StoresCells cs ∷ es) = both_join (choose v.shows (StoresCells (v.cells cs) ∷ []) []) _ (choose v.shows (StoresCells (v.cells cs) ∷ []) []) _ (both_stores v.shows (v.cells cs)) (both_events es)
+  both_events (StoresCells cs ∷ es) = both_join (choose v.shows (StoresCells (v.cells cs) ∷ []) [])
+      _ (choose v.shows (StoresCells (v.cells cs) ∷ []) []) _ (both_stores v.shows (v.cells cs)) (both_events es)
   both_events (AsksTruth x ∷ es) = (both_value x, both_events es)
   both_events (AsksNext x ∷ es) = (both_value x, both_events es)
 
@@ -162,8 +167,11 @@ pub items_agree : {K P : Type 0} (v : View) (view : Scope → Interp Scope) → 
 items_agree {K} {P} v view h R c d ps s code ok related answers =
     let S : P → Type 0 = λ p. R (c p) (d p) in
     let qs : List (Item (SpanKnown S)) = with_items S ps related in
-    let left : runs_code (items_over c ps) answers ≡ ran_to (λ x. c x.0) exact (runs_code qs answers) = ap (λ l. runs_code l answers) (sym (same_items S c ps related)) ∙ runs_over (λ x. c x.0) qs answers in
-    let right : meaning_by (exactly (λ t. t)) s answers ≡ ran_to (λ x. d x.0) exact (runs_code qs answers) = sym (scope_runs s ok answers) ∙ ap (λ l. runs_code l answers) (sym code ∙ sym (same_items S d ps related)) ∙ runs_over (λ x. d x.0) qs answers in
+    let left : runs_code (items_over c ps) answers ≡ ran_to (λ x. c x.0) exact (runs_code qs answers) =
+    ap (λ l. runs_code l answers) (sym (same_items S c ps related)) ∙ runs_over (λ x. c x.0) qs answers in
+    let right : meaning_by (exactly (λ t. t)) s answers ≡ ran_to (λ x. d x.0) exact (runs_code qs answers) =
+    sym (scope_runs s ok answers) ∙ ap (λ l. runs_code l answers) (sym code ∙ sym (same_items S d ps related))
+    ∙ runs_over (λ x. d x.0) qs answers in
     subst (λ x. SameRan R (ran_to (λ k. k) v x) (meaning_by view s answers)) (sym left)
     (subst (λ x. SameRan R (ran_to (λ k. k) v (ran_to (λ x. c x.0) exact (runs_code qs answers))) x) (sym (meaning_is v view (exactly (λ t. t)) h s answers ∙ ap (ran_to (λ t. t) v) right))
     (both_ran R (λ x. c x.0) (λ x. d x.0) (λ x. x.1) v (runs_code qs answers)))

@@ -10,7 +10,7 @@ use Rattle.py_bytecode.specs.Objects.{Object}
 use Rattle.py_bytecode.specs.Values.{flip}
 use Rattle.py_bytecode.specs.Machine.{Instr}
 use Rattle.py_bytecode.specs.Decode.{Tables, for_some, below, within, raise_instr, instr_of}
-use Rattle.py_control_proof.specs.Live.{stays}
+use Rattle.py_control_proof.specs.Reachable.{stays}
 
 module _ {P : Type 0} where
   -- of what is decoded, where anything is

@@ -45,7 +45,9 @@ module _ {K P : Type 0} (g : Ground K P) where
         let r = move_split g a _ p q st in
         reach_more g (size a + 1) _ _ _ (omega (arith, size-append a (Do (JumpIf c to) ∷ [])))
         (get_then g (m w) truth_of (size a) 1 _ (λ v w1. At r.0 (It v ∷ s) bs slot w1) _ (raise s bs slot) (fa.by p r.0 r.1 s bs slot fit w)
-        (λ v w1. subst (λ n. Reaches g 1 (At r.0 (It v ∷ s) bs slot w1) (on_got (truth_of v w1) (λ t w2. At (meets c t (g.spot to) n) s bs slot w2) (raise s bs slot) stopped_config)) r.2.2 (does g (JumpIf c to) r.0 r.2.0 (It v ∷ s) bs slot w1 r.2.1)));
+        (λ v w1. subst (λ n. Reaches g 1 (At r.0 (It v ∷ s) bs slot w1)
+        (on_got (truth_of v w1) (λ t w2. At (meets c t (g.spot to) n) s bs slot w2) (raise s bs slot) stopped_config)) r.2.2
+        (does g (JumpIf c to) r.0 r.2.0 (It v ∷ s) bs slot w1 r.2.1)));
     takes = λ p q st w.
         let r = move_split g a _ p q st in
         fine_then (m w) truth_of (λ v w1. length w1.answers ≤ length w.answers) _ (keeps_by a (bare g) m (one_on g) fa p r.0 r.1 w) (λ v w1 le. drops_less (truth_of v w1) _ _ le (truth_takes v w1));
@@ -85,15 +87,19 @@ module _ {K P : Type 0} (g : Ground K P) where
     by = λ p q st e s bs slot fit w.
         let r = move_split g a b p q st in
         reach_more g (size a + size b) _ _ _ (omega (arith, size-append a b))
-        (get_then g (ma w) _ (size a) (size b) _ (λ t w1. At (meets false t (g.spot out) r.0) s bs slot w1) _ (raise s bs slot) (fa.by p r.0 r.1 s bs slot fit w) (λ t w1. go t r.0 q s bs slot w1 e (fb.by r.0 q r.2 e s bs slot fit w1)));
+        (get_then g (ma w) _ (size a) (size b) _ (λ t w1. At (meets false t (g.spot out) r.0) s bs slot w1) _ (raise s bs slot)
+        (fa.by p r.0 r.1 s bs slot fit w) (λ t w1. go t r.0 q s bs slot w1 e (fb.by r.0 q r.2 e s bs slot fit w1)));
     takes = λ p q st w.
         let r = move_split g a b p q st in
-        fine_then (ma w) _ (λ t w1. suc (length w1.answers) ≤ length w.answers) _ (fa.takes p r.0 r.1 w) (λ t w1 lt. drops_meets false t (Fine t w1) (mb w1) _ lt (drops_less (mb w1) _ _ (omega arith) (fb.takes r.0 q r.2 w1)));
+        fine_then (ma w) _ (λ t w1. suc (length w1.answers) ≤ length w.answers) _ (fa.takes p r.0 r.1 w)
+        (λ t w1 lt. drops_meets false t (Fine t w1) (mb w1) _ lt (drops_less (mb w1) _ _ (omega arith) (fb.takes r.0 q r.2 w1)));
   }
     where
       go : (t : Bool) (m q : P) (s : List (Entry K)) (bs : List (Block K P)) (slot : Option (Value K)) (w : World K) → meets c false (g.spot to) q ≡ g.spot out
           → Reaches g (size b) (At m s bs slot w) (on_got (mb w) (λ t w1. At (meets c t (g.spot to) q) s bs slot w1) (raise s bs slot) stopped_config)
-          → Reaches g (size b) (At (meets false t (g.spot out) m) s bs slot w) (on_got (meets false t (Fine t w) (mb w)) (λ t w1. At (meets c t (g.spot to) q) s bs slot w1) (raise s bs slot) stopped_config)
+          → Reaches g (size b) (At (meets false t (g.spot out) m) s bs slot w)
+          (on_got (meets false t (Fine t w) (mb w)) (λ t w1. At (meets c t (g.spot to) q) s bs slot w1)
+          (raise s bs slot) stopped_config)
       go true m q s bs slot w e h = h
       go false m q s bs slot w e h = reach_more g 0 (size b) _ _ (omega arith) (reach_same g _ _ (ap (λ x. At x s bs slot w) (sym e)))
 
@@ -122,11 +128,14 @@ module _ {K P : Type 0} (g : Ground K P) where
     by = λ p q st s bs slot fit w.
         let r = move_split g a b p q st in
         reach_more g (size a + size b) _ _ _ (omega (arith, size-append a b))
-        (get_then g (ma w) _ (size a) (size b) _ (λ t w1. At (meets false t (g.spot to) r.0) s bs slot w1) _ (raise s bs slot) (fa.by p r.0 r.1 s bs slot fit w) (λ t w1. go t r.0 q s bs slot w1 (fb.by r.0 q r.2 s bs slot fit w1)));
+        (get_then g (ma w) _ (size a) (size b) _ (λ t w1. At (meets false t (g.spot to) r.0) s bs slot w1) _ (raise s bs slot)
+        (fa.by p r.0 r.1 s bs slot fit w) (λ t w1. go t r.0 q s bs slot w1 (fb.by r.0 q r.2 s bs slot fit w1)));
   }
     where
       go : (t : Bool) (m q : P) (s : List (Entry K)) (bs : List (Block K P)) (slot : Option (Value K)) (w : World K)
           → Reaches g (size b) (At m s bs slot w) (on_got (mb w) (λ t w1. At (meets false t (g.spot to) q) s bs slot w1) (raise s bs slot) stopped_config)
-          → Reaches g (size b) (At (meets false t (g.spot to) m) s bs slot w) (on_got (meets false t (Fine t w) (mb w)) (λ t w1. At (meets false t (g.spot to) q) s bs slot w1) (raise s bs slot) stopped_config)
+          → Reaches g (size b) (At (meets false t (g.spot to) m) s bs slot w)
+          (on_got (meets false t (Fine t w) (mb w)) (λ t w1. At (meets false t (g.spot to) q) s bs slot w1)
+          (raise s bs slot) stopped_config)
       go true m q s bs slot w h = h
       go false m q s bs slot w h = reach_more g 0 (size b) _ _ (omega arith) (stay g _)

@@ -2,22 +2,30 @@
 use Rattle.py_bytecode.specs.Objects as const
 use Rattle.py_bytecode.specs.Objects.{Const}
 use Rattle.std.proofs.Common.{◌≡◌, ℕ, suc, ◌+◌, ◌≤◌, List, [], ◌∷◌, ◌++◌, length, Bool, true, false, Option, Some, None, refl, sym, ap, ◌∙◌, subst, arith, append_assoc, append-nil}
-use Rattle.py_bytecode.specs.Values.{Operation, Value, Constant, Cell, Entry, It, Cells, Load, Store, Delete, Kind, Operates, Makes, Accesses, World, Got, Fine, on_got, then_get, ask_for, for_one, for_none, gives_of, truth_of, choose, meets}
+use Rattle.py_bytecode.specs.Values.{Operation, Value, Constant, Cell, Entry, It, Cells, Load, Store, Delete, Kind, Operates, Makes}
+use Rattle.py_bytecode.specs.Values.{Accesses, World, Got, Fine, on_got, then_get, ask_for, for_one, for_none, gives_of, truth_of, choose}
+use Rattle.py_bytecode.specs.Values.{meets}
 use Rattle.py_control.specs.Form.{decide, link, keep_value}
-use Rattle.py_bytecode.specs.Machine.{is_tuple, Push, Access, Operate, MakeFunction, Unpack, Pop, Rotate2, Rotate3, Duplicate, JumpIfOrPop, Jump, at_places, Block, At, wrong, leaked_config, joins, push, stack_of, stopped_config, raise, act}
+use Rattle.py_bytecode.specs.Machine.{is_tuple, Push, Access, Operate, MakeFunction, Unpack, Pop, Rotate2, Rotate3, Duplicate, JumpIfOrPop}
+use Rattle.py_bytecode.specs.Machine.{Jump, at_places, Block, At, wrong, leaked_config, joins, push, stack_of, stopped_config, raise, act}
 use Rattle.py_control.specs.Fit.{IsFit}
 use Rattle.py_control.specs.Code.{tuple_of, Item, Do, Label, size, choice_code, link_code, chain_code, kept_code, cell_codes, closure_code, has_cells, make_code}
 use Rattle.py_control_proof.proofs.Reach.{Ground, Reaches, reach_same, reach_more, follow}
-use Rattle.py_control_proof.proofs.Moves.{raise_drop, fit_more, size-append, OnFine, MoveStands, move_split, does, Moves, bare, one_on, none_on, FollowsValue, FollowsValues, FollowsEffect, FollowsTarget, FollowsTest, get_then, get_land, moves_on, moves_then, moves_do, moves_one, moves_shuffle, framed, framed_push, framed_stack, moves_map}
+use Rattle.py_control_proof.proofs.Moves.{raise_drop, fit_more, size-append, OnFine, MoveStands, move_split, does, Moves, bare, one_on}
+use Rattle.py_control_proof.proofs.Moves.{none_on, FollowsValue, FollowsValues, FollowsEffect, FollowsTarget, FollowsTest, get_then}
+use Rattle.py_control_proof.proofs.Moves.{get_land, moves_on, moves_then, moves_do, moves_one, moves_shuffle, framed, framed_push}
+use Rattle.py_control_proof.proofs.Moves.{framed_stack, moves_map}
 use Rattle.py_control_proof.proofs.Ops.{pop_all, pop_both, push-append, one_is, op_none_is, gives_many, push_cells, op_joined, cells_on_top}
 
 module _ {K P : Type 0} (g : Ground K P) where
   -- an operation on values that lie on the stack
   pub one_moves : (o : Operation) (n : ℕ) (vs : List (Value K)) → length vs ≡ n → Moves g (Do (Operate o n (Some 1)) ∷ []) (push vs) (for_one (Operates o vs)) (one_on g)
-  one_moves o n vs len = moves_one g (Operate o n (Some 1)) (push vs) (one_on g) (for_one (Operates o vs)) (λ q s bs slot w fit. pop_all vs s n _ _ _ len ∙ one_is (Operates o vs) w _ _ _ (λ v w1. At q (It v ∷ s) bs slot w1) (λ v w1. refl))
+  one_moves o n vs len = moves_one g (Operate o n (Some 1)) (push vs) (one_on g) (for_one (Operates o vs))
+      (λ q s bs slot w fit. pop_all vs s n _ _ _ len ∙ one_is (Operates o vs) w _ _ _ (λ v w1. At q (It v ∷ s) bs slot w1) (λ v w1. refl))
 
   pub none_moves : (o : Operation) (n : ℕ) (r : Bool) (vs : List (Value K)) → length vs ≡ n → Moves g (Do (Operate o n (gives_of r)) ∷ []) (push vs) (for_none (Operates o vs) r) (none_on g)
-  none_moves o n r vs len = moves_one g (Operate o n (gives_of r)) (push vs) (none_on g) (for_none (Operates o vs) r) (λ q s bs slot w fit. pop_all vs s n _ _ _ len ∙ op_none_is (Operates o vs) r w (λ gs w1. At q (push gs s) bs slot w1) _ _)
+  none_moves o n r vs len = moves_one g (Operate o n (gives_of r)) (push vs) (none_on g) (for_none (Operates o vs) r)
+      (λ q s bs slot w fit. pop_all vs s n _ _ _ len ∙ op_none_is (Operates o vs) r w (λ gs w1. At q (push gs s) bs slot w1) _ _)
 
   -- constants and accesses
   pub const_follows : (c : Const) → FollowsValue g (Do (Push (It (Constant c))) ∷ []) (λ w. Fine (Constant c) w)
@@ -44,7 +52,9 @@ module _ {K P : Type 0} (g : Ground K P) where
 
   pub method_follows : (o : Operation) (a b : List (Item K)) (ma : World K → Got K (Value K)) (mb : World K → Got K (List (Value K))) → FollowsValue g a ma
       → FollowsValues g b mb
-      → FollowsValues g (a ++ (Do (Operate o 1 (Some 3)) ∷ b)) (λ w. then_get (ma w) (λ v w1. then_get (ask_for (Operates o (v ∷ [])) (Some 3) w1) (λ us w2. then_get (mb w2) (λ vs w3. Fine (us ++ vs) w3))))
+      → FollowsValues g (a ++ (Do (Operate o 1 (Some 3)) ∷ b))
+      (λ w. then_get (ma w) (λ v w1. then_get (ask_for (Operates o (v ∷ [])) (Some 3) w1)
+      (λ us w2. then_get (mb w2) (λ vs w3. Fine (us ++ vs) w3))))
   method_follows o a b ma mb fa fb =
       moves_then g a _ (bare g) (one_on g) push ma _ fa
       (λ v. moves_do g (Operate o 1 (Some 3)) b (one_on g v) push push (ask_for (Operates o (v ∷ [])) (Some 3)) _ (λ q s bs slot w fit. refl)
@@ -58,7 +68,8 @@ module _ {K P : Type 0} (g : Ground K P) where
   -- two values change places before the further ones
   pub swap_follows : (o : Operation) (n : ℕ) (a b parts : List (Item K)) (ma mb : World K → Got K (Value K)) (m : World K → Got K (List (Value K)))
       → ((w : World K) → OnFine (m w) (λ vs w1. length vs ≡ n)) → FollowsValue g a ma → FollowsValue g b mb → FollowsValues g parts m
-      → FollowsValue g (a ++ (b ++ (Do Rotate2 ∷ (parts ++ Do (Operate o (2 + n) (Some 1)) ∷ [])))) (λ w. then_get (ma w) (λ u w1. then_get (mb w1) (λ v w2. then_get (m w2) (λ vs w3. for_one (Operates o (v ∷ u ∷ vs)) w3))))
+      → FollowsValue g (a ++ (b ++ (Do Rotate2 ∷ (parts ++ Do (Operate o (2 + n) (Some 1)) ∷ []))))
+      (λ w. then_get (ma w) (λ u w1. then_get (mb w1) (λ v w2. then_get (m w2) (λ vs w3. for_one (Operates o (v ∷ u ∷ vs)) w3))))
   swap_follows o n a b parts ma mb m len fa fb fs =
       moves_then g a _ (bare g) (one_on g) (one_on g) ma _ fa
       (λ u. moves_then g b _ (one_on g u) (λ v s. It v ∷ It u ∷ s) (one_on g) mb _ (framed g (It u) b (bare g) mb (one_on g) fb)
@@ -88,7 +99,9 @@ module _ {K P : Type 0} (g : Ground K P) where
   closure_moves (c ∷ cs) b r m post f =
       subst (λ x. Moves g x r m post) (sym (append_assoc (cell_codes (c ∷ cs)) (Do (Operate (tuple_of (length (c ∷ cs))) (length (c ∷ cs)) (Some 1)) ∷ []) b))
       (cells_moves (c ∷ cs) (Do (Operate (tuple_of (length (c ∷ cs))) (length (c ∷ cs)) (Some 1)) ∷ b) r m post
-      (moves_shuffle g (Operate (tuple_of (length (c ∷ cs))) (length (c ∷ cs)) (Some 1)) b (λ s. push_cells (c ∷ cs) (r s)) (λ s. closure_on (c ∷ cs) (r s)) post m (λ q s bs slot w. cells_on_top cs (c ∷ []) (r s) [] (length cs) _ _ _ ∙ joining q (r s) bs slot w) f))
+      (moves_shuffle g (Operate (tuple_of (length (c ∷ cs))) (length (c ∷ cs)) (Some 1)) b (λ s. push_cells (c ∷ cs) (r s))
+      (λ s. closure_on (c ∷ cs) (r s)) post m
+      (λ q s bs slot w. cells_on_top cs (c ∷ []) (r s) [] (length cs) _ _ _ ∙ joining q (r s) bs slot w) f))
     where
       joining : (q : P) (s : List (Entry K)) (bs : List (Block K P)) (slot : Option (Value K)) (w : World K)
           → joins (is_tuple (tuple_of (length (c ∷ cs)))) (length (c ∷ cs)) q (push_cells (c ∷ cs) s) bs slot w ≡ At q (Cells (c ∷ cs) ∷ s) bs slot w
@@ -101,7 +114,9 @@ module _ {K P : Type 0} (g : Ground K P) where
   pub make_follows : (flags : ℕ) (closure : List Cell) (child : Value K) (name : List ℕ) (m n : ℕ) (a b : List (Item K)) (ma mb : World K → Got K (List (Value K)))
       → ((w : World K) → OnFine (ma w) (λ vs w1. length vs ≡ m)) → ((w : World K) → OnFine (mb w) (λ vs w1. length vs ≡ n)) → FollowsValues g a ma
       → FollowsValues g b mb
-      → FollowsValue g (a ++ (b ++ make_code flags closure (m + n) child name)) (λ w. then_get (ma w) (λ us w1. then_get (mb w1) (λ vs w2. for_one (Makes flags (us ++ (vs ++ (child ∷ Constant (const.str name) ∷ []))) closure) w2)))
+      → FollowsValue g (a ++ (b ++ make_code flags closure (m + n) child name))
+      (λ w. then_get (ma w) (λ us w1. then_get (mb w1)
+      (λ vs w2. for_one (Makes flags (us ++ (vs ++ (child ∷ Constant (const.str name) ∷ []))) closure) w2)))
   make_follows flags closure child name m n a b ma mb la lb fa fb =
       moves_on g a _ (bare g) push (one_on g) ma _ (λ us. length us ≡ m) la fa
       (λ us eu. moves_on g b _ (push us) (λ vs s. push vs (push us s)) (one_on g) mb _ (λ vs. length vs ≡ n) lb (framed_push g us b (bare g) mb push fb)
@@ -111,14 +126,20 @@ module _ {K P : Type 0} (g : Ground K P) where
       kn = child ∷ Constant (const.str name) ∷ []
 
       final : (us vs : List (Value K)) → length us ≡ m → length vs ≡ n → (cs : List Cell)
-          → Moves g (Do (MakeFunction flags (has_cells cs) (m + n)) ∷ []) (λ s. It (Constant (const.str name)) ∷ It child ∷ closure_on cs (push vs (push us s))) (for_one (Makes flags (us ++ (vs ++ (child ∷ Constant (const.str name) ∷ []))) cs)) (one_on g)
+          → Moves g (Do (MakeFunction flags (has_cells cs) (m + n)) ∷ [])
+          (λ s. It (Constant (const.str name)) ∷ It child ∷ closure_on cs (push vs (push us s)))
+          (for_one (Makes flags (us ++ (vs ++ (child ∷ Constant (const.str name) ∷ []))) cs)) (one_on g)
       final us vs eu ev [] =
           moves_one g (MakeFunction flags false (m + n)) _ (one_on g) _
-          (λ q s bs slot w fit. pop_both us vs s m n (wrong w) (leaked_config w) (λ xs rest2. on_got (for_one (Makes flags (xs ++ (child ∷ Constant (const.str name) ∷ [])) []) w) (λ v w1. At q (It v ∷ rest2) bs slot w1) (raise rest2 bs slot) stopped_config) eu ev
+          (λ q s bs slot w fit. pop_both us vs s m n (wrong w) (leaked_config w)
+          (λ xs rest2. on_got (for_one (Makes flags (xs ++ (child ∷ Constant (const.str name) ∷ [])) []) w)
+          (λ v w1. At q (It v ∷ rest2) bs slot w1) (raise rest2 bs slot) stopped_config) eu ev
           ∙ ap (λ x. on_got (for_one (Makes flags x []) w) (λ v w1. At q (It v ∷ s) bs slot w1) (raise s bs slot) stopped_config) (append_assoc us vs (child ∷ Constant (const.str name) ∷ [])))
       final us vs eu ev (c ∷ cs) =
           moves_one g (MakeFunction flags true (m + n)) _ (one_on g) _
-          (λ q s bs slot w fit. pop_both us vs s m n (wrong w) (leaked_config w) (λ xs rest2. on_got (for_one (Makes flags (xs ++ (child ∷ Constant (const.str name) ∷ [])) (c ∷ cs)) w) (λ v w1. At q (It v ∷ rest2) bs slot w1) (raise rest2 bs slot) stopped_config) eu ev
+          (λ q s bs slot w fit. pop_both us vs s m n (wrong w) (leaked_config w)
+          (λ xs rest2. on_got (for_one (Makes flags (xs ++ (child ∷ Constant (const.str name) ∷ [])) (c ∷ cs)) w)
+          (λ v w1. At q (It v ∷ rest2) bs slot w1) (raise rest2 bs slot) stopped_config) eu ev
           ∙ ap (λ x. on_got (for_one (Makes flags x (c ∷ cs)) w) (λ v w1. At q (It v ∷ s) bs slot w1) (raise s bs slot) stopped_config) (append_assoc us vs (child ∷ Constant (const.str name) ∷ [])))
 
       made : (us vs : List (Value K)) → length us ≡ m → length vs ≡ n
@@ -126,7 +147,9 @@ module _ {K P : Type 0} (g : Ground K P) where
       made us vs eu ev =
           closure_moves closure _ (λ s. push vs (push us s)) _ (one_on g)
           (moves_shuffle g (Push (It child)) _ (λ s. closure_on closure (push vs (push us s))) (λ s. It child ∷ closure_on closure (push vs (push us s))) (one_on g) _ (λ q s bs slot w. refl)
-          (moves_shuffle g (Push (It (Constant (const.str name)))) _ (λ s. It child ∷ closure_on closure (push vs (push us s))) (λ s. It (Constant (const.str name)) ∷ It child ∷ closure_on closure (push vs (push us s))) (one_on g) _ (λ q s bs slot w. refl)
+          (moves_shuffle g (Push (It (Constant (const.str name)))) _ (λ s. It child ∷ closure_on closure (push vs (push us s)))
+          (λ s. It (Constant (const.str name)) ∷ It child ∷ closure_on closure (push vs (push us s)))
+          (one_on g) _ (λ q s bs slot w. refl)
           (final us vs eu ev closure)))
 
 module _ {K P : Type 0} (g : Ground K P) where
@@ -145,7 +168,9 @@ module _ {K P : Type 0} (g : Ground K P) where
         let r = move_split g a _ p q st in
         reach_more g (size a + (1 + size b)) _ _ _ (omega (arith, size-append a (Do (JumpIfOrPop d end) ∷ b)))
         (get_then g (ma w) _ (size a) (1 + size b) _ (λ v w1. At r.0 (It v ∷ s) bs slot w1) _ (raise s bs slot) (fa.by p r.0 r.1 s bs slot fit w)
-        (λ v w1. get_then g (truth_of v w1) _ 1 (size b) _ (λ t w2. meets d t (At (g.spot end) (It v ∷ s) bs slot w2) (At r.2.0 s bs slot w2)) _ (raise s bs slot) (does g (JumpIfOrPop d end) r.0 r.2.0 (It v ∷ s) bs slot w1 r.2.1)
+        (λ v w1. get_then g (truth_of v w1) _ 1 (size b)
+        _ (λ t w2. meets d t (At (g.spot end) (It v ∷ s) bs slot w2) (At r.2.0 s bs slot w2)) _ (raise s bs slot)
+        (does g (JumpIfOrPop d end) r.0 r.2.0 (It v ∷ s) bs slot w1 r.2.1)
         (λ t w2. go d t v r.2.0 q s bs slot w2 e (fb.by r.2.0 q r.2.2 e s bs slot fit w2))));
   }
     where
@@ -155,7 +180,8 @@ module _ {K P : Type 0} (g : Ground K P) where
 
       go : (d t : Bool) (v : Value K) (m q : P) (s : List (Entry K)) (bs : List (Block K P)) (slot : Option (Value K)) (w : World K) → g.spot end ≡ q
           → Reaches g (size b) (At m s bs slot w) (on_got (mb w) (λ v w1. At q (It v ∷ s) bs slot w1) (raise s bs slot) stopped_config)
-          → Reaches g (size b) (meets d t (At (g.spot end) (It v ∷ s) bs slot w) (At m s bs slot w)) (on_got (meets d t (Fine v w) (mb w)) (λ v w1. At q (It v ∷ s) bs slot w1) (raise s bs slot) stopped_config)
+          → Reaches g (size b) (meets d t (At (g.spot end) (It v ∷ s) bs slot w) (At m s bs slot w))
+          (on_got (meets d t (Fine v w) (mb w)) (λ v w1. At q (It v ∷ s) bs slot w1) (raise s bs slot) stopped_config)
       go true true v m q s bs slot w e h = stops v q s bs slot w e
       go true false v m q s bs slot w e h = h
       go false true v m q s bs slot w e h = h
@@ -181,7 +207,8 @@ module _ {K P : Type 0} (g : Ground K P) where
   last_link o a out m fa = record {
     by = λ p q e st s bs slot fit outs lasts l w.
         get_land g _ (size (a ++ Do (Operate o 2 (Some 1)) ∷ [])) 2 _ (λ v w1. At q (It v ∷ s) bs slot w1) (λ v w1. At e (It v ∷ s) bs slot w1) (raise s bs slot)
-        ((moves_then g a _ (one_on g l) (λ x s1. It x ∷ It l ∷ s1) (one_on g) m _ (framed g (It l) a (bare g) m (one_on g) fa) (λ x. one_moves g o 2 (l ∷ x ∷ []) refl)).by p q st s bs slot fit w) lasts;
+        ((moves_then g a _ (one_on g l) (λ x s1. It x ∷ It l ∷ s1) (one_on g) m _ (framed g (It l) a (bare g) m (one_on g) fa)
+        (λ x. one_moves g o 2 (l ∷ x ∷ []) refl)).by p q st s bs slot fit w) lasts;
   }
 
   -- one link, from its two operands
@@ -198,8 +225,14 @@ module _ {K P : Type 0} (g : Ground K P) where
       let at_op : P = st.2.0 in
       let at_jump : P = st.2.2.0 in
       let comparing = (one_moves g o 2 (l ∷ x ∷ []) refl).by at_op at_jump (at_jump, st.2.2.1, refl) (It x ∷ s) bs slot fit1 w in
-      let compared = subst (λ R. Reaches g 1 (At at_op (It x ∷ It l ∷ It x ∷ s) bs slot w) (on_got (for_one (Operates o (l ∷ x ∷ [])) w) (λ v w1. At at_jump (It v ∷ It x ∷ s) bs slot w1) R stopped_config)) under comparing in
-      let asked = λ (r : Value K) (w1 : World K). subst (λ R. Reaches g 1 (At at_jump (It r ∷ It x ∷ s) bs slot w1) (on_got (truth_of r w1) (λ t w2. meets false t (At (g.spot out) (It r ∷ It x ∷ s) bs slot w2) (At st.2.2.2.0 (It x ∷ s) bs slot w2)) R stopped_config)) under (does g (JumpIfOrPop false out) at_jump st.2.2.2.0 (It r ∷ It x ∷ s) bs slot w1 st.2.2.2.1) in
+      let compared = subst (λ R. Reaches g 1 (At at_op (It x ∷ It l ∷ It x ∷ s) bs slot w)
+      (on_got (for_one (Operates o (l ∷ x ∷ [])) w) (λ v w1. At at_jump (It v ∷ It x ∷ s) bs slot w1) R stopped_config)) under
+      comparing in
+      let asked = λ (r : Value K) (w1 : World K). subst
+      (λ R. Reaches g 1 (At at_jump (It r ∷ It x ∷ s) bs slot w1)
+      (on_got (truth_of r w1) (λ t w2. meets false t (At (g.spot out) (It r ∷ It x ∷ s) bs slot w2)
+      (At st.2.2.2.0 (It x ∷ s) bs slot w2)) R stopped_config)) under
+      (does g (JumpIfOrPop false out) at_jump st.2.2.2.0 (It r ∷ It x ∷ s) bs slot w1 st.2.2.2.1) in
       let shuffled = follow g 1 1 _ _ _ (does g Duplicate p st.0 (It x ∷ It l ∷ s) bs slot w st.1) (does g Rotate3 st.0 at_op (It x ∷ It x ∷ It l ∷ s) bs slot w st.2.1) in
       reach_more g (2 + (1 + (1 + n))) (4 + n) _ _ (omega arith)
       (follow g 2 (1 + (1 + n)) _ _ _ shuffled
@@ -208,7 +241,8 @@ module _ {K P : Type 0} (g : Ground K P) where
       (λ t w2. pick t r w2))))
     where
       pick : (t : Bool) (r : Value K) (w2 : World K)
-          → Reaches g n (meets false t (At (g.spot out) (It r ∷ It x ∷ s) bs slot w2) (At st.2.2.2.0 (It x ∷ s) bs slot w2)) (on_got (meets false t (Fine r w2) (rest w2)) (λ v w1. At e (It v ∷ s) bs slot w1) (raise s bs slot) stopped_config)
+          → Reaches g n (meets false t (At (g.spot out) (It r ∷ It x ∷ s) bs slot w2) (At st.2.2.2.0 (It x ∷ s) bs slot w2))
+          (on_got (meets false t (Fine r w2) (rest w2)) (λ v w1. At e (It v ∷ s) bs slot w1) (raise s bs slot) stopped_config)
       pick true r w2 = subst (λ z. Reaches g n (At z (It x ∷ s) bs slot w2) (on_got (rest w2) (λ v w1. At e (It v ∷ s) bs slot w1) (raise s bs slot) stopped_config)) (sym st.2.2.2.2) (goes w2)
       pick false r w2 = reach_more g 2 n _ _ le (outs r x w2)
 
@@ -219,7 +253,8 @@ module _ {K P : Type 0} (g : Ground K P) where
         let r = move_split g a _ p q st in
         let r2 = move_split g (link_code o out) b r.0 q r.2 in
         reach_more g (size a + (4 + (size b + 2))) _ _ _ (omega (arith, size-append a (link_code o out ++ b)))
-        (get_then g (ma w) _ (size a) (4 + (size b + 2)) _ (λ x w1. At r.0 (It x ∷ It l ∷ s) bs slot w1) _ (raise s bs slot) ((framed g (It l) a (bare g) ma (one_on g) fa).by p r.0 r.1 s bs slot fit w)
+        (get_then g (ma w) _ (size a) (4 + (size b + 2)) _ (λ x w1. At r.0 (It x ∷ It l ∷ s) bs slot w1) _ (raise s bs slot)
+        ((framed g (It l) a (bare g) ma (one_on g) fa).by p r.0 r.1 s bs slot fit w)
         (λ x w1. link_reach o out r.0 r2.0 e r2.1 s bs slot fit outs l x (mb x) (size b + 2) (omega arith) (λ w2. fb.by r2.0 q e r2.2 s bs slot fit outs lasts x w2) w1));
   }
 
@@ -236,8 +271,14 @@ module _ {K P : Type 0} (g : Ground K P) where
         let u = j.2.1 in
         let z = u.2 in
         let ends : g.spot end ≡ q = z.2.0 ∙ z.2.1 in
-        let lasts = λ (v : Value K) (w1 : World K). reach_more g 1 2 _ _ (omega arith) (subst (λ x. Reaches g 1 (At r2.0 (It v ∷ s) bs slot w1) (At x (It v ∷ s) bs slot w1)) ends (does g (Jump end) r2.0 j.0 (It v ∷ s) bs slot w1 j.1)) in
-        let outs = λ (v x : Value K) (w1 : World K). subst (λ t. Reaches g 2 (At t (It v ∷ It x ∷ s) bs slot w1) (At q (It v ∷ s) bs slot w1)) (sym j.2.0) (subst (λ t. Reaches g 2 (At j.0 (It v ∷ It x ∷ s) bs slot w1) (At t (It v ∷ s) bs slot w1)) z.2.1 (follow g 1 1 _ _ _ (does g Rotate2 j.0 u.0 (It v ∷ It x ∷ s) bs slot w1 u.1) (does g Pop u.0 z.0 (It x ∷ It v ∷ s) bs slot w1 z.1))) in
+        let lasts = λ (v : Value K) (w1 : World K). reach_more g 1 2 _ _ (omega arith)
+        (subst (λ x. Reaches g 1 (At r2.0 (It v ∷ s) bs slot w1) (At x (It v ∷ s) bs slot w1)) ends
+        (does g (Jump end) r2.0 j.0 (It v ∷ s) bs slot w1 j.1)) in
+        let outs = λ (v x : Value K) (w1 : World K). subst
+        (λ t. Reaches g 2 (At t (It v ∷ It x ∷ s) bs slot w1) (At q (It v ∷ s) bs slot w1)) (sym j.2.0)
+        (subst (λ t. Reaches g 2 (At j.0 (It v ∷ It x ∷ s) bs slot w1) (At t (It v ∷ s) bs slot w1)) z.2.1
+        (follow g 1 1 _ _ _ (does g Rotate2 j.0 u.0 (It v ∷ It x ∷ s) bs slot w1 u.1)
+        (does g Pop u.0 z.0 (It x ∷ It v ∷ s) bs slot w1 z.1))) in
         let all = (more_link o out b c mb mc fb fc) in
         reach_more g (size a + (size links + 2)) _ _ _ (omega (arith, size-append a (links ++ tail), size-append links tail))
         (get_then g (ma w) _ (size a) (size links + 2) _ (λ l w1. At r.0 (It l ∷ s) bs slot w1) _ (raise s bs slot) (fa.by p r.0 r.1 s bs slot fit w)
@@ -254,10 +295,19 @@ module _ {K P : Type 0} (g : Ground K P) where
         let r2 = move_split g a _ r.0 q r.2 in
         let j = r2.2 in
         let r3 = move_split g b (Label end ∷ []) j.0 q j.2.1 in
-        reach_more g (size test + (size a + 1 + size b)) _ _ _ (omega (arith, size-append test (a ++ (Do (Jump end) ∷ Label other ∷ (b ++ Label end ∷ []))), size-append a (Do (Jump end) ∷ Label other ∷ (b ++ Label end ∷ [])), size-append b (Label end ∷ [])))
+        reach_more g (size test + (size a + 1 + size b))
+        _ _ _ (omega (
+          arith,
+          size-append test (a ++ (Do (Jump end) ∷ Label other ∷ (b ++ Label end ∷ []))),
+          size-append a (Do (Jump end) ∷ Label other ∷ (b ++ Label end ∷ [])),
+          size-append b (Label end ∷ []),
+        ))
         (get_then g (mt w) _ (size test) (size a + 1 + size b) _ (λ t w1. At (meets false t (g.spot other) r.0) s bs slot w1) _ (raise s bs slot) (ft.by p r.0 r.1 s bs slot fit w)
         (λ t w1. go t r.0 j.0 q s bs slot w1 j.2.0
-        (get_land g (ma w1) (size a) 1 _ (λ v w2. At r2.0 (It v ∷ s) bs slot w2) (λ v w2. At q (It v ∷ s) bs slot w2) (raise s bs slot) (fa.by r.0 r2.0 r2.1 s bs slot fit w1) (λ v w2. subst (λ x. Reaches g 1 (At r2.0 (It v ∷ s) bs slot w2) (At x (It v ∷ s) bs slot w2)) (r3.2.0 ∙ r3.2.1) (does g (Jump end) r2.0 j.0 (It v ∷ s) bs slot w2 j.1)))
+        (get_land g (ma w1) (size a) 1 _ (λ v w2. At r2.0 (It v ∷ s) bs slot w2) (λ v w2. At q (It v ∷ s) bs slot w2) (raise s bs slot)
+        (fa.by r.0 r2.0 r2.1 s bs slot fit w1)
+        (λ v w2. subst (λ x. Reaches g 1 (At r2.0 (It v ∷ s) bs slot w2) (At x (It v ∷ s) bs slot w2)) (r3.2.0 ∙ r3.2.1)
+        (does g (Jump end) r2.0 j.0 (It v ∷ s) bs slot w2 j.1)))
         (subst (λ x. Reaches g (size b) (At j.0 s bs slot w1) (on_got (mb w1) (λ v w1. At x (It v ∷ s) bs slot w1) (raise s bs slot) stopped_config)) r3.2.1 (fb.by j.0 r3.0 r3.1 s bs slot fit w1))));
   }
     where
@@ -266,7 +316,9 @@ module _ {K P : Type 0} (g : Ground K P) where
           → Reaches g (size b) (At m3 s bs slot w) (on_got (mb w) (λ v w2. At q (It v ∷ s) bs slot w2) (raise s bs slot) stopped_config)
           → Reaches g (size a + 1 + size b) (At (meets false t (g.spot other) m1) s bs slot w) (on_got (choose t (ma w) (mb w)) (λ v w2. At q (It v ∷ s) bs slot w2) (raise s bs slot) stopped_config)
       go true m1 m3 q s bs slot w e ha hb = reach_more g (size a + 1) _ _ _ (omega arith) ha
-      go false m1 m3 q s bs slot w e ha hb = reach_more g (size b) _ _ _ (omega arith) (subst (λ x. Reaches g (size b) (At x s bs slot w) (on_got (mb w) (λ v w2. At q (It v ∷ s) bs slot w2) (raise s bs slot) stopped_config)) (sym e) hb)
+      go false m1 m3 q s bs slot w e ha hb = reach_more g (size b) _ _ _ (omega arith)
+          (subst (λ x. Reaches g (size b) (At x s bs slot w)
+          (on_got (mb w) (λ v w2. At q (It v ∷ s) bs slot w2) (raise s bs slot) stopped_config)) (sym e) hb)
 
   -- a value kept, and handed to a target
   pub keep_follows : (how : Option Operation) (a b : List (Item K)) (ma : World K → Got K (Value K)) (mb : Value K → World K → Got K (Unit {0}))
@@ -291,7 +343,8 @@ module _ {K P : Type 0} (g : Ground K P) where
       → FollowsValues g a m
       → FollowsTarget g (a ++ Do (Operate o (suc n) (Some 0)) ∷ []) (λ v w. then_get (m w) (λ vs w1. for_none (Operates o (v ∷ vs)) false w1))
   put_follows o n a m len f v =
-      moves_on g a _ (one_on g v) (λ vs s. push vs (It v ∷ s)) (none_on g) m _ (λ vs. length vs ≡ n) len (framed g (It v) a (bare g) m push f) (λ vs e. none_moves g o (suc n) false (v ∷ vs) (ap suc e))
+      moves_on g a _ (one_on g v) (λ vs s. push vs (It v ∷ s)) (none_on g) m _ (λ vs. length vs ≡ n) len
+      (framed g (It v) a (bare g) m push f) (λ vs e. none_moves g o (suc n) false (v ∷ vs) (ap suc e))
 
   pub under_follows : (o : Operation) (a : List (Item K)) (m : World K → Got K (Value K)) → FollowsValue g a m
       → FollowsTarget g (a ++ (Do Rotate2 ∷ Do (Operate o 2 (Some 0)) ∷ [])) (λ v w. then_get (m w) (λ x w1. for_none (Operates o (x ∷ v ∷ [])) false w1))
@@ -304,7 +357,11 @@ module _ {K P : Type 0} (g : Ground K P) where
   FollowsTargets n is m = (vs : List (Value K)) → length vs ≡ n → Moves g is (stack_of vs) (m vs) (none_on g)
 
   pub no_targets : (m : List (Value K) → World K → Got K (Unit {0})) → ((w : World K) → m [] w ≡ Fine tt w) → FollowsTargets 0 [] m
-  no_targets m e [] len = record { by = λ p q st s bs slot fit w. reach_same g _ _ (ap (λ n. At n s bs slot w) st ∙ ap (λ r. on_got r (λ d w1. At q s bs slot w1) (raise s bs slot) stopped_config) (sym (e w))) }
+  no_targets m e [] len = record {
+    by = λ p q st s bs slot fit w.
+        reach_same g _ _ (ap (λ n. At n s bs slot w) st
+        ∙ ap (λ r. on_got r (λ d w1. At q s bs slot w1) (raise s bs slot) stopped_config) (sym (e w)));
+  }
   no_targets m e (v ∷ vs) len = absurd (omega arith)
 
   pub more_targets : (n : ℕ) (a b : List (Item K)) (ma : Value K → World K → Got K (Unit {0})) (mb m : List (Value K) → World K → Got K (Unit {0}))

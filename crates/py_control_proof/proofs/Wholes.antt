@@ -1,40 +1,45 @@
--- Values, tests, targets and clauses have no instructions that cannot be come to.
+-- Values, tests, targets and clauses have no instructions that cannot be reached.
 use Rattle.std.proofs.Common.{◌≡◌, ℕ, suc, ◌+◌, List, [], ◌∷◌, ◌++◌, Bool, true, false, Some, None, refl, ap, ◌∙◌, arith}
 use Rattle.py_bytecode.specs.Values.{Operation, Cell, flip}
 use Rattle.py_bytecode.specs.Machine.{Instr}
-use Rattle.py_control.specs.Form.{VForm, VConst, VLoad, VOp, VMake, VShort, VChain, VChoice, VKeep, VSwap, VAt, VForms, VNone, VMore, VMethod, Shorts, OneShort, MoreShort, Links, LastLink, MoreLink, TForm, TTruth, TNot, TAll, Tests, OneTest, MoreTest, Target, GStore, GPut, GUnder, GUnpack, GDrop, Targets, NoTarget, MoreTarget, Clauses, CLast, CEach, Filters, NoFilter, MoreFilter, Interp}
-use Rattle.py_control.specs.Code.{Item, Do, Label, size, labels_v, labels_vs, labels_t, labels_g, labels_bs, cell_codes, closure_code, tail_code, augment_code, augment_two_code, code_v, code_vs, code_ss, code_ls, code_t, code_ts, code_g, code_gs, code_bs, code_c, append_code, drop_code}
-use Rattle.py_control_proof.specs.Live.{stays, live}
-use Rattle.py_control_proof.proofs.Falls.{falls, live-append, falls-append, live_if}
+use Rattle.py_control.specs.Form.{VForm, VConst, VLoad, VOp, VMake, VShort, VChain, VChoice, VKeep, VSwap, VAt, VForms, VNone, VMore}
+use Rattle.py_control.specs.Form.{VMethod, Shorts, OneShort, MoreShort, Links, LastLink, MoreLink, TForm, TTruth, TNot, TAll, Tests}
+use Rattle.py_control.specs.Form.{OneTest, MoreTest, Target, GStore, GPut, GUnder, GUnpack, GDrop, Targets, NoTarget, MoreTarget, Clauses}
+use Rattle.py_control.specs.Form.{CLast, CEach, Filters, NoFilter, MoreFilter, Interp}
+use Rattle.py_control.specs.Code.{Item, Do, Label, size, labels_v, labels_vs, labels_t, labels_g, labels_bs, cell_codes, closure_code}
+use Rattle.py_control.specs.Code.{tail_code, augment_code, augment_two_code, code_v, code_vs, code_ss, code_ls, code_t, code_ts, code_g}
+use Rattle.py_control.specs.Code.{code_gs, code_bs, code_c, append_code, drop_code}
+use Rattle.py_control_proof.specs.Reachable.{stays, reachable_count}
+use Rattle.py_control_proof.proofs.Falls.{falls, reachable_count-append, falls-append, reachable_if}
 use Rattle.py_control_proof.proofs.Moves.{size-append}
 
 module _ {K : Type 0} where
-  -- all of it can be come to, and what follows too
+  -- all of it can be reached, and what follows too
   pub record WholeWhole (is : List (Item K)) : Type 0 where
-    pub lives : live true is ≡ size is
+    pub reachable_is_size : reachable_count true is ≡ size is
     pub goes : falls true is ≡ true
 
-  pub live_whole : (a c : List (Item K)) → WholeWhole a → live true (a ++ c) ≡ size a + live true c
-  live_whole a c x = omega (arith, live-append true a c, live_if (falls true a) c x.goes, x.lives)
+  pub reachable_whole : (a c : List (Item K)) → WholeWhole a → reachable_count true (a ++ c) ≡ size a + reachable_count true c
+  reachable_whole a c x = omega (arith, reachable_count-append true a c, reachable_if (falls true a) c x.goes, x.reachable_is_size)
 
   pub falls_whole : (a c : List (Item K)) → WholeWhole a → falls true (a ++ c) ≡ falls true c
   falls_whole a c x = falls-append true a c ∙ ap (λ b. falls b c) x.goes
 
   pub whole_nothing : WholeWhole []
-  whole_nothing = record { lives = refl; goes = refl }
+  whole_nothing = record { reachable_is_size = refl; goes = refl }
 
   pub whole_joined : {a c : List (Item K)} → WholeWhole a → WholeWhole c → WholeWhole (a ++ c)
-  whole_joined {a} {c} x y = record { lives = omega (arith, live_whole a c x, y.lives, size-append a c); goes = falls_whole a c x ∙ y.goes }
+  whole_joined {a} {c} x y = record { reachable_is_size = omega (arith, reachable_whole a c x, y.reachable_is_size, size-append a c); goes = falls_whole a c x ∙ y.goes }
 
   pub whole_moved : {i : Instr K ℕ} {a : List (Item K)} → stays i ≡ true → WholeWhole a → WholeWhole (Do i ∷ a)
-  whole_moved {i} {a} e x = record { lives = ap suc (live_if (stays i) a e ∙ x.lives); goes = ap (λ b. falls b a) e ∙ x.goes }
+  whole_moved {i} {a} e x = record { reachable_is_size = ap suc (reachable_if (stays i) a e ∙ x.reachable_is_size); goes = ap (λ b. falls b a) e ∙ x.goes }
 
   pub whole_marked : {l : ℕ} {a : List (Item K)} → WholeWhole a → WholeWhole (Label l ∷ a)
-  whole_marked x = record { lives = x.lives; goes = x.goes }
+  whole_marked x = record { reachable_is_size = x.reachable_is_size; goes = x.goes }
 
   -- an instruction just before a label
   pub jumped : {i : Instr K ℕ} {l : ℕ} {a : List (Item K)} → WholeWhole a → WholeWhole (Do i ∷ Label l ∷ a)
-  jumped x = record { lives = ap suc x.lives; goes = x.goes }
+  jumped x = record { reachable_is_size = ap suc x.reachable_is_size; goes = x.goes }
 
   cells_whole : (cs : List Cell) → WholeWhole (cell_codes cs)
   cells_whole [] = whole_nothing
@@ -61,16 +66,26 @@ module _ {K : Type 0} (i : Interp K) where
     value_whole (VLoad x m) n = whole_moved refl whole_nothing
     value_whole (VOp o fs) n = whole_joined (values_whole fs n) (whole_moved refl whole_nothing)
     value_whole (VMake flags a s name b) n =
-        whole_joined (values_whole a n) (whole_joined (values_whole b (n + labels_vs a)) (whole_joined (closure_whole (i.closure s)) (whole_moved refl (whole_moved refl (whole_moved refl whole_nothing)))))
+        whole_joined (values_whole a n)
+        (whole_joined (values_whole b (n + labels_vs a))
+        (whole_joined (closure_whole (i.closure s)) (whole_moved refl (whole_moved refl (whole_moved refl whole_nothing)))))
     value_whole (VShort d ss) n = whole_joined (shorts_whole ss d n (1 + n)) (whole_marked whole_nothing)
     value_whole (VChain f o g ls) n =
-        whole_joined (value_whole f (2 + n)) (whole_joined (whole_joined (value_whole g (2 + n + labels_v f)) (whole_moved refl (whole_moved refl (whole_moved refl (whole_moved refl (links_whole ls n (2 + n + labels_v f + labels_v g))))))) (jumped (whole_moved refl (whole_moved refl (whole_marked whole_nothing)))))
+        whole_joined (value_whole f (2 + n))
+        (whole_joined (whole_joined (value_whole g (2 + n + labels_v f))
+        (whole_moved refl (whole_moved refl
+        (whole_moved refl (whole_moved refl (links_whole ls n (2 + n + labels_v f + labels_v g)))))))
+        (jumped (whole_moved refl (whole_moved refl (whole_marked whole_nothing)))))
     value_whole (VChoice t a b) n =
-        whole_joined (test_whole t false n (2 + n)) (whole_joined (value_whole a (2 + n + labels_t t false)) (jumped (whole_joined (value_whole b (2 + n + labels_t t false + labels_v a)) (whole_marked whole_nothing))))
+        whole_joined (test_whole t false n (2 + n))
+        (whole_joined (value_whole a (2 + n + labels_t t false))
+        (jumped (whole_joined (value_whole b (2 + n + labels_t t false + labels_v a)) (whole_marked whole_nothing))))
     value_whole (VKeep f None t) n = whole_joined (value_whole f n) (whole_moved refl (target_whole t (n + labels_v f)))
     value_whole (VKeep f (Some o) t) n = whole_joined (value_whole f n) (whole_moved refl (target_whole t (n + labels_v f)))
     value_whole (VSwap o a b fs) n =
-        whole_joined (value_whole a n) (whole_joined (value_whole b (n + labels_v a)) (whole_moved refl (whole_joined (values_whole fs (n + labels_v a + labels_v b)) (whole_moved refl whole_nothing))))
+        whole_joined (value_whole a n)
+        (whole_joined (value_whole b (n + labels_v a))
+        (whole_moved refl (whole_joined (values_whole fs (n + labels_v a + labels_v b)) (whole_moved refl whole_nothing))))
     value_whole (VAt p f) n = value_whole f n
 
     pub values_whole : (fs : VForms) (n : ℕ) → WholeWhole (code_vs i fs n)
@@ -115,7 +130,11 @@ module _ {K : Type 0} (i : Interp K) where
   clauses_whole : (cs : Clauses) (leaf : ℕ → ℕ → List (Item K)) → ((d n : ℕ) → WholeWhole (leaf d n)) → (d n : ℕ) → WholeWhole (code_c i cs leaf d n)
   clauses_whole CLast leaf h d n = h d n
   clauses_whole (CEach f t bs cs) leaf h d n =
-      whole_joined (value_whole f (2 + n)) (whole_marked (whole_moved refl (whole_joined (target_whole t (2 + n + labels_v f)) (whole_joined (filters_whole bs n (2 + n + labels_v f + labels_g t)) (whole_joined (clauses_whole cs leaf h (suc d) (2 + n + labels_v f + labels_g t + labels_bs bs)) (jumped whole_nothing))))))
+      whole_joined (value_whole f (2 + n))
+      (whole_marked (whole_moved refl
+      (whole_joined (target_whole t (2 + n + labels_v f))
+      (whole_joined (filters_whole bs n (2 + n + labels_v f + labels_g t))
+      (whole_joined (clauses_whole cs leaf h (suc d) (2 + n + labels_v f + labels_g t + labels_bs bs)) (jumped whole_nothing))))))
 
   pub gathers_whole : (cs : Clauses) (o : Operation) (fs : VForms) (n : ℕ) → WholeWhole (code_c i cs (append_code i o fs) 0 n)
   gathers_whole cs o fs n = clauses_whole cs (append_code i o fs) (λ d m. whole_joined (values_whole fs m) (whole_moved refl whole_nothing)) 0 n

@@ -1,16 +1,20 @@
 -- With.
 use Rattle.py_bytecode.specs.Objects as const
 use Rattle.std.proofs.Common.{◌≡◌, ℕ, ◌+◌, List, [], ◌∷◌, ◌++◌, length, Bool, true, false, Option, Some, None, refl, sym, ap, ◌∙◌, subst, arith, le_refl}
-use Rattle.py_bytecode.specs.Values.{enter_with, exit_with, Value, Constant, Entry, It, Operates, World, Got, Fine, Raises, Stops, on_got, for_one, for_two, truth_of, choose, Leave, Breaks, Continues, Returns, Throws, Ended, Normal, Leaves, Halts, on_ended, use_it}
+use Rattle.py_bytecode.specs.Values.{enter_with, exit_with, Value, Constant, Entry, It, Operates, World, Got, Fine, Raises, Stops, on_got}
+use Rattle.py_bytecode.specs.Values.{for_one, for_two, truth_of, choose, Leave, Breaks, Continues, Returns, Throws, Ended, Normal, Leaves}
+use Rattle.py_bytecode.specs.Values.{Halts, on_ended, use_it}
 use Rattle.py_control.specs.Form.{exit_run, exit_leave, with_run}
-use Rattle.py_bytecode.specs.Machine.{PopBlock, EnterFinally, SetupWith, WithCleanupStart, WithCleanupFinish, Found, Reason, BreakTo, ContinueTo, ReturnOf, RaiseOf, Block, Finally, FinallyHandler, Config, At, slot_for, unwind, push, stopped_config, raise, exception, after_exit}
+use Rattle.py_bytecode.specs.Machine.{PopBlock, EnterFinally, SetupWith, WithCleanupStart, WithCleanupFinish, Found, Reason, BreakTo}
+use Rattle.py_bytecode.specs.Machine.{ContinueTo, ReturnOf, RaiseOf, Block, Finally, FinallyHandler, Config, At, slot_for, unwind, push}
+use Rattle.py_bytecode.specs.Machine.{stopped_config, raise, exception, after_exit}
 use Rattle.py_control.specs.Fit.{IsFit, Loops, reason, leave}
 use Rattle.py_control.specs.Code.{Item, Do, Label, size, with_code}
-use Rattle.py_control_proof.specs.Live.{live}
+use Rattle.py_control_proof.specs.Reachable.{reachable_count}
 use Rattle.py_control_proof.proofs.Reach.{Ground, Reaches, stay, reach_more, follow}
-use Rattle.py_control_proof.proofs.Falls.{falls, live-append, opens_at, opens_do, opens_over, fall_opened}
-use Rattle.py_control_proof.proofs.Wholes.{WholeWhole, live_whole}
-use Rattle.py_control_proof.proofs.Moves.{raise_drop, cut_exact, MoveStands, move_split, does, lively, FollowsValue, Follows, use_then, end_cases}
+use Rattle.py_control_proof.proofs.Falls.{falls, reachable_count-append, opens_at, opens_do, opens_over, fall_opened}
+use Rattle.py_control_proof.proofs.Wholes.{WholeWhole, reachable_whole}
+use Rattle.py_control_proof.proofs.Moves.{raise_drop, cut_exact, MoveStands, move_split, does, reachable_steps, FollowsValue, Follows, use_then, end_cases}
 use Rattle.py_control_proof.proofs.Ops.{two_is}
 use Rattle.py_control_proof.proofs.Loops.{FollowsTurn}
 
@@ -74,7 +78,9 @@ module _ {K P : Type 0} (g : Ground K P) where
         H = FinallyHandler (length X) k old ∷ bs
 
         started : Reaches g 1 (At (g.spot handler) X H slot w) (on_got (for_one (Operates exit_with (x ∷ e ∷ [])) w) (λ a w1. At wa.at_finish (It a ∷ s) H slot w1) (raise X H slot) stopped_config)
-        started = subst (λ y. Reaches g 1 (At (g.spot handler) X H slot w) (on_got (for_one (Operates exit_with (x ∷ y ∷ [])) w) (λ a w1. At wa.at_finish (It a ∷ s) H slot w1) (raise X H slot) stopped_config)) ek (does g WithCleanupStart (g.spot handler) wa.at_finish X H slot w wa.starts)
+        started = subst (λ y. Reaches g 1 (At (g.spot handler) X H slot w)
+            (on_got (for_one (Operates exit_with (x ∷ y ∷ [])) w) (λ a w1. At wa.at_finish (It a ∷ s) H slot w1)
+            (raise X H slot) stopped_config)) ek (does g WithCleanupStart (g.spot handler) wa.at_finish X H slot w wa.starts)
 
         asked : (r : Got K Bool) → on_got r (λ t w2. after_exit t k q s bs old w2) (raise s bs old) stopped_config ≡ goal old (use_it r ends)
         asked (Fine t w2) = after t w2
@@ -84,16 +90,20 @@ module _ {K P : Type 0} (g : Ground K P) where
         go : (r : Got K (Value K))
             → Reaches g 1 (At (g.spot handler) X H slot w) (on_got r (λ a w1. At wa.at_finish (It a ∷ s) H slot w1) (raise X H slot) stopped_config)
             → Reaches g 2 (At (g.spot handler) X H slot w) (goal old (use_it r (λ a w1. use_it (truth_of a w1) ends)))
-        go (Fine a w1) h = follow g 1 1 _ _ _ h (subst (λ c. Reaches g 1 (At wa.at_finish (It a ∷ s) H slot w1) c) (asked (truth_of a w1)) (does g WithCleanupFinish wa.at_finish q (It a ∷ s) H slot w1 wa.finishes))
+        go (Fine a w1) h = follow g 1 1 _ _ _ h
+            (subst (λ c. Reaches g 1 (At wa.at_finish (It a ∷ s) H slot w1) c) (asked (truth_of a w1))
+            (does g WithCleanupFinish wa.at_finish q (It a ∷ s) H slot w1 wa.finishes))
         go (Raises e2 w1) h = reach_more g 1 2 _ _ (omega arith) (subst (λ c. Reaches g 1 (At (g.spot handler) X H slot w) c) (exit_raise k old slot e2 w1) h)
         go (Stops events) h = reach_more g 1 2 _ _ (omega arith) h
 
-    -- a leaving from the body comes to the exit
+    -- a leaving from the body reaches the exit
     exit_leaves : (slot : Option (Value K)) (r : Leave K) (w : World K) → Reaches g 2 (leave g.spot l X (Finally (length X) (g.spot handler) ∷ bs) slot r w) (goal slot (exit_leave x r w))
     exit_leaves slot r w = go r
       where
         comes : (r : Leave K)
-            → leave g.spot l X (Finally (length X) (g.spot handler) ∷ bs) slot r w ≡ At (g.spot handler) X (FinallyHandler (length X) (Some (reason g.spot l r)) slot ∷ bs) (slot_for (reason g.spot l r) slot) w
+            → leave g.spot l X (Finally (length X) (g.spot handler) ∷ bs) slot r w
+            ≡ At (g.spot handler) X (FinallyHandler (length X) (Some (reason g.spot l r)) slot ∷ bs)
+            (slot_for (reason g.spot l r) slot) w
         comes r = cut_exact X w (λ s1. At (g.spot handler) s1 (FinallyHandler (length X) (Some (reason g.spot l r)) slot ∷ bs) (slot_for (reason g.spot l r) slot) w)
 
         through : (r : Leave K) (c : Config K P)
@@ -115,18 +125,44 @@ module _ {K P : Type 0} (g : Ground K P) where
       → WholeWhole item → FollowsValue g item mi → FollowsTurn g body l mb → Follows g (with_code handler item body) l (λ slot w. with_run mi (mb slot) w)
   with_follows handler item body l mi mb y fi fb = record {
     by = λ room p q st s bs slot fit within w.
-        let z : ℕ = live {K = K} (falls true body) (Do PopBlock ∷ Do EnterFinally ∷ []) in
-        let n : ℕ = live true body + (z + 2) in
-        let sizes : live true (with_code handler item body) ≡ size item + (1 + n) =
-        omega (arith, live_whole item (Do (SetupWith handler) ∷ (body ++ (Do PopBlock ∷ Do EnterFinally ∷ Label handler ∷ Do WithCleanupStart ∷ Do WithCleanupFinish ∷ []))) y, live-append true body (Do PopBlock ∷ Do EnterFinally ∷ Label handler ∷ Do WithCleanupStart ∷ Do WithCleanupFinish ∷ []), live-append {K = K} (falls true body) (Do PopBlock ∷ Do EnterFinally ∷ []) (Label handler ∷ Do WithCleanupStart ∷ Do WithCleanupFinish ∷ [])) in
+        let z : ℕ = reachable_count {K = K} (falls true body) (Do PopBlock ∷ Do EnterFinally ∷ []) in
+        let n : ℕ = reachable_count true body + (z + 2) in
+        let sizes : reachable_count true (with_code handler item body) ≡ size item + (1 + n) =
+        omega (
+          arith,
+          reachable_whole item
+              (Do (SetupWith handler) ∷ (body
+              ++ (Do PopBlock ∷ Do EnterFinally ∷ Label handler ∷ Do WithCleanupStart ∷ Do WithCleanupFinish ∷ []))) y,
+          reachable_count-append true body
+              (Do PopBlock ∷ Do EnterFinally ∷ Label handler ∷ Do WithCleanupStart ∷ Do WithCleanupFinish ∷ []),
+          reachable_count-append {K = K} (falls true body) (Do PopBlock ∷ Do EnterFinally ∷ [])
+              (Label handler ∷ Do WithCleanupStart ∷ Do WithCleanupFinish ∷ []),
+        ) in
         let wa = with_at handler item body p q st in
         let F : Value K → List (Block K P) = λ x. Finally (length (It x ∷ s)) (g.spot handler) ∷ bs in
         let out : Ended K → Config K P = λ r. on_ended r (λ w1. At q s bs slot w1) (leave g.spot l s bs slot) stopped_config in
-        let entered = λ (v : Value K) (w1 : World K). subst (λ c. Reaches g 1 (At wa.at_setup (It v ∷ s) bs slot w1) c) (two_is (Operates enter_with (v ∷ [])) w1 (λ gs w2. At wa.at_body (push gs s) (Finally (length (It v ∷ s)) (g.spot handler) ∷ bs) slot w2) (raise s bs slot) stopped_config (λ xu w2. At wa.at_body (It xu.1 ∷ It xu.0 ∷ s) (F xu.0) slot w2) (λ x y w2. refl)) (does g (SetupWith handler) wa.at_setup wa.at_body (It v ∷ s) bs slot w1 wa.setup) in
-        let normal = λ (x : Value K) (c : falls true body ≡ true) (w3 : World K). follow g z 2 _ _ _ (lively g (falls true body) (Do PopBlock ∷ Do EnterFinally ∷ []) _ _ c (follow g 1 1 _ _ _ (does g PopBlock wa.at_pop wa.at_enter (It x ∷ s) (F x) slot w3 wa.pops) (does g EnterFinally wa.at_enter (g.spot handler) (It x ∷ s) bs slot w3 wa.enters))) (exit_part handler item body p q wa l x s bs fit None (Constant const.none) refl (λ t w4. Normal w4) slot slot (λ t w4. refl) w3) in
-        let whole = λ (x u : Value K) (w2 : World K). end_cases g (falls true body) (mb slot u w2) (λ r. out (on_ended r (λ w3. exit_run x (Constant const.none) (λ t w4. Normal w4) w3) (λ why w3. exit_leave x why w3) Halts)) (live true body) (z + 2) _ (λ w3. At wa.at_pop (It x ∷ s) (F x) slot w3) (leave g.spot l (It x ∷ s) (F x) slot) (λ c. fb.never c slot u w2) (fb.by (omega (arith, room, sizes)) wa.at_body wa.at_pop wa.runs (It x ∷ s) (F x) slot (le_refl _) within u w2) (normal x) (λ why w3. reach_more g 2 (z + 2) _ _ (omega arith) (exit_leaves handler item body p q wa l x s bs fit slot why w3)) (λ events. reach_more g 0 (z + 2) _ _ (omega arith) (stay g _)) in
+        let entered = λ (v : Value K) (w1 : World K). subst (λ c. Reaches g 1 (At wa.at_setup (It v ∷ s) bs slot w1) c)
+        (two_is (Operates enter_with (v ∷ [])) w1
+        (λ gs w2. At wa.at_body (push gs s) (Finally (length (It v ∷ s)) (g.spot handler) ∷ bs) slot w2)
+        (raise s bs slot) stopped_config (λ xu w2. At wa.at_body (It xu.1 ∷ It xu.0 ∷ s) (F xu.0) slot w2) (λ x y w2. refl))
+        (does g (SetupWith handler) wa.at_setup wa.at_body (It v ∷ s) bs slot w1 wa.setup) in
+        let normal = λ (x : Value K) (c : falls true body ≡ true) (w3 : World K).
+        follow g z 2 _ _ _ (reachable_steps g (falls true body) (Do PopBlock ∷ Do EnterFinally ∷ []) _ _ c
+        (follow g 1 1 _ _ _ (does g PopBlock wa.at_pop wa.at_enter (It x ∷ s) (F x) slot w3 wa.pops)
+        (does g EnterFinally wa.at_enter (g.spot handler) (It x ∷ s) bs slot w3 wa.enters)))
+        (exit_part handler item body p q wa l x s bs fit None (Constant const.none) refl (λ t w4. Normal w4) slot slot
+        (λ t w4. refl) w3) in
+        let whole = λ (x u : Value K) (w2 : World K). end_cases g (falls true body) (mb slot u w2)
+        (λ r. out (on_ended r (λ w3. exit_run x (Constant const.none) (λ t w4. Normal w4) w3) (λ why w3. exit_leave x why w3) Halts))
+        (reachable_count true body) (z + 2) _ (λ w3. At wa.at_pop (It x ∷ s) (F x) slot w3) (leave g.spot l (It x ∷ s) (F x) slot)
+        (λ c. fb.never c slot u w2) (fb.by (omega (arith, room, sizes)) wa.at_body wa.at_pop wa.runs (It x ∷ s) (F x) slot
+        (le_refl _) within u w2) (normal x)
+        (λ why w3. reach_more g 2 (z + 2) _ _ (omega arith) (exit_leaves handler item body p q wa l x s bs fit slot why w3))
+        (λ events. reach_more g 0 (z + 2) _ _ (omega arith) (stay g _)) in
         reach_more g (size item + (1 + n)) _ _ _ (omega (arith, sizes))
         (use_then g (mi w) _ (size item) (1 + n) _ (λ v w1. At wa.at_setup (It v ∷ s) bs slot w1) _ l s bs slot (fi.by p wa.at_setup wa.items s bs slot fit w)
-        (λ v w1. use_then g (for_two (Operates enter_with (v ∷ [])) w1) _ 1 n _ (λ xu w2. At wa.at_body (It xu.1 ∷ It xu.0 ∷ s) (F xu.0) slot w2) _ l s bs slot (entered v w1) (λ xu w2. whole xu.0 xu.1 w2)));
+        (λ v w1. use_then g (for_two (Operates enter_with (v ∷ [])) w1) _ 1 n
+        _ (λ xu w2. At wa.at_body (It xu.1 ∷ It xu.0 ∷ s) (F xu.0) slot w2) _ l s bs slot (entered v w1)
+        (λ xu w2. whole xu.0 xu.1 w2)));
     never = λ e slot w. fall_opened (with_code handler item body) (opens_over item (opens_do (opens_over body (opens_do (opens_do (opens_at refl)))))) e;
   }

@@ -12,7 +12,7 @@ use Rattle.py_control.specs.Agree.{exactly, form_of}
 use Rattle.py_control.specs.CodeRuns.{runs_code}
 use Rattle.py_control.specs.Fit.{IsFit, IsWithin, Loops, leave, answers_left}
 use Rattle.py_control.specs.Code.{Item, Do, Label, size, code, body_code}
-use Rattle.py_control_proof.specs.Live.{live}
+use Rattle.py_control_proof.specs.Reachable.{reachable_count}
 
 -- there is a block of that number
 abbrev pub Inside : List blocks.Block → Option ℕ → Type 0
@@ -76,14 +76,22 @@ ended_at bs l q s entered slot r = on_ended r (λ w. At q s entered slot w) (lea
 abbrev pub Comes : Tables → List blocks.Block → (pay n : ℕ) → Config Object Place → Config Object Place → Type 0
 Comes t bs pay n a b = (cost : ℕ) × (cost + pay * answers_left b ≤ pay * answers_left a + n) × (steps (fetch_block t bs) cost a ≡ b)
 
--- A form's code that lies in blocks, run from any fit state, comes to the state that the form's run says. Breaks and continues of
+-- A form's code that lies in blocks, run from any fit state, reaches the state that the form's run says. Breaks and continues of
 -- the form stand in loops, of the form or around it.
 abbrev pub BlocksSimulate : Type 0
 BlocksSimulate =
-    (i : Interp Object) (t : Tables) (bs : List blocks.Block) (hops : ℕ) (f : SForm) (l : Loops) (n : ℕ) (p q : Place) → Lies t bs hops (code i f l n) p q → hops ≤ length bs → (s : List (Entry Object)) (entered : List (Block Object Place)) (slot : Option (Value Object)) (w : World Object) → IsFit s entered → IsWithin l entered → Looped l.inside f → Comes t bs (size (code i f l n)) (size (code i f l n)) (At (settled_place bs p) s entered slot w) (ended_at bs l (settled_place bs q) s entered slot (run i f slot w))
+    (i : Interp Object) (t : Tables) (bs : List blocks.Block) (hops : ℕ) (f : SForm) (l : Loops) (n : ℕ) (p q : Place)
+    → Lies t bs hops (code i f l n) p q → hops ≤ length bs
+    → (s : List (Entry Object)) (entered : List (Block Object Place)) (slot : Option (Value Object)) (w : World Object)
+    → IsFit s entered → IsWithin l entered → Looped l.inside f
+    → Comes t bs (size (code i f l n)) (size (code i f l n)) (At (settled_place bs p) s entered slot w)
+    (ended_at bs l (settled_place bs q) s entered slot (run i f slot w))
 
--- blocks in which the whole code of a scope lies run like the code, within the steps that what can be come to pays for, where breaks and
+-- blocks in which the whole code of a scope lies run like the code, within the steps that what can be reached pays for, where breaks and
 -- continues stand in loops
 abbrev pub BlocksRun : Type 0
 BlocksRun =
-    (child : Scope → Object) (s : Scope) (t : Tables) (bs : List blocks.Block) (hops : ℕ) (q : Place) → Lies t bs hops (body_code (exactly child s) (form_of s)) (Of 0 0) q → hops ≤ length bs → Looped false (form_of s) → (answers : List Answer) (n : ℕ) → fuel (live true (body_code (exactly child s) (form_of s))) answers ≤ n → block_machine t bs n answers ≡ runs_code (body_code (exactly child s) (form_of s)) answers
+    (child : Scope → Object) (s : Scope) (t : Tables) (bs : List blocks.Block) (hops : ℕ) (q : Place)
+    → Lies t bs hops (body_code (exactly child s) (form_of s)) (Of 0 0) q → hops ≤ length bs → Looped false (form_of s)
+    → (answers : List Answer) (n : ℕ) → fuel (reachable_count true (body_code (exactly child s) (form_of s))) answers ≤ n
+    → block_machine t bs n answers ≡ runs_code (body_code (exactly child s) (form_of s)) answers

@@ -1,4 +1,4 @@
--- The code of a scope and of those within it, as items, and the law that it agrees with the scope.
+-- The code of a scope and of those nested in it, as items, and the law that it agrees with the scope.
 use Rattle.std.specs.Prelude.{ℕ, zero, suc, List, false}
 use Rattle.py_bytecode.specs.Values.{Answer}
 use Rattle.py_control.specs.Form.{Scope, Interp}
@@ -26,7 +26,7 @@ ItemsAgree v view (suc n) c s =
     × AllOf (λ k. OneOf (ItemsAgree v view n) k (kids (form_of s))) (children c)
     × AllOf (λ t. OneOf (λ x k. ItemsAgree v view n k x) t (children c)) (kids (form_of s))
 
--- breaks and continues stand in loops, in a scope and in those within it, down to n levels
+-- breaks and continues stand in loops, in a scope and in those nested in it, down to n levels
 abbrev pub AllLooped : ℕ → Scope → Type 0
 AllLooped zero s = Unit {0}
 AllLooped (suc n) s = Looped false (form_of s) × AllOf (AllLooped n) (kids (form_of s))

@@ -18,11 +18,11 @@ IsEnd Wrong = ⊥
 IsEnd Leaked = ⊥
 IsEnd Going = ⊥
 
--- no run of a scope's code is wrong, leaked or going, whatever code objects its children are
+-- no run of a scope's code is wrong, leaked or out of fuel, whatever code objects its children are
 abbrev pub AlwaysEnds : Type 0
 AlwaysEnds = (child : Scope → Object) (s : Scope) → Looped false (form_of s) → (answers : List Answer) → IsEnd (runs_code (body_code (exactly child s) (form_of s)) answers).outcome
 
 -- The code of a scope walks from nothing, with some shapes known at its labels: each instruction finds the values and the block that it
--- needs, each jump and each fall comes to a label in the shape that is known there, and nothing falls out at the end.
+-- needs, each jump and each fall reaches a label in the shape that is known there, and nothing falls out at the end.
 abbrev pub CodesWalk : Type 0
 CodesWalk = (child : Scope → Object) (s : Scope) → Looped false (form_of s) → (at : ℕ → Option Shape) × Walks at (body_code (exactly child s) (form_of s)) (Falls (shape 0 [])) Never

@@ -1,5 +1,5 @@
 pub mod Walks
-pub mod Live
+pub mod Reachable
 pub mod Blocks
 pub mod Laws
 pub mod Made

@@ -30,7 +30,10 @@ objects (p ∷ ps) = p.0 ∷ objects ps
 abbrev pub IsMade : (n : ℕ) → Object → Scope → Type 0
 IsMade zero o s = Unit {0}
 IsMade (suc n) o s =
-    Looped false (form_of s) × (items : List (Item (Object × Scope))) × ((answers : List Answer) → machine o answers ≡ runs_code (items_over (λ p. p.0) items) answers) × (items_over (λ p. p.1) items ≡ body_code (exactly (λ t. t) s) (form_of s)) × SameMembers (codes_in (constants o)) (objects (children items)) × AllOf (λ p. IsMade n p.0 p.1) (children items)
+    Looped false (form_of s) × (items : List (Item (Object × Scope)))
+    × ((answers : List Answer) → machine o answers ≡ runs_code (items_over (λ p. p.0) items) answers)
+    × (items_over (λ p. p.1) items ≡ body_code (exactly (λ t. t) s) (form_of s))
+    × SameMembers (codes_in (constants o)) (objects (children items)) × AllOf (λ p. IsMade n p.0 p.1) (children items)
 
 -- what is made from a scope agrees with it
 abbrev pub ObjectsAgree : Type 0
@@ -40,4 +43,7 @@ ObjectsAgree = (n : ℕ) (o : Object) (s : Scope) → IsMade n o s → Agrees wh
 -- stand in loops
 abbrev pub ChildlessAgrees : Type 0
 ChildlessAgrees =
-    (o : Object) (s : Scope) (c : Scope → Object) → ((answers : List Answer) → machine o answers ≡ runs_code (body_code (exactly c s) (form_of s)) answers) → codes_in (constants o) ≡ [] → kids (form_of s) ≡ [] → Looped false (form_of s) → (n : ℕ) → Agrees whole fully n o s × Agrees plain plainly n o s
+    (o : Object) (s : Scope) (c : Scope → Object)
+    → ((answers : List Answer) → machine o answers ≡ runs_code (body_code (exactly c s) (form_of s)) answers)
+    → codes_in (constants o) ≡ [] → kids (form_of s) ≡ [] → Looped false (form_of s) → (n : ℕ)
+    → Agrees whole fully n o s × Agrees plain plainly n o s

@@ -23,4 +23,6 @@ Sees look spot (Label l ∷ is) p q = (spot l ≡ p) × Sees look spot is p q
 -- no walk over the code of a scope is refused, where nothing is seen after it and the limit is above what its instructions give
 abbrev pub CodesAreSound : Type 0
 CodesAreSound =
-    (look : ℕ → Option (Seen ℕ)) (spot : ℕ → ℕ) (child : Scope → Object) (s : Scope) (p q : ℕ) → Sees look spot (body_code (exactly child s) (form_of s)) p q → look q ≡ None → Looped false (form_of s) → (limit : ℕ) → 2 * rises (body_code (exactly child s) (form_of s)) < limit → Sound look p limit
+    (look : ℕ → Option (Seen ℕ)) (spot : ℕ → ℕ) (child : Scope → Object) (s : Scope) (p q : ℕ)
+    → Sees look spot (body_code (exactly child s) (form_of s)) p q → look q ≡ None → Looped false (form_of s) → (limit : ℕ)
+    → 2 * rises (body_code (exactly child s) (form_of s)) < limit → Sound look p limit

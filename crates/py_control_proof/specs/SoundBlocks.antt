@@ -14,9 +14,15 @@ use Rattle.py_control.specs.Agree.{exactly, form_of}
 -- no walk over blocks in which the whole code of a scope lies is refused, where the limit is above what its instructions give
 abbrev pub BlocksAreSound : Type 0
 BlocksAreSound =
-    (child : Scope → Object) (s : Scope) (t : Tables) (bs : List Block) (hops : ℕ) (q : Place) → Lies t bs hops (body_code (exactly child s) (form_of s)) (Of 0 0) q → hops ≤ length bs → Ends bs q → Looped false (form_of s) → (limit : ℕ) → 2 * rises (body_code (exactly child s) (form_of s)) < limit → Sound (λ p. seen_instr (fetch_block t bs p)) (settled_place bs (Of 0 0)) limit
+    (child : Scope → Object) (s : Scope) (t : Tables) (bs : List Block) (hops : ℕ) (q : Place)
+    → Lies t bs hops (body_code (exactly child s) (form_of s)) (Of 0 0) q → hops ≤ length bs → Ends bs q → Looped false (form_of s)
+    → (limit : ℕ) → 2 * rises (body_code (exactly child s) (form_of s)) < limit
+    → Sound (λ p. seen_instr (fetch_block t bs p)) (settled_place bs (Of 0 0)) limit
 
 -- the same where the code is laid into blocks step by step, with a block for each label
 abbrev pub LaidIsSound : Type 0
 LaidIsSound =
-    (child : Scope → Object) (s : Scope) (t : Tables) (bs : List Block) (q : Place) → Laid t bs (body_code (exactly child s) (form_of s)) (Of 0 0) q → Ends bs q → labels (form_of s) ≤ length bs → Looped false (form_of s) → (limit : ℕ) → 2 * rises (body_code (exactly child s) (form_of s)) < limit → Sound (λ p. seen_instr (fetch_block t bs p)) (settled_place bs (Of 0 0)) limit
+    (child : Scope → Object) (s : Scope) (t : Tables) (bs : List Block) (q : Place)
+    → Laid t bs (body_code (exactly child s) (form_of s)) (Of 0 0) q → Ends bs q → labels (form_of s) ≤ length bs
+    → Looped false (form_of s) → (limit : ℕ) → 2 * rises (body_code (exactly child s) (form_of s)) < limit
+    → Sound (λ p. seen_instr (fetch_block t bs p)) (settled_place bs (Of 0 0)) limit

@@ -1,7 +1,10 @@
 -- Heights and shapes, over the items of a code: no place and no run.
 use Rattle.std.specs.Prelude.{◌≡◌, ◌⊎◌, ◌≤◌, ℕ, suc, ◌+◌, ◌-◌, List, [], ◌∷◌, Bool, true, false, Option, Some, None}
 use Rattle.py_bytecode.specs.Values.{Usage, Load, Store, Delete}
-use Rattle.py_bytecode.specs.Machine.{Instr, Push, Access, Operate, MakeFunction, Import, Append, Unpack, Nop, Pop, Rotate2, Rotate3, Duplicate, Duplicate2, JumpIf, JumpIfOrPop, Jump, SetupLoop, PopBlock, Break, Continue, ReturnValue, ReturnConst, SetupExcept, SetupFinally, PopException, EnterFinally, EndFinally, Reraise, ForIter, SetupWith, WithCleanupStart, WithCleanupFinish}
+use Rattle.py_bytecode.specs.Machine.{Instr, Push, Access, Operate, MakeFunction, Import, Append, Unpack, Nop, Pop, Rotate2, Rotate3}
+use Rattle.py_bytecode.specs.Machine.{Duplicate, Duplicate2, JumpIf, JumpIfOrPop, Jump, SetupLoop, PopBlock, Break, Continue, ReturnValue}
+use Rattle.py_bytecode.specs.Machine.{ReturnConst, SetupExcept, SetupFinally, PopException, EnterFinally, EndFinally, Reraise, ForIter}
+use Rattle.py_bytecode.specs.Machine.{SetupWith, WithCleanupStart, WithCleanupFinish}
 use Rattle.py_control.specs.Code.{Item, Do, Label}
 
 -- Blocks: of a loop, a try, a finally, a with; and the handlers of exceptions, of a finally and of a with, and one that is entered with

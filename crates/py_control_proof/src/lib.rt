@@ -5,7 +5,7 @@
 ghost use Rattle.py_control_proof.specs.Compiling.{CompiledAgrees};
 ghost use Rattle.py_control_proof.specs.Made.{ChildlessAgrees, FullIsMore, ObjectsAgree};
 ghost use Rattle.py_control_proof.specs.Laws.{AlwaysEnds, CodesWalk};
-ghost use Rattle.py_control_proof.specs.Live.{LiveRuns};
+ghost use Rattle.py_control_proof.specs.Reachable.{ReachableRuns};
 ghost use Rattle.py_control_proof.specs.Blocks.{BlocksRun, BlocksSimulate};
 ghost use Rattle.py_control_proof.specs.Sound.{CodesAreSound};
 ghost use Rattle.py_control_proof.specs.SoundBlocks.{BlocksAreSound, LaidIsSound};
@@ -33,24 +33,24 @@ pub fn objects_agree()
     ensures { ObjectsAgree }
 {}
 
-/// No run of a scope's code is wrong, leaked or going, where breaks and continues stand in loops.
+/// No run of a scope's code is wrong, leaked or out of fuel, where breaks and continues stand in loops.
 pub fn always_ends()
     ensures { AlwaysEnds }
 {}
 
-/// A scope's code runs the same within the steps that its instructions that can be come to pay for, where breaks and
+/// A scope's code runs the same within the steps that its instructions that can be reached pay for, where breaks and
 /// continues stand in loops.
-pub fn live_runs()
-    ensures { LiveRuns }
+pub fn reachable_runs()
+    ensures { ReachableRuns }
 {}
 
-/// A form's code in blocks, run from any fit state, comes to the state that the form's run says, within its steps, where
+/// A form's code in blocks, run from any fit state, reaches the state that the form's run says, within its steps, where
 /// breaks and continues stand in loops.
 pub fn block_simulation()
     ensures { BlocksSimulate }
 {}
 
-/// Blocks in which the whole code of a scope lies run like the code, within the steps that what can be come to pays for,
+/// Blocks in which the whole code of a scope lies run like the code, within the steps that what can be reached pays for,
 /// where breaks and continues stand in loops.
 pub fn blocks_run()
     ensures { BlocksRun }
@@ -72,7 +72,7 @@ pub fn flat_is_sound()
     ensures { FlatIsSound }
 {}
 
-/// A list of instructions in which the code of a scope lies runs like the code, within the steps that what can be come to
+/// A list of instructions in which the code of a scope lies runs like the code, within the steps that what can be reached
 /// pays for, where breaks and continues stand in loops.
 pub fn flat_runs()
     ensures { FlatRuns }

@@ -42,7 +42,13 @@ module _ (look : ℕ → Option (Seen ℕ)) (count : ℕ) where
     arrives_grows k u c = elim (cases_eq k place) [
       | inl e ↦
           let there : state_at old place ≡ Some c.by = subst (λ n. state_at old n ≡ Some c.by) e c.there in
-          let r : Covered (state_at new) place u = record { by = arrival (state_at old place) t; there = a.there; covers = covers_trans (arrival (state_at old place) t) c.by u (old_covered (state_at old place) c.by t there a.fits) c.covers } in
+          let r : Covered (state_at new) place u =
+          record {
+            by = arrival (state_at old place) t;
+            there = a.there;
+            covers =
+                covers_trans (arrival (state_at old place) t) c.by u (old_covered (state_at old place) c.by t there a.fits) c.covers;
+          } in
           subst (λ n. Covered (state_at new) n u) (sym e) r
       | inr n ↦ record { by = c.by; there = a.others k n ∙ c.there; covers = c.covers }
     ]

@@ -10,7 +10,9 @@ use Rattle.py_dataflow.specs.declared.flow.Flow.{Flow}
 use Rattle.py_dataflow.specs.declared.flow.Branch.{Branch}
 use Rattle.py_dataflow.specs.declared.flow.NeededBlock.{NeededBlock}
 use Rattle.py_dataflow.specs.Flow.{flow_of, target_of, goes_on, jumps, leaves, jumps_away, closes, calls_exit, straight, one_if}
-use Rattle.py_dataflow.specs.Walks.{Shape, State, rest_of, height_of, is_loop, is_with, from_loop, left_by, cut_to, kept_shape, enough, falls_enough, jumps_enough, falls_to, jumps_to, Seen, seen_instr, Edge, Falls, Jumps, Walk, Reached, Sound}
+use Rattle.py_dataflow.specs.Walks.{Shape, State, rest_of, height_of, is_loop, is_with, from_loop, left_by, cut_to, kept_shape, enough}
+use Rattle.py_dataflow.specs.Walks.{falls_enough, jumps_enough, falls_to, jumps_to, Seen, seen_instr, Edge, Falls, Jumps, Walk, Reached}
+use Rattle.py_dataflow.specs.Walks.{Sound}
 use Rattle.py_dataflow.proofs.UnwindLemmas.{Stacked}
 
 pub stacked_up : (g h : ℕ) (s : Shape) → g ≤ h → Stacked g s → Stacked h s
@@ -71,7 +73,9 @@ same_after t g h s st e =
 module _ {K P : Type 0} where
   -- the next state is stacked, where the next instruction follows
   abbrev FallsStacked : Instr K P → Type 0
-  FallsStacked i = (h : ℕ) (s : Shape) → Stacked h s → falls_enough (flow_of i) h s ≡ true → Stacked (falls_to (flow_of i) (record { height = h; shape = s })).height (falls_to (flow_of i) (record { height = h; shape = s })).shape
+  FallsStacked i = (h : ℕ) (s : Shape) → Stacked h s → falls_enough (flow_of i) h s ≡ true
+      → Stacked (falls_to (flow_of i) (record { height = h; shape = s })).height
+      (falls_to (flow_of i) (record { height = h; shape = s })).shape
 
   pub falls_stacked : (i : Instr K P) → FallsStacked i
   falls_stacked (M.Push e) = kept_after (goes_on 0 0 1)
@@ -112,7 +116,9 @@ module _ {K P : Type 0} where
 
   -- the same, where it jumps
   abbrev JumpsStacked : Instr K P → Type 0
-  JumpsStacked i = (h : ℕ) (s : Shape) → Stacked h s → jumps_enough (flow_of i).branch h s ≡ true → Stacked (jumps_to (flow_of i).branch (record { height = h; shape = s })).height (jumps_to (flow_of i).branch (record { height = h; shape = s })).shape
+  JumpsStacked i = (h : ℕ) (s : Shape) → Stacked h s → jumps_enough (flow_of i).branch h s ≡ true
+      → Stacked (jumps_to (flow_of i).branch (record { height = h; shape = s })).height
+      (jumps_to (flow_of i).branch (record { height = h; shape = s })).shape
 
   pub jumps_stacked : (i : Instr K P) (q : P) → target_of i ≡ Some q → JumpsStacked i
   jumps_stacked (M.JumpIf c p) q t = λ h s st e. same_after 1 0 h s st e
@@ -154,7 +160,12 @@ module _ {K P : Type 0} (fetch : P → Fetched K P) (start : P) (limit : ℕ) (o
   seen_stacked Nothing x s k1 t e st ef ej d = absurd (cc)
   seen_stacked (Found i n) x s k1 t e st ef ej d =
       let q : block_height_here i n ≡ x = same_Some (block_height_here i n) x e in
-      let go : (z : Seen P) → block_height_here i n ≡ z → falls_enough z.flow s.height s.shape ≡ true → (z.target ≢ None → jumps_enough z.flow.branch s.height s.shape ≡ true) → Edge z s k1 t → Stacked t.height t.shape = λ z r. subst (λ (y : Seen P). falls_enough y.flow s.height s.shape ≡ true → (y.target ≢ None → jumps_enough y.flow.branch s.height s.shape ≡ true) → Edge y s k1 t → Stacked t.height t.shape) r (edge_stacked i n s k1 t st) in
+      let go : (z : Seen P) → block_height_here i n ≡ z → falls_enough z.flow s.height s.shape ≡ true
+      → (z.target ≢ None → jumps_enough z.flow.branch s.height s.shape ≡ true) → Edge z s k1 t
+      → Stacked t.height t.shape = λ z r.
+      subst (λ (y : Seen P). falls_enough y.flow s.height s.shape ≡ true
+      → (y.target ≢ None → jumps_enough y.flow.branch s.height s.shape ≡ true) → Edge y s k1 t
+      → Stacked t.height t.shape) r (edge_stacked i n s k1 t st) in
       go x q ef ej d
 
   walk_stacked : (n : ℕ) (p : P) (t : State) → Walk block_height_look start n p t → Stacked t.height t.shape

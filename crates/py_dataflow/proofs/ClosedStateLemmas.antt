@@ -41,7 +41,8 @@ join_assoc (m ∷ u) [] t a b = absurd a
 join_assoc (m ∷ u) (n ∷ s) [] a b = absurd b
 join_assoc (m ∷ u) (n ∷ s) (o ∷ t) a b =
     same_cons (joined_mark (joined_mark m n) o) (joined_mark m (joined_mark n o)) (join (join u s) t) (join u (join s t))
-    (same_marks m ((m.plain || n.plain) || o.plain) (m.plain || (n.plain || o.plain)) ((m.exit || n.exit) || o.exit) (m.exit || (n.exit || o.exit)) (closed_state_or_assoc m.plain n.plain o.plain) (closed_state_or_assoc m.exit n.exit o.exit))
+    (same_marks m ((m.plain || n.plain) || o.plain) (m.plain || (n.plain || o.plain)) ((m.exit || n.exit) || o.exit)
+    (m.exit || (n.exit || o.exit)) (closed_state_or_assoc m.plain n.plain o.plain) (closed_state_or_assoc m.exit n.exit o.exit))
     (join_assoc u s t a.1 b.1)
 
 pub join_absorb : (s t : Shape) → Alike s t → join (join s t) s ≡ join s t
@@ -75,14 +76,25 @@ covers_new s t e a = record {
 
 covers_falls : (f : Flow) (s t : State) → Covers s t → Covers (falls_to f s) (falls_to f t)
 covers_falls f s t c =
-    let at : Alike (with_opening f.opens s.height (kept_shape f s.shape)) (with_opening f.opens s.height (kept_shape f t.shape)) = opened_alike f.opens s.height (kept_shape f s.shape) (kept_shape f t.shape) (kept_alike f s.shape t.shape c.alike) in
-    let j : join (with_opening f.opens s.height (kept_shape f s.shape)) (with_opening f.opens s.height (kept_shape f t.shape)) ≡ with_opening f.opens s.height (kept_shape f s.shape) = sym (opened_join f.opens s.height (kept_shape f s.shape) (kept_shape f t.shape)) ∙ ap (with_opening f.opens s.height) (sym (kept_join f s.shape t.shape c.alike) ∙ ap (kept_shape f) c.marks) in
+    let at : Alike (with_opening f.opens s.height (kept_shape f s.shape)) (with_opening f.opens s.height (kept_shape f t.shape)) =
+    opened_alike f.opens s.height (kept_shape f s.shape) (kept_shape f t.shape) (kept_alike f s.shape t.shape c.alike) in
+    let j : join (with_opening f.opens s.height (kept_shape f s.shape)) (with_opening f.opens s.height (kept_shape f t.shape))
+    ≡ with_opening f.opens s.height (kept_shape f s.shape) =
+    sym (opened_join f.opens s.height (kept_shape f s.shape) (kept_shape f t.shape))
+    ∙ ap (with_opening f.opens s.height) (sym (kept_join f s.shape t.shape c.alike) ∙ ap (kept_shape f) c.marks) in
     subst (λ h. Covers (falls_to f s) (falls_to f (state h t.shape))) c.level (record { level = refl; alike = at; marks = j })
 
 covers_jumps : (b : Branch) (s t : State) → Covers s t → Covers (jumps_to b s) (jumps_to b t)
 covers_jumps b s t c =
-    let j : join (jumps_to b s).shape (jumps_to b (state s.height t.shape)).shape ≡ (jumps_to b s).shape = sym (jump_join b s.height s.shape t.shape c.alike) ∙ ap (λ z. (jumps_to b (state s.height z)).shape) c.marks in
-    subst (λ h. Covers (jumps_to b s) (jumps_to b (state h t.shape))) c.level (record { level = jump_height_alike b s.height s.shape t.shape c.alike; alike = jump_alike b s.height s.shape t.shape c.alike; marks = j })
+    let j : join (jumps_to b s).shape (jumps_to b (state s.height t.shape)).shape ≡ (jumps_to b s).shape =
+    sym (jump_join b s.height s.shape t.shape c.alike) ∙ ap (λ z. (jumps_to b (state s.height z)).shape) c.marks in
+    subst (λ h. Covers (jumps_to b s) (jumps_to b (state h t.shape))) c.level
+    (record {
+      level = jump_height_alike b s.height s.shape t.shape c.alike;
+      alike =
+          jump_alike b s.height s.shape t.shape c.alike;
+      marks = j;
+    })
 
 pub record Moved (x : Seen ℕ) (s : State) (k1 : ℕ) (t1 : State) : Type 0 where
   pub to : State

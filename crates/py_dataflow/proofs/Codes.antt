@@ -30,4 +30,6 @@ pub no_limit : LimitIsNoMatter
 no_limit o ok fuel w = unlimited (fetch_unit (tables o) (head o).instructions) 0 (suc (head o).max_stackdepth) ok (unit_proper (tables o) (head o).instructions) (head o).max_stackdepth refl fuel w
 
 pub right : NeverWrong
-right o ok answers e = never_wrong (fetch_unit (tables o) (head o).instructions) 0 (suc (head o).max_stackdepth) ok (unit_proper (tables o) (head o).instructions) (fuel (length (head o).instructions) answers) (start answers) (ap (λ (r : Ran Object). r.outcome) (sym (no_limit o ok (fuel (length (head o).instructions) answers) (start answers))) ∙ e)
+right o ok answers e = never_wrong (fetch_unit (tables o) (head o).instructions) 0 (suc (head o).max_stackdepth) ok
+    (unit_proper (tables o) (head o).instructions) (fuel (length (head o).instructions) answers) (start answers)
+    (ap (λ (r : Ran Object). r.outcome) (sym (no_limit o ok (fuel (length (head o).instructions) answers) (start answers))) ∙ e)

@@ -2,7 +2,8 @@
 use Rattle.std.proofs.Common.{◌≡◌, ℕ, suc, ◌<◌, ◌≤◌, [], ◌∷◌, Bool, true, false, Option, Some, sym, inl, inr, ap, ◌∙◌, subst, arith}
 use Rattle.std.specs.Prelude.{◌&&◌}
 use Rattle.std.proofs.lemmas.Option.{same_Some}
-use Rattle.py_dataflow.specs.Walks.{Shape, State, has_block, falls_enough, jumps_enough, Alike, Clash, Seen, Reached, LeavesEnd, UnevenHeights, HeightOutOfRange, LacksBlock, ShapesDiffer, Sound, IsDepth}
+use Rattle.py_dataflow.specs.Walks.{Shape, State, has_block, falls_enough, jumps_enough, Alike, Clash, Seen, Reached, LeavesEnd}
+use Rattle.py_dataflow.specs.Walks.{UnevenHeights, HeightOutOfRange, LacksBlock, ShapesDiffer, Sound, IsDepth}
 use Rattle.py_dataflow.specs.Known.{join, Torn}
 use Rattle.py_dataflow.specs.Shown.{Shown, Covered, Closed}
 use Rattle.py_dataflow.proofs.Joins.{alike_sym, alike_trans, block_join, falls_enough_alike, jumps_enough_alike, or_right}
@@ -49,7 +50,10 @@ module _ (look : ℕ → Option (Seen ℕ)) (st : ℕ → Option State) (c : Clo
       let v = cov k e.at e.reached in
       let x : Seen ℕ = e.sees in
       let p = c.each k v.by x v.there e.sees_is in
-      let b : has_block x.flow.needs v.by.height v.by.shape ≡ (has_block x.flow.needs v.by.height v.by.shape && has_block x.flow.needs v.by.height e.at.shape) = ap (has_block x.flow.needs v.by.height) (sym v.covers.marks) ∙ block_join x.flow.needs v.by.height v.by.shape e.at.shape v.covers.alike in
+      let b : has_block x.flow.needs v.by.height v.by.shape
+      ≡ (has_block x.flow.needs v.by.height v.by.shape && has_block x.flow.needs v.by.height e.at.shape) =
+      ap (has_block x.flow.needs v.by.height) (sym v.covers.marks)
+      ∙ block_join x.flow.needs v.by.height v.by.shape e.at.shape v.covers.alike in
       let r : has_block x.flow.needs v.by.height e.at.shape ≡ true = and_right (has_block x.flow.needs v.by.height v.by.shape) (has_block x.flow.needs v.by.height e.at.shape) (sym b ∙ p.block) in
       let q : true ≡ false = sym r ∙ ap (λ h. has_block x.flow.needs h e.at.shape) v.covers.level ∙ e.lacks in
       absurd (cc)
@@ -63,7 +67,9 @@ module _ (look : ℕ → Option (Seen ℕ)) (st : ℕ → Option State) (c : Clo
       let wm : join v.by.shape e.other.shape ≡ v.by.shape = subst (λ (z : State). join z.shape e.other.shape ≡ z.shape) (sym same) w.covers.marks in
       elim e.differ [
         | inl n ↦ n (alike_trans e.one.shape v.by.shape e.other.shape (alike_sym v.by.shape e.one.shape v.covers.alike) wa)
-        | inr k1 ↦ c.whole k v.by v.there (clash_self v.by.shape (subst (λ z. Clash z v.by.shape) v.covers.marks (subst (λ z. Clash (join v.by.shape e.one.shape) z) wm (clash_up v.by.shape e.one.shape e.other.shape v.covers.alike wa k1))))
+        | inr k1 ↦ c.whole k v.by v.there
+            (clash_self v.by.shape (subst (λ z. Clash z v.by.shape) v.covers.marks
+            (subst (λ z. Clash (join v.by.shape e.one.shape) z) wm (clash_up v.by.shape e.one.shape e.other.shape v.covers.alike wa k1))))
       ]
 
   pub depth_law : (d : ℕ) → ((k : ℕ) (s : State) → st k ≡ Some s → s.height ≤ d) → (k : ℕ) (s : State) → st k ≡ Some s → s.height ≡ d → Shown look k s → IsDepth look 0 d
@@ -80,8 +86,12 @@ module _ (look : ℕ → Option (Seen ℕ)) (st : ℕ → Option State) (c : Clo
       let v = cov k e.at e.reached in
       let x : Seen ℕ = e.sees in
       let p = c.each k v.by x v.there e.sees_is in
-      let f : falls_enough x.flow v.by.height v.by.shape ≡ falls_enough x.flow e.at.height e.at.shape = ap (λ g. falls_enough x.flow g v.by.shape) v.covers.level ∙ falls_enough_alike x.flow e.at.height v.by.shape e.at.shape v.covers.alike in
-      let j : jumps_enough x.flow.branch v.by.height v.by.shape ≡ jumps_enough x.flow.branch e.at.height e.at.shape = ap (λ g. jumps_enough x.flow.branch g v.by.shape) v.covers.level ∙ jumps_enough_alike x.flow.branch e.at.height v.by.shape e.at.shape v.covers.alike in
+      let f : falls_enough x.flow v.by.height v.by.shape ≡ falls_enough x.flow e.at.height e.at.shape =
+      ap (λ g. falls_enough x.flow g v.by.shape) v.covers.level
+      ∙ falls_enough_alike x.flow e.at.height v.by.shape e.at.shape v.covers.alike in
+      let j : jumps_enough x.flow.branch v.by.height v.by.shape ≡ jumps_enough x.flow.branch e.at.height e.at.shape =
+      ap (λ g. jumps_enough x.flow.branch g v.by.shape) v.covers.level
+      ∙ jumps_enough_alike x.flow.branch e.at.height v.by.shape e.at.shape v.covers.alike in
       elim e.outside [
         | inl o ↦ (let q : true ≡ false = sym p.falls ∙ f ∙ o in absurd (cc))
         | inr r ↦ elim r [

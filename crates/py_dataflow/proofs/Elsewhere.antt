@@ -7,7 +7,10 @@ use Rattle.py_bytecode.specs.declared.instruction.Instruction.TheVariants as op
 use Rattle.py_bytecode.specs.Table.{bits_of}
 use Rattle.py_bytecode.specs.Objects.{Object}
 use Rattle.py_bytecode.specs.Values.{Bare, Number, Named, operation, It, Cells, Load, Store, Delete, Fast, ByName, Global, Deref, ClassDeref}
-use Rattle.py_bytecode.specs.Machine.{Instr, Push, Access, Operate, MakeFunction, Import, Append, Unpack, Nop, Pop, Rotate2, Rotate3, Duplicate, Duplicate2, JumpIf, JumpIfOrPop, Jump, SetupLoop, PopBlock, Break, Continue, ReturnValue, ReturnConst, SetupExcept, SetupFinally, PopException, EnterFinally, EndFinally, Reraise, ForIter, SetupWith, WithCleanupStart, WithCleanupFinish, at_places}
+use Rattle.py_bytecode.specs.Machine.{Instr, Push, Access, Operate, MakeFunction, Import, Append, Unpack, Nop, Pop, Rotate2, Rotate3}
+use Rattle.py_bytecode.specs.Machine.{Duplicate, Duplicate2, JumpIf, JumpIfOrPop, Jump, SetupLoop, PopBlock, Break, Continue, ReturnValue}
+use Rattle.py_bytecode.specs.Machine.{ReturnConst, SetupExcept, SetupFinally, PopException, EnterFinally, EndFinally, Reraise, ForIter}
+use Rattle.py_bytecode.specs.Machine.{SetupWith, WithCleanupStart, WithCleanupFinish, at_places}
 use Rattle.py_bytecode.specs.Decode.{Tables, value_of, for_some, raise_instr, instr_of}
 use Rattle.py_bytecode.specs.Units.{fetch_of_instr}
 use Rattle.py_dataflow.specs.Flat.{is_jump}
@@ -27,13 +30,19 @@ module _ {P Q : Type 0} (f : P → Q) where
   jump_at None to1 k k1 e h = ap (λ o. for_some o k1) e
   jump_at (Some p) to1 k k1 e h = ap (λ o. for_some o k1) e ∙ ap Some (h p)
 
-  raise_at : (a b : Bool) → (let i : Instr Object Q = if a then Operate (operation op.Raise (Number 0)) 1 None else (if b then Operate (operation op.Raise (Number 1)) 2 None else Reraise) in i) ≡ at_places f (if a then Operate (operation op.Raise (Number 0)) 1 None else (if b then Operate (operation op.Raise (Number 1)) 2 None else Reraise))
+  raise_at : (a b : Bool) → (let i : Instr Object Q =
+      if a then Operate (operation op.Raise (Number 0)) 1 None
+      else (if b then Operate (operation op.Raise (Number 1)) 2 None else Reraise) in i)
+      ≡ at_places f (if a then Operate (operation op.Raise (Number 0)) 1 None
+      else (if b then Operate (operation op.Raise (Number 1)) 2 None else Reraise))
   raise_at true b = refl
   raise_at false true = refl
   raise_at false false = refl
 
   same_at : (t : Tables) (to : Option P) (to1 : Option Q) (o : Instruction) (n m : ℕ) → (is_jump o ≡ true → to1 ≡ option_map f to) → instr_of t to1 o n ≡ option_map (at_places f) (instr_of t to o n)
-  same_at t to to1 op.ImportName n m h = elsewhere_some_at (slice_get t.names n) (λ x. Operate (operation op.ImportName (Named x)) 2 (Some 1)) (λ x. Operate (operation op.ImportName (Named x)) 2 (Some 1)) (λ x. refl)
+  same_at t to to1 op.ImportName n m h = elsewhere_some_at (slice_get t.names n)
+      (λ x. Operate (operation op.ImportName (Named x)) 2 (Some 1)) (λ x. Operate (operation op.ImportName (Named x)) 2 (Some 1))
+      (λ x. refl)
   same_at t to to1 op.ImportNameless n m h = if_at (nat_lt n 1) (Operate (operation op.ImportNameless Bare) 2 (Some 1)) (Operate (operation op.ImportNameless Bare) 2 (Some 1)) refl
   same_at t to to1 op.ImportStar n m h = if_at (nat_lt n 1) (Operate (operation op.ImportStar Bare) 1 (Some 0)) (Operate (operation op.ImportStar Bare) 1 (Some 0)) refl
   same_at t to to1 op.ImportFrom n m h = elsewhere_some_at (slice_get t.names n) (λ x. Import (operation op.ImportFrom (Named x))) (λ x. Import (operation op.ImportFrom (Named x))) (λ x. refl)
@@ -42,7 +51,8 @@ module _ {P Q : Type 0} (f : P → Q) where
   same_at t to to1 op.LoadGlobal n m h = elsewhere_some_at (slice_get t.names n) (λ x. Access Global Load x 0) (λ x. Access Global Load x 0) (λ x. refl)
   same_at t to to1 op.LoadDeref n m h = elsewhere_some_at (slice_get t.cells n) (λ x. Access Deref Load x n) (λ x. Access Deref Load x n) (λ x. refl)
   same_at t to to1 op.LoadClassDeref n m h = elsewhere_some_at (slice_get t.cells n) (λ x. Access ClassDeref Load x n) (λ x. Access ClassDeref Load x n) (λ x. refl)
-  same_at t to to1 op.LoadClosure n m h = elsewhere_some_at (slice_get t.cells n) (λ x. Push (Cells (record { name = x; place = n } ∷ []))) (λ x. Push (Cells (record { name = x; place = n } ∷ []))) (λ x. refl)
+  same_at t to to1 op.LoadClosure n m h = elsewhere_some_at (slice_get t.cells n) (λ x. Push (Cells (record { name = x; place = n } ∷ [])))
+      (λ x. Push (Cells (record { name = x; place = n } ∷ []))) (λ x. refl)
   same_at t to to1 op.StoreFast n m h = elsewhere_some_at (slice_get t.varnames n) (λ x. Access Fast Store x 0) (λ x. Access Fast Store x 0) (λ x. refl)
   same_at t to to1 op.StoreLocal n m h = elsewhere_some_at (slice_get t.names n) (λ x. Access ByName Store x 0) (λ x. Access ByName Store x 0) (λ x. refl)
   same_at t to to1 op.StoreGlobal n m h = elsewhere_some_at (slice_get t.names n) (λ x. Access Global Store x 0) (λ x. Access Global Store x 0) (λ x. refl)
@@ -54,15 +64,23 @@ module _ {P Q : Type 0} (f : P → Q) where
   same_at t to to1 op.Subscript n m h = if_at (nat_lt n 1) (Operate (operation op.Subscript Bare) 2 (Some 1)) (Operate (operation op.Subscript Bare) 2 (Some 1)) refl
   same_at t to to1 op.StoreSubscript n m h = if_at (nat_lt n 1) (Operate (operation op.StoreSubscript Bare) 3 (Some 0)) (Operate (operation op.StoreSubscript Bare) 3 (Some 0)) refl
   same_at t to to1 op.DeleteSubscript n m h = if_at (nat_lt n 1) (Operate (operation op.DeleteSubscript Bare) 2 (Some 0)) (Operate (operation op.DeleteSubscript Bare) 2 (Some 0)) refl
-  same_at t to to1 op.LoadAttr n m h = elsewhere_some_at (slice_get t.names n) (λ x. Operate (operation op.LoadAttr (Named x)) 1 (Some 1)) (λ x. Operate (operation op.LoadAttr (Named x)) 1 (Some 1)) (λ x. refl)
-  same_at t to to1 op.StoreAttr n m h = elsewhere_some_at (slice_get t.names n) (λ x. Operate (operation op.StoreAttr (Named x)) 2 (Some 0)) (λ x. Operate (operation op.StoreAttr (Named x)) 2 (Some 0)) (λ x. refl)
-  same_at t to to1 op.DeleteAttr n m h = elsewhere_some_at (slice_get t.names n) (λ x. Operate (operation op.DeleteAttr (Named x)) 1 (Some 0)) (λ x. Operate (operation op.DeleteAttr (Named x)) 1 (Some 0)) (λ x. refl)
-  same_at t to to1 op.LoadMethod n m h = elsewhere_some_at (slice_get t.names n) (λ x. Operate (operation op.LoadMethod (Named x)) 1 (Some 3)) (λ x. Operate (operation op.LoadMethod (Named x)) 1 (Some 3)) (λ x. refl)
+  same_at t to to1 op.LoadAttr n m h = elsewhere_some_at (slice_get t.names n) (λ x. Operate (operation op.LoadAttr (Named x)) 1 (Some 1))
+      (λ x. Operate (operation op.LoadAttr (Named x)) 1 (Some 1)) (λ x. refl)
+  same_at t to to1 op.StoreAttr n m h = elsewhere_some_at (slice_get t.names n) (λ x. Operate (operation op.StoreAttr (Named x)) 2 (Some 0))
+      (λ x. Operate (operation op.StoreAttr (Named x)) 2 (Some 0)) (λ x. refl)
+  same_at t to to1 op.DeleteAttr n m h = elsewhere_some_at (slice_get t.names n)
+      (λ x. Operate (operation op.DeleteAttr (Named x)) 1 (Some 0)) (λ x. Operate (operation op.DeleteAttr (Named x)) 1 (Some 0))
+      (λ x. refl)
+  same_at t to to1 op.LoadMethod n m h = elsewhere_some_at (slice_get t.names n)
+      (λ x. Operate (operation op.LoadMethod (Named x)) 1 (Some 3)) (λ x. Operate (operation op.LoadMethod (Named x)) 1 (Some 3))
+      (λ x. refl)
   same_at t to to1 op.LoadConst n m h = elsewhere_some_at (slice_get t.constants n) (λ c. Push (It (value_of c))) (λ c. Push (It (value_of c))) (λ x. refl)
   same_at t to to1 op.ReturnConst n m h = elsewhere_some_at (slice_get t.constants n) (λ c. ReturnConst (value_of c)) (λ c. ReturnConst (value_of c)) (λ x. refl)
   same_at t to to1 op.UnaryOperation n m h = if_at (nat_lt n 4) (Operate (operation op.UnaryOperation (Number n)) 1 (Some 1)) (Operate (operation op.UnaryOperation (Number n)) 1 (Some 1)) refl
   same_at t to to1 op.BinaryOperation n m h = if_at (nat_lt n 13) (Operate (operation op.BinaryOperation (Number n)) 2 (Some 1)) (Operate (operation op.BinaryOperation (Number n)) 2 (Some 1)) refl
-  same_at t to to1 op.BinaryOperationInplace n m h = if_at (nat_lt n 13) (Operate (operation op.BinaryOperationInplace (Number n)) 2 (Some 1)) (Operate (operation op.BinaryOperationInplace (Number n)) 2 (Some 1)) refl
+  same_at t to to1 op.BinaryOperationInplace n m h =
+      if_at (nat_lt n 13) (Operate (operation op.BinaryOperationInplace (Number n)) 2 (Some 1))
+      (Operate (operation op.BinaryOperationInplace (Number n)) 2 (Some 1)) refl
   same_at t to to1 op.CompareOperation n m h = if_at (nat_lt n 6) (Operate (operation op.CompareOperation (Number n)) 2 (Some 1)) (Operate (operation op.CompareOperation (Number n)) 2 (Some 1)) refl
   same_at t to to1 op.TestOperation n m h = if_at (nat_lt n 5) (Operate (operation op.TestOperation (Number n)) 2 (Some 1)) (Operate (operation op.TestOperation (Number n)) 2 (Some 1)) refl
   same_at t to to1 op.Pop n m h = if_at (nat_lt n 1) Pop Pop refl
@@ -71,20 +89,32 @@ module _ {P Q : Type 0} (f : P → Q) where
   same_at t to to1 op.Duplicate n m h = if_at (nat_lt n 1) Duplicate Duplicate refl
   same_at t to to1 op.Duplicate2 n m h = if_at (nat_lt n 1) Duplicate2 Duplicate2 refl
   same_at t to to1 op.GetIter n m h = if_at (nat_lt n 1) (Operate (operation op.GetIter Bare) 1 (Some 1)) (Operate (operation op.GetIter Bare) 1 (Some 1)) refl
-  same_at t to to1 op.CallFunctionPositional n m h = if_at (nat_lt n (2 ^ 30)) (Operate (operation op.CallFunctionPositional (Number n)) (n + 1) (Some 1)) (Operate (operation op.CallFunctionPositional (Number n)) (n + 1) (Some 1)) refl
-  same_at t to to1 op.CallFunctionKeyword n m h = if_at (nat_lt n (2 ^ 30)) (Operate (operation op.CallFunctionKeyword (Number n)) (n + 2) (Some 1)) (Operate (operation op.CallFunctionKeyword (Number n)) (n + 2) (Some 1)) refl
-  same_at t to to1 op.CallFunctionEx n m h = if_at (nat_lt n 2) (Operate (operation op.CallFunctionEx (Number n)) (n + 2) (Some 1)) (Operate (operation op.CallFunctionEx (Number n)) (n + 2) (Some 1)) refl
-  same_at t to to1 op.CallMethodPositional n m h = if_at (nat_lt n (2 ^ 30)) (Operate (operation op.CallMethodPositional (Number n)) (n + 3) (Some 1)) (Operate (operation op.CallMethodPositional (Number n)) (n + 3) (Some 1)) refl
-  same_at t to to1 op.CallMethodKeyword n m h = if_at (nat_lt n (2 ^ 30)) (Operate (operation op.CallMethodKeyword (Number n)) (n + 4) (Some 1)) (Operate (operation op.CallMethodKeyword (Number n)) (n + 4) (Some 1)) refl
+  same_at t to to1 op.CallFunctionPositional n m h =
+      if_at (nat_lt n (2 ^ 30)) (Operate (operation op.CallFunctionPositional (Number n)) (n + 1) (Some 1))
+      (Operate (operation op.CallFunctionPositional (Number n)) (n + 1) (Some 1)) refl
+  same_at t to to1 op.CallFunctionKeyword n m h =
+      if_at (nat_lt n (2 ^ 30)) (Operate (operation op.CallFunctionKeyword (Number n)) (n + 2) (Some 1))
+      (Operate (operation op.CallFunctionKeyword (Number n)) (n + 2) (Some 1)) refl
+  same_at t to to1 op.CallFunctionEx n m h = if_at (nat_lt n 2) (Operate (operation op.CallFunctionEx (Number n)) (n + 2) (Some 1))
+      (Operate (operation op.CallFunctionEx (Number n)) (n + 2) (Some 1)) refl
+  same_at t to to1 op.CallMethodPositional n m h =
+      if_at (nat_lt n (2 ^ 30)) (Operate (operation op.CallMethodPositional (Number n)) (n + 3) (Some 1))
+      (Operate (operation op.CallMethodPositional (Number n)) (n + 3) (Some 1)) refl
+  same_at t to to1 op.CallMethodKeyword n m h = if_at (nat_lt n (2 ^ 30))
+      (Operate (operation op.CallMethodKeyword (Number n)) (n + 4) (Some 1))
+      (Operate (operation op.CallMethodKeyword (Number n)) (n + 4) (Some 1)) refl
   same_at t to to1 op.CallMethodEx n m h = if_at (nat_lt n 2) (Operate (operation op.CallMethodEx (Number n)) (n + 4) (Some 1)) (Operate (operation op.CallMethodEx (Number n)) (n + 4) (Some 1)) refl
   same_at t to to1 op.BuildString n m h = if_at (nat_lt n (2 ^ 30)) (Operate (operation op.BuildString (Number n)) n (Some 1)) (Operate (operation op.BuildString (Number n)) n (Some 1)) refl
   same_at t to to1 op.BuildTuple n m h = if_at (nat_lt n (2 ^ 30)) (Operate (operation op.BuildTuple (Number n)) n (Some 1)) (Operate (operation op.BuildTuple (Number n)) n (Some 1)) refl
   same_at t to to1 op.BuildList n m h = if_at (nat_lt n (2 ^ 30)) (Operate (operation op.BuildList (Number n)) n (Some 1)) (Operate (operation op.BuildList (Number n)) n (Some 1)) refl
   same_at t to to1 op.BuildSet n m h = if_at (nat_lt n (2 ^ 30)) (Operate (operation op.BuildSet (Number n)) n (Some 1)) (Operate (operation op.BuildSet (Number n)) n (Some 1)) refl
-  same_at t to to1 op.BuildTupleUnpack n m h = if_at (nat_lt n (2 ^ 30)) (Operate (operation op.BuildTupleUnpack (Number n)) n (Some 1)) (Operate (operation op.BuildTupleUnpack (Number n)) n (Some 1)) refl
-  same_at t to to1 op.BuildListUnpack n m h = if_at (nat_lt n (2 ^ 30)) (Operate (operation op.BuildListUnpack (Number n)) n (Some 1)) (Operate (operation op.BuildListUnpack (Number n)) n (Some 1)) refl
+  same_at t to to1 op.BuildTupleUnpack n m h = if_at (nat_lt n (2 ^ 30)) (Operate (operation op.BuildTupleUnpack (Number n)) n (Some 1))
+      (Operate (operation op.BuildTupleUnpack (Number n)) n (Some 1)) refl
+  same_at t to to1 op.BuildListUnpack n m h = if_at (nat_lt n (2 ^ 30)) (Operate (operation op.BuildListUnpack (Number n)) n (Some 1))
+      (Operate (operation op.BuildListUnpack (Number n)) n (Some 1)) refl
   same_at t to to1 op.BuildSetUnpack n m h = if_at (nat_lt n (2 ^ 30)) (Operate (operation op.BuildSetUnpack (Number n)) n (Some 1)) (Operate (operation op.BuildSetUnpack (Number n)) n (Some 1)) refl
-  same_at t to to1 op.BuildMapForCall n m h = if_at (nat_lt n (2 ^ 30)) (Operate (operation op.BuildMapForCall (Number n)) n (Some 1)) (Operate (operation op.BuildMapForCall (Number n)) n (Some 1)) refl
+  same_at t to to1 op.BuildMapForCall n m h = if_at (nat_lt n (2 ^ 30)) (Operate (operation op.BuildMapForCall (Number n)) n (Some 1))
+      (Operate (operation op.BuildMapForCall (Number n)) n (Some 1)) refl
   same_at t to to1 op.BuildMap n m h = if_at (nat_lt n (2 ^ 30)) (Operate (operation op.BuildMap (Number n)) (2 * n) (Some 1)) (Operate (operation op.BuildMap (Number n)) (2 * n) (Some 1)) refl
   same_at t to to1 op.DictUpdate n m h = if_at (nat_lt n 1) (Operate (operation op.DictUpdate Bare) 2 (Some 1)) (Operate (operation op.DictUpdate Bare) 2 (Some 1)) refl
   same_at t to to1 op.BuildSlice n m h = if_at (nat_lt n 2) (Operate (operation op.BuildSlice (Number n)) (n + 2) (Some 1)) (Operate (operation op.BuildSlice (Number n)) (n + 2) (Some 1)) refl
@@ -94,7 +124,8 @@ module _ {P Q : Type 0} (f : P → Q) where
   same_at t to to1 op.PrintExpr n m h = if_at (nat_lt n 1) (Operate (operation op.PrintExpr Bare) 1 (Some 0)) (Operate (operation op.PrintExpr Bare) 1 (Some 0)) refl
   same_at t to to1 op.LoadBuildClass n m h = if_at (nat_lt n 1) (Operate (operation op.LoadBuildClass Bare) 0 (Some 1)) (Operate (operation op.LoadBuildClass Bare) 0 (Some 1)) refl
   same_at t to to1 op.UnpackSequence n m h = if_at (nat_lt n (2 ^ 30)) (Unpack (operation op.UnpackSequence (Number n)) n) (Unpack (operation op.UnpackSequence (Number n)) n) refl
-  same_at t to to1 op.UnpackEx n m h = if_at (nat_lt n (2 ^ 16)) (Unpack (operation op.UnpackEx (Number n)) (n % 256 + n / 256 + 1)) (Unpack (operation op.UnpackEx (Number n)) (n % 256 + n / 256 + 1)) refl
+  same_at t to to1 op.UnpackEx n m h = if_at (nat_lt n (2 ^ 16)) (Unpack (operation op.UnpackEx (Number n)) (n % 256 + n / 256 + 1))
+      (Unpack (operation op.UnpackEx (Number n)) (n % 256 + n / 256 + 1)) refl
   same_at t to to1 op.FormatValue n m h = if_at (nat_lt n 4) (Operate (operation op.FormatValue (Number n)) 2 (Some 1)) (Operate (operation op.FormatValue (Number n)) 2 (Some 1)) refl
   same_at t to to1 op.MakeFunction n m h = if_at (nat_lt n 32) (MakeFunction (n - n % 2) (n % 2 == 1) (bits_of (n - n % 2))) (MakeFunction (n - n % 2) (n % 2 == 1) (bits_of (n - n % 2))) refl
   same_at t to to1 op.YieldValue n m h = if_at (nat_lt n 1) (Operate (operation op.YieldValue Bare) 1 (Some 1)) (Operate (operation op.YieldValue Bare) 1 (Some 1)) refl

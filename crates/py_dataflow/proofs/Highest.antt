@@ -1,5 +1,6 @@
--- The height that rounds come to is the greatest on a walk.
-use Rattle.std.proofs.Common.{◌≡◌, ◌≢◌, ◌⊎◌, ℕ, zero, suc, ◌+◌, max, ◌<◌, ◌≤◌, List, [], ◌∷◌, ◌++◌, length, drop, map, Bool, true, false, ◌||◌, Option, Some, None, if◌then◌else◌, refl, sym, inl, inr, ap, ◌∙◌, subst, arith, flat_map}
+-- The height that rounds reach is the greatest on a walk.
+use Rattle.std.proofs.Common.{◌≡◌, ◌≢◌, ◌⊎◌, ℕ, zero, suc, ◌+◌, max, ◌<◌, ◌≤◌, List, [], ◌∷◌, ◌++◌, length, drop, map, Bool, true, false}
+use Rattle.std.proofs.Common.{◌||◌, Option, Some, None, if◌then◌else◌, refl, sym, inl, inr, ap, ◌∙◌, subst, arith, flat_map}
 use Rattle.std.specs.Prelude.{nat_eq}
 use Rattle.std.specs.List.{AllByRecursion, IsDistinct, list_any}
 use Rattle.std.proofs.lemmas.Bool.{cases_eq, cases_lt, eqb-true, eq-eqb}
@@ -32,20 +33,20 @@ abbrev pub places : List Known → List ℕ
 places ks = map (λ (k : Known). k.place) ks
 
 -- what holds of each known place
-abbrev pub Each : (Known → Type 0) → List Known → Type 0
-Each P [] = Unit {0}
-Each P (k ∷ ks) = P k × Each P ks
+abbrev pub EachKnown : (Known → Type 0) → List Known → Type 0
+EachKnown P [] = Unit {0}
+EachKnown P (k ∷ ks) = P k × EachKnown P ks
 
-each_append : (P : Known → Type 0) (xs ys : List Known) → Each P xs → Each P ys → Each P (xs ++ ys)
+each_append : (P : Known → Type 0) (xs ys : List Known) → EachKnown P xs → EachKnown P ys → EachKnown P (xs ++ ys)
 each_append P [] ys h g = g
 each_append P (x ∷ xs) ys h g = (h.0, each_append P xs ys h.1 g)
 
-each_flat : (P Q : Known → Type 0) (f : Known → List Known) → ((k : Known) → Q k → Each P (f k)) → (ks : List Known) → Each Q ks → Each P (flat_map f ks)
+each_flat : (P Q : Known → Type 0) (f : Known → List Known) → ((k : Known) → Q k → EachKnown P (f k)) → (ks : List Known) → EachKnown Q ks → EachKnown P (flat_map f ks)
 each_flat P Q f go [] h = tt
 each_flat P Q f go (k ∷ ks) h = each_append P (f k) (flat_map f ks) (go k h.0) (each_flat P Q f go ks h.1)
 
 -- one of which it holds
-each_at : (P : Known → Type 0) (p : ℕ) (ks : List Known) → is_known p ks ≡ true → Each P ks → (k : Known) × (k.place ≡ p) × P k
+each_at : (P : Known → Type 0) (p : ℕ) (ks : List Known) → is_known p ks ≡ true → EachKnown P ks → (k : Known) × (k.place ≡ p) × P k
 each_at P p [] e h = absurd cc
 each_at P p (k ∷ ks) e h = elim (highest_or_true (nat_eq p k.place) (is_known p ks) e) [
   | inl q ↦ (k, sym (eqb-true p k.place q), h.0)
@@ -65,11 +66,11 @@ known_right p (x ∷ xs) ys e = or_right (nat_eq p x.place) (is_known p (xs ++ y
 
 -- what is added
 module _ (P : Known → Type 0) where
-  each_one : (b : Bool) (ks : List Known) (x : Known) → Each P ks → P x → Each P (if b then ks else x ∷ ks)
+  each_one : (b : Bool) (ks : List Known) (x : Known) → EachKnown P ks → P x → EachKnown P (if b then ks else x ∷ ks)
   each_one true ks x h p = h
   each_one false ks x h p = (p, h)
 
-  each_added : (ks xs : List Known) → Each P ks → Each P xs → Each P (with_new_places ks xs)
+  each_added : (ks xs : List Known) → EachKnown P ks → EachKnown P xs → EachKnown P (with_new_places ks xs)
   each_added ks [] h g = h
   each_added ks (x ∷ xs) h g = each_added (if is_known x.place ks then ks else x ∷ ks) xs (each_one (is_known x.place ks) ks x h g.0) g.1
 
@@ -88,7 +89,9 @@ known_this x false ks e = or_left (nat_eq x.place x.place) (is_known x.place ks)
 known_added : (p : ℕ) (ks xs : List Known) → is_known p xs ≡ true → is_known p (with_new_places ks xs) ≡ true
 known_added p ks [] e = absurd cc
 known_added p ks (x ∷ xs) e = elim (highest_or_true (nat_eq p x.place) (is_known p xs) e) [
-  | inl q ↦ known_kept p (if is_known x.place ks then ks else x ∷ ks) xs (subst (λ n. is_known n (if is_known x.place ks then ks else x ∷ ks) ≡ true) (sym (eqb-true p x.place q)) (known_this x (is_known x.place ks) ks refl))
+  | inl q ↦ known_kept p (if is_known x.place ks then ks else x ∷ ks) xs
+      (subst (λ n. is_known n (if is_known x.place ks then ks else x ∷ ks) ≡ true) (sym (eqb-true p x.place q))
+      (known_this x (is_known x.place ks) ks refl))
   | inr r ↦ known_added p (if is_known x.place ks then ks else x ∷ ks) xs r
 ]
 
@@ -129,29 +132,29 @@ unfolding IsDistinct
 apart_first k = (tt, tt)
 
 -- the greatest height is that of one of them
-greatest_at : (p h : ℕ) (ks : List Known) → is_known p ks ≡ true → Each (λ k. k.place ≡ p → h ≤ k.at.height) ks → h ≤ greatest ks
+greatest_at : (p h : ℕ) (ks : List Known) → is_known p ks ≡ true → EachKnown (λ k. k.place ≡ p → h ≤ k.at.height) ks → h ≤ greatest ks
 greatest_at p h [] e g = absurd cc
 greatest_at p h (k ∷ ks) e g = elim (highest_or_true (nat_eq p k.place) (is_known p ks) e) [
   | inl q ↦ let a = g.0 (sym (eqb-true p k.place q)) in omega (arith, a)
   | inr r ↦ let a = greatest_at p h ks r g.1 in omega (arith, a)
 ]
 
-greatest_below : (h : ℕ) (ks : List Known) → Each (λ k. k.at.height ≤ h) ks → greatest ks ≤ h
+greatest_below : (h : ℕ) (ks : List Known) → EachKnown (λ k. k.at.height ≤ h) ks → greatest ks ≤ h
 greatest_below h [] g = omega arith
 greatest_below h (k ∷ ks) g = let a = g.0 in let b = greatest_below h ks g.1 in omega (arith, a, b)
 
-greatest_one : (P : Known → Type 0) (ks : List Known) → is_known 0 ks ≡ true → Each P ks → (k : Known) × P k × (k.at.height ≡ greatest ks)
+greatest_one : (P : Known → Type 0) (ks : List Known) → is_known 0 ks ≡ true → EachKnown P ks → (k : Known) × P k × (k.at.height ≡ greatest ks)
 greatest_one P [] e h = absurd cc
 greatest_one P (k ∷ ks) e h = go k ks h.0 h.1
   where
     more : (k j : Known) (ks : List Known) → P k → (x : Known) × P x × (x.at.height ≡ greatest (j ∷ ks)) → (x : Known) × P x × (x.at.height ≡ max k.at.height (greatest (j ∷ ks)))
     more k j ks h r = elim (cases_lt k.at.height (greatest (j ∷ ks))) [ inl l ↦ (r.0, r.1, (let q = r.2 in omega (arith, q, l))) | inr l ↦ (k, h, omega (arith, l)) ]
 
-    go : (k : Known) (ks : List Known) → P k → Each P ks → (x : Known) × P x × (x.at.height ≡ max k.at.height (greatest ks))
+    go : (k : Known) (ks : List Known) → P k → EachKnown P ks → (x : Known) × P x × (x.at.height ≡ max k.at.height (greatest ks))
     go k [] h g = (k, h, omega arith)
     go k (j ∷ ks) h g = more k j ks h (go j ks g.0 g.1)
 
-each_weaker : (P Q : Known → Type 0) → ((k : Known) → P k → Q k) → (ks : List Known) → Each P ks → Each Q ks
+each_weaker : (P Q : Known → Type 0) → ((k : Known) → P k → Q k) → (ks : List Known) → EachKnown P ks → EachKnown Q ks
 each_weaker P Q go [] h = tt
 each_weaker P Q go (k ∷ ks) h = (go k h.0, each_weaker P Q go ks h.1)
 
@@ -164,23 +167,24 @@ module _ (look : ℕ → Option (Seen ℕ)) (limit count : ℕ) (sound : Sound l
   highest_within p t r = few p (λ e. sound.ends p (record { at = t; reached = r; nothing = e }))
 
   -- what an edge leads to is reached
-  jumped_met : (k : Known) (x : Seen ℕ) (o : Option ℕ) → look k.place ≡ Some x → x.target ≡ o → Met k → Each Met (jump_targets x k.at o)
+  jumped_met : (k : Known) (x : Seen ℕ) (o : Option ℕ) → look k.place ≡ Some x → x.target ≡ o → Met k → EachKnown Met (jump_targets x k.at o)
   jumped_met k x None e f r = tt
   jumped_met k x (Some q) e f r = ((suc r.0, (k.place, x, k.at, r.1, e, Jumps q f)), tt)
 
-  falls_met : (k : Known) (x : Seen ℕ) (b : Bool) → look k.place ≡ Some x → x.flow.falls ≡ b → Met k → Each Met (if b then known_at x.next (falls_to x.flow k.at) ∷ [] else [])
+  falls_met : (k : Known) (x : Seen ℕ) (b : Bool) → look k.place ≡ Some x → x.flow.falls ≡ b → Met k → EachKnown Met (if b then known_at x.next (falls_to x.flow k.at) ∷ [] else [])
   falls_met k x false e f r = tt
   falls_met k x true e f r = ((suc r.0, (k.place, x, k.at, r.1, e, Falls f)), tt)
 
-  led_met : (k : Known) (o : Option (Seen ℕ)) → look k.place ≡ o → Met k → Each Met (successors k.at o)
+  led_met : (k : Known) (o : Option (Seen ℕ)) → look k.place ≡ o → Met k → EachKnown Met (successors k.at o)
   led_met k None e r = tt
-  led_met k (Some x) e r = each_append Met (if x.flow.falls then known_at x.next (falls_to x.flow k.at) ∷ [] else []) (jump_targets x k.at x.target) (falls_met k x x.flow.falls e refl r) (jumped_met k x x.target e refl r)
+  led_met k (Some x) e r = each_append Met (if x.flow.falls then known_at x.next (falls_to x.flow k.at) ∷ [] else [])
+      (jump_targets x k.at x.target) (falls_met k x x.flow.falls e refl r) (jumped_met k x x.target e refl r)
 
   abbrev next_of : List Known → List Known
   next_of ks = flat_map (λ (k : Known). successors k.at (look k.place)) ks
 
   record IsMet (ks : List Known) : Type 0 where
-    pub met : Each Met ks
+    pub met : EachKnown Met ks
     pub apart : IsDistinct nat_eq (places ks)
     pub start : is_known 0 ks ≡ true
 
@@ -239,7 +243,9 @@ module _ (look : ℕ → Option (Seen ℕ)) (limit count : ℕ) (sound : Sound l
   walked zero p t w = subst (λ q. is_known q (known_after look count) ≡ true) (sym w.0) met.start
   walked (suc n) p t (from, x, s, w, e, edge) =
       let here = walked n from s w in
-      let there = known_flat p (λ (k : Known). successors k.at (look k.place)) from (λ k q. subst (λ o. is_known p (successors k.at o) ≡ true) (sym (ap look q ∙ e)) (edge_led x s t k.at p edge)) (known_after look count) here in
+      let there = known_flat p (λ (k : Known). successors k.at (look k.place)) from
+      (λ k q. subst (λ o. is_known p (successors k.at o) ≡ true) (sym (ap look q ∙ e)) (edge_led x s t k.at p edge))
+      (known_after look count) here in
       subst (λ ks. is_known p ks ≡ true) highest_stays (known_added p (known_after look count) (next_of (known_after look count)) there)
 
   -- walks that meet have one height
@@ -248,7 +254,9 @@ module _ (look : ℕ → Option (Seen ℕ)) (limit count : ℕ) (sound : Sound l
 
   -- the height of a place that is reached is that of the known one
   highest_below : (p : ℕ) (t : State) → Reached look 0 p t → t.height ≤ highest look count
-  highest_below p t r = greatest_at p t.height (known_after look count) (walked r.0 p t r.1) (each_weaker Met (λ k. k.place ≡ p → t.height ≤ k.at.height) (λ k q e. let l = level p t k.at r (subst (λ n. Reached look 0 n k.at) e q) in omega (arith, l)) (known_after look count) met.met)
+  highest_below p t r = greatest_at p t.height (known_after look count) (walked r.0 p t r.1)
+      (each_weaker Met (λ k. k.place ≡ p → t.height ≤ k.at.height)
+      (λ k q e. let l = level p t k.at r (subst (λ n. Reached look 0 n k.at) e q) in omega (arith, l)) (known_after look count) met.met)
 
   -- there is a greatest height
   pub depth_found : IsDepth look 0 (highest look count)

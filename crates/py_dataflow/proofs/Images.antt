@@ -2,7 +2,8 @@
 use Rattle.std.proofs.Common.{◌≡◌, ℕ, zero, suc, true, false, Option, Some, None, refl, sym, inl, inr, ap, ◌∙◌, subst}
 use Rattle.std.specs.Option.{option_map}
 use Rattle.std.proofs.lemmas.Option.{same_Some}
-use Rattle.py_dataflow.specs.Walks.{State, has_block, Seen, Edge, Falls, Jumps, Walk, Reached, LeavesEnd, UnevenHeights, TooHigh, OutOfRange, HeightOutOfRange, LacksBlock, ShapesDiffer, BlockMismatch, Sound, IsDepth}
+use Rattle.py_dataflow.specs.Walks.{State, has_block, Seen, Edge, Falls, Jumps, Walk, Reached, LeavesEnd, UnevenHeights, TooHigh}
+use Rattle.py_dataflow.specs.Walks.{OutOfRange, HeightOutOfRange, LacksBlock, ShapesDiffer, BlockMismatch, Sound, IsDepth}
 
 abbrev pub seen_at : {P Q : Type 0} → (P → Q) → Seen P → Seen Q
 seen_at f x = record { flow = x.flow; next = f x.next; target = option_map f x.target }
@@ -94,12 +95,26 @@ module _ {P Q : Type 0} (look : P → Option (Seen P)) (look1 : Q → Option (Se
     pub range_back : (limit : ℕ) → HeightOutOfRange look1 (f start) limit (f p) → HeightOutOfRange look start limit p
     range_back limit e =
         let s = sees_back p e.sees g e.sees_is in
-        record { sees = s.0; at = e.at; reached = image_at_place e.at e.reached; sees_is = s.1; outside = outside_back limit s.0 e.at (subst (λ z. OutOfRange look1 (f start) limit z e.at) (sym s.2) e.outside) }
+        record {
+          sees = s.0;
+          at = e.at;
+          reached = image_at_place e.at e.reached;
+          sees_is = s.1;
+          outside =
+              outside_back limit s.0 e.at (subst (λ z. OutOfRange look1 (f start) limit z e.at) (sym s.2) e.outside);
+        }
 
     pub mismatch_back : BlockMismatch look1 (f start) (f p) → BlockMismatch look start p
     mismatch_back (inl e) =
         let s = sees_back p e.sees g e.sees_is in
-        inl (record { sees = s.0; at = e.at; reached = image_at_place e.at e.reached; sees_is = s.1; lacks = subst (λ (z : Seen Q). has_block z.flow.needs e.at.height e.at.shape ≡ false) (sym s.2) e.lacks })
+        inl (record {
+          sees = s.0;
+          at = e.at;
+          reached = image_at_place e.at e.reached;
+          sees_is = s.1;
+          lacks =
+              subst (λ (z : Seen Q). has_block z.flow.needs e.at.height e.at.shape ≡ false) (sym s.2) e.lacks;
+        })
     mismatch_back (inr e) = inr (record { one = e.one; other = e.other; one_reached = image_at_place e.one e.one_reached; other_reached = image_at_place e.other e.other_reached; differ = e.differ })
 
   pub sound_there : Injective → (limit : ℕ) → Sound look start limit → Sound look1 (f start) limit
@@ -124,11 +139,37 @@ module _ {P Q : Type 0} (look : P → Option (Seen P)) (look1 : Q → Option (Se
   pub sound_here : (limit : ℕ) → Sound look1 (f start) limit → Sound look start limit
   sound_here limit ok = record {
     ends = λ p e. (let r = reached_there p e.at e.reached in ok.ends (f p) (record { at = e.at; reached = r.1; nothing = im.same p r.0 ∙ ap (option_map (seen_at f)) e.nothing }));
-    even = λ p e. ok.even (f p) (record { one = e.one; other = e.other; one_reached = (reached_there p e.one e.one_reached).1; other_reached = (reached_there p e.other e.other_reached).1; uneven = e.uneven });
-    within = λ p e. (let r = reached_there p e.at e.reached in ok.within (f p) (record { sees = seen_at f e.sees; at = e.at; reached = r.1; sees_is = sees p e.sees r.0 e.sees_is; outside = outside_there limit e.sees e.at e.outside }));
+    even = λ p e.
+        ok.even (f p)
+        (record {
+          one = e.one;
+          other = e.other;
+          one_reached = (reached_there p e.one e.one_reached).1;
+          other_reached =
+              (reached_there p e.other e.other_reached).1;
+          uneven = e.uneven;
+        });
+    within = λ p e. (let r = reached_there p e.at e.reached in ok.within (f p)
+        (record {
+          sees = seen_at f e.sees;
+          at = e.at;
+          reached = r.1;
+          sees_is = sees p e.sees r.0 e.sees_is;
+          outside =
+              outside_there limit e.sees e.at e.outside;
+        }));
     matched = λ p e. elim e [
-      | inl l ↦ (let r = reached_there p l.at l.reached in ok.matched (f p) (inl (record { sees = seen_at f l.sees; at = l.at; reached = r.1; sees_is = sees p l.sees r.0 l.sees_is; lacks = l.lacks })))
-      | inr d ↦ ok.matched (f p) (inr (record { one = d.one; other = d.other; one_reached = (reached_there p d.one d.one_reached).1; other_reached = (reached_there p d.other d.other_reached).1; differ = d.differ }))
+      | inl l ↦ (let r = reached_there p l.at l.reached in ok.matched (f p)
+          (inl (record { sees = seen_at f l.sees; at = l.at; reached = r.1; sees_is = sees p l.sees r.0 l.sees_is; lacks = l.lacks })))
+      | inr d ↦ ok.matched (f p) (inr
+          (record {
+            one = d.one;
+            other = d.other;
+            one_reached = (reached_there p d.one d.one_reached).1;
+            other_reached =
+                (reached_there p d.other d.other_reached).1;
+            differ = d.differ;
+          }))
     ];
   }
 

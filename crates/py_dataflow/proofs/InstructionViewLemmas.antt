@@ -86,7 +86,8 @@ module _ {K P Q : Type 0} (f : P → Q) where
   target_same M.WithCleanupFinish = refl
 
   pub seen_same : (y : Fetched K P) → seen_instr (fetched_at f y) ≡ option_map (seen_at f) (seen_instr y)
-  seen_same (Found i n) = ap (λ w. let s : Seen Q = record { flow = w; next = f n; target = target_of (at_places f i) } in Some s) (flow_same i) ∙ ap (λ z. let s : Seen Q = record { flow = flow_of i; next = f n; target = z } in Some s) (target_same i)
+  seen_same (Found i n) = ap (λ w. let s : Seen Q = record { flow = w; next = f n; target = target_of (at_places f i) } in Some s)
+      (flow_same i) ∙ ap (λ z. let s : Seen Q = record { flow = flow_of i; next = f n; target = z } in Some s) (target_same i)
   seen_same Nothing = refl
 
 module _ (t : Tables) (starts : List ℕ) (items : List InstructionInfo) where
@@ -99,7 +100,8 @@ module _ (t : Tables) (starts : List ℕ) (items : List InstructionInfo) where
   decoded_sees k x None e n = absurd (n refl)
   decoded_sees k x (Some i) e n =
       let r : RowIs (Some (named_place starts x)) x.instr x.arg.0 i = row_is ℕ t (Some (named_place starts x)) x.instr x.arg.0 i e in
-      ap (λ w. let s : Seen ℕ = record { flow = w; next = suc k; target = target_of i } in Some s) r.flow ∙ ap (λ z. let s : Seen ℕ = record { flow = (sees starts k x).flow; next = suc k; target = z } in Some s) r.target
+      ap (λ w. let s : Seen ℕ = record { flow = w; next = suc k; target = target_of i } in Some s) r.flow
+      ∙ ap (λ z. let s : Seen ℕ = record { flow = (sees starts k x).flow; next = suc k; target = z } in Some s) r.target
 
   look_by : Decodes → (k : ℕ) (o : Option InstructionInfo) → slice_get items k ≡ o → seen_instr (decoded_item t starts k o) ≡ option_map (sees starts k) o
   look_by d k None e = refl

@@ -7,7 +7,9 @@ use Rattle.py_dataflow.specs.declared.flow.NeededBlock.{NeededBlock}
 use Rattle.py_dataflow.specs.declared.flow.Opening.{Opening}
 use Rattle.py_dataflow.specs.declared.flow.Branch.{Branch}
 use Rattle.py_dataflow.specs.declared.flow.Flow.{Flow}
-use Rattle.py_dataflow.specs.Walks.{Shape, state, rest_of, height_of, kept_shape, with_opening, is_entered, is_handler, is_final, is_loop, is_with, left_by, tops, from_loop, cut_to, has_block, enough, falls_enough, jumps_enough, jumps_to, Alike, Clash}
+use Rattle.py_dataflow.specs.Walks.{Shape, state, rest_of, height_of, kept_shape, with_opening, is_entered, is_handler, is_final, is_loop}
+use Rattle.py_dataflow.specs.Walks.{is_with, left_by, tops, from_loop, cut_to, has_block, enough, falls_enough, jumps_enough, jumps_to}
+use Rattle.py_dataflow.specs.Walks.{Alike, Clash}
 use Rattle.py_dataflow.specs.Known.{joined_mark, join, Torn}
 
 pub alike_refl : (s : Shape) → Alike s s
@@ -68,13 +70,19 @@ from_loop_alike : (s t : Shape) → Alike s t → Alike (from_loop s) (from_loop
 from_loop_alike [] [] h = tt
 from_loop_alike [] (n ∷ t) h = absurd h
 from_loop_alike (m ∷ s) [] h = absurd h
-from_loop_alike (m ∷ s) (n ∷ t) h = subst (λ k. Alike (if is_loop m.kind then m ∷ s else from_loop s) (if is_loop k then n ∷ t else from_loop t)) h.0.0 (if_alike (is_loop m.kind) (m ∷ s) (n ∷ t) (from_loop s) (from_loop t) h (from_loop_alike s t h.1))
+from_loop_alike (m ∷ s) (n ∷ t) h =
+    subst (λ k. Alike (if is_loop m.kind then m ∷ s else from_loop s) (if is_loop k then n ∷ t else from_loop t)) h.0.0
+    (if_alike (is_loop m.kind) (m ∷ s) (n ∷ t) (from_loop s) (from_loop t) h (from_loop_alike s t h.1))
 
 from_loop_join : (s t : Shape) → Alike s t → from_loop (join s t) ≡ join (from_loop s) (from_loop t)
 from_loop_join [] [] h = refl
 from_loop_join [] (n ∷ t) h = absurd h
 from_loop_join (m ∷ s) [] h = absurd h
-from_loop_join (m ∷ s) (n ∷ t) h = subst (λ k. (if is_loop m.kind then joined_mark m n ∷ join s t else from_loop (join s t)) ≡ join (if is_loop m.kind then m ∷ s else from_loop s) (if is_loop k then n ∷ t else from_loop t)) h.0.0 (if_join (is_loop m.kind) (m ∷ s) (n ∷ t) (from_loop s) (from_loop t) (joined_mark m n ∷ join s t) (from_loop (join s t)) refl (from_loop_join s t h.1))
+from_loop_join (m ∷ s) (n ∷ t) h =
+    subst (λ k. (if is_loop m.kind then joined_mark m n ∷ join s t else from_loop (join s t))
+    ≡ join (if is_loop m.kind then m ∷ s else from_loop s) (if is_loop k then n ∷ t else from_loop t)) h.0.0
+    (if_join (is_loop m.kind) (m ∷ s) (n ∷ t) (from_loop s) (from_loop t) (joined_mark m n ∷ join s t) (from_loop (join s t)) refl
+    (from_loop_join s t h.1))
 
 abbrev cut_from : Kind → ℕ → ℕ → Shape → ℕ
 cut_from k h g s = if is_loop k then h else cut_to (if is_with k then g - 1 else g) s
@@ -143,7 +151,9 @@ closes q h m = is_final m.kind && nat_eq m.height h && not (q m)
 
 closes_join : (h : ℕ) (m n : Mark) (x y : Bool) → m.kind ≡ n.kind → m.height ≡ n.height
     → (is_final m.kind && nat_eq m.height h && not (x || y)) ≡ ((is_final m.kind && nat_eq m.height h && not x) && (is_final n.kind && nat_eq n.height h && not y))
-closes_join h m n x y ek eh = join_marked (is_final m.kind && nat_eq m.height h) x y ∙ ap (λ c. (is_final m.kind && nat_eq m.height h && not x) && (c && not y)) (ap (λ k. is_final k && nat_eq m.height h) ek ∙ ap (λ g. is_final n.kind && nat_eq g h) eh)
+closes_join h m n x y ek eh = join_marked (is_final m.kind && nat_eq m.height h) x y
+    ∙ ap (λ c. (is_final m.kind && nat_eq m.height h && not x) && (c && not y))
+    (ap (λ k. is_final k && nat_eq m.height h) ek ∙ ap (λ g. is_final n.kind && nat_eq g h) eh)
 
 tops_exit : (h : ℕ) (s t : Shape) → Alike s t → tops (closes (λ m. m.exit) h) (join s t) ≡ (tops (closes (λ m. m.exit) h) s && tops (closes (λ m. m.exit) h) t)
 tops_exit h [] [] a = refl

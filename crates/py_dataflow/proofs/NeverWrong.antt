@@ -21,12 +21,13 @@ low_by look start limit ok l (suc n) p t w = elim (cases_lt t.height limit) [
   | inr h ↦ absurd (ok.within w.0 (record { sees = w.1; at = w.2; reached = (n, w.3); sees_is = w.4; outside = inr (inr (record { place = p; to = t; edge = w.5; high = h })) }))
 ]
 
-module _ {K P : Type 0} (fetch : P → Fetched K P) (start : P) (limit : ℕ) (ok : Sound (λ p. seen_instr (fetch p)) start limit) (proper : (p : P) (i : Instr K P) (n : P) → fetch p ≡ Found i n → Proper i) where
+module _ {K P : Type 0} (fetch : P → Fetched K P) (start : P) (limit : ℕ) (ok : Sound (λ p. seen_instr (fetch p)) start limit)
+    (proper : (p : P) (i : Instr K P) (n : P) → fetch p ≡ Found i n → Proper i) where
   abbrev never_wrong_look : P → Option (Seen P)
   never_wrong_look p = seen_instr (fetch p)
 
-  abbrev In : Config K P → Type 0
-  In = InStep K P never_wrong_look start
+  abbrev InLimit : Config K P → Type 0
+  InLimit = InStep K P never_wrong_look start
 
   abbrev never_wrong_here : Instr K P → P → Seen P
   never_wrong_here i n = record { flow = flow_of i; next = n; target = target_of i }
@@ -44,23 +45,24 @@ module _ {K P : Type 0} (fetch : P → Fetched K P) (start : P) (limit : ℕ) (o
       }
 
   at_step : (p : P) (y : Fetched K P) (s : List (Entry K)) (bs : List (Block K P)) (slot : Option (Value K)) (w : World K) (t : State) → fetch p ≡ y
-      → Reached never_wrong_look start p t → t.height ≡ length s → Matches K P never_wrong_look start bs t.shape → In (act_at y s bs slot w)
+      → Reached never_wrong_look start p t → t.height ≡ length s → Matches K P never_wrong_look start bs t.shape → InLimit (act_at y s bs slot w)
   at_step p Nothing s bs slot w t e r l mt = absurd (ok.ends p (record { at = t; reached = r; nothing = ap seen_instr e }))
   at_step p (Found i n) s bs slot w t e r l mt =
-      does K P never_wrong_look start i n s bs slot w t.shape (subst (λ h. Stacked h t.shape) l (stacked fetch start limit ok p t r)) mt (subst (λ h. InstructionStepReady K P never_wrong_look start i n h t.shape) l (never_wrong_ready p i n t e r))
+      does K P never_wrong_look start i n s bs slot w t.shape (subst (λ h. Stacked h t.shape) l (stacked fetch start limit ok p t r)) mt
+      (subst (λ h. InstructionStepReady K P never_wrong_look start i n h t.shape) l (never_wrong_ready p i n t e r))
 
-  pub step_in : (c : Config K P) → In c → In (step fetch c)
+  pub step_in : (c : Config K P) → InLimit c → InLimit (step fetch c)
   step_in (At p s bs slot w) h = at_step p (fetch p) s bs slot w h.0 refl h.1 h.2 h.3
   step_in (Over events o) h = h
 
-  begins_in : (w : World K) → In (At start [] [] None w)
+  begins_in : (w : World K) → InLimit (At start [] [] None w)
   begins_in w = (state 0 [], (0, (refl, refl)), refl, tt)
 
-  steps_in : (n : ℕ) (c : Config K P) → In c → In (steps fetch n c)
+  steps_in : (n : ℕ) (c : Config K P) → InLimit c → InLimit (steps fetch n c)
   steps_in zero c h = h
   steps_in (suc n) c h = steps_in n (step fetch c) (step_in c h)
 
-  not_wrong : (c : Config K P) → In c → (result c).outcome ≢ Wrong
+  not_wrong : (c : Config K P) → InLimit c → (result c).outcome ≢ Wrong
   not_wrong (At p s bs slot w) h = λ e. absurd (cc)
   not_wrong (Over events o) h = h
 
@@ -76,11 +78,12 @@ module _ {K P : Type 0} (fetch : P → Fetched K P) (start : P) (limit : ℕ) (o
     never_wrong_chosen true c d e = refl
     never_wrong_chosen false c d e = absurd (cc)
 
-    limited_same : (c : Config K P) → In c → limited_config height c ≡ c
-    limited_same (At p s bs slot w) h = never_wrong_chosen (nat_le (length s) height) (At p s bs slot w) (wrong w) (let l = never_wrong_low p h.0 h.1 in let q = h.2 in let z : length s ≤ height = omega (arith, l, q) in grind (arith, nat_tests))
+    limited_same : (c : Config K P) → InLimit c → limited_config height c ≡ c
+    limited_same (At p s bs slot w) h = never_wrong_chosen (nat_le (length s) height) (At p s bs slot w) (wrong w)
+        (let l = never_wrong_low p h.0 h.1 in let q = h.2 in let z : length s ≤ height = omega (arith, l, q) in grind (arith, nat_tests))
     limited_same (Over events o) h = refl
 
-    limited_steps_same : (n : ℕ) (c : Config K P) → In c → limited_steps fetch height n c ≡ steps fetch n c
+    limited_steps_same : (n : ℕ) (c : Config K P) → InLimit c → limited_steps fetch height n c ≡ steps fetch n c
     limited_steps_same zero c h = refl
     limited_steps_same (suc n) c h = ap (limited_steps fetch height n) (limited_same (step fetch c) (step_in c h)) ∙ limited_steps_same n (step fetch c) (step_in c h)
 
@@ -89,11 +92,11 @@ module _ {K P : Type 0} (fetch : P → Fetched K P) (start : P) (limit : ℕ) (o
     unlimited fuel w = ap result (limited_steps_same fuel (At start [] [] None w) (begins_in w))
 
   module _ {Q : Type 0} (f : P → Q) (fetch1 : Q → Fetched K Q) (same : (p : P) (t : State) → Reached never_wrong_look start p t → fetch1 (f p) ≡ fetched_at f (fetch p)) where
-    step_same : (c : Config K P) → In c → config_at f (step fetch c) ≡ step fetch1 (config_at f c)
+    step_same : (c : Config K P) → InLimit c → config_at f (step fetch c) ≡ step fetch1 (config_at f c)
     step_same (At p s bs slot w) h = act_at_same f (fetch p) s bs slot w ∙ ap (λ x. act_at x s (blocks_at f bs) slot w) (sym (same p h.0 h.1))
     step_same (Over events o) h = refl
 
-    steps_same : (n : ℕ) (c : Config K P) → In c → config_at f (steps fetch n c) ≡ steps fetch1 n (config_at f c)
+    steps_same : (n : ℕ) (c : Config K P) → InLimit c → config_at f (steps fetch n c) ≡ steps fetch1 n (config_at f c)
     steps_same zero c h = refl
     steps_same (suc n) c h = steps_same n (step fetch c) (step_in c h) ∙ ap (steps fetch1 n) (step_same c h)
 

@@ -38,13 +38,13 @@ pub either_changes : (a b : Change) → (a ≢ Change.Nothing) ⊎ (b ≢ Change
 either_changes a b (inl n) e = n (both_nothing a b e).0
 either_changes a b (inr n) e = n (both_nothing a b e).1
 
-pub none_behind : (a b : Bool) → (a || b) ≡ false → (a ≡ false) × (b ≡ false)
-none_behind true b e = absurd (cc)
-none_behind false b e = (refl, e)
+pub none_after : (a b : Bool) → (a || b) ≡ false → (a ≡ false) × (b ≡ false)
+none_after true b e = absurd (cc)
+none_after false b e = (refl, e)
 
-pub some_behind : (a b : Bool) (c d : Change) → (a ≡ true → c ≢ Change.Nothing) → (b ≡ true → d ≢ Change.Nothing) → (a || b) ≡ true → combined_change c d ≢ Change.Nothing
-some_behind true b c d h k e = either_changes c d (inl (h refl))
-some_behind false b c d h k e = either_changes c d (inr (k e))
+pub some_change_after : (a b : Bool) (c d : Change) → (a ≡ true → c ≢ Change.Nothing) → (b ≡ true → d ≢ Change.Nothing) → (a || b) ≡ true → combined_change c d ≢ Change.Nothing
+some_change_after true b c d h k e = either_changes c d (inl (h refl))
+some_change_after false b c d h k e = either_changes c d (inr (k e))
 
 still_covered : (old new : List (Option KnownState)) (k : ℕ) (o : Option KnownState) → Grows old new → IfSome o (λ n. Covered (state_at old) k (state_of n))
     → IfSome o (λ n. Covered (state_at new) k (state_of n))
@@ -100,21 +100,30 @@ module _ (starts : List ℕ) (items : List InstructionInfo) where
       → state_at ks k ≡ Some s → place_successor_look k ≡ Some (sees starts k x) → FailsAs x s e → RefusalAt place_successor_look e k
   fails_at ks k s x Refused.NoEnd h es ex f = absurd f
   fails_at ks k s x Refused.UnevenHeights h es ex f = absurd f
-  fails_at ks k s x Refused.HeightOutOfRange h es ex (inl f) = refused_state_outside place_successor_look k (sees starts k x) s (h.shown k s es) ex (falls_outside place_successor_look (sees starts k x) s f)
-  fails_at ks k s x Refused.HeightOutOfRange h es ex (inr f) = refused_state_outside place_successor_look k (sees starts k x) s (h.shown k s es) ex (jumps_outside place_successor_look (sees starts k x) s (named_place starts x) (goal_is x f.0) f.1)
+  fails_at ks k s x Refused.HeightOutOfRange h es ex (inl f) =
+      refused_state_outside place_successor_look k (sees starts k x) s (h.shown k s es) ex
+      (falls_outside place_successor_look (sees starts k x) s f)
+  fails_at ks k s x Refused.HeightOutOfRange h es ex (inr f) =
+      refused_state_outside place_successor_look k (sees starts k x) s (h.shown k s es) ex
+      (jumps_outside place_successor_look (sees starts k x) s (named_place starts x) (goal_is x f.0) f.1)
   fails_at ks k s x Refused.BlockMismatch h es ex f = inl (lacks place_successor_look k (sees starts k x) s (h.shown k s es) ex f)
   fails_at ks k s x Refused.OutOfMemory h es ex f = tt
 
   pub fall_shown : (k : ℕ) (s : State) (x : InstructionInfo) (fall : Option KnownState) → Shown place_successor_look k s
       → place_successor_look k ≡ Some (sees starts k x) → FallIs x s fall → IfSome fall (λ n. Shown place_successor_look (k + 1) (state_of n))
   fall_shown k s x None h e f = tt
-  fall_shown k s x (Some n) h e f = subst (λ p. Shown place_successor_look p (state_of n)) (sym (add-one k)) (subst (Shown place_successor_look (suc k)) (sym f.1) (shown_edge place_successor_look k (sees starts k x) s (suc k) (falls_to (flow_in x) s) h e (Falls f.0)))
+  fall_shown k s x (Some n) h e f = subst (λ p. Shown place_successor_look p (state_of n)) (sym (add-one k))
+      (subst (Shown place_successor_look (suc k)) (sym f.1)
+      (shown_edge place_successor_look k (sees starts k x) s (suc k) (falls_to (flow_in x) s) h e (Falls f.0)))
 
   pub jump_shown : (k to : ℕ) (s : State) (x : InstructionInfo) (jump : Option KnownState) → (is_jump x.instr ≡ true → to ≡ named_place starts x)
       → Shown place_successor_look k s → place_successor_look k ≡ Some (sees starts k x) → JumpIs x s jump
       → IfSome jump (λ n. Shown place_successor_look to (state_of n))
   jump_shown k to s x None t h e f = tt
-  jump_shown k to s x (Some n) t h e f = subst (λ p. Shown place_successor_look p (state_of n)) (sym (t f.0)) (subst (Shown place_successor_look (named_place starts x)) (sym f.1) (shown_edge place_successor_look k (sees starts k x) s (named_place starts x) (jumps_to (flow_in x).branch s) h e (Jumps (named_place starts x) (goal_is x f.0))))
+  jump_shown k to s x (Some n) t h e f = subst (λ p. Shown place_successor_look p (state_of n)) (sym (t f.0))
+      (subst (Shown place_successor_look (named_place starts x)) (sym f.1)
+      (shown_edge place_successor_look k (sees starts k x) s (named_place starts x) (jumps_to (flow_in x).branch s) h e
+      (Jumps (named_place starts x) (goal_is x f.0))))
 
   fall_covered : (st : ℕ → Option State) (k : ℕ) (s : State) (x : InstructionInfo) (fall : Option KnownState) → FallIs x s fall → (flow_in x).falls ≡ true
       → IfSome fall (λ n. Covered st (k + 1) (state_of n)) → Covered st (suc k) (falls_to (flow_in x) s)

@@ -22,7 +22,9 @@ module _ (look : ℕ → Option (Seen ℕ)) where
         at = i.at;
         reached = i.reached;
         level = i.level ∙ sym (ap (λ (q : State). q.height) e);
-        alike = subst (λ (q : State). Alike q.shape i.at.shape) (sym e) (alike_trans (join s.shape t.shape) s.shape i.at.shape (alike_sym s.shape (join s.shape t.shape) (join_alike s.shape t.shape)) i.alike);
+        alike = subst (λ (q : State). Alike q.shape i.at.shape) (sym e)
+            (alike_trans (join s.shape t.shape) s.shape i.at.shape
+            (alike_sym s.shape (join s.shape t.shape) (join_alike s.shape t.shape)) i.alike);
       }
 
   shown_falls : (k : ℕ) (x : Seen ℕ) (r : State) → Shown look k r → look k ≡ Some x → x.flow.falls ≡ true → Shown look x.next (falls_to x.flow r)
@@ -32,10 +34,16 @@ module _ (look : ℕ → Option (Seen ℕ)) where
       let fs = falls_to f s in
       let ft = falls_to f t in
       let q : falls_to f r ≡ falls_to f (state s.height (join s.shape t.shape)) = ap (falls_to f) er in
-      let j : with_opening f.opens s.height (kept_shape f (join s.shape t.shape)) ≡ join (with_opening f.opens s.height (kept_shape f s.shape)) (with_opening f.opens s.height (kept_shape f t.shape)) = ap (with_opening f.opens s.height) (kept_join f s.shape t.shape a) ∙ opened_join f.opens s.height (kept_shape f s.shape) (kept_shape f t.shape) in
-      let j1 : join (with_opening f.opens s.height (kept_shape f s.shape)) (with_opening f.opens s.height (kept_shape f t.shape)) ≡ join fs.shape ft.shape = ap (λ h. join (with_opening f.opens s.height (kept_shape f s.shape)) (with_opening f.opens h (kept_shape f t.shape))) eh in
+      let j : with_opening f.opens s.height (kept_shape f (join s.shape t.shape))
+      ≡ join (with_opening f.opens s.height (kept_shape f s.shape)) (with_opening f.opens s.height (kept_shape f t.shape)) =
+      ap (with_opening f.opens s.height) (kept_join f s.shape t.shape a)
+      ∙ opened_join f.opens s.height (kept_shape f s.shape) (kept_shape f t.shape) in
+      let j1 : join (with_opening f.opens s.height (kept_shape f s.shape)) (with_opening f.opens s.height (kept_shape f t.shape))
+      ≡ join fs.shape ft.shape = ap (λ h. join (with_opening f.opens s.height (kept_shape f s.shape))
+      (with_opening f.opens h (kept_shape f t.shape))) eh in
       Both (falls_to f r) fs ft (shown_falls k x s hs e l) (shown_falls k x t ht e l) (ap (λ h. (falls_to f (state h s.shape)).height) eh)
-      (subst (λ h. Alike (with_opening f.opens s.height (kept_shape f s.shape)) (with_opening f.opens h (kept_shape f t.shape))) eh (opened_alike f.opens s.height (kept_shape f s.shape) (kept_shape f t.shape) (kept_alike f s.shape t.shape a)))
+      (subst (λ h. Alike (with_opening f.opens s.height (kept_shape f s.shape)) (with_opening f.opens h (kept_shape f t.shape))) eh
+      (opened_alike f.opens s.height (kept_shape f s.shape) (kept_shape f t.shape) (kept_alike f s.shape t.shape a)))
       (q ∙ ap (λ z. state fs.height z) (j ∙ j1))
 
   shown_jumps : (k : ℕ) (x : Seen ℕ) (q1 : ℕ) (r : State) → Shown look k r → look k ≡ Some x → x.target ≡ Some q1 → Shown look q1 (jumps_to x.flow.branch r)

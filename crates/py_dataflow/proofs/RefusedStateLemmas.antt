@@ -3,7 +3,9 @@ use Rattle.std.proofs.Common.{◌≡◌, ◌≢◌, ℕ, ◌+◌, ◌-◌, ◌^�
 use Rattle.std.specs.Prelude.{not, ◌&&◌, ◌||◌, nat_lt}
 use Rattle.std.proofs.lemmas.Bool.Decides.{nat_tests}
 use Rattle.py_dataflow.specs.declared.flow.Branch.{Branch}
-use Rattle.py_dataflow.specs.Walks.{State, state, height_of, has_block, enough, falls_enough, jumps_enough, falls_to, jumps_to, Alike, Clash, Seen, Edge, Falls, Jumps, Reached, LeavesEnd, UnevenHeights, TooHigh, OutOfRange, HeightOutOfRange, LacksBlock, ShapesDiffer}
+use Rattle.py_dataflow.specs.Walks.{State, state, height_of, has_block, enough, falls_enough, jumps_enough, falls_to, jumps_to, Alike}
+use Rattle.py_dataflow.specs.Walks.{Clash, Seen, Edge, Falls, Jumps, Reached, LeavesEnd, UnevenHeights, TooHigh, OutOfRange}
+use Rattle.py_dataflow.specs.Walks.{HeightOutOfRange, LacksBlock, ShapesDiffer}
 use Rattle.py_dataflow.specs.Known.{join, Torn, falls_within, jumps_within}
 use Rattle.py_dataflow.specs.Shown.{Shown, One, Both}
 use Rattle.py_dataflow.proofs.Joins.{alike_sym, alike_trans, block_join, falls_enough_alike, jumps_enough_alike, jump_height_alike, clash_left, clash_sym, torn_clash}
@@ -17,7 +19,9 @@ module _ (look : ℕ → Option (Seen ℕ)) (k : ℕ) where
   pub lacks : (x : Seen ℕ) (r : State) → Shown look k r → look k ≡ Some x → has_block x.flow.needs r.height r.shape ≡ false → LacksBlock look 0 k
   lacks x r (One t w) e h = record { sees = x; at = t; reached = w; sees_is = e; lacks = h }
   lacks x r (Both r1 s t hs ht eh a er) e h =
-      let q : has_block x.flow.needs r.height r.shape ≡ (has_block x.flow.needs s.height s.shape && has_block x.flow.needs s.height t.shape) = ap (λ (z : State). has_block x.flow.needs z.height z.shape) er ∙ block_join x.flow.needs s.height s.shape t.shape a in
+      let q : has_block x.flow.needs r.height r.shape
+      ≡ (has_block x.flow.needs s.height s.shape && has_block x.flow.needs s.height t.shape) =
+      ap (λ (z : State). has_block x.flow.needs z.height z.shape) er ∙ block_join x.flow.needs s.height s.shape t.shape a in
       elim (refused_state_and_false (has_block x.flow.needs s.height s.shape) (has_block x.flow.needs s.height t.shape) (sym q ∙ h)) [
         | inl l ↦ lacks x s hs e l
         | inr l ↦ lacks x t ht e (subst (λ g. has_block x.flow.needs g t.shape ≡ false) eh l)
@@ -28,7 +32,14 @@ module _ (look : ℕ → Option (Seen ℕ)) (k : ℕ) where
     where
       go : (p : ℕ) (u : State) → Edge x r p u → 2 ^ 32 ≤ u.height → TooHigh look 0 (2 ^ 32) x t
       go p u (Falls l) hi = record { place = x.next; to = falls_to x.flow t; edge = Falls l; high = subst (λ g. 2 ^ 32 ≤ g - x.flow.takes + x.flow.gives) (sym e) hi }
-      go p u (Jumps q l) hi = record { place = q; to = jumps_to x.flow.branch t; edge = Jumps q l; high = subst (λ g. 2 ^ 32 ≤ g) (jump_height_alike x.flow.branch r.height r.shape t.shape a ∙ ap (λ g. (jumps_to x.flow.branch (state g t.shape)).height) (sym e)) hi }
+      go p u (Jumps q l) hi = record {
+        place = q;
+        to = jumps_to x.flow.branch t;
+        edge = Jumps q l;
+        high =
+            subst (λ g. 2 ^ 32 ≤ g) (jump_height_alike x.flow.branch r.height r.shape t.shape a
+            ∙ ap (λ g. (jumps_to x.flow.branch (state g t.shape)).height) (sym e)) hi;
+      }
 
   out_alike : (x : Seen ℕ) (r t : State) → t.height ≡ r.height → Alike r.shape t.shape → OutOfRange look 0 (2 ^ 32) x r → OutOfRange look 0 (2 ^ 32) x t
   out_alike x r t e a (inl o) = inl (ap (λ g. falls_enough x.flow g t.shape) e ∙ sym (falls_enough_alike x.flow r.height r.shape t.shape a) ∙ o)
@@ -50,7 +61,15 @@ module _ (look : ℕ → Option (Seen ℕ)) (k : ℕ) where
   unlike r s hr hs n =
       let u = some_walk look k r hr in
       let v = some_walk look k s hs in
-      record { one = u.at; other = v.at; one_reached = u.reached; other_reached = v.reached; differ = inl (λ a. n (alike_trans r.shape u.at.shape s.shape u.alike (alike_trans u.at.shape v.at.shape s.shape a (alike_sym s.shape v.at.shape v.alike)))) }
+      record {
+        one = u.at;
+        other = v.at;
+        one_reached = u.reached;
+        other_reached = v.reached;
+        differ =
+            inl (λ a. n (alike_trans r.shape u.at.shape s.shape u.alike
+            (alike_trans u.at.shape v.at.shape s.shape a (alike_sym s.shape v.at.shape v.alike))));
+      }
 
   clash_one : (t r : State) → Reached look 0 k t → Shown look k r → Clash r.shape t.shape → ShapesDiffer look 0 k
   clash_one t r w (One u v) c = record { one = u; other = t; one_reached = v; other_reached = w; differ = inr c }

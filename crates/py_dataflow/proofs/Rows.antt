@@ -7,7 +7,10 @@ use Rattle.py_bytecode.specs.declared.instruction.Instruction.TheVariants as op
 use Rattle.py_bytecode.specs.Table.{row_of, is_label, bits_of}
 use Rattle.py_bytecode.specs.Objects.{Object}
 use Rattle.py_bytecode.specs.Values.{Bare, Number, Named, operation, It, Cells, Load, Store, Delete, Fast, ByName, Global, Deref, ClassDeref}
-use Rattle.py_bytecode.specs.Machine.{Instr, Push, Access, Operate, MakeFunction, Import, Append, Unpack, Nop, Pop, Rotate2, Rotate3, Duplicate, Duplicate2, JumpIf, JumpIfOrPop, Jump, SetupLoop, PopBlock, Break, Continue, ReturnValue, ReturnConst, SetupExcept, SetupFinally, PopException, EnterFinally, EndFinally, Reraise, ForIter, SetupWith, WithCleanupStart, WithCleanupFinish, is_tuple}
+use Rattle.py_bytecode.specs.Machine.{Instr, Push, Access, Operate, MakeFunction, Import, Append, Unpack, Nop, Pop, Rotate2, Rotate3}
+use Rattle.py_bytecode.specs.Machine.{Duplicate, Duplicate2, JumpIf, JumpIfOrPop, Jump, SetupLoop, PopBlock, Break, Continue, ReturnValue}
+use Rattle.py_bytecode.specs.Machine.{ReturnConst, SetupExcept, SetupFinally, PopException, EnterFinally, EndFinally, Reraise, ForIter}
+use Rattle.py_bytecode.specs.Machine.{SetupWith, WithCleanupStart, WithCleanupFinish, is_tuple}
 use Rattle.py_bytecode.specs.Decode.{Tables, value_of, for_some, raise_instr, instr_of}
 use Rattle.py_dataflow.specs.Flow.{flow_of, target_of, flow_at, leaves}
 
@@ -54,16 +57,22 @@ module _ (P : Type 0) where
 
   -- whatever an instruction decodes to has the flow and the target of its row
   pub row_is : (t : Tables) (to : Option P) (o : Instruction) (n : ℕ) (i : Instr Object P) → instr_of t to o n ≡ Some i → RowIs to o n i
-  row_is t to op.ImportName n i e = some_row (RowIs to op.ImportName n) (slice_get t.names n) (λ x. Operate (operation op.ImportName (Named x)) 2 (Some 1)) i (λ x. record { flow = refl; target = refl; proper = λ q. absurd (cc) }) e
-  row_is t to op.ImportNameless n i e = if_row (RowIs to op.ImportNameless n) (nat_lt n 1) (Operate (operation op.ImportNameless Bare) 2 (Some 1)) i (record { flow = refl; target = refl; proper = λ q. absurd (cc) }) e
-  row_is t to op.ImportStar n i e = if_row (RowIs to op.ImportStar n) (nat_lt n 1) (Operate (operation op.ImportStar Bare) 1 (Some 0)) i (record { flow = refl; target = refl; proper = λ q. absurd (cc) }) e
-  row_is t to op.ImportFrom n i e = some_row (RowIs to op.ImportFrom n) (slice_get t.names n) (λ x. Import (operation op.ImportFrom (Named x))) i (λ x. record { flow = refl; target = refl; proper = tt }) e
+  row_is t to op.ImportName n i e = some_row (RowIs to op.ImportName n) (slice_get t.names n)
+      (λ x. Operate (operation op.ImportName (Named x)) 2 (Some 1)) i
+      (λ x. record { flow = refl; target = refl; proper = λ q. absurd (cc) }) e
+  row_is t to op.ImportNameless n i e = if_row (RowIs to op.ImportNameless n) (nat_lt n 1)
+      (Operate (operation op.ImportNameless Bare) 2 (Some 1)) i (record { flow = refl; target = refl; proper = λ q. absurd (cc) }) e
+  row_is t to op.ImportStar n i e = if_row (RowIs to op.ImportStar n) (nat_lt n 1) (Operate (operation op.ImportStar Bare) 1 (Some 0)) i
+      (record { flow = refl; target = refl; proper = λ q. absurd (cc) }) e
+  row_is t to op.ImportFrom n i e = some_row (RowIs to op.ImportFrom n) (slice_get t.names n)
+      (λ x. Import (operation op.ImportFrom (Named x))) i (λ x. record { flow = refl; target = refl; proper = tt }) e
   row_is t to op.LoadFast n i e = some_row (RowIs to op.LoadFast n) (slice_get t.varnames n) (λ x. Access Fast Load x 0) i (λ x. record { flow = refl; target = refl; proper = tt }) e
   row_is t to op.LoadNameAny n i e = some_row (RowIs to op.LoadNameAny n) (slice_get t.names n) (λ x. Access ByName Load x 0) i (λ x. record { flow = refl; target = refl; proper = tt }) e
   row_is t to op.LoadGlobal n i e = some_row (RowIs to op.LoadGlobal n) (slice_get t.names n) (λ x. Access Global Load x 0) i (λ x. record { flow = refl; target = refl; proper = tt }) e
   row_is t to op.LoadDeref n i e = some_row (RowIs to op.LoadDeref n) (slice_get t.cells n) (λ x. Access Deref Load x n) i (λ x. record { flow = refl; target = refl; proper = tt }) e
   row_is t to op.LoadClassDeref n i e = some_row (RowIs to op.LoadClassDeref n) (slice_get t.cells n) (λ x. Access ClassDeref Load x n) i (λ x. record { flow = refl; target = refl; proper = tt }) e
-  row_is t to op.LoadClosure n i e = some_row (RowIs to op.LoadClosure n) (slice_get t.cells n) (λ x. Push (Cells (record { name = x; place = n } ∷ []))) i (λ x. record { flow = refl; target = refl; proper = tt }) e
+  row_is t to op.LoadClosure n i e = some_row (RowIs to op.LoadClosure n) (slice_get t.cells n)
+      (λ x. Push (Cells (record { name = x; place = n } ∷ []))) i (λ x. record { flow = refl; target = refl; proper = tt }) e
   row_is t to op.StoreFast n i e = some_row (RowIs to op.StoreFast n) (slice_get t.varnames n) (λ x. Access Fast Store x 0) i (λ x. record { flow = refl; target = refl; proper = tt }) e
   row_is t to op.StoreLocal n i e = some_row (RowIs to op.StoreLocal n) (slice_get t.names n) (λ x. Access ByName Store x 0) i (λ x. record { flow = refl; target = refl; proper = tt }) e
   row_is t to op.StoreGlobal n i e = some_row (RowIs to op.StoreGlobal n) (slice_get t.names n) (λ x. Access Global Store x 0) i (λ x. record { flow = refl; target = refl; proper = tt }) e
@@ -72,56 +81,106 @@ module _ (P : Type 0) where
   row_is t to op.DeleteLocal n i e = some_row (RowIs to op.DeleteLocal n) (slice_get t.names n) (λ x. Access ByName Delete x 0) i (λ x. record { flow = refl; target = refl; proper = tt }) e
   row_is t to op.DeleteGlobal n i e = some_row (RowIs to op.DeleteGlobal n) (slice_get t.names n) (λ x. Access Global Delete x 0) i (λ x. record { flow = refl; target = refl; proper = tt }) e
   row_is t to op.DeleteDeref n i e = some_row (RowIs to op.DeleteDeref n) (slice_get t.cells n) (λ x. Access Deref Delete x n) i (λ x. record { flow = refl; target = refl; proper = tt }) e
-  row_is t to op.Subscript n i e = if_row (RowIs to op.Subscript n) (nat_lt n 1) (Operate (operation op.Subscript Bare) 2 (Some 1)) i (record { flow = refl; target = refl; proper = λ q. absurd (cc) }) e
-  row_is t to op.StoreSubscript n i e = if_row (RowIs to op.StoreSubscript n) (nat_lt n 1) (Operate (operation op.StoreSubscript Bare) 3 (Some 0)) i (record { flow = refl; target = refl; proper = λ q. absurd (cc) }) e
-  row_is t to op.DeleteSubscript n i e = if_row (RowIs to op.DeleteSubscript n) (nat_lt n 1) (Operate (operation op.DeleteSubscript Bare) 2 (Some 0)) i (record { flow = refl; target = refl; proper = λ q. absurd (cc) }) e
-  row_is t to op.LoadAttr n i e = some_row (RowIs to op.LoadAttr n) (slice_get t.names n) (λ x. Operate (operation op.LoadAttr (Named x)) 1 (Some 1)) i (λ x. record { flow = refl; target = refl; proper = λ q. absurd (cc) }) e
-  row_is t to op.StoreAttr n i e = some_row (RowIs to op.StoreAttr n) (slice_get t.names n) (λ x. Operate (operation op.StoreAttr (Named x)) 2 (Some 0)) i (λ x. record { flow = refl; target = refl; proper = λ q. absurd (cc) }) e
-  row_is t to op.DeleteAttr n i e = some_row (RowIs to op.DeleteAttr n) (slice_get t.names n) (λ x. Operate (operation op.DeleteAttr (Named x)) 1 (Some 0)) i (λ x. record { flow = refl; target = refl; proper = λ q. absurd (cc) }) e
-  row_is t to op.LoadMethod n i e = some_row (RowIs to op.LoadMethod n) (slice_get t.names n) (λ x. Operate (operation op.LoadMethod (Named x)) 1 (Some 3)) i (λ x. record { flow = refl; target = refl; proper = λ q. absurd (cc) }) e
+  row_is t to op.Subscript n i e = if_row (RowIs to op.Subscript n) (nat_lt n 1) (Operate (operation op.Subscript Bare) 2 (Some 1)) i
+      (record { flow = refl; target = refl; proper = λ q. absurd (cc) }) e
+  row_is t to op.StoreSubscript n i e = if_row (RowIs to op.StoreSubscript n) (nat_lt n 1)
+      (Operate (operation op.StoreSubscript Bare) 3 (Some 0)) i (record { flow = refl; target = refl; proper = λ q. absurd (cc) }) e
+  row_is t to op.DeleteSubscript n i e = if_row (RowIs to op.DeleteSubscript n) (nat_lt n 1)
+      (Operate (operation op.DeleteSubscript Bare) 2 (Some 0)) i (record { flow = refl; target = refl; proper = λ q. absurd (cc) }) e
+  row_is t to op.LoadAttr n i e = some_row (RowIs to op.LoadAttr n) (slice_get t.names n)
+      (λ x. Operate (operation op.LoadAttr (Named x)) 1 (Some 1)) i
+      (λ x. record { flow = refl; target = refl; proper = λ q. absurd (cc) }) e
+  row_is t to op.StoreAttr n i e = some_row (RowIs to op.StoreAttr n) (slice_get t.names n)
+      (λ x. Operate (operation op.StoreAttr (Named x)) 2 (Some 0)) i
+      (λ x. record { flow = refl; target = refl; proper = λ q. absurd (cc) }) e
+  row_is t to op.DeleteAttr n i e = some_row (RowIs to op.DeleteAttr n) (slice_get t.names n)
+      (λ x. Operate (operation op.DeleteAttr (Named x)) 1 (Some 0)) i
+      (λ x. record { flow = refl; target = refl; proper = λ q. absurd (cc) }) e
+  row_is t to op.LoadMethod n i e = some_row (RowIs to op.LoadMethod n) (slice_get t.names n)
+      (λ x. Operate (operation op.LoadMethod (Named x)) 1 (Some 3)) i
+      (λ x. record { flow = refl; target = refl; proper = λ q. absurd (cc) }) e
   row_is t to op.LoadConst n i e = some_row (RowIs to op.LoadConst n) (slice_get t.constants n) (λ c. Push (It (value_of c))) i (λ x. record { flow = refl; target = refl; proper = tt }) e
   row_is t to op.ReturnConst n i e = some_row (RowIs to op.ReturnConst n) (slice_get t.constants n) (λ c. ReturnConst (value_of c)) i (λ x. record { flow = refl; target = refl; proper = tt }) e
-  row_is t to op.UnaryOperation n i e = if_row (RowIs to op.UnaryOperation n) (nat_lt n 4) (Operate (operation op.UnaryOperation (Number n)) 1 (Some 1)) i (record { flow = refl; target = refl; proper = λ q. absurd (cc) }) e
-  row_is t to op.BinaryOperation n i e = if_row (RowIs to op.BinaryOperation n) (nat_lt n 13) (Operate (operation op.BinaryOperation (Number n)) 2 (Some 1)) i (record { flow = refl; target = refl; proper = λ q. absurd (cc) }) e
-  row_is t to op.BinaryOperationInplace n i e = if_row (RowIs to op.BinaryOperationInplace n) (nat_lt n 13) (Operate (operation op.BinaryOperationInplace (Number n)) 2 (Some 1)) i (record { flow = refl; target = refl; proper = λ q. absurd (cc) }) e
-  row_is t to op.CompareOperation n i e = if_row (RowIs to op.CompareOperation n) (nat_lt n 6) (Operate (operation op.CompareOperation (Number n)) 2 (Some 1)) i (record { flow = refl; target = refl; proper = λ q. absurd (cc) }) e
-  row_is t to op.TestOperation n i e = if_row (RowIs to op.TestOperation n) (nat_lt n 5) (Operate (operation op.TestOperation (Number n)) 2 (Some 1)) i (record { flow = refl; target = refl; proper = λ q. absurd (cc) }) e
+  row_is t to op.UnaryOperation n i e = if_row (RowIs to op.UnaryOperation n) (nat_lt n 4)
+      (Operate (operation op.UnaryOperation (Number n)) 1 (Some 1)) i (record { flow = refl; target = refl; proper = λ q. absurd (cc) }) e
+  row_is t to op.BinaryOperation n i e = if_row (RowIs to op.BinaryOperation n) (nat_lt n 13)
+      (Operate (operation op.BinaryOperation (Number n)) 2 (Some 1)) i (record { flow = refl; target = refl; proper = λ q. absurd (cc) }) e
+  row_is t to op.BinaryOperationInplace n i e = if_row (RowIs to op.BinaryOperationInplace n) (nat_lt n 13)
+      (Operate (operation op.BinaryOperationInplace (Number n)) 2 (Some 1)) i
+      (record { flow = refl; target = refl; proper = λ q. absurd (cc) }) e
+  row_is t to op.CompareOperation n i e = if_row (RowIs to op.CompareOperation n) (nat_lt n 6)
+      (Operate (operation op.CompareOperation (Number n)) 2 (Some 1)) i (record { flow = refl; target = refl; proper = λ q. absurd (cc) }) e
+  row_is t to op.TestOperation n i e = if_row (RowIs to op.TestOperation n) (nat_lt n 5)
+      (Operate (operation op.TestOperation (Number n)) 2 (Some 1)) i (record { flow = refl; target = refl; proper = λ q. absurd (cc) }) e
   row_is t to op.Pop n i e = if_row (RowIs to op.Pop n) (nat_lt n 1) Pop i (record { flow = refl; target = refl; proper = tt }) e
   row_is t to op.Rotate2 n i e = if_row (RowIs to op.Rotate2 n) (nat_lt n 1) Rotate2 i (record { flow = refl; target = refl; proper = tt }) e
   row_is t to op.Rotate3 n i e = if_row (RowIs to op.Rotate3 n) (nat_lt n 1) Rotate3 i (record { flow = refl; target = refl; proper = tt }) e
   row_is t to op.Duplicate n i e = if_row (RowIs to op.Duplicate n) (nat_lt n 1) Duplicate i (record { flow = refl; target = refl; proper = tt }) e
   row_is t to op.Duplicate2 n i e = if_row (RowIs to op.Duplicate2 n) (nat_lt n 1) Duplicate2 i (record { flow = refl; target = refl; proper = tt }) e
   row_is t to op.GetIter n i e = if_row (RowIs to op.GetIter n) (nat_lt n 1) (Operate (operation op.GetIter Bare) 1 (Some 1)) i (record { flow = refl; target = refl; proper = λ q. absurd (cc) }) e
-  row_is t to op.CallFunctionPositional n i e = if_row (RowIs to op.CallFunctionPositional n) (nat_lt n (2 ^ 30)) (Operate (operation op.CallFunctionPositional (Number n)) (n + 1) (Some 1)) i (record { flow = refl; target = refl; proper = λ q. absurd (cc) }) e
-  row_is t to op.CallFunctionKeyword n i e = if_row (RowIs to op.CallFunctionKeyword n) (nat_lt n (2 ^ 30)) (Operate (operation op.CallFunctionKeyword (Number n)) (n + 2) (Some 1)) i (record { flow = refl; target = refl; proper = λ q. absurd (cc) }) e
-  row_is t to op.CallFunctionEx n i e = if_row (RowIs to op.CallFunctionEx n) (nat_lt n 2) (Operate (operation op.CallFunctionEx (Number n)) (n + 2) (Some 1)) i (record { flow = refl; target = refl; proper = λ q. absurd (cc) }) e
-  row_is t to op.CallMethodPositional n i e = if_row (RowIs to op.CallMethodPositional n) (nat_lt n (2 ^ 30)) (Operate (operation op.CallMethodPositional (Number n)) (n + 3) (Some 1)) i (record { flow = refl; target = refl; proper = λ q. absurd (cc) }) e
-  row_is t to op.CallMethodKeyword n i e = if_row (RowIs to op.CallMethodKeyword n) (nat_lt n (2 ^ 30)) (Operate (operation op.CallMethodKeyword (Number n)) (n + 4) (Some 1)) i (record { flow = refl; target = refl; proper = λ q. absurd (cc) }) e
-  row_is t to op.CallMethodEx n i e = if_row (RowIs to op.CallMethodEx n) (nat_lt n 2) (Operate (operation op.CallMethodEx (Number n)) (n + 4) (Some 1)) i (record { flow = refl; target = refl; proper = λ q. absurd (cc) }) e
-  row_is t to op.BuildString n i e = if_row (RowIs to op.BuildString n) (nat_lt n (2 ^ 30)) (Operate (operation op.BuildString (Number n)) n (Some 1)) i (record { flow = refl; target = refl; proper = λ q. absurd (cc) }) e
-  row_is t to op.BuildTuple n i e = if_row (RowIs to op.BuildTuple n) (nat_lt n (2 ^ 30)) (Operate (operation op.BuildTuple (Number n)) n (Some 1)) i (record { flow = refl; target = refl; proper = λ q. refl }) e
-  row_is t to op.BuildList n i e = if_row (RowIs to op.BuildList n) (nat_lt n (2 ^ 30)) (Operate (operation op.BuildList (Number n)) n (Some 1)) i (record { flow = refl; target = refl; proper = λ q. absurd (cc) }) e
-  row_is t to op.BuildSet n i e = if_row (RowIs to op.BuildSet n) (nat_lt n (2 ^ 30)) (Operate (operation op.BuildSet (Number n)) n (Some 1)) i (record { flow = refl; target = refl; proper = λ q. absurd (cc) }) e
-  row_is t to op.BuildTupleUnpack n i e = if_row (RowIs to op.BuildTupleUnpack n) (nat_lt n (2 ^ 30)) (Operate (operation op.BuildTupleUnpack (Number n)) n (Some 1)) i (record { flow = refl; target = refl; proper = λ q. absurd (cc) }) e
-  row_is t to op.BuildListUnpack n i e = if_row (RowIs to op.BuildListUnpack n) (nat_lt n (2 ^ 30)) (Operate (operation op.BuildListUnpack (Number n)) n (Some 1)) i (record { flow = refl; target = refl; proper = λ q. absurd (cc) }) e
-  row_is t to op.BuildSetUnpack n i e = if_row (RowIs to op.BuildSetUnpack n) (nat_lt n (2 ^ 30)) (Operate (operation op.BuildSetUnpack (Number n)) n (Some 1)) i (record { flow = refl; target = refl; proper = λ q. absurd (cc) }) e
-  row_is t to op.BuildMapForCall n i e = if_row (RowIs to op.BuildMapForCall n) (nat_lt n (2 ^ 30)) (Operate (operation op.BuildMapForCall (Number n)) n (Some 1)) i (record { flow = refl; target = refl; proper = λ q. absurd (cc) }) e
-  row_is t to op.BuildMap n i e = if_row (RowIs to op.BuildMap n) (nat_lt n (2 ^ 30)) (Operate (operation op.BuildMap (Number n)) (2 * n) (Some 1)) i (record { flow = refl; target = refl; proper = λ q. absurd (cc) }) e
-  row_is t to op.DictUpdate n i e = if_row (RowIs to op.DictUpdate n) (nat_lt n 1) (Operate (operation op.DictUpdate Bare) 2 (Some 1)) i (record { flow = refl; target = refl; proper = λ q. absurd (cc) }) e
-  row_is t to op.BuildSlice n i e = if_row (RowIs to op.BuildSlice n) (nat_lt n 2) (Operate (operation op.BuildSlice (Number n)) (n + 2) (Some 1)) i (record { flow = refl; target = refl; proper = λ q. absurd (cc) }) e
+  row_is t to op.CallFunctionPositional n i e = if_row (RowIs to op.CallFunctionPositional n) (nat_lt n (2 ^ 30))
+      (Operate (operation op.CallFunctionPositional (Number n)) (n + 1) (Some 1)) i
+      (record { flow = refl; target = refl; proper = λ q. absurd (cc) }) e
+  row_is t to op.CallFunctionKeyword n i e = if_row (RowIs to op.CallFunctionKeyword n) (nat_lt n (2 ^ 30))
+      (Operate (operation op.CallFunctionKeyword (Number n)) (n + 2) (Some 1)) i
+      (record { flow = refl; target = refl; proper = λ q. absurd (cc) }) e
+  row_is t to op.CallFunctionEx n i e = if_row (RowIs to op.CallFunctionEx n) (nat_lt n 2)
+      (Operate (operation op.CallFunctionEx (Number n)) (n + 2) (Some 1)) i
+      (record { flow = refl; target = refl; proper = λ q. absurd (cc) }) e
+  row_is t to op.CallMethodPositional n i e = if_row (RowIs to op.CallMethodPositional n) (nat_lt n (2 ^ 30))
+      (Operate (operation op.CallMethodPositional (Number n)) (n + 3) (Some 1)) i
+      (record { flow = refl; target = refl; proper = λ q. absurd (cc) }) e
+  row_is t to op.CallMethodKeyword n i e = if_row (RowIs to op.CallMethodKeyword n) (nat_lt n (2 ^ 30))
+      (Operate (operation op.CallMethodKeyword (Number n)) (n + 4) (Some 1)) i
+      (record { flow = refl; target = refl; proper = λ q. absurd (cc) }) e
+  row_is t to op.CallMethodEx n i e = if_row (RowIs to op.CallMethodEx n) (nat_lt n 2)
+      (Operate (operation op.CallMethodEx (Number n)) (n + 4) (Some 1)) i
+      (record { flow = refl; target = refl; proper = λ q. absurd (cc) }) e
+  row_is t to op.BuildString n i e = if_row (RowIs to op.BuildString n) (nat_lt n (2 ^ 30))
+      (Operate (operation op.BuildString (Number n)) n (Some 1)) i (record { flow = refl; target = refl; proper = λ q. absurd (cc) }) e
+  row_is t to op.BuildTuple n i e = if_row (RowIs to op.BuildTuple n) (nat_lt n (2 ^ 30))
+      (Operate (operation op.BuildTuple (Number n)) n (Some 1)) i (record { flow = refl; target = refl; proper = λ q. refl }) e
+  row_is t to op.BuildList n i e = if_row (RowIs to op.BuildList n) (nat_lt n (2 ^ 30))
+      (Operate (operation op.BuildList (Number n)) n (Some 1)) i (record { flow = refl; target = refl; proper = λ q. absurd (cc) }) e
+  row_is t to op.BuildSet n i e = if_row (RowIs to op.BuildSet n) (nat_lt n (2 ^ 30))
+      (Operate (operation op.BuildSet (Number n)) n (Some 1)) i (record { flow = refl; target = refl; proper = λ q. absurd (cc) }) e
+  row_is t to op.BuildTupleUnpack n i e = if_row (RowIs to op.BuildTupleUnpack n) (nat_lt n (2 ^ 30))
+      (Operate (operation op.BuildTupleUnpack (Number n)) n (Some 1)) i (record { flow = refl; target = refl; proper = λ q. absurd (cc) }) e
+  row_is t to op.BuildListUnpack n i e = if_row (RowIs to op.BuildListUnpack n) (nat_lt n (2 ^ 30))
+      (Operate (operation op.BuildListUnpack (Number n)) n (Some 1)) i (record { flow = refl; target = refl; proper = λ q. absurd (cc) }) e
+  row_is t to op.BuildSetUnpack n i e = if_row (RowIs to op.BuildSetUnpack n) (nat_lt n (2 ^ 30))
+      (Operate (operation op.BuildSetUnpack (Number n)) n (Some 1)) i (record { flow = refl; target = refl; proper = λ q. absurd (cc) }) e
+  row_is t to op.BuildMapForCall n i e = if_row (RowIs to op.BuildMapForCall n) (nat_lt n (2 ^ 30))
+      (Operate (operation op.BuildMapForCall (Number n)) n (Some 1)) i (record { flow = refl; target = refl; proper = λ q. absurd (cc) }) e
+  row_is t to op.BuildMap n i e = if_row (RowIs to op.BuildMap n) (nat_lt n (2 ^ 30))
+      (Operate (operation op.BuildMap (Number n)) (2 * n) (Some 1)) i (record { flow = refl; target = refl; proper = λ q. absurd (cc) }) e
+  row_is t to op.DictUpdate n i e = if_row (RowIs to op.DictUpdate n) (nat_lt n 1) (Operate (operation op.DictUpdate Bare) 2 (Some 1)) i
+      (record { flow = refl; target = refl; proper = λ q. absurd (cc) }) e
+  row_is t to op.BuildSlice n i e = if_row (RowIs to op.BuildSlice n) (nat_lt n 2)
+      (Operate (operation op.BuildSlice (Number n)) (n + 2) (Some 1)) i (record { flow = refl; target = refl; proper = λ q. absurd (cc) }) e
   row_is t to op.ListAppend n i e = if_row (RowIs to op.ListAppend n) (nat_lt n (2 ^ 30)) (Append (operation op.ListAppend Bare) 1 n) i (record { flow = refl; target = refl; proper = tt }) e
   row_is t to op.SetAdd n i e = if_row (RowIs to op.SetAdd n) (nat_lt n (2 ^ 30)) (Append (operation op.SetAdd Bare) 1 n) i (record { flow = refl; target = refl; proper = tt }) e
   row_is t to op.MapAdd n i e = if_row (RowIs to op.MapAdd n) (nat_lt n (2 ^ 30)) (Append (operation op.MapAdd Bare) 2 n) i (record { flow = refl; target = refl; proper = tt }) e
-  row_is t to op.PrintExpr n i e = if_row (RowIs to op.PrintExpr n) (nat_lt n 1) (Operate (operation op.PrintExpr Bare) 1 (Some 0)) i (record { flow = refl; target = refl; proper = λ q. absurd (cc) }) e
-  row_is t to op.LoadBuildClass n i e = if_row (RowIs to op.LoadBuildClass n) (nat_lt n 1) (Operate (operation op.LoadBuildClass Bare) 0 (Some 1)) i (record { flow = refl; target = refl; proper = λ q. absurd (cc) }) e
-  row_is t to op.UnpackSequence n i e = if_row (RowIs to op.UnpackSequence n) (nat_lt n (2 ^ 30)) (Unpack (operation op.UnpackSequence (Number n)) n) i (record { flow = refl; target = refl; proper = tt }) e
-  row_is t to op.UnpackEx n i e = if_row (RowIs to op.UnpackEx n) (nat_lt n (2 ^ 16)) (Unpack (operation op.UnpackEx (Number n)) (n % 256 + n / 256 + 1)) i (record { flow = refl; target = refl; proper = tt }) e
-  row_is t to op.FormatValue n i e = if_row (RowIs to op.FormatValue n) (nat_lt n 4) (Operate (operation op.FormatValue (Number n)) 2 (Some 1)) i (record { flow = refl; target = refl; proper = λ q. absurd (cc) }) e
-  row_is t to op.MakeFunction n i e = if_row (RowIs to op.MakeFunction n) (nat_lt n 32) (MakeFunction (n - n % 2) (n % 2 == 1) (bits_of (n - n % 2))) i (record { flow = refl; target = refl; proper = tt }) e
-  row_is t to op.YieldValue n i e = if_row (RowIs to op.YieldValue n) (nat_lt n 1) (Operate (operation op.YieldValue Bare) 1 (Some 1)) i (record { flow = refl; target = refl; proper = λ q. absurd (cc) }) e
-  row_is t to op.YieldFrom n i e = if_row (RowIs to op.YieldFrom n) (nat_lt n 1) (Operate (operation op.YieldFrom Bare) 2 (Some 1)) i (record { flow = refl; target = refl; proper = λ q. absurd (cc) }) e
-  row_is t to op.SetupAnnotation n i e = if_row (RowIs to op.SetupAnnotation n) (nat_lt n 1) (Operate (operation op.SetupAnnotation Bare) 0 (Some 0)) i (record { flow = refl; target = refl; proper = λ q. absurd (cc) }) e
-  row_is t to op.TypeAlias n i e = if_row (RowIs to op.TypeAlias n) (nat_lt n 1) (Operate (operation op.TypeAlias Bare) 3 (Some 1)) i (record { flow = refl; target = refl; proper = λ q. absurd (cc) }) e
+  row_is t to op.PrintExpr n i e = if_row (RowIs to op.PrintExpr n) (nat_lt n 1) (Operate (operation op.PrintExpr Bare) 1 (Some 0)) i
+      (record { flow = refl; target = refl; proper = λ q. absurd (cc) }) e
+  row_is t to op.LoadBuildClass n i e = if_row (RowIs to op.LoadBuildClass n) (nat_lt n 1)
+      (Operate (operation op.LoadBuildClass Bare) 0 (Some 1)) i (record { flow = refl; target = refl; proper = λ q. absurd (cc) }) e
+  row_is t to op.UnpackSequence n i e = if_row (RowIs to op.UnpackSequence n) (nat_lt n (2 ^ 30))
+      (Unpack (operation op.UnpackSequence (Number n)) n) i (record { flow = refl; target = refl; proper = tt }) e
+  row_is t to op.UnpackEx n i e = if_row (RowIs to op.UnpackEx n) (nat_lt n (2 ^ 16))
+      (Unpack (operation op.UnpackEx (Number n)) (n % 256 + n / 256 + 1)) i (record { flow = refl; target = refl; proper = tt }) e
+  row_is t to op.FormatValue n i e = if_row (RowIs to op.FormatValue n) (nat_lt n 4)
+      (Operate (operation op.FormatValue (Number n)) 2 (Some 1)) i (record { flow = refl; target = refl; proper = λ q. absurd (cc) }) e
+  row_is t to op.MakeFunction n i e = if_row (RowIs to op.MakeFunction n) (nat_lt n 32)
+      (MakeFunction (n - n % 2) (n % 2 == 1) (bits_of (n - n % 2))) i (record { flow = refl; target = refl; proper = tt }) e
+  row_is t to op.YieldValue n i e = if_row (RowIs to op.YieldValue n) (nat_lt n 1) (Operate (operation op.YieldValue Bare) 1 (Some 1)) i
+      (record { flow = refl; target = refl; proper = λ q. absurd (cc) }) e
+  row_is t to op.YieldFrom n i e = if_row (RowIs to op.YieldFrom n) (nat_lt n 1) (Operate (operation op.YieldFrom Bare) 2 (Some 1)) i
+      (record { flow = refl; target = refl; proper = λ q. absurd (cc) }) e
+  row_is t to op.SetupAnnotation n i e = if_row (RowIs to op.SetupAnnotation n) (nat_lt n 1)
+      (Operate (operation op.SetupAnnotation Bare) 0 (Some 0)) i (record { flow = refl; target = refl; proper = λ q. absurd (cc) }) e
+  row_is t to op.TypeAlias n i e = if_row (RowIs to op.TypeAlias n) (nat_lt n 1) (Operate (operation op.TypeAlias Bare) 3 (Some 1)) i
+      (record { flow = refl; target = refl; proper = λ q. absurd (cc) }) e
   row_is t to op.Nop n i e = if_row (RowIs to op.Nop n) (nat_lt n 1) Nop i (record { flow = refl; target = refl; proper = tt }) e
   row_is t to op.SetupLoop n i e = if_row (RowIs to op.SetupLoop n) (nat_lt n 1) SetupLoop i (record { flow = refl; target = refl; proper = tt }) e
   row_is t to op.PopBlock n i e = if_row (RowIs to op.PopBlock n) (nat_lt n 1) PopBlock i (record { flow = refl; target = refl; proper = tt }) e
@@ -130,7 +189,13 @@ module _ (P : Type 0) where
   row_is t to op.EndFinally n i e = if_row (RowIs to op.EndFinally n) (nat_lt n 1) EndFinally i (record { flow = refl; target = refl; proper = tt }) e
   row_is t to op.WithCleanupStart n i e = if_row (RowIs to op.WithCleanupStart n) (nat_lt n 1) WithCleanupStart i (record { flow = refl; target = refl; proper = tt }) e
   row_is t to op.WithCleanupFinish n i e = if_row (RowIs to op.WithCleanupFinish n) (nat_lt n 1) WithCleanupFinish i (record { flow = refl; target = refl; proper = tt }) e
-  row_is t to op.Raise n i e = if_row (RowIs to op.Raise n) (nat_lt n 3) (raise_instr n) i (record { flow = raise_flow (nat_eq n 0) (nat_eq n 1); target = raise_target (nat_eq n 0) (nat_eq n 1); proper = raise_proper (nat_eq n 0) (nat_eq n 1) }) e
+  row_is t to op.Raise n i e = if_row (RowIs to op.Raise n) (nat_lt n 3) (raise_instr n) i
+      (record {
+        flow = raise_flow (nat_eq n 0) (nat_eq n 1);
+        target = raise_target (nat_eq n 0) (nat_eq n 1);
+        proper =
+            raise_proper (nat_eq n 0) (nat_eq n 1);
+      }) e
   row_is t to op.ReturnValue n i e = if_row (RowIs to op.ReturnValue n) (nat_lt n 1) ReturnValue i (record { flow = refl; target = refl; proper = tt }) e
   row_is t to op.ExtendedArg n i e = absurd (cc)
   row_is t to op.JumpIfTrue n i e = jump_row op.JumpIfTrue n to (λ p. JumpIf true p) i (λ p. record { flow = refl; target = refl; proper = tt }) e
@@ -145,7 +210,8 @@ module _ (P : Type 0) where
   row_is t to op.SetupFinally n i e = jump_row op.SetupFinally n to (λ p. SetupFinally p) i (λ p. record { flow = refl; target = refl; proper = tt }) e
   row_is t to op.SetupWith n i e = jump_row op.SetupWith n to (λ p. SetupWith p) i (λ p. record { flow = refl; target = refl; proper = tt }) e
   row_is t to op.TypeVar n i e = if_row (RowIs to op.TypeVar n) (nat_lt n 1) (Operate (operation op.TypeVar Bare) 1 (Some 1)) i (record { flow = refl; target = refl; proper = λ q. absurd (cc) }) e
-  row_is t to op.TypeVarWithBound n i e = if_row (RowIs to op.TypeVarWithBound n) (nat_lt n 1) (Operate (operation op.TypeVarWithBound Bare) 2 (Some 1)) i (record { flow = refl; target = refl; proper = λ q. absurd (cc) }) e
+  row_is t to op.TypeVarWithBound n i e = if_row (RowIs to op.TypeVarWithBound n) (nat_lt n 1)
+      (Operate (operation op.TypeVarWithBound Bare) 2 (Some 1)) i (record { flow = refl; target = refl; proper = λ q. absurd (cc) }) e
 
 -- the next instruction follows exactly where the table says so
 pub falls_leaves : (o : Instruction) (n : ℕ) → (flow_at o n).falls ≡ true → (row_of o).leaves ≡ false

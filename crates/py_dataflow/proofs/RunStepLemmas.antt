@@ -1,8 +1,11 @@
 -- A run in step with a walk stays so: values off the stack, answers, and where they land.
 use Rattle.std.proofs.Common.{◌≡◌, ℕ, zero, suc, ◌+◌, ◌-◌, ◌≤◌, List, [], ◌∷◌, ◌++◌, length, Bool, true, false, Option, Some, None, refl, sym, inl, inr, ap, ◌∙◌, arith}
 use Rattle.std.specs.Prelude.{if◌then◌else◌, nat_eq}
-use Rattle.py_bytecode.specs.Values.{Value, Given, Cell, Entry, It, Cells, World, Answer, Gives, Truth, End, Raised, Event, Got, Fine, Raises, Stops, on_got, then_get, none_of, ask_of, fits, given_values, on_some, choose, meets}
-use Rattle.py_bytecode.specs.Machine.{Reason, RaiseOf, Block, Loop, Except, Finally, ExceptHandler, FinallyHandler, Config, At, wrong, leaked_config, pop, pop_cells, push, stack_of, stopped_config, raise, on_entry, on_top, below, pop_block, pop_exception, on_last, joins, pop_closure}
+use Rattle.py_bytecode.specs.Values.{Value, Given, Cell, Entry, It, Cells, World, Answer, Gives, Truth, End, Raised, Event, Got, Fine}
+use Rattle.py_bytecode.specs.Values.{Raises, Stops, on_got, then_get, none_of, ask_of, fits, given_values, on_some, choose, meets}
+use Rattle.py_bytecode.specs.Machine.{Reason, RaiseOf, Block, Loop, Except, Finally, ExceptHandler, FinallyHandler, Config, At, wrong}
+use Rattle.py_bytecode.specs.Machine.{leaked_config, pop, pop_cells, push, stack_of, stopped_config, raise, on_entry, on_top, below}
+use Rattle.py_bytecode.specs.Machine.{pop_block, pop_exception, on_last, joins, pop_closure}
 use Rattle.py_dataflow.specs.declared.flow.Mark.{Mark}
 use Rattle.py_dataflow.specs.Flow.{one_if}
 use Rattle.py_dataflow.specs.Walks.{Shape, State, state, rest_of, height_of, is_entered, is_handler, is_final, tops, Seen, Reached}
@@ -76,7 +79,8 @@ module _ (K P : Type 0) (look : P → Option (Seen P)) (start : P) where
   closure_step true (It v ∷ s) w k l f = λ e. absurd (cc)
   closure_step true (Cells cs ∷ s) w k l f = f cs s (omega arith)
 
-  pub given_step : (k : ℕ) (answers : List Answer) (events : List (Event K)) (n : ℕ) (land : List (Value K) → World K → Config K P) (rest : List (Entry K)) (bs : List (Block K P)) (slot : Option (Value K))
+  pub given_step : (k : ℕ) (answers : List Answer) (events : List (Event K)) (n : ℕ) (land : List (Value K) → World K → Config K P)
+      (rest : List (Entry K)) (bs : List (Block K P)) (slot : Option (Value K))
       → Raising rest bs slot → ((gs : List (Value K)) (w : World K) → length gs ≡ k → Step (land gs w))
       → Step (on_got (ask_of events answers n (fits (Some k))) land (raise rest bs slot) stopped_config)
   given_step k [] events n land rest bs slot r f = λ e. absurd (cc)
@@ -133,7 +137,9 @@ module _ (K P : Type 0) (look : P → Option (Seen P)) (start : P) where
 
   pub joins_step : (b : Bool) (m k : ℕ) (n : P) (s : List (Entry K)) (bs : List (Block K P)) (slot : Option (Value K)) (w : World K) (ms : Shape)
       → (b ≡ true → k ≡ 1) → m ≤ length s → Reached look start n (state (length s - m + k) ms) → Matches K P look start bs ms → Step (joins b m n s bs slot w)
-  joins_step true m k n s bs slot w ms p l r mt = cells_step m s [] w (λ cs rest. At n (Cells cs ∷ rest) bs slot w) l (λ cs rest e. run_step_here n (Cells cs ∷ rest) bs slot w (length s - m + k) ms r (let q = p refl in omega (arith, e, q)) mt)
+  joins_step true m k n s bs slot w ms p l r mt =
+      cells_step m s [] w (λ cs rest. At n (Cells cs ∷ rest) bs slot w) l
+      (λ cs rest e. run_step_here n (Cells cs ∷ rest) bs slot w (length s - m + k) ms r (let q = p refl in omega (arith, e, q)) mt)
   joins_step false m k n s bs slot w ms p l r mt = λ e. absurd (cc)
 
   -- what closes a block
@@ -155,20 +161,32 @@ module _ (K P : Type 0) (look : P → Option (Seen P)) (start : P) where
   pops_exception n s (b ∷ bs) w [] mt e r = absurd mt
   pops_exception n s (Loop h ∷ bs) w (m ∷ ms) mt e r = absurd (let q : false ≡ true = sym (ap is_handler mt.0.0) ∙ e in cc)
   pops_exception n s (Except h q ∷ bs) w (m ∷ ms) mt e r = absurd (let q : false ≡ true = sym (ap is_handler mt.0.0) ∙ e in cc)
-  pops_exception n s (Finally h q ∷ bs) w (m ∷ ms) mt e r = absurd (elim mt.0.1 [ inl f ↦ (let q : false ≡ true = sym (ap is_handler f.0) ∙ e in cc) | inr f ↦ (let q : false ≡ true = sym (ap is_handler f.0) ∙ e in cc) ])
+  pops_exception n s (Finally h q ∷ bs) w (m ∷ ms) mt e r =
+      absurd (elim mt.0.1 [
+        | inl f ↦ (let q : false ≡ true = sym (ap is_handler f.0) ∙ e in cc)
+        | inr f ↦
+            (let q : false ≡ true = sym (ap is_handler f.0) ∙ e in cc)
+      ])
   pops_exception n s (ExceptHandler h old ∷ bs) w (m ∷ ms) mt e r = run_step_here n s bs old w (length s - 0 + 0) ms r (omega arith) mt.1
   pops_exception n s (FinallyHandler h k old ∷ bs) w (m ∷ ms) mt e r = absurd (let q : false ≡ true = sym (ap is_handler mt.0.0) ∙ e in cc)
 
   -- where a handler of a finally is innermost, with what it keeps
   pub last_step : (bs : List (Block K P)) (w : World K) (k : ℕ → Option (Reason K P) → Option (Value K) → List (Block K P) → Config K P) (ms : Shape)
       → Matches K P look start bs ms → tops (λ m. is_final m.kind) ms ≡ true
-      → ((h : ℕ) (r : Option (Reason K P)) (old : Option (Value K)) (bs1 : List (Block K P)) (m : Mark) (ms1 : Shape) → bs ≡ FinallyHandler h r old ∷ bs1 → ms ≡ m ∷ ms1 → Matches_one K P look start (FinallyHandler h r old) m ms1 → Matches K P look start bs1 ms1 → Step (k h r old bs1))
+      → ((h : ℕ) (r : Option (Reason K P)) (old : Option (Value K)) (bs1 : List (Block K P)) (m : Mark) (ms1 : Shape)
+      → bs ≡ FinallyHandler h r old ∷ bs1 → ms ≡ m ∷ ms1 → Matches_one K P look start (FinallyHandler h r old) m ms1
+      → Matches K P look start bs1 ms1 → Step (k h r old bs1))
       → Step (on_last bs w k)
   last_step [] w k [] mt e f = absurd (cc)
   last_step [] w k (m ∷ ms) mt e f = absurd mt
   last_step (b ∷ bs) w k [] mt e f = absurd mt
   last_step (Loop h ∷ bs) w k (m ∷ ms) mt e f = absurd (let q : false ≡ true = sym (ap is_final mt.0.0) ∙ e in cc)
   last_step (Except h q ∷ bs) w k (m ∷ ms) mt e f = absurd (let q : false ≡ true = sym (ap is_final mt.0.0) ∙ e in cc)
-  last_step (Finally h q ∷ bs) w k (m ∷ ms) mt e f = absurd (elim mt.0.1 [ inl g ↦ (let q : false ≡ true = sym (ap is_final g.0) ∙ e in cc) | inr g ↦ (let q : false ≡ true = sym (ap is_final g.0) ∙ e in cc) ])
+  last_step (Finally h q ∷ bs) w k (m ∷ ms) mt e f =
+      absurd (elim mt.0.1 [
+        | inl g ↦ (let q : false ≡ true = sym (ap is_final g.0) ∙ e in cc)
+        | inr g ↦
+            (let q : false ≡ true = sym (ap is_final g.0) ∙ e in cc)
+      ])
   last_step (ExceptHandler h old ∷ bs) w k (m ∷ ms) mt e f = absurd (let q : false ≡ true = sym (ap is_final mt.0.0) ∙ e in cc)
   last_step (FinallyHandler h r old ∷ bs) w k (m ∷ ms) mt e f = f h r old bs m ms refl refl mt.0 mt.1

@@ -1,8 +1,18 @@
 -- Two machines over the same instructions at other places do the same.
 use Rattle.std.proofs.Common.{◌≡◌, ℕ, zero, suc, ◌-◌, List, [], ◌∷◌, ◌++◌, length, drop, Bool, true, false, Option, Some, None, refl, sym, ap, ◌∙◌}
 use Rattle.std.specs.Prelude.{nat_le}
-use Rattle.py_bytecode.specs.Values.{Value, Cell, Entry, It, Cells, Usage, Load, Store, Delete, Kind, raise_again, enter_with, exit_with, Operates, Makes, Accesses, World, Got, Fine, Raises, Stops, on_got, ask_for, for_one, for_none, truth_of, next_of, on_some, choose, meets}
-use Rattle.py_bytecode.specs.Machine.{Instr, Push, Access, Operate, MakeFunction, Import, Append, Unpack, Nop, Pop, Rotate2, Rotate3, Duplicate, Duplicate2, JumpIf, JumpIfOrPop, Jump, SetupLoop, PopBlock, Break, Continue, ReturnValue, ReturnConst, SetupExcept, SetupFinally, PopException, EnterFinally, EndFinally, Reraise, ForIter, SetupWith, WithCleanupStart, WithCleanupFinish, at_places, Fetched, Found, Nothing, Reason, BreakTo, ContinueTo, ReturnOf, RaiseOf, Block, Loop, Except, Finally, ExceptHandler, FinallyHandler, has_loop, Config, At, Over, wrong, leaked_config, cut, unwind_out, slot_for, unwind, pop, pop_cells, push, stack_of, stopped_config, raise, on_entry, on_top, below, pop_block, pop_exception, go_on, on_last, reraise, exception, after_exit, is_tuple, joins, access, is_silent, rotate2, rotate3, duplicate2, pop_closure, act, act_at, result}
+use Rattle.py_bytecode.specs.Values.{Value, Cell, Entry, It, Cells, Usage, Load, Store, Delete, Kind, raise_again, enter_with, exit_with}
+use Rattle.py_bytecode.specs.Values.{Operates, Makes, Accesses, World, Got, Fine, Raises, Stops, on_got, ask_for, for_one, for_none}
+use Rattle.py_bytecode.specs.Values.{truth_of, next_of, on_some, choose, meets}
+use Rattle.py_bytecode.specs.Machine.{Instr, Push, Access, Operate, MakeFunction, Import, Append, Unpack, Nop, Pop, Rotate2, Rotate3}
+use Rattle.py_bytecode.specs.Machine.{Duplicate, Duplicate2, JumpIf, JumpIfOrPop, Jump, SetupLoop, PopBlock, Break, Continue, ReturnValue}
+use Rattle.py_bytecode.specs.Machine.{ReturnConst, SetupExcept, SetupFinally, PopException, EnterFinally, EndFinally, Reraise, ForIter}
+use Rattle.py_bytecode.specs.Machine.{SetupWith, WithCleanupStart, WithCleanupFinish, at_places, Fetched, Found, Nothing, Reason, BreakTo}
+use Rattle.py_bytecode.specs.Machine.{ContinueTo, ReturnOf, RaiseOf, Block, Loop, Except, Finally, ExceptHandler, FinallyHandler, has_loop}
+use Rattle.py_bytecode.specs.Machine.{Config, At, Over, wrong, leaked_config, stack_cut, unwind_out, slot_for, unwind, pop, pop_cells, push}
+use Rattle.py_bytecode.specs.Machine.{stack_of, stopped_config, raise, on_entry, on_top, below, pop_block, pop_exception, go_on, on_last}
+use Rattle.py_bytecode.specs.Machine.{reraise, exception, after_exit, is_tuple, joins, access, is_silent, rotate2, rotate3, duplicate2}
+use Rattle.py_bytecode.specs.Machine.{pop_closure, act, act_at, result}
 
 meets_places : {P Q : Type 0} (f : P → Q) (d t : Bool) (p q : P) → f (meets d t p q) ≡ meets d t (f p) (f q)
 meets_places f true true p q = refl
@@ -49,7 +59,7 @@ module _ {K P Q : Type 0} (f : P → Q) where
 
   -- a cut, whose sequel is the same at other places
   same_run_cut_at : (h : ℕ) (s : List (Entry K)) (w : World K) (k : List (Entry K) → Config K P) (k1 : List (Entry K) → Config K Q)
-      → ((s1 : List (Entry K)) → config_at (k s1) ≡ k1 s1) → config_at (cut h s w k) ≡ cut h s w k1
+      → ((s1 : List (Entry K)) → config_at (k s1) ≡ k1 s1) → config_at (stack_cut h s w k) ≡ stack_cut h s w k1
   same_run_cut_at h s w k k1 e = same_run_choose_at (nat_le h (length s)) _ _ ∙ ap (λ x. choose (nat_le h (length s)) x (wrong w)) (e (drop (length s - h) s))
 
   has_loop_at : (bs : List (Block K P)) → has_loop (blocks_at bs) ≡ has_loop bs
@@ -80,17 +90,33 @@ module _ {K P Q : Type 0} (f : P → Q) where
   same_run_unwind_at r s [] slot w = unwind_out_at r w
   same_run_unwind_at (BreakTo p) s (Loop h ∷ bs) slot w = same_run_cut_at h s w (λ s1. At p s1 bs slot w) (λ s1. At (f p) s1 (blocks_at bs) slot w) (λ s1. refl)
   same_run_unwind_at (ContinueTo p) s (Loop h ∷ bs) slot w = refl
-  same_run_unwind_at (ReturnOf v) s (Loop h ∷ bs) slot w = same_run_cut_at h s w (λ s1. unwind (ReturnOf v) s1 bs slot w) (λ s1. unwind (ReturnOf v) s1 (blocks_at bs) slot w) (λ s1. same_run_unwind_at (ReturnOf v) s1 bs slot w)
-  same_run_unwind_at (RaiseOf e) s (Loop h ∷ bs) slot w = same_run_cut_at h s w (λ s1. unwind (RaiseOf e) s1 bs slot w) (λ s1. unwind (RaiseOf e) s1 (blocks_at bs) slot w) (λ s1. same_run_unwind_at (RaiseOf e) s1 bs slot w)
-  same_run_unwind_at (BreakTo p) s (Except h q ∷ bs) slot w = same_run_cut_at h s w (λ s1. unwind (BreakTo p) s1 bs slot w) (λ s1. unwind (BreakTo (f p)) s1 (blocks_at bs) slot w) (λ s1. same_run_unwind_at (BreakTo p) s1 bs slot w)
-  same_run_unwind_at (ContinueTo p) s (Except h q ∷ bs) slot w = same_run_cut_at h s w (λ s1. unwind (ContinueTo p) s1 bs slot w) (λ s1. unwind (ContinueTo (f p)) s1 (blocks_at bs) slot w) (λ s1. same_run_unwind_at (ContinueTo p) s1 bs slot w)
-  same_run_unwind_at (ReturnOf v) s (Except h q ∷ bs) slot w = same_run_cut_at h s w (λ s1. unwind (ReturnOf v) s1 bs slot w) (λ s1. unwind (ReturnOf v) s1 (blocks_at bs) slot w) (λ s1. same_run_unwind_at (ReturnOf v) s1 bs slot w)
+  same_run_unwind_at (ReturnOf v) s (Loop h ∷ bs) slot w =
+      same_run_cut_at h s w (λ s1. unwind (ReturnOf v) s1 bs slot w) (λ s1. unwind (ReturnOf v) s1 (blocks_at bs) slot w)
+      (λ s1. same_run_unwind_at (ReturnOf v) s1 bs slot w)
+  same_run_unwind_at (RaiseOf e) s (Loop h ∷ bs) slot w =
+      same_run_cut_at h s w (λ s1. unwind (RaiseOf e) s1 bs slot w) (λ s1. unwind (RaiseOf e) s1 (blocks_at bs) slot w)
+      (λ s1. same_run_unwind_at (RaiseOf e) s1 bs slot w)
+  same_run_unwind_at (BreakTo p) s (Except h q ∷ bs) slot w =
+      same_run_cut_at h s w (λ s1. unwind (BreakTo p) s1 bs slot w) (λ s1. unwind (BreakTo (f p)) s1 (blocks_at bs) slot w)
+      (λ s1. same_run_unwind_at (BreakTo p) s1 bs slot w)
+  same_run_unwind_at (ContinueTo p) s (Except h q ∷ bs) slot w =
+      same_run_cut_at h s w (λ s1. unwind (ContinueTo p) s1 bs slot w) (λ s1. unwind (ContinueTo (f p)) s1 (blocks_at bs) slot w)
+      (λ s1. same_run_unwind_at (ContinueTo p) s1 bs slot w)
+  same_run_unwind_at (ReturnOf v) s (Except h q ∷ bs) slot w =
+      same_run_cut_at h s w (λ s1. unwind (ReturnOf v) s1 bs slot w) (λ s1. unwind (ReturnOf v) s1 (blocks_at bs) slot w)
+      (λ s1. same_run_unwind_at (ReturnOf v) s1 bs slot w)
   same_run_unwind_at (RaiseOf e) s (Except h q ∷ bs) slot w =
       same_run_cut_at h s w (λ s1. At q (It e ∷ s1) (ExceptHandler h slot ∷ bs) (Some e) w) (λ s1. At (f q) (It e ∷ s1) (ExceptHandler h slot ∷ blocks_at bs) (Some e) w) (λ s1. refl)
   same_run_unwind_at r s (Finally h q ∷ bs) slot w =
-      same_run_cut_at h s w (λ s1. At q s1 (FinallyHandler h (Some r) slot ∷ bs) (slot_for r slot) w) (λ s1. At (f q) s1 (FinallyHandler h (Some (reason_at r)) slot ∷ blocks_at bs) (slot_for (reason_at r) slot) w) (λ s1. ap (λ x. At (f q) s1 (FinallyHandler h (Some (reason_at r)) slot ∷ blocks_at bs) x w) (sym (same_run_slot_for_at r slot)))
-  same_run_unwind_at r s (ExceptHandler h old ∷ bs) slot w = same_run_cut_at h s w (λ s1. unwind r s1 bs old w) (λ s1. unwind (reason_at r) s1 (blocks_at bs) old w) (λ s1. same_run_unwind_at r s1 bs old w)
-  same_run_unwind_at r s (FinallyHandler h k old ∷ bs) slot w = same_run_cut_at h s w (λ s1. unwind r s1 bs old w) (λ s1. unwind (reason_at r) s1 (blocks_at bs) old w) (λ s1. same_run_unwind_at r s1 bs old w)
+      same_run_cut_at h s w (λ s1. At q s1 (FinallyHandler h (Some r) slot ∷ bs) (slot_for r slot) w)
+      (λ s1. At (f q) s1 (FinallyHandler h (Some (reason_at r)) slot ∷ blocks_at bs) (slot_for (reason_at r) slot) w)
+      (λ s1. ap (λ x. At (f q) s1 (FinallyHandler h (Some (reason_at r)) slot ∷ blocks_at bs) x w) (sym (same_run_slot_for_at r slot)))
+  same_run_unwind_at r s (ExceptHandler h old ∷ bs) slot w =
+      same_run_cut_at h s w (λ s1. unwind r s1 bs old w) (λ s1. unwind (reason_at r) s1 (blocks_at bs) old w)
+      (λ s1. same_run_unwind_at r s1 bs old w)
+  same_run_unwind_at r s (FinallyHandler h k old ∷ bs) slot w =
+      same_run_cut_at h s w (λ s1. unwind r s1 bs old w) (λ s1. unwind (reason_at r) s1 (blocks_at bs) old w)
+      (λ s1. same_run_unwind_at r s1 bs old w)
 
   -- an answer, and where it lands
   got_at : {A : Type 0} (r : Got K A) (land : A → World K → Config K P) (land1 : A → World K → Config K Q) (s : List (Entry K)) (bs : List (Block K P)) (slot : Option (Value K))
@@ -100,7 +126,8 @@ module _ {K P Q : Type 0} (f : P → Q) where
   got_at (Raises x w) land land1 s bs slot h = same_run_unwind_at (RaiseOf x) s bs slot w
   got_at (Stops es) land land1 s bs slot h = refl
 
-  pop_at : (n : ℕ) (s : List (Entry K)) (acc : List (Value K)) (few leaks : Config K P) (few1 leaks1 : Config K Q) (k : List (Value K) → List (Entry K) → Config K P) (k1 : List (Value K) → List (Entry K) → Config K Q)
+  pop_at : (n : ℕ) (s : List (Entry K)) (acc : List (Value K)) (few leaks : Config K P) (few1 leaks1 : Config K Q)
+      (k : List (Value K) → List (Entry K) → Config K P) (k1 : List (Value K) → List (Entry K) → Config K Q)
       → config_at few ≡ few1 → config_at leaks ≡ leaks1 → ((vs : List (Value K)) (rest : List (Entry K)) → config_at (k vs rest) ≡ k1 vs rest)
       → config_at (pop n s acc few leaks k) ≡ pop n s acc few1 leaks1 k1
   pop_at zero s acc few leaks few1 leaks1 k k1 hf hl hk = hk acc s
@@ -108,7 +135,8 @@ module _ {K P Q : Type 0} (f : P → Q) where
   pop_at (suc n) (It v ∷ s) acc few leaks few1 leaks1 k k1 hf hl hk = pop_at n s (v ∷ acc) few leaks few1 leaks1 k k1 hf hl hk
   pop_at (suc n) (Cells cs ∷ s) acc few leaks few1 leaks1 k k1 hf hl hk = hl
 
-  same_run_cells_at : (n : ℕ) (s : List (Entry K)) (acc : List Cell) (few leaks : Config K P) (few1 leaks1 : Config K Q) (k : List Cell → List (Entry K) → Config K P) (k1 : List Cell → List (Entry K) → Config K Q)
+  same_run_cells_at : (n : ℕ) (s : List (Entry K)) (acc : List Cell) (few leaks : Config K P) (few1 leaks1 : Config K Q)
+      (k : List Cell → List (Entry K) → Config K P) (k1 : List Cell → List (Entry K) → Config K Q)
       → config_at few ≡ few1 → config_at leaks ≡ leaks1 → ((cs : List Cell) (rest : List (Entry K)) → config_at (k cs rest) ≡ k1 cs rest)
       → config_at (pop_cells n s acc few leaks k) ≡ pop_cells n s acc few1 leaks1 k1
   same_run_cells_at zero s acc few leaks few1 leaks1 k k1 hf hl hk = hk acc s
@@ -149,7 +177,8 @@ module _ {K P Q : Type 0} (f : P → Q) where
   pop_exception_at n s (ExceptHandler h old ∷ bs) w = refl
   pop_exception_at n s (FinallyHandler h k old ∷ bs) w = refl
 
-  same_run_last_at : (bs : List (Block K P)) (w : World K) (k : ℕ → Option (Reason K P) → Option (Value K) → List (Block K P) → Config K P) (k1 : ℕ → Option (Reason K Q) → Option (Value K) → List (Block K Q) → Config K Q)
+  same_run_last_at : (bs : List (Block K P)) (w : World K) (k : ℕ → Option (Reason K P) → Option (Value K) → List (Block K P) → Config K P)
+      (k1 : ℕ → Option (Reason K Q) → Option (Value K) → List (Block K Q) → Config K Q)
       → ((h : ℕ) (r : Option (Reason K P)) (old : Option (Value K)) (bs1 : List (Block K P)) → config_at (k h r old bs1) ≡ k1 h (kept_at r) old (blocks_at bs1))
       → config_at (on_last bs w k) ≡ on_last (blocks_at bs) w k1
   same_run_last_at [] w k k1 h = refl
@@ -185,15 +214,21 @@ module _ {K P Q : Type 0} (f : P → Q) where
 
   joins_at : (b : Bool) (m : ℕ) (n : P) (s : List (Entry K)) (bs : List (Block K P)) (slot : Option (Value K)) (w : World K)
       → config_at (joins b m n s bs slot w) ≡ joins b m (f n) s (blocks_at bs) slot w
-  joins_at true m n s bs slot w = same_run_cells_at m s [] (wrong w) (leaked_config w) (wrong w) (leaked_config w) (λ cs rest. At n (Cells cs ∷ rest) bs slot w) (λ cs rest. At (f n) (Cells cs ∷ rest) (blocks_at bs) slot w) refl refl (λ cs rest. refl)
+  joins_at true m n s bs slot w = same_run_cells_at m s [] (wrong w) (leaked_config w) (wrong w) (leaked_config w)
+      (λ cs rest. At n (Cells cs ∷ rest) bs slot w) (λ cs rest. At (f n) (Cells cs ∷ rest) (blocks_at bs) slot w) refl refl
+      (λ cs rest. refl)
   joins_at false m n s bs slot w = refl
 
   access_at : (u : Usage) (k : Kind) (name : List ℕ) (place : ℕ) (n : P) (s : List (Entry K)) (bs : List (Block K P)) (slot : Option (Value K)) (w : World K)
       → config_at (access u k name place n s bs slot w) ≡ access u k name place (f n) s (blocks_at bs) slot w
-  access_at Load k name place n s bs slot w = got_at (for_one (Accesses k Load name place []) w) (λ v w1. At n (It v ∷ s) bs slot w1) (λ v w1. At (f n) (It v ∷ s) (blocks_at bs) slot w1) s bs slot (λ v w1. refl)
-  access_at Delete k name place n s bs slot w = got_at (for_none (Accesses k Delete name place []) false w) (λ d w1. At n s bs slot w1) (λ d w1. At (f n) s (blocks_at bs) slot w1) s bs slot (λ d w1. refl)
+  access_at Load k name place n s bs slot w = got_at (for_one (Accesses k Load name place []) w) (λ v w1. At n (It v ∷ s) bs slot w1)
+      (λ v w1. At (f n) (It v ∷ s) (blocks_at bs) slot w1) s bs slot (λ v w1. refl)
+  access_at Delete k name place n s bs slot w = got_at (for_none (Accesses k Delete name place []) false w) (λ d w1. At n s bs slot w1)
+      (λ d w1. At (f n) s (blocks_at bs) slot w1) s bs slot (λ d w1. refl)
   access_at Store k name place n [] bs slot w = refl
-  access_at Store k name place n (It v ∷ s) bs slot w = got_at (for_none (Accesses k Store name place (v ∷ [])) false w) (λ d w1. At n s bs slot w1) (λ d w1. At (f n) s (blocks_at bs) slot w1) s bs slot (λ d w1. refl)
+  access_at Store k name place n (It v ∷ s) bs slot w =
+      got_at (for_none (Accesses k Store name place (v ∷ [])) false w) (λ d w1. At n s bs slot w1)
+      (λ d w1. At (f n) s (blocks_at bs) slot w1) s bs slot (λ d w1. refl)
   access_at Store k name place n (Cells cs ∷ s) bs slot w = same_run_choose_at (is_silent k name) _ _
 
   rotate2_at : (s : List (Entry K)) (w : World K) (k : List (Entry K) → Config K P) (k1 : List (Entry K) → Config K Q)
@@ -232,23 +267,59 @@ module _ {K P Q : Type 0} (f : P → Q) where
   act_same (Push e) n s bs slot w = refl
   act_same (Access k u name p) n s bs slot w = access_at u k name p n s bs slot w
   act_same (Operate o m k) n s bs slot w =
-      pop_at m s [] (wrong w) (joins (is_tuple o) m n s bs slot w) (wrong w) (joins (is_tuple o) m (f n) s (blocks_at bs) slot w) (λ vs rest. on_got (ask_for (Operates o vs) k w) (λ gs w1. At n (push gs rest) bs slot w1) (raise rest bs slot) stopped_config) (λ vs rest. on_got (ask_for (Operates o vs) k w) (λ gs w1. At (f n) (push gs rest) (blocks_at bs) slot w1) (raise rest (blocks_at bs) slot) stopped_config) refl (joins_at (is_tuple o) m n s bs slot w)
+      pop_at m s [] (wrong w) (joins (is_tuple o) m n s bs slot w) (wrong w) (joins (is_tuple o) m (f n) s (blocks_at bs) slot w)
+      (λ vs rest. on_got (ask_for (Operates o vs) k w) (λ gs w1. At n (push gs rest) bs slot w1) (raise rest bs slot) stopped_config)
+      (λ vs rest. on_got (ask_for (Operates o vs) k w) (λ gs w1. At (f n) (push gs rest) (blocks_at bs) slot w1)
+      (raise rest (blocks_at bs) slot) stopped_config) refl (joins_at (is_tuple o) m n s bs slot w)
       (λ vs rest. got_at (ask_for (Operates o vs) k w) (λ gs w1. At n (push gs rest) bs slot w1) (λ gs w1. At (f n) (push gs rest) (blocks_at bs) slot w1) rest bs slot (λ gs w1. refl))
   act_same (MakeFunction fl b m) n s bs slot w =
-      pop_at 2 s [] (wrong w) (leaked_config w) (wrong w) (leaked_config w) (λ kn rest. pop_closure b rest w (λ cs rest1. pop m rest1 [] (wrong w) (leaked_config w) (λ vs rest2. on_got (for_one (Makes fl (vs ++ kn) cs) w) (λ v w1. At n (It v ∷ rest2) bs slot w1) (raise rest2 bs slot) stopped_config))) (λ kn rest. pop_closure b rest w (λ cs rest1. pop m rest1 [] (wrong w) (leaked_config w) (λ vs rest2. on_got (for_one (Makes fl (vs ++ kn) cs) w) (λ v w1. At (f n) (It v ∷ rest2) (blocks_at bs) slot w1) (raise rest2 (blocks_at bs) slot) stopped_config))) refl refl
-      (λ kn rest. closure_at b rest w (λ cs rest1. pop m rest1 [] (wrong w) (leaked_config w) (λ vs rest2. on_got (for_one (Makes fl (vs ++ kn) cs) w) (λ v w1. At n (It v ∷ rest2) bs slot w1) (raise rest2 bs slot) stopped_config)) (λ cs rest1. pop m rest1 [] (wrong w) (leaked_config w) (λ vs rest2. on_got (for_one (Makes fl (vs ++ kn) cs) w) (λ v w1. At (f n) (It v ∷ rest2) (blocks_at bs) slot w1) (raise rest2 (blocks_at bs) slot) stopped_config))
-      (λ cs rest1. pop_at m rest1 [] (wrong w) (leaked_config w) (wrong w) (leaked_config w) (λ vs rest2. on_got (for_one (Makes fl (vs ++ kn) cs) w) (λ v w1. At n (It v ∷ rest2) bs slot w1) (raise rest2 bs slot) stopped_config) (λ vs rest2. on_got (for_one (Makes fl (vs ++ kn) cs) w) (λ v w1. At (f n) (It v ∷ rest2) (blocks_at bs) slot w1) (raise rest2 (blocks_at bs) slot) stopped_config) refl refl
+      pop_at 2 s [] (wrong w) (leaked_config w) (wrong w) (leaked_config w)
+      (λ kn rest. pop_closure b rest w
+      (λ cs rest1. pop m rest1 [] (wrong w) (leaked_config w)
+      (λ vs rest2. on_got (for_one (Makes fl (vs ++ kn) cs) w) (λ v w1. At n (It v ∷ rest2) bs slot w1)
+      (raise rest2 bs slot) stopped_config)))
+      (λ kn rest. pop_closure b rest w
+      (λ cs rest1. pop m rest1 [] (wrong w) (leaked_config w)
+      (λ vs rest2. on_got (for_one (Makes fl (vs ++ kn) cs) w) (λ v w1. At (f n) (It v ∷ rest2) (blocks_at bs) slot w1)
+      (raise rest2 (blocks_at bs) slot) stopped_config))) refl refl
+      (λ kn rest. closure_at b rest w
+      (λ cs rest1. pop m rest1 [] (wrong w) (leaked_config w)
+      (λ vs rest2. on_got (for_one (Makes fl (vs ++ kn) cs) w) (λ v w1. At n (It v ∷ rest2) bs slot w1)
+      (raise rest2 bs slot) stopped_config))
+      (λ cs rest1. pop m rest1 [] (wrong w) (leaked_config w)
+      (λ vs rest2. on_got (for_one (Makes fl (vs ++ kn) cs) w) (λ v w1. At (f n) (It v ∷ rest2) (blocks_at bs) slot w1)
+      (raise rest2 (blocks_at bs) slot) stopped_config))
+      (λ cs rest1. pop_at m rest1 [] (wrong w) (leaked_config w) (wrong w) (leaked_config w)
+      (λ vs rest2. on_got (for_one (Makes fl (vs ++ kn) cs) w) (λ v w1. At n (It v ∷ rest2) bs slot w1)
+      (raise rest2 bs slot) stopped_config)
+      (λ vs rest2. on_got (for_one (Makes fl (vs ++ kn) cs) w) (λ v w1. At (f n) (It v ∷ rest2) (blocks_at bs) slot w1)
+      (raise rest2 (blocks_at bs) slot) stopped_config) refl refl
       (λ vs rest2. got_at (for_one (Makes fl (vs ++ kn) cs) w) (λ v w1. At n (It v ∷ rest2) bs slot w1) (λ v w1. At (f n) (It v ∷ rest2) (blocks_at bs) slot w1) rest2 bs slot (λ v w1. refl))))
   act_same (Import o) n s bs slot w =
-      top_at s w (λ v rest. on_got (for_one (Operates o (v ∷ [])) w) (λ x w1. At n (It x ∷ It v ∷ rest) bs slot w1) (raise (It v ∷ rest) bs slot) stopped_config) (λ v rest. on_got (for_one (Operates o (v ∷ [])) w) (λ x w1. At (f n) (It x ∷ It v ∷ rest) (blocks_at bs) slot w1) (raise (It v ∷ rest) (blocks_at bs) slot) stopped_config)
-      (λ v rest. got_at (for_one (Operates o (v ∷ [])) w) (λ x w1. At n (It x ∷ It v ∷ rest) bs slot w1) (λ x w1. At (f n) (It x ∷ It v ∷ rest) (blocks_at bs) slot w1) (It v ∷ rest) bs slot (λ x w1. refl))
+      top_at s w (λ v rest. on_got (for_one (Operates o (v ∷ [])) w) (λ x w1. At n (It x ∷ It v ∷ rest) bs slot w1)
+      (raise (It v ∷ rest) bs slot) stopped_config)
+      (λ v rest. on_got (for_one (Operates o (v ∷ [])) w) (λ x w1. At (f n) (It x ∷ It v ∷ rest) (blocks_at bs) slot w1)
+      (raise (It v ∷ rest) (blocks_at bs) slot) stopped_config)
+      (λ v rest. got_at (for_one (Operates o (v ∷ [])) w) (λ x w1. At n (It x ∷ It v ∷ rest) bs slot w1)
+      (λ x w1. At (f n) (It x ∷ It v ∷ rest) (blocks_at bs) slot w1) (It v ∷ rest) bs slot (λ x w1. refl))
   act_same (Append o m d) n s bs slot w =
-      pop_at m s [] (wrong w) (leaked_config w) (wrong w) (leaked_config w) (λ vs rest. below d rest w (λ x. on_got (for_none (Operates o (x ∷ vs)) false w) (λ u w1. At n rest bs slot w1) (raise rest bs slot) stopped_config)) (λ vs rest. below d rest w (λ x. on_got (for_none (Operates o (x ∷ vs)) false w) (λ u w1. At (f n) rest (blocks_at bs) slot w1) (raise rest (blocks_at bs) slot) stopped_config)) refl refl
-      (λ vs rest. same_run_below_at d rest w (λ x. on_got (for_none (Operates o (x ∷ vs)) false w) (λ u w1. At n rest bs slot w1) (raise rest bs slot) stopped_config) (λ x. on_got (for_none (Operates o (x ∷ vs)) false w) (λ u w1. At (f n) rest (blocks_at bs) slot w1) (raise rest (blocks_at bs) slot) stopped_config)
+      pop_at m s [] (wrong w) (leaked_config w) (wrong w) (leaked_config w)
+      (λ vs rest. below d rest w (λ x. on_got (for_none (Operates o (x ∷ vs)) false w) (λ u w1. At n rest bs slot w1)
+      (raise rest bs slot) stopped_config))
+      (λ vs rest. below d rest w (λ x. on_got (for_none (Operates o (x ∷ vs)) false w) (λ u w1. At (f n) rest (blocks_at bs) slot w1)
+      (raise rest (blocks_at bs) slot) stopped_config)) refl refl
+      (λ vs rest. same_run_below_at d rest w
+      (λ x. on_got (for_none (Operates o (x ∷ vs)) false w) (λ u w1. At n rest bs slot w1) (raise rest bs slot) stopped_config)
+      (λ x. on_got (for_none (Operates o (x ∷ vs)) false w) (λ u w1. At (f n) rest (blocks_at bs) slot w1)
+      (raise rest (blocks_at bs) slot) stopped_config)
       (λ x. got_at (for_none (Operates o (x ∷ vs)) false w) (λ u w1. At n rest bs slot w1) (λ u w1. At (f n) rest (blocks_at bs) slot w1) rest bs slot (λ u w1. refl)))
   act_same (Unpack o m) n s bs slot w =
-      top_at s w (λ v rest. on_got (ask_for (Operates o (v ∷ [])) (Some m) w) (λ gs w1. At n (stack_of gs rest) bs slot w1) (raise rest bs slot) stopped_config) (λ v rest. on_got (ask_for (Operates o (v ∷ [])) (Some m) w) (λ gs w1. At (f n) (stack_of gs rest) (blocks_at bs) slot w1) (raise rest (blocks_at bs) slot) stopped_config)
-      (λ v rest. got_at (ask_for (Operates o (v ∷ [])) (Some m) w) (λ gs w1. At n (stack_of gs rest) bs slot w1) (λ gs w1. At (f n) (stack_of gs rest) (blocks_at bs) slot w1) rest bs slot (λ gs w1. refl))
+      top_at s w (λ v rest. on_got (ask_for (Operates o (v ∷ [])) (Some m) w) (λ gs w1. At n (stack_of gs rest) bs slot w1)
+      (raise rest bs slot) stopped_config)
+      (λ v rest. on_got (ask_for (Operates o (v ∷ [])) (Some m) w) (λ gs w1. At (f n) (stack_of gs rest) (blocks_at bs) slot w1)
+      (raise rest (blocks_at bs) slot) stopped_config)
+      (λ v rest. got_at (ask_for (Operates o (v ∷ [])) (Some m) w) (λ gs w1. At n (stack_of gs rest) bs slot w1)
+      (λ gs w1. At (f n) (stack_of gs rest) (blocks_at bs) slot w1) rest bs slot (λ gs w1. refl))
   act_same Nop n s bs slot w = refl
   act_same Pop n s bs slot w = same_run_entry_at s w (λ v rest. At n rest bs slot w) (λ v rest. At (f n) rest (blocks_at bs) slot w) (λ v rest. refl)
   act_same Rotate2 n s bs slot w = rotate2_at s w (λ s1. At n s1 bs slot w) (λ s1. At (f n) s1 (blocks_at bs) slot w) (λ s1. refl)
@@ -256,17 +327,28 @@ module _ {K P Q : Type 0} (f : P → Q) where
   act_same Duplicate n s bs slot w = same_run_entry_at s w (λ v rest. At n (v ∷ v ∷ rest) bs slot w) (λ v rest. At (f n) (v ∷ v ∷ rest) (blocks_at bs) slot w) (λ v rest. refl)
   act_same Duplicate2 n s bs slot w = duplicate2_at s w (λ s1. At n s1 bs slot w) (λ s1. At (f n) s1 (blocks_at bs) slot w) (λ s1. refl)
   act_same (JumpIf d p) n s bs slot w =
-      top_at s w (λ v rest. on_got (truth_of v w) (λ t w1. At (meets d t p n) rest bs slot w1) (raise rest bs slot) stopped_config) (λ v rest. on_got (truth_of v w) (λ t w1. At (meets d t (f p) (f n)) rest (blocks_at bs) slot w1) (raise rest (blocks_at bs) slot) stopped_config)
-      (λ v rest. got_at (truth_of v w) (λ t w1. At (meets d t p n) rest bs slot w1) (λ t w1. At (meets d t (f p) (f n)) rest (blocks_at bs) slot w1) rest bs slot (λ t w1. ap (λ x. At x rest (blocks_at bs) slot w1) (meets_places f d t p n)))
+      top_at s w (λ v rest. on_got (truth_of v w) (λ t w1. At (meets d t p n) rest bs slot w1) (raise rest bs slot) stopped_config)
+      (λ v rest. on_got (truth_of v w) (λ t w1. At (meets d t (f p) (f n)) rest (blocks_at bs) slot w1)
+      (raise rest (blocks_at bs) slot) stopped_config)
+      (λ v rest. got_at (truth_of v w) (λ t w1. At (meets d t p n) rest bs slot w1)
+      (λ t w1. At (meets d t (f p) (f n)) rest (blocks_at bs) slot w1) rest bs slot
+      (λ t w1. ap (λ x. At x rest (blocks_at bs) slot w1) (meets_places f d t p n)))
   act_same (JumpIfOrPop d p) n s bs slot w =
-      top_at s w (λ v rest. on_got (truth_of v w) (λ t w1. meets d t (At p (It v ∷ rest) bs slot w1) (At n rest bs slot w1)) (raise rest bs slot) stopped_config) (λ v rest. on_got (truth_of v w) (λ t w1. meets d t (At (f p) (It v ∷ rest) (blocks_at bs) slot w1) (At (f n) rest (blocks_at bs) slot w1)) (raise rest (blocks_at bs) slot) stopped_config)
-      (λ v rest. got_at (truth_of v w) (λ t w1. meets d t (At p (It v ∷ rest) bs slot w1) (At n rest bs slot w1)) (λ t w1. meets d t (At (f p) (It v ∷ rest) (blocks_at bs) slot w1) (At (f n) rest (blocks_at bs) slot w1)) rest bs slot (λ t w1. meets_at d t (At p (It v ∷ rest) bs slot w1) (At n rest bs slot w1)))
+      top_at s w (λ v rest. on_got (truth_of v w) (λ t w1. meets d t (At p (It v ∷ rest) bs slot w1) (At n rest bs slot w1))
+      (raise rest bs slot) stopped_config)
+      (λ v rest. on_got (truth_of v w)
+      (λ t w1. meets d t (At (f p) (It v ∷ rest) (blocks_at bs) slot w1) (At (f n) rest (blocks_at bs) slot w1))
+      (raise rest (blocks_at bs) slot) stopped_config)
+      (λ v rest. got_at (truth_of v w) (λ t w1. meets d t (At p (It v ∷ rest) bs slot w1) (At n rest bs slot w1))
+      (λ t w1. meets d t (At (f p) (It v ∷ rest) (blocks_at bs) slot w1) (At (f n) rest (blocks_at bs) slot w1)) rest bs slot
+      (λ t w1. meets_at d t (At p (It v ∷ rest) bs slot w1) (At n rest bs slot w1)))
   act_same (Jump p) n s bs slot w = refl
   act_same SetupLoop n s bs slot w = refl
   act_same PopBlock n s bs slot w = pop_block_at n s bs slot w
   act_same (Break p) n s bs slot w = in_loop_at bs w _ _ (same_run_unwind_at (BreakTo p) s bs slot w)
   act_same (Continue p) n s bs slot w = in_loop_at bs w _ _ (same_run_unwind_at (ContinueTo p) s bs slot w)
-  act_same ReturnValue n s bs slot w = same_run_entry_at s w (λ v rest. unwind (ReturnOf v) rest bs slot w) (λ v rest. unwind (ReturnOf v) rest (blocks_at bs) slot w) (λ v rest. same_run_unwind_at (ReturnOf v) rest bs slot w)
+  act_same ReturnValue n s bs slot w = same_run_entry_at s w (λ v rest. unwind (ReturnOf v) rest bs slot w)
+      (λ v rest. unwind (ReturnOf v) rest (blocks_at bs) slot w) (λ v rest. same_run_unwind_at (ReturnOf v) rest bs slot w)
   act_same (ReturnConst v) n s bs slot w = same_run_unwind_at (ReturnOf (It v)) s bs slot w
   act_same (SetupExcept p) n s bs slot w = refl
   act_same (SetupFinally p) n s bs slot w = refl
@@ -275,20 +357,50 @@ module _ {K P Q : Type 0} (f : P → Q) where
   act_same EndFinally n s bs slot w = same_run_last_at bs w (λ h r old bs1. go_on r n s bs1 old w) (λ h r old bs1. go_on r (f n) s bs1 old w) (λ h r old bs1. go_on_at r n s bs1 old w)
   act_same Reraise n s bs slot w = reraise_at slot n s bs w
   act_same (ForIter p) n s bs slot w =
-      top_at s w (λ v rest. on_got (next_of v w) (λ x w1. on_some x (λ u. At n (It u ∷ It v ∷ rest) bs slot w1) (At p rest bs slot w1)) (raise (It v ∷ rest) bs slot) stopped_config) (λ v rest. on_got (next_of v w) (λ x w1. on_some x (λ u. At (f n) (It u ∷ It v ∷ rest) (blocks_at bs) slot w1) (At (f p) rest (blocks_at bs) slot w1)) (raise (It v ∷ rest) (blocks_at bs) slot) stopped_config)
-      (λ v rest. got_at (next_of v w) (λ x w1. on_some x (λ u. At n (It u ∷ It v ∷ rest) bs slot w1) (At p rest bs slot w1)) (λ x w1. on_some x (λ u. At (f n) (It u ∷ It v ∷ rest) (blocks_at bs) slot w1) (At (f p) rest (blocks_at bs) slot w1)) (It v ∷ rest) bs slot (λ x w1. same_run_some_at x (λ u. At n (It u ∷ It v ∷ rest) bs slot w1) (At p rest bs slot w1) (λ u. At (f n) (It u ∷ It v ∷ rest) (blocks_at bs) slot w1) (λ u. refl)))
+      top_at s w (λ v rest. on_got (next_of v w) (λ x w1. on_some x (λ u. At n (It u ∷ It v ∷ rest) bs slot w1) (At p rest bs slot w1))
+      (raise (It v ∷ rest) bs slot) stopped_config)
+      (λ v rest. on_got (next_of v w)
+      (λ x w1. on_some x (λ u. At (f n) (It u ∷ It v ∷ rest) (blocks_at bs) slot w1) (At (f p) rest (blocks_at bs) slot w1))
+      (raise (It v ∷ rest) (blocks_at bs) slot) stopped_config)
+      (λ v rest. got_at (next_of v w) (λ x w1. on_some x (λ u. At n (It u ∷ It v ∷ rest) bs slot w1) (At p rest bs slot w1))
+      (λ x w1. on_some x (λ u. At (f n) (It u ∷ It v ∷ rest) (blocks_at bs) slot w1) (At (f p) rest (blocks_at bs) slot w1))
+      (It v ∷ rest) bs slot (λ x w1. same_run_some_at x (λ u. At n (It u ∷ It v ∷ rest) bs slot w1) (At p rest bs slot w1)
+      (λ u. At (f n) (It u ∷ It v ∷ rest) (blocks_at bs) slot w1) (λ u. refl)))
   act_same (SetupWith p) n s bs slot w =
-      top_at s w (λ v rest. on_got (ask_for (Operates enter_with (v ∷ [])) (Some 2) w) (λ gs w1. At n (push gs rest) (Finally (length (It v ∷ rest)) p ∷ bs) slot w1) (raise rest bs slot) stopped_config) (λ v rest. on_got (ask_for (Operates enter_with (v ∷ [])) (Some 2) w) (λ gs w1. At (f n) (push gs rest) (Finally (length (It v ∷ rest)) (f p) ∷ blocks_at bs) slot w1) (raise rest (blocks_at bs) slot) stopped_config)
-      (λ v rest. got_at (ask_for (Operates enter_with (v ∷ [])) (Some 2) w) (λ gs w1. At n (push gs rest) (Finally (length (It v ∷ rest)) p ∷ bs) slot w1) (λ gs w1. At (f n) (push gs rest) (Finally (length (It v ∷ rest)) (f p) ∷ blocks_at bs) slot w1) rest bs slot (λ gs w1. refl))
+      top_at s w (λ v rest. on_got (ask_for (Operates enter_with (v ∷ [])) (Some 2) w)
+      (λ gs w1. At n (push gs rest) (Finally (length (It v ∷ rest)) p ∷ bs) slot w1) (raise rest bs slot) stopped_config)
+      (λ v rest. on_got (ask_for (Operates enter_with (v ∷ [])) (Some 2) w)
+      (λ gs w1. At (f n) (push gs rest) (Finally (length (It v ∷ rest)) (f p) ∷ blocks_at bs) slot w1)
+      (raise rest (blocks_at bs) slot) stopped_config)
+      (λ v rest. got_at (ask_for (Operates enter_with (v ∷ [])) (Some 2) w)
+      (λ gs w1. At n (push gs rest) (Finally (length (It v ∷ rest)) p ∷ bs) slot w1)
+      (λ gs w1. At (f n) (push gs rest) (Finally (length (It v ∷ rest)) (f p) ∷ blocks_at bs) slot w1) rest bs slot (λ gs w1. refl))
   act_same WithCleanupStart n s bs slot w =
-      same_run_last_at bs w (λ h r old bs1. on_top s w (λ x rest. on_got (for_one (Operates exit_with (x ∷ exception r ∷ [])) w) (λ a w1. At n (It a ∷ rest) bs slot w1) (raise (It x ∷ rest) bs slot) stopped_config)) (λ h r old bs1. on_top s w (λ x rest. on_got (for_one (Operates exit_with (x ∷ exception r ∷ [])) w) (λ a w1. At (f n) (It a ∷ rest) (blocks_at bs) slot w1) (raise (It x ∷ rest) (blocks_at bs) slot) stopped_config))
-      (λ h r old bs1. top_at s w (λ x rest. on_got (for_one (Operates exit_with (x ∷ exception r ∷ [])) w) (λ a w1. At n (It a ∷ rest) bs slot w1) (raise (It x ∷ rest) bs slot) stopped_config) (λ x rest. on_got (for_one (Operates exit_with (x ∷ exception r ∷ [])) w) (λ a w1. At (f n) (It a ∷ rest) (blocks_at bs) slot w1) (raise (It x ∷ rest) (blocks_at bs) slot) stopped_config)
-      (λ x rest. got_at (for_one (Operates exit_with (x ∷ exception r ∷ [])) w) (λ a w1. At n (It a ∷ rest) bs slot w1) (λ a w1. At (f n) (It a ∷ rest) (blocks_at bs) slot w1) (It x ∷ rest) bs slot (λ a w1. refl))
-      ∙ ap (λ e. on_top s w (λ x rest. on_got (for_one (Operates exit_with (x ∷ e ∷ [])) w) (λ a w1. At (f n) (It a ∷ rest) (blocks_at bs) slot w1) (raise (It x ∷ rest) (blocks_at bs) slot) stopped_config)) (sym (exception_at r)))
+      same_run_last_at bs w (λ h r old bs1. on_top s w
+      (λ x rest. on_got (for_one (Operates exit_with (x ∷ exception r ∷ [])) w) (λ a w1. At n (It a ∷ rest) bs slot w1)
+      (raise (It x ∷ rest) bs slot) stopped_config))
+      (λ h r old bs1. on_top s w (λ x rest. on_got (for_one (Operates exit_with (x ∷ exception r ∷ [])) w)
+      (λ a w1. At (f n) (It a ∷ rest) (blocks_at bs) slot w1) (raise (It x ∷ rest) (blocks_at bs) slot) stopped_config))
+      (λ h r old bs1. top_at s w (λ x rest. on_got (for_one (Operates exit_with (x ∷ exception r ∷ [])) w)
+      (λ a w1. At n (It a ∷ rest) bs slot w1) (raise (It x ∷ rest) bs slot) stopped_config)
+      (λ x rest. on_got (for_one (Operates exit_with (x ∷ exception r ∷ [])) w) (λ a w1. At (f n) (It a ∷ rest) (blocks_at bs) slot w1)
+      (raise (It x ∷ rest) (blocks_at bs) slot) stopped_config)
+      (λ x rest. got_at (for_one (Operates exit_with (x ∷ exception r ∷ [])) w) (λ a w1. At n (It a ∷ rest) bs slot w1)
+      (λ a w1. At (f n) (It a ∷ rest) (blocks_at bs) slot w1) (It x ∷ rest) bs slot (λ a w1. refl))
+      ∙ ap (λ e. on_top s w (λ x rest. on_got (for_one (Operates exit_with (x ∷ e ∷ [])) w)
+      (λ a w1. At (f n) (It a ∷ rest) (blocks_at bs) slot w1) (raise (It x ∷ rest) (blocks_at bs) slot) stopped_config))
+      (sym (exception_at r)))
   act_same WithCleanupFinish n s bs slot w =
-      same_run_last_at bs w (λ h r old bs1. on_top s w (λ a rest. on_got (truth_of a w) (λ t w1. after_exit t r n rest bs1 old w1) (raise rest bs1 old) stopped_config)) (λ h r old bs1. on_top s w (λ a rest. on_got (truth_of a w) (λ t w1. after_exit t r (f n) rest bs1 old w1) (raise rest bs1 old) stopped_config))
-      (λ h r old bs1. top_at s w (λ a rest. on_got (truth_of a w) (λ t w1. after_exit t r n rest bs1 old w1) (raise rest bs1 old) stopped_config) (λ a rest. on_got (truth_of a w) (λ t w1. after_exit t (kept_at r) (f n) rest (blocks_at bs1) old w1) (raise rest (blocks_at bs1) old) stopped_config)
-      (λ a rest. got_at (truth_of a w) (λ t w1. after_exit t r n rest bs1 old w1) (λ t w1. after_exit t (kept_at r) (f n) rest (blocks_at bs1) old w1) rest bs1 old (λ t w1. after_exit_at t r n rest bs1 old w1)))
+      same_run_last_at bs w (λ h r old bs1. on_top s w
+      (λ a rest. on_got (truth_of a w) (λ t w1. after_exit t r n rest bs1 old w1) (raise rest bs1 old) stopped_config))
+      (λ h r old bs1. on_top s w (λ a rest. on_got (truth_of a w) (λ t w1. after_exit t r (f n) rest bs1 old w1)
+      (raise rest bs1 old) stopped_config))
+      (λ h r old bs1. top_at s w (λ a rest. on_got (truth_of a w) (λ t w1. after_exit t r n rest bs1 old w1)
+      (raise rest bs1 old) stopped_config)
+      (λ a rest. on_got (truth_of a w) (λ t w1. after_exit t (kept_at r) (f n) rest (blocks_at bs1) old w1)
+      (raise rest (blocks_at bs1) old) stopped_config)
+      (λ a rest. got_at (truth_of a w) (λ t w1. after_exit t r n rest bs1 old w1)
+      (λ t w1. after_exit t (kept_at r) (f n) rest (blocks_at bs1) old w1) rest bs1 old (λ t w1. after_exit_at t r n rest bs1 old w1)))
 
   -- what stands at a place, at other places
   abbrev pub fetched_at : Fetched K P → Fetched K Q

@@ -3,7 +3,8 @@ use Rattle.std.proofs.Common.{◌≡◌, ◌≢◌, ℕ, suc, ◌-◌, ◌<◌, 
 use Rattle.std.specs.Prelude.{nat_le, if◌then◌else◌}
 use Rattle.std.proofs.lemmas.Bool.Decides.{nat_tests}
 use Rattle.py_bytecode.specs.Values.{Value, Entry, It, World, choose, Wrong}
-use Rattle.py_bytecode.specs.Machine.{Reason, BreakTo, ContinueTo, ReturnOf, RaiseOf, Block, Loop, Except, Finally, ExceptHandler, FinallyHandler, has_loop, Config, At, Over, wrong, cut, slot_for, unwind}
+use Rattle.py_bytecode.specs.Machine.{Reason, BreakTo, ContinueTo, ReturnOf, RaiseOf, Block, Loop, Except, Finally, ExceptHandler}
+use Rattle.py_bytecode.specs.Machine.{FinallyHandler, has_loop, Config, At, Over, wrong, stack_cut, slot_for, unwind}
 use Rattle.py_dataflow.specs.declared.flow.Kind.{Kind}
 use Rattle.py_dataflow.specs.declared.flow.Mark.{Mark}
 use Rattle.py_dataflow.specs.Flow.{opening, plain_handler, exit_handler}
@@ -39,7 +40,9 @@ module _ (K P : Type 0) (look : P → Option (Seen P)) (start : P) where
   abbrev pub Matches_one : Block K P → Mark → Shape → Type 0
   Matches_one (Loop h) m ms = (m.kind ≡ Kind.Loop) × (m.height ≡ h)
   Matches_one (Except h q) m ms = (m.kind ≡ Kind.Except) × (m.height ≡ h) × Reached look start q (state (suc h) (unwind_mark Kind.ExceptHandler h ∷ ms))
-  Matches_one (Finally h q) m ms = (m.height ≡ h) × (((m.kind ≡ Kind.Finally) × Reached look start q (state h (plain_mark h ∷ ms))) ⊎ ((m.kind ≡ Kind.With) × Reached look start q (state h (exit_mark h ∷ ms))))
+  Matches_one (Finally h q) m ms = (m.height ≡ h)
+      × (((m.kind ≡ Kind.Finally) × Reached look start q (state h (plain_mark h ∷ ms)))
+      ⊎ ((m.kind ≡ Kind.With) × Reached look start q (state h (exit_mark h ∷ ms))))
   Matches_one (ExceptHandler h old) m ms = (m.kind ≡ Kind.ExceptHandler) × (m.height ≡ h)
   Matches_one (FinallyHandler h k old) m ms = (m.kind ≡ Kind.FinallyHandler) × (m.height ≡ h) × UnwindKeeps k m ms
 
@@ -59,7 +62,7 @@ module _ (K P : Type 0) (look : P → Option (Seen P)) (start : P) where
   cut_length h s l = let d = length-drop (length s - h) s in omega (arith, d)
 
   -- a cut that finds enough values
-  cut_step : (h : ℕ) (s : List (Entry K)) (w : World K) (k : List (Entry K) → Config K P) → h ≤ length s → ((s1 : List (Entry K)) → length s1 ≡ h → InStep (k s1)) → InStep (cut h s w k)
+  cut_step : (h : ℕ) (s : List (Entry K)) (w : World K) (k : List (Entry K) → Config K P) → h ≤ length s → ((s1 : List (Entry K)) → length s1 ≡ h → InStep (k s1)) → InStep (stack_cut h s w k)
   cut_step h s w k l f = go (nat_le h (length s)) refl
     where
       go : (b : Bool) → nat_le h (length s) ≡ b → InStep (choose b (k (drop (length s - h) s)) (wrong w))
@@ -68,8 +71,12 @@ module _ (K P : Type 0) (look : P → Option (Seen P)) (start : P) where
 
   -- past a block that does not take it, at the height that is left there
   arrives_on : (r : Reason K P) (h : ℕ) (m : Mark) (ms : Shape) → is_loop m.kind ≡ false → Arrives_for r h (m ∷ ms) → Arrives_for r (left_by m) ms
-  arrives_on (BreakTo p) h m ms e a = subst (λ b. (tops (λ x. true) (if b then m ∷ ms else from_loop ms) ≡ true) × Reached look start p (state (height_of (if b then m ∷ ms else from_loop ms)) (rest_of (if b then m ∷ ms else from_loop ms)))) e a
-  arrives_on (ContinueTo p) h m ms e a = subst (λ b. (tops (λ x. true) (if b then m ∷ ms else from_loop ms) ≡ true) × Reached look start p (state (if b then h else cut_to (left_by m) ms) (if b then m ∷ ms else from_loop ms))) e a
+  arrives_on (BreakTo p) h m ms e a =
+      subst (λ b. (tops (λ x. true) (if b then m ∷ ms else from_loop ms) ≡ true)
+      × Reached look start p (state (height_of (if b then m ∷ ms else from_loop ms)) (rest_of (if b then m ∷ ms else from_loop ms)))) e a
+  arrives_on (ContinueTo p) h m ms e a =
+      subst (λ b. (tops (λ x. true) (if b then m ∷ ms else from_loop ms) ≡ true)
+      × Reached look start p (state (if b then h else cut_to (left_by m) ms) (if b then m ∷ ms else from_loop ms))) e a
   arrives_on (ReturnOf v) h m ms e a = tt
   arrives_on (RaiseOf v) h m ms e a = tt
 
@@ -108,15 +115,17 @@ module _ (K P : Type 0) (look : P → Option (Seen P)) (start : P) where
   -- past a block, with what is left of the reason
   past_with : (r : Reason K P) (bs : List (Block K P)) (s : List (Entry K)) (m : Mark) (ms : Shape) (slot : Option (Value K)) (w : World K) (h : ℕ) → Goal r bs
       → m.height ≡ h → left_by m ≡ m.height → Stacked (length s) (m ∷ ms) → Matches bs ms → Arrives_for r m.height ms
-      → InStep (cut h s w (λ s1. unwind r s1 bs slot w))
+      → InStep (stack_cut h s w (λ s1. unwind r s1 bs slot w))
   past_with r bs s m ms slot w h ih eh b st mt a =
       let st1 : Stacked m.height ms = subst (λ g. Stacked g ms) b st.1 in
-      subst (λ g. InStep (cut g s w (λ s1. unwind r s1 bs slot w))) eh (cut_step m.height s w (λ s1. unwind r s1 bs slot w) st.0 (λ s1 q. ih s1 ms slot w (subst (λ g. Stacked g ms) (sym q) st1) mt (subst (λ g. Arrives_for r g ms) (sym q) a)))
+      subst (λ g. InStep (stack_cut g s w (λ s1. unwind r s1 bs slot w))) eh
+      (cut_step m.height s w (λ s1. unwind r s1 bs slot w) st.0
+      (λ s1 q. ih s1 ms slot w (subst (λ g. Stacked g ms) (sym q) st1) mt (subst (λ g. Arrives_for r g ms) (sym q) a)))
 
   -- past a block that takes no reason of this kind
   past_kind : (r : Reason K P) (bs : List (Block K P)) (s : List (Entry K)) (m : Mark) (ms : Shape) (slot : Option (Value K)) (w : World K) (h : ℕ) (k : Kind)
       → Goal r bs → m.kind ≡ k → is_loop k ≡ false → is_with k ≡ false → m.height ≡ h → Stacked (length s) (m ∷ ms) → Matches bs ms
-      → Arrives_for r (length s) (m ∷ ms) → InStep (cut h s w (λ s1. unwind r s1 bs slot w))
+      → Arrives_for r (length s) (m ∷ ms) → InStep (stack_cut h s w (λ s1. unwind r s1 bs slot w))
   past_kind r bs s m ms slot w h k ih e l f eh st mt a =
       let b : left_by m ≡ m.height = kind_below m k e f in
       past_with r bs s m ms slot w h ih eh b st mt (subst (λ g. Arrives_for r g ms) b (arrives_on r (length s) m ms (kind_loop m k e l) a))
@@ -130,13 +139,14 @@ module _ (K P : Type 0) (look : P → Option (Seen P)) (start : P) where
   -- a raise is taken by a try
   unwind_taken : (s : List (Entry K)) (bs : List (Block K P)) (w : World K) (v : Value K) (old : Option (Value K)) (m : Mark) (ms : Shape) (h : ℕ) (q : P)
       → m.height ≡ h → Reached look start q (state (suc h) (unwind_mark Kind.ExceptHandler h ∷ ms)) → m.height ≤ length s → Matches bs ms
-      → InStep (cut h s w (λ s1. At q (It v ∷ s1) (ExceptHandler h old ∷ bs) (Some v) w))
-  unwind_taken s bs w v old m ms h q eh r l mt = cut_step h s w (λ s1. At q (It v ∷ s1) (ExceptHandler h old ∷ bs) (Some v) w) (omega (arith, eh, l)) (λ s1 z. (state (suc h) (unwind_mark Kind.ExceptHandler h ∷ ms), r, ap suc (sym z), ((refl, refl), mt)))
+      → InStep (stack_cut h s w (λ s1. At q (It v ∷ s1) (ExceptHandler h old ∷ bs) (Some v) w))
+  unwind_taken s bs w v old m ms h q eh r l mt = cut_step h s w (λ s1. At q (It v ∷ s1) (ExceptHandler h old ∷ bs) (Some v) w)
+      (omega (arith, eh, l)) (λ s1 z. (state (suc h) (unwind_mark Kind.ExceptHandler h ∷ ms), r, ap suc (sym z), ((refl, refl), mt)))
 
   -- a finally's block takes everything
   unwind_held : (r : Reason K P) (s : List (Entry K)) (bs : List (Block K P)) (slot : Option (Value K)) (w : World K) (old : Option (Value K)) (m : Mark) (ms : Shape) (h : ℕ) (q : P)
       → Matches_one (Finally h q) m ms → Stacked (length s) (m ∷ ms) → Matches bs ms → Arrives_for r (length s) (m ∷ ms)
-      → InStep (cut h s w (λ s1. At q s1 (FinallyHandler h (Some r) old ∷ bs) slot w))
+      → InStep (stack_cut h s w (λ s1. At q s1 (FinallyHandler h (Some r) old ∷ bs) slot w))
   unwind_held r s bs slot w old m ms h q (eh, inl f) st mt a =
       let b : left_by m ≡ h = kind_below m Kind.Finally f.0 refl ∙ eh in
       let a1 : Arrives_for r h ms = subst (λ g. Arrives_for r g ms) b (arrives_on r (length s) m ms (kind_loop m Kind.Finally f.0 refl) a) in

@@ -11,7 +11,8 @@ use Rattle.py_dataflow.specs.Walks.{Seen, seen_instr, Sound}
 abbrev pub code_look : Object → ℕ → Option (Seen ℕ)
 code_look o p = seen_instr (fetch_unit (tables o) (head o).instructions p)
 
--- each walk stays within the code and its tables; no height is below a floor or above `max_stackdepth`; walks that meet have one height and shapes that do not differ; and each instruction has the block that it needs
+-- each walk stays within the code and its tables; no height is below a floor or above `max_stackdepth`; walks that meet have one height and
+-- shapes that do not differ; and each instruction has the block that it needs
 abbrev pub sound : Object → Type 0
 sound o = Sound (code_look o) 0 (suc (head o).max_stackdepth)
 
@@ -20,4 +21,6 @@ NeverWrong = (o : Object) → sound o → (answers : List Answer) → (machine o
 
 -- the limit of height changes no run
 abbrev pub LimitIsNoMatter : Type 0
-LimitIsNoMatter = (o : Object) → sound o → (fuel : ℕ) (w : World Object) → M.limited_machine (fetch_unit (tables o) (head o).instructions) (head o).max_stackdepth fuel 0 w ≡ M.machine (fetch_unit (tables o) (head o).instructions) fuel 0 w
+LimitIsNoMatter = (o : Object) → sound o → (fuel : ℕ) (w : World Object)
+    → M.limited_machine (fetch_unit (tables o) (head o).instructions) (head o).max_stackdepth fuel 0 w
+    ≡ M.machine (fetch_unit (tables o) (head o).instructions) fuel 0 w

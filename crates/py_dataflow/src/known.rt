@@ -151,7 +151,8 @@ fn branch_blocks(branch: Branch, shape: &[Mark]) -> &[Mark]
 }
 
 fn branch_opens(branch: Branch) -> Option<Opening>
-    ensures { (h : ℕ) (s : Shape) → with_opening result h (branch_base branch s) ≡ (jumps_to branch (state h s)).shape }
+    ensures { (h : ℕ) (s : Shape) → with_opening result h (branch_base branch s)
+        ≡ (jumps_to branch (state h s)).shape }
 {
     match branch {
         Branch::Goes { opens, .. } => opens,
@@ -182,10 +183,15 @@ fn meet(
     arriving: &KnownState,
 ) -> Result<Option<Vec<Mark>>, Refused>
     ensures fits { IfOk result (λ _. Fits (Some (state_of known.now)) (state_of arriving.now)) }
-    ensures same { IfOk result (λ met. IfNone met (join known.now.shape.items arriving.now.shape.items ≡ known.now.shape.items)) }
-    ensures more { IfOk result (λ met. IfSome met (λ shape. (shape.items ≡ join known.now.shape.items arriving.now.shape.items) × (missing_in shape.items < missing_in known.now.shape.items) × ¬ Torn shape.items)) }
-    ensures uneven { IfErr result (λ e. e ≡ Refused.UnevenHeights → IsUneven (Some (state_of known.now)) (state_of arriving.now)) }
-    ensures unfit { IfErr result (λ e. e ≡ Refused.BlockMismatch → Unfit (Some (state_of known.now)) (state_of arriving.now)) }
+    ensures same { IfOk result (λ met.
+        IfNone met (join known.now.shape.items arriving.now.shape.items ≡ known.now.shape.items)) }
+    ensures more { IfOk result (λ met.
+        IfSome met (λ shape. (shape.items ≡ join known.now.shape.items arriving.now.shape.items)
+        × (missing_in shape.items < missing_in known.now.shape.items) × ¬ Torn shape.items)) }
+    ensures uneven { IfErr result (λ e. e ≡ Refused.UnevenHeights
+        → IsUneven (Some (state_of known.now)) (state_of arriving.now)) }
+    ensures unfit { IfErr result (λ e. e ≡ Refused.BlockMismatch
+        → Unfit (Some (state_of known.now)) (state_of arriving.now)) }
     ensures others { IfErr result (λ e. (e ≢ Refused.NoEnd) × (e ≢ Refused.HeightOutOfRange)) }
 {
     if known.height != arriving.height {
@@ -224,8 +230,10 @@ pub fn arrive(
     requires whole { IsWhole (state_at states.old place) }
     ensures arrives { IfOk result (λ _. Arrives states.old states.new place (state_of arriving)) }
     ensures moves { IfOk result (λ change. Moves change states.old states.new) }
-    ensures uneven { IfErr result (λ e. e ≡ Refused.UnevenHeights → IsUneven (state_at states.old place) (state_of arriving)) }
-    ensures unfit { IfErr result (λ e. e ≡ Refused.BlockMismatch → Unfit (state_at states.old place) (state_of arriving)) }
+    ensures uneven { IfErr result (λ e. e ≡ Refused.UnevenHeights
+        → IsUneven (state_at states.old place) (state_of arriving)) }
+    ensures unfit { IfErr result (λ e. e ≡ Refused.BlockMismatch
+        → Unfit (state_at states.old place) (state_of arriving)) }
     ensures others { IfErr result (λ e. (e ≢ Refused.NoEnd) × (e ≢ Refused.HeightOutOfRange)) }
 {
     match &states[place] {
@@ -271,7 +279,8 @@ fn fall_from(
 ) -> Result<Option<KnownState>, AllocError>
     requires { falls_within flow known.now.height known.now.shape.items ≡ true }
     ensures last { IfOk result (λ next. IfNone next (flow.falls ≡ false)) }
-    ensures on { IfOk result (λ next. IfSome next (λ k. (flow.falls ≡ true) × (state_of k ≡ falls_to flow (state_of known.now)))) }
+    ensures on { IfOk result (λ next. IfSome next
+        (λ k. (flow.falls ≡ true) × (state_of k ≡ falls_to flow (state_of known.now)))) }
 {
     if !flow.falls {
         return Ok(None);
@@ -288,7 +297,8 @@ fn jump_from(
 ) -> Result<Option<KnownState>, AllocError>
     requires { jumps ≡ true → jumps_within branch known.now.height known.now.shape.items ≡ true }
     ensures none { IfOk result (λ next. IfNone next (jumps ≡ false)) }
-    ensures jumps { IfOk result (λ next. IfSome next (λ k. (jumps ≡ true) × (state_of k ≡ jumps_to branch (state_of known.now)))) }
+    ensures jumps { IfOk result (λ next.
+        IfSome next (λ k. (jumps ≡ true) × (state_of k ≡ jumps_to branch (state_of known.now)))) }
 {
     if !jumps {
         return Ok(None);

@@ -30,10 +30,12 @@ fn reach(
 ) -> Result<Change, Fault>
     requires shown { AllShown (look_at _starts.now items.now) (length items.now) states.old }
     requires arriving { Shown (look_at _starts.now items.now) to (state_of arriving) }
-    ensures steps { IfOk result (λ change. Steps (look_at _starts.now items.now) (length items.now) states.old states.new change) }
+    ensures steps { IfOk result (λ change.
+        Steps (look_at _starts.now items.now) (length items.now) states.old states.new change) }
     ensures elsewhere { IfOk result (λ _. SameBut to states.old states.new) }
     ensures covered { IfOk result (λ _. Covered (state_at states.new) to (state_of arriving)) }
-    ensures refused { IfErr result (λ fault. RefusalAt (look_at _starts.now items.now) fault.refused fault.place) }
+    ensures refused { IfErr result
+        (λ fault. RefusalAt (look_at _starts.now items.now) fault.refused fault.place) }
 {
     if to >= items.len() {
         return Err(Fault {
@@ -63,11 +65,15 @@ fn reach_if(
     arriving: Option<KnownState>,
 ) -> Result<Change, Fault>
     requires shown { AllShown (look_at starts.now items.now) (length items.now) states.old }
-    requires arriving { IfSome arriving (λ k. Shown (look_at starts.now items.now) to (state_of k)) }
-    ensures steps { IfOk result (λ change. Steps (look_at starts.now items.now) (length items.now) states.old states.new change) }
+    requires arriving { IfSome arriving
+        (λ k. Shown (look_at starts.now items.now) to (state_of k)) }
+    ensures steps { IfOk result (λ change.
+        Steps (look_at starts.now items.now) (length items.now) states.old states.new change) }
     ensures elsewhere { IfOk result (λ _. SameBut to states.old states.new) }
-    ensures covered { IfOk result (λ _. IfSome arriving (λ k. Covered (state_at states.new) to (state_of k))) }
-    ensures refused { IfErr result (λ fault. RefusalAt (look_at starts.now items.now) fault.refused fault.place) }
+    ensures covered { IfOk result (λ _.
+        IfSome arriving (λ k. Covered (state_at states.new) to (state_of k))) }
+    ensures refused { IfErr result
+        (λ fault. RefusalAt (look_at starts.now items.now) fault.refused fault.place) }
 {
     match arriving {
         Some(known) => reach(alloc, starts, items, states, to, known),
@@ -91,25 +97,29 @@ fn target_place(starts: &[usize], item: &InstructionInfo) -> usize
 #[derive(Clone, Copy)]
 struct Visited {
     change: Change,
-    behind: bool,
+    after: bool,
 }
 
 impl Visited {
     fn nothing() -> Visited
-        ensures { result ≡ record { change = Change.Nothing; behind = false } }
+        ensures { result ≡ record { change = Change.Nothing; after = false } }
     {
         Visited {
             change: Change::Nothing,
-            behind: false,
+            after: false,
         }
     }
 
     fn and(self, next: Visited) -> Visited
-        ensures { result ≡ record { change = combined_change self.change next.change; behind = self.behind || next.behind } }
+        ensures { result ≡ record {
+          change = combined_change self.change next.change;
+          after =
+              self.after || next.after;
+        } }
     {
         Visited {
             change: combine(self.change, next.change),
-            behind: self.behind || next.behind,
+            after: self.after || next.after,
         }
     }
 }
@@ -133,11 +143,17 @@ fn visit(
     requires code { IsCode starts.now items.now }
     requires shown { AllShown (look_at starts.now items.now) (length items.now) states.old }
     requires inside { k < length items.now }
-    ensures steps { IfOk result (λ visited. Steps (look_at starts.now items.now) (length items.now) states.old states.new visited.change) }
-    ensures before { IfOk result (λ visited. visited.behind ≡ false → SameTo k states.old states.new) }
-    ensures settled { IfOk result (λ visited. visited.behind ≡ false → Settled (look_at starts.now items.now) states.new k) }
-    ensures behind { IfOk result (λ visited. visited.behind ≡ true → visited.change ≢ Change.Nothing) }
-    ensures refused { IfErr result (λ fault. RefusalAt (look_at starts.now items.now) fault.refused fault.place) }
+    ensures steps { IfOk result (λ visited.
+        Steps (look_at starts.now items.now)
+        (length items.now) states.old states.new visited.change) }
+    ensures before { IfOk result (λ visited. visited.after ≡ false
+        → SameTo k states.old states.new) }
+    ensures settled { IfOk result (λ visited. visited.after ≡ false
+        → Settled (look_at starts.now items.now) states.new k) }
+    ensures after { IfOk result (λ visited. visited.after ≡ true
+        → visited.change ≢ Change.Nothing) }
+    ensures refused { IfErr result
+        (λ fault. RefusalAt (look_at starts.now items.now) fault.refused fault.place) }
 {
     let item = &items[k];
     let nexts = match &states[k] {
@@ -152,7 +168,7 @@ fn visit(
     let jumped = reach_if(alloc, starts, items, states, target, nexts.jump)?;
     Ok(Visited {
         change: combine(fell, jumped),
-        behind: goes_back(k, target, jumped),
+        after: goes_back(k, target, jumped),
     })
 }
 
@@ -165,10 +181,15 @@ fn round(
 ) -> Result<Visited, Fault>
     requires code { IsCode starts.now items.now }
     requires shown { AllShown (look_at starts.now items.now) (length items.now) states.old }
-    ensures steps { IfOk result (λ visited. Steps (look_at starts.now items.now) (length items.now) states.old states.new visited.change) }
-    ensures settled { IfOk result (λ visited. visited.behind ≡ false → (k : ℕ) → k < length items.now → Settled (look_at starts.now items.now) states.new k) }
-    ensures behind { IfOk result (λ visited. visited.behind ≡ true → visited.change ≢ Change.Nothing) }
-    ensures refused { IfErr result (λ fault. RefusalAt (look_at starts.now items.now) fault.refused fault.place) }
+    ensures steps { IfOk result (λ visited.
+        Steps (look_at starts.now items.now)
+        (length items.now) states.old states.new visited.change) }
+    ensures settled { IfOk result (λ visited. visited.after ≡ false → (k : ℕ) → k < length items.now
+        → Settled (look_at starts.now items.now) states.new k) }
+    ensures after { IfOk result (λ visited. visited.after ≡ true
+        → visited.change ≢ Change.Nothing) }
+    ensures refused { IfErr result
+        (λ fault. RefusalAt (look_at starts.now items.now) fault.refused fault.place) }
 {
     let mut all = Visited::nothing();
     for k in 0..items.len() {
@@ -187,14 +208,17 @@ fn spread(
 ) -> Result<bool, Fault>
     requires code { IsCode starts.now items.now }
     requires shown { AllShown (look_at starts.now items.now) (length items.now) states.old }
-    ensures shown { IfOk result (λ _. AllShown (look_at starts.now items.now) (length items.now) states.new × Grows states.old states.new) }
-    ensures settled { IfOk result (λ more. more ≡ false → (k : ℕ) → k < length items.now → Settled (look_at starts.now items.now) states.new k) }
+    ensures shown { IfOk result (λ _. AllShown (look_at starts.now items.now)
+        (length items.now) states.new × Grows states.old states.new) }
+    ensures settled { IfOk result (λ more. more ≡ false → (k : ℕ) → k < length items.now
+        → Settled (look_at starts.now items.now) states.new k) }
     ensures fewer { IfOk result (λ more. more ≡ true → unknown states.new < unknown states.old) }
-    ensures refused { IfErr result (λ fault. RefusalAt (look_at starts.now items.now) fault.refused fault.place) }
+    ensures refused { IfErr result
+        (λ fault. RefusalAt (look_at starts.now items.now) fault.refused fault.place) }
 {
     loop {
         let visited = round(alloc, starts, items, states)?;
-        if !visited.behind {
+        if !visited.after {
             return Ok(false);
         }
         if matches!(visited.change, Change::Place) {
@@ -212,9 +236,12 @@ fn spread_all(
 ) -> Result<(), Fault>
     requires code { IsCode starts.now items.now }
     requires shown { AllShown (look_at starts.now items.now) (length items.now) states.old }
-    ensures shown { IfOk result (λ _. AllShown (look_at starts.now items.now) (length items.now) states.new × Grows states.old states.new) }
-    ensures settled { IfOk result (λ _. (k : ℕ) → k < length items.now → Settled (look_at starts.now items.now) states.new k) }
-    ensures refused { IfErr result (λ fault. RefusalAt (look_at starts.now items.now) fault.refused fault.place) }
+    ensures shown { IfOk result (λ _. AllShown (look_at starts.now items.now)
+        (length items.now) states.new × Grows states.old states.new) }
+    ensures settled { IfOk result (λ _. (k : ℕ) → k < length items.now
+        → Settled (look_at starts.now items.now) states.new k) }
+    ensures refused { IfErr result
+        (λ fault. RefusalAt (look_at starts.now items.now) fault.refused fault.place) }
 {
     loop {
         if !spread(alloc, starts, items, states)? {
@@ -235,7 +262,9 @@ fn height_at(state: &Option<KnownState>) -> u32
 // The greatest height that is known.
 fn greatest(states: &[Option<KnownState>]) -> u32
     ensures above { All (λ state. height_known state ≤ result) states.now }
-    ensures attained { (result ≡ 0) ⊎ ((k : ℕ) × (k < length states.now) × (height_known (slice_index_or states.now k None) ≡ result)) }
+    ensures attained { (result ≡ 0)
+        ⊎ ((k : ℕ) × (k < length states.now)
+        × (height_known (slice_index_or states.now k None) ≡ result)) }
 {
     let mut greatest = 0;
     for state in states {
@@ -258,7 +287,8 @@ fn walk_all(
     requires unknown { states.old ≡ replicate (length items.now) None }
     ensures sound { IfOk result (λ depth. Sound (look_at starts.now items.now) 0 (depth + 1)) }
     ensures depth { IfOk result (λ depth. IsDepth (look_at starts.now items.now) 0 depth) }
-    ensures refused { IfErr result (λ fault. RefusalAt (look_at starts.now items.now) fault.refused fault.place) }
+    ensures refused { IfErr result
+        (λ fault. RefusalAt (look_at starts.now items.now) fault.refused fault.place) }
 {
     reach(alloc, starts, items, states, 0, first_known(alloc))?;
     spread_all(alloc, starts, items, states)?;
@@ -268,14 +298,15 @@ fn walk_all(
 /// The greatest height of the stack on a walk from the first instruction, in values.
 ///
 /// # Errors
-/// Each of the four refusals is told only where a walk meets it, at the place of that instruction in the list: `NoEnd`
+/// Each of the four refusals is reported only where a walk meets it, at the place of that instruction in the list: `NoEnd`
 /// where a walk goes on after the last instruction, `UnevenHeights` where two walks reach a place with different heights,
 /// `HeightOutOfRange` and `BlockMismatch` as one instruction has them. There may be no memory.
 pub fn depth(alloc: Global, starts: &[usize], items: &[InstructionInfo]) -> Result<u32, Fault>
     requires { IsCode starts.now items.now }
     ensures sound { IfOk result (λ depth. Sound (look_at starts.now items.now) 0 (depth + 1)) }
     ensures depth { IfOk result (λ depth. IsDepth (look_at starts.now items.now) 0 depth) }
-    ensures refused { IfErr result (λ fault. RefusalAt (look_at starts.now items.now) fault.refused fault.place) }
+    ensures refused { IfErr result
+        (λ fault. RefusalAt (look_at starts.now items.now) fault.refused fault.place) }
 {
     let mut states = match unknown_states(alloc, items.len()) {
         Ok(states) => states,

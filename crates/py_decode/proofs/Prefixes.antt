@@ -1,5 +1,6 @@
 -- What is read at a unit, from what is read after it.
-use Rattle.std.proofs.Common.{◌≡◌, ◌≢◌, ℕ, zero, suc, ◌+◌, ◌-◌, ◌*◌, ◌%◌, ◌^◌, ◌<◌, ◌≤◌, List, [], ◌∷◌, drop, length, get_or, slice_get, set, Bool, true, false, Option, Some, None, refl, sym, inl, inr, ap, ◌∙◌, subst, arith}
+use Rattle.std.proofs.Common.{◌≡◌, ◌≢◌, ℕ, zero, suc, ◌+◌, ◌-◌, ◌*◌, ◌%◌, ◌^◌, ◌<◌, ◌≤◌, List, [], ◌∷◌, drop, length, get_or, slice_get}
+use Rattle.std.proofs.Common.{set, Bool, true, false, Option, Some, None, refl, sym, inl, inr, ap, ◌∙◌, subst, arith}
 use Rattle.std.specs.Prelude.{if◌then◌else◌}
 use Rattle.std.specs.Option.{option_map}
 use Rattle.std.proofs.Math.Nat.{add-mod-mod, mod-add-mod, mul-mod_right, pow-succ'}
@@ -42,7 +43,8 @@ four_more n h =
     ap (λ k. 256 ^ k % 2 ^ 32) e ∙ ap (λ x. x % 2 ^ 32) (pow-add 256 4 (n - 4)) ∙ mul-mod_right (2 ^ 32) (256 ^ (n - 4))
 
 module _ (u : CodeUnit) (us : List CodeUnit) (at : ℕ) where
-  later_if : (b : Bool) (operand : ℕ) (r : Read) → ((high : ℕ) → read_from high (suc at) us ≡ Some r → suc at < r.next) → (if b then read_from operand (suc at) us else Some (record { op = u.op; operand = operand; next = suc at })) ≡ Some r → at < r.next
+  later_if : (b : Bool) (operand : ℕ) (r : Read) → ((high : ℕ) → read_from high (suc at) us ≡ Some r → suc at < r.next)
+      → (if b then read_from operand (suc at) us else Some (record { op = u.op; operand = operand; next = suc at })) ≡ Some r → at < r.next
   later_if true operand r h e = let z = h operand e in omega (arith, z)
   later_if false operand r h e = let z = ap (λ (q : Read). q.next) (same_Some (record { op = u.op; operand = operand; next = suc at }) r e) in omega (arith, z)
 
@@ -61,7 +63,9 @@ raised_twice high b at r l =
     let spread : (high * 256 + b) * p + r.operand ≡ high * (256 * p) + ((0 * 256 + b) * p + r.operand) = omega arith in
     let mine : ((high * 256 + b) % m * p + r.operand) % m ≡ (high * (256 * p) + ((0 * 256 + b) * p + r.operand)) % m = scaled (high * 256 + b) p r.operand m ∙ ap (λ x. x % m) spread in
     let theirs : (high * 256 ^ (r.next - at) + ((0 * 256 + b) % m * p + r.operand) % m) % m ≡ (high * (256 * p) + ((0 * 256 + b) * p + r.operand)) % m =
-    ap (λ x. (high * x + ((0 * 256 + b) % m * p + r.operand) % m) % m) w ∙ ap (λ x. (high * (256 * p) + x) % m) (scaled (0 * 256 + b) p r.operand m) ∙ add-mod-mod (high * (256 * p)) ((0 * 256 + b) * p + r.operand) m in
+    ap (λ x. (high * x + ((0 * 256 + b) % m * p + r.operand) % m) % m) w
+    ∙ ap (λ x. (high * (256 * p) + x) % m) (scaled (0 * 256 + b) p r.operand m)
+    ∙ add-mod-mod (high * (256 * p)) ((0 * 256 + b) * p + r.operand) m in
     ap (λ n. let q : Read = record { op = r.op; operand = n; next = r.next } in q) (mine ∙ sym theirs)
 
 raised_map : (high b at : ℕ) (o : Option Read) → ((r : Read) → o ≡ Some r → suc at < r.next)
@@ -69,7 +73,9 @@ raised_map : (high b at : ℕ) (o : Option Read) → ((r : Read) → o ≡ Some 
 raised_map high b at None h = refl
 raised_map high b at (Some r) h = ap Some (raised_twice high b at r (h r refl))
 
-raised_here : (op : CodeUnit) (high b at : ℕ) → let r : Read = record { op = op.op; operand = (high * 256 + b) % 2 ^ 32; next = suc at } in r ≡ with_high_bytes high at (record { op = op.op; operand = (0 * 256 + b) % 2 ^ 32; next = suc at })
+raised_here : (op : CodeUnit) (high b at : ℕ) → let r : Read =
+    record { op = op.op; operand = (high * 256 + b) % 2 ^ 32; next = suc at } in r
+    ≡ with_high_bytes high at (record { op = op.op; operand = (0 * 256 + b) % 2 ^ 32; next = suc at })
 raised_here op high b at =
     let m : ℕ = 2 ^ 32 in
     let e : suc at - at ≡ 1 = omega arith in
@@ -79,7 +85,11 @@ raised_here op high b at =
     ap (λ n. let q : Read = record { op = op.op; operand = n; next = suc at } in q) (sym theirs)
 
 module _ (u : CodeUnit) (us : List CodeUnit) (high at : ℕ) (go : (h a : ℕ) → read_from h a us ≡ option_map (with_high_bytes h a) (read_from 0 a us)) where
-  raises_by : (b : Bool) → (if b then read_from ((high * 256 + u.arg) % 2 ^ 32) (suc at) us else Some (record { op = u.op; operand = (high * 256 + u.arg) % 2 ^ 32; next = suc at })) ≡ option_map (with_high_bytes high at) (if b then read_from ((0 * 256 + u.arg) % 2 ^ 32) (suc at) us else Some (record { op = u.op; operand = (0 * 256 + u.arg) % 2 ^ 32; next = suc at }))
+  raises_by : (b : Bool) → (if b then read_from ((high * 256 + u.arg) % 2 ^ 32) (suc at) us else Some
+      (record { op = u.op; operand = (high * 256 + u.arg) % 2 ^ 32; next = suc at }))
+      ≡ option_map (with_high_bytes high at)
+      (if b then read_from ((0 * 256 + u.arg) % 2 ^ 32) (suc at) us else Some
+      (record { op = u.op; operand = (0 * 256 + u.arg) % 2 ^ 32; next = suc at }))
   raises_by true =
       go ((high * 256 + u.arg) % 2 ^ 32) (suc at)
       ∙ raised_map high u.arg at (read_from 0 (suc at) us) (λ r e. prefix_later us 0 (suc at) r e)
@@ -94,7 +104,10 @@ prefix_raises (u ∷ us) high at = raises_by u us high at (λ h a. prefix_raises
 pub ahead_is : (u : CodeUnit) (us : List CodeUnit) (at : ℕ) → read_from 0 at (u ∷ us) ≡ read_ahead u at (read_from 0 (suc at) us)
 ahead_is u us at = by_prefix (is_prefix u.op)
   where
-    by_prefix : (b : Bool) → (if b then read_from ((0 * 256 + u.arg) % 2 ^ 32) (suc at) us else Some (record { op = u.op; operand = (0 * 256 + u.arg) % 2 ^ 32; next = suc at })) ≡ (if b then option_map (with_high_bytes ((0 * 256 + u.arg) % 2 ^ 32) (suc at)) (read_from 0 (suc at) us) else Some (record { op = u.op; operand = (0 * 256 + u.arg) % 2 ^ 32; next = suc at }))
+    by_prefix : (b : Bool) → (if b then read_from ((0 * 256 + u.arg) % 2 ^ 32) (suc at) us else Some
+        (record { op = u.op; operand = (0 * 256 + u.arg) % 2 ^ 32; next = suc at }))
+        ≡ (if b then option_map (with_high_bytes ((0 * 256 + u.arg) % 2 ^ 32) (suc at)) (read_from 0 (suc at) us) else Some
+        (record { op = u.op; operand = (0 * 256 + u.arg) % 2 ^ 32; next = suc at }))
     by_prefix true = prefix_raises us ((0 * 256 + u.arg) % 2 ^ 32) (suc at)
     by_prefix false = refl
 
@@ -106,14 +119,17 @@ module _ (units : List CodeUnit) where
   pub nothing_yet : (reads : List (Option UnitRead)) → length reads ≡ length units → (k : ℕ) → length units ≤ k → reading_at reads k ≡ read_from 0 k (drop k units)
   nothing_yet reads e k l = ap read_known (slice_get_past reads k (omega (arith, e, l))) ∙ sym (nothing_past k l)
 
-  module _ (at : ℕ) (later now : Option UnitRead) (d : CodeUnit) (some : 0 < at) (within : at ≤ length units) (before : read_known (Some later) ≡ read_from 0 at (drop at units)) (ahead : read_known (Some now) ≡ read_ahead (get_or units (at - 1) d) (at - 1) (read_known (Some later))) where
+  module _ (at : ℕ) (later now : Option UnitRead) (d : CodeUnit) (some : 0 < at) (within : at ≤ length units)
+      (before : read_known (Some later) ≡ read_from 0 at (drop at units))
+      (ahead : read_known (Some now) ≡ read_ahead (get_or units (at - 1) d) (at - 1) (read_known (Some later))) where
     prefix_here : drop (at - 1) units ≡ get_or units (at - 1) d ∷ drop at units
     prefix_here = let e : suc (at - 1) ≡ at = omega (arith, some) in drop-cons units (at - 1) d (omega (arith, some, within)) ∙ ap (λ i. get_or units (at - 1) d ∷ drop i units) e
 
     pub now_is : read_known (Some now) ≡ read_from 0 (at - 1) (drop (at - 1) units)
     now_is =
         let e : at ≡ suc (at - 1) = omega (arith, some) in
-        ahead ∙ ap (read_ahead (get_or units (at - 1) d) (at - 1)) (before ∙ ap (λ i. read_from 0 i (drop at units)) e) ∙ sym (ap (read_from 0 (at - 1)) prefix_here ∙ ahead_is (get_or units (at - 1) d) (drop at units) (at - 1))
+        ahead ∙ ap (read_ahead (get_or units (at - 1) d) (at - 1)) (before ∙ ap (λ i. read_from 0 i (drop at units)) e)
+        ∙ sym (ap (read_from 0 (at - 1)) prefix_here ∙ ahead_is (get_or units (at - 1) d) (drop at units) (at - 1))
 
     pub read_on : (reads : List (Option UnitRead)) → length reads ≡ length units → ((k : ℕ) → at ≤ k → reading_at reads k ≡ read_from 0 k (drop k units))
         → (k : ℕ) → at - 1 ≤ k → reading_at (set reads (at - 1) now) k ≡ read_from 0 k (drop k units)

@@ -92,7 +92,8 @@ fn nothing_read(alloc: Global, count: usize) -> Result<Vec<Option<UnitRead>>, Al
 
 // What is read at each of these units, from the last one to the first.
 fn read_units(alloc: Global, units: &[CodeUnit]) -> Result<Vec<Option<UnitRead>>, AllocError>
-    ensures { IfOk result (λ reads. (k : ℕ) → reading_at reads.items k ≡ read_from 0 k (drop k units.now)) }
+    ensures { IfOk result (λ reads. (k : ℕ)
+        → reading_at reads.items k ≡ read_from 0 k (drop k units.now)) }
 {
     let mut reads = nothing_read(alloc, units.len())?;
     let mut later = None;

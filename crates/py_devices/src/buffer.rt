@@ -15,7 +15,8 @@ pub fn fill_from(buf: &mut [u8], bytes: &[u8], at: usize, count: usize)
 /// Puts the bytes at a place.
 pub fn put_at(buffer: &mut [u8], at: usize, bytes: &[u8])
     requires { at + length bytes.now ≤ length buffer.old }
-    ensures { buffer.new ≡ take at buffer.old ++ bytes.now ++ drop (at + length bytes.now) buffer.old }
+    ensures { buffer.new ≡ take at buffer.old ++ bytes.now
+        ++ drop (at + length bytes.now) buffer.old }
 {
     let (_, rest) = buffer.split_at_mut(at);
     let (front, _) = rest.split_at_mut(bytes.len());

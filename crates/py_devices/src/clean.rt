@@ -120,7 +120,8 @@ impl Sink for CleanSink {
         ensures cause { WriteCounts self.old.faults self.new.faults result bytes.now }
         ensures still { WriteKeepsCount true self.old.faults self.new.faults result bytes.now }
         ensures rest { WritesWhole None None 0 0 result bytes.now }
-        ensures room { HasRoom (Some self.old.room) (Some self.new.room) self.old.faults self.new.faults result bytes.now }
+        ensures room { HasRoom (Some self.old.room)
+            (Some self.new.room) self.old.faults self.new.faults result bytes.now }
         ensures answer { result ≡ shelf_answer self.old (length bytes.now) }
         ensures after { self.new ≡ after_put self.old bytes.now }
     {

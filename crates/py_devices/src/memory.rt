@@ -35,7 +35,14 @@ impl MemSource {
     /// counted from 1.
     pub fn new(bytes: List<u8>, piece: usize, fails: List<u32>) -> MemSource
         requires { 1 ≤ piece }
-        ensures { result ≡ record { left = bytes; piece = piece; fails = fails; calls = 0; faults = 0 } }
+        ensures { result ≡ record {
+          left = bytes;
+          piece = piece;
+          fails = fails;
+          calls = 0;
+          faults =
+              0;
+        } }
     {
         MemSource {
             bytes,
@@ -111,7 +118,15 @@ impl MemSink {
     /// numbers `fails` lists, counted from 1, and those whose bytes have no room in the rest of the buffer.
     pub fn new(buffer: List<u8>, piece: usize, fails: List<u32>) -> MemSink
         requires { 1 ≤ piece }
-        ensures { result ≡ record { held = []; size = length buffer; piece = piece; fails = fails; calls = 0; faults = 0 } }
+        ensures { result ≡ record {
+          held = [];
+          size = length buffer;
+          piece = piece;
+          fails =
+              fails;
+          calls = 0;
+          faults = 0;
+        } }
     {
         MemSink {
             buffer: buffer.into_vec(),

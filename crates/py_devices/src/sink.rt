@@ -13,7 +13,7 @@ pub enum WriteAnswer {
 
 /// Where bytes go.
 pub trait Sink {
-    // The bytes held, where they are told.
+    // The bytes held, where they are given.
     ghost held: { Self → Option (List ℕ) };
     // How many more bytes it takes, where it says so.
     ghost room: { Self → Option ℕ };
@@ -21,7 +21,7 @@ pub trait Sink {
     ghost faults: { Self → ℕ };
     // Whether the count goes up in failed calls alone.
     ghost counts_failures: { Bool } = { false };
-    // What is still to come, where it was told.
+    // What is still to come, where it was given.
     ghost awaited: { Self → Option (List ℕ) } = { λ _. None };
     // How many writes were handed less than all that is still to come, where they are counted.
     ghost partial: { Self → ℕ } = { λ _. 0 };
@@ -30,7 +30,9 @@ pub trait Sink {
     fn write(&mut self, bytes: &[u8]) -> WriteAnswer
         ensures bytes { WriteTakes (held self.old) (held self.new) result bytes.now }
         ensures cause { WriteCounts (faults self.old) (faults self.new) result bytes.now }
-        ensures still { WriteKeepsCount counts_failures (faults self.old) (faults self.new) result bytes.now }
-        ensures rest { WritesWhole (awaited self.old) (awaited self.new) (partial self.old) (partial self.new) result bytes.now }
+        ensures still { WriteKeepsCount counts_failures (faults self.old)
+            (faults self.new) result bytes.now }
+        ensures rest { WritesWhole (awaited self.old) (awaited self.new) (partial self.old)
+            (partial self.new) result bytes.now }
         ensures room { HasRoom (room self.old) (room self.new) (faults self.old) (faults self.new) result bytes.now };
 }

@@ -15,7 +15,7 @@ pub enum ReadAnswer {
 
 /// Where bytes come from.
 pub trait Source {
-    // The bytes left, where they are told.
+    // The bytes left, where they are given.
     ghost left: { Self → Option (List ℕ) };
     // How many faults were met so far.
     ghost faults: { Self → ℕ };

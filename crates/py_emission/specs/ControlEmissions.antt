@@ -63,13 +63,13 @@ caught_name None = emit op.Pop 0
 caught_name (Some name) = emission_of_stored name
 
 -- a name is set to None and deleted
-abbrev pub forgotten : (name : List ℕ) → Emission
-forgotten name = emit_constant op.LoadConst const.none ▸ name_access Store name ▸ name_access Delete name
+abbrev pub handler_name_removal : (name : List ℕ) → Emission
+handler_name_removal name = emit_constant op.LoadConst const.none ▸ name_access Store name ▸ name_access Delete name
 
 -- the name of a handler is forgotten on every way out of its body
 abbrev pub named_body : Option (List ℕ) → (body : Emission) → Emission
 named_body None body = body
-named_body (Some name) body = finally_do body (forgotten name)
+named_body (Some name) body = finally_do body (handler_name_removal name)
 
 -- unless the test holds, an assertion is raised with so many messages
 abbrev pub assertion_of : (test : (truth : Bool) → (block : ℕ) → Emission) → (message : Emission) → (count : ℕ) → Emission

@@ -15,10 +15,13 @@ use Rattle.py_emission_parts.specs.TableParts.{binary_case, conversion_case, con
 use Rattle.py_bytecode.specs.Values.{Load}
 use Rattle.py_emission_parts.specs.Accesses.{name_access, emission_of_deleted, emission_of_name, emission_of_stored}
 use Rattle.py_emission_parts.specs.Children.{DefaultEmissions, child, emission_of_defaults, flags_of_defaults, function_scope, made_function}
-use Rattle.py_emission_parts.specs.Within.{lambda_inside}
+use Rattle.py_emission_parts.specs.NestedScopes.{lambda_inside}
 use Rattle.py_emission_parts.specs.Comprehensions.{ClauseEmissions, as_element, comprehension, collection_scope, generator_body}
 use Rattle.py_emission_parts.specs.Emitting.{Emission, ◌▸◌, by_level, emit, emit_constant, emit_mangled, generator_mark, keep, move, refuse}
-use Rattle.py_emission_parts.specs.EmissionParts.{Emissions, Keywords, Stores, bool_emissions, counted_build, choice, constant_emissions, display, elements, emission_of_call, emission_of_compare, emission_of_dict, in_turn, joined_value, only_in_function, pass_scopes, plain_store, slice_value, tested_value, unary_emissions, unless_debug, unpack, value_or, values}
+use Rattle.py_emission_parts.specs.EmissionParts.{Emissions, Keywords, Stores, bool_emissions, counted_build, choice, constant_emissions}
+use Rattle.py_emission_parts.specs.EmissionParts.{display, elements, emission_of_call, emission_of_compare, emission_of_dict, in_turn}
+use Rattle.py_emission_parts.specs.EmissionParts.{joined_value, only_in_function, pass_scopes, plain_store, slice_value, tested_value}
+use Rattle.py_emission_parts.specs.EmissionParts.{unary_emissions, unless_debug, unpack, value_or, values}
 use Rattle.py_emission_parts.specs.Refused.{lone_star, no_assignment, no_deletion}
 use Rattle.py_emission.specs.Predicates.{deletion_name}
 
@@ -56,7 +59,9 @@ abbrev mutual
   emissions (tree.SetComp at elt gs) =
       let cs = clause_emissions gs in tested_value (move at ▸ comprehension (some_async gs) (codes "<setcomp>") cs (collection_scope op.BuildSet op.SetAdd cs (as_element (emissions elt).value)))
   emissions (tree.DictComp at key value gs) =
-      let cs = clause_emissions gs in tested_value (move at ▸ comprehension (some_async gs) (codes "<dictcomp>") cs (collection_scope op.BuildMap op.MapAdd cs ((emissions key).value ▸ (emissions value).value)))
+      let cs = clause_emissions gs in tested_value
+      (move at ▸ comprehension (some_async gs) (codes "<dictcomp>") cs
+      (collection_scope op.BuildMap op.MapAdd cs ((emissions key).value ▸ (emissions value).value)))
   emissions (tree.GeneratorExp at elt gs) =
       let cs = clause_emissions gs in tested_value (move at ▸ comprehension (some_async gs || awaits elt) (codes "<genexpr>") cs (generator_body cs (as_element (emissions elt).value)))
   emissions (tree.Await at value) = tested_value (move at ▸ refuse error.InvalidAwait)

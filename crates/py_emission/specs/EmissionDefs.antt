@@ -7,13 +7,13 @@ use Rattle.py_bytecode.specs.Objects as const
 use Rattle.py_annotation_text.specs.Annotation.{annotation}
 use Rattle.py_base.specs.declared.errors.CodegenErrorType.TheVariants as error
 use Rattle.py_emission_parts.specs.Children.{child, docstring_store, emission_of_defaults, flags_of_defaults, function_made, function_scope, made_function, named_annotation}
-use Rattle.py_emission_parts.specs.Within.{behind_name, class_path, class_within, function_inside, passed_defaults}
+use Rattle.py_emission_parts.specs.NestedScopes.{after_name, class_path, nested_class, function_inside, passed_defaults}
 use Rattle.py_emission_parts.specs.Accesses.{emission_of_stored}
 use Rattle.py_emission_parts.specs.Classes.{class_end, class_names, class_shape}
 use Rattle.py_emission_parts.specs.Elements.{Function}
 use Rattle.py_emission_parts.specs.Emitting.{Emission, ◌▸◌, by_context, by_level, emit, emit_constant, keep, refuse}
 use Rattle.py_emission_parts.specs.EmissionParts.{counted_build, elements, emission_of_call}
-use Rattle.py_emission_parts.specs.TypeParameters.{bounded_type_var, generic_alias, hidden, load_handed, no_defaults, plain, plain_alias}
+use Rattle.py_emission_parts.specs.TypeParameters.{bounded_type_var, generic_alias, in_type_param_scope, load_handed, no_defaults, plain, plain_alias}
 use Rattle.py_emission.specs.Emission.{all_emissions, default_emissions, emission, keyword_emissions, unsupported_node}
 use Rattle.py_emission.specs.Parameters.{function_shape, parameters}
 use Rattle.py_emission.specs.Texts.{after_doc, doc_of}
@@ -92,7 +92,7 @@ emission_of_params ts = counted_build op.BuildTuple (param_emissions ts)
 unfoldable pub emission_of_generic_def : (name : List ℕ) → tree.Arguments → tree.Stmts → (returns : tree.OptExpr) → tree.TypeParams → (body : Emission) → Emission
 emission_of_generic_def name params stmts returns generic body =
     let d = default_emissions params in
-    hidden name d (load_handed (passed_defaults d.positional d.keyword) ▸ emission_of_params generic ▸ function_value (0x10 + flags_of_defaults d) name params stmts returns body)
+    in_type_param_scope name d (load_handed (passed_defaults d.positional d.keyword) ▸ emission_of_params generic ▸ function_value (0x10 + flags_of_defaults d) name params stmts returns body)
 
 -- a function with or without type parameters
 abbrev pub emission_of_function : (name : List ℕ) → tree.Arguments → tree.Stmts → (returns : tree.OptExpr) → tree.TypeParams → (body : Emission) → Emission
@@ -110,12 +110,14 @@ class_scope stmts body = by_level (λ l. class_names (doc_of l stmts)) ▸ emiss
 
 -- the function of a class with this qualified name, made with these flags
 abbrev pub class_function : (path : List ℕ) → (flags : ℕ) → (name : List ℕ) → tree.Stmts → (body : Emission) → Emission
-class_function path flags name stmts body = child (class_within path name) (class_shape name) (class_scope stmts body) (made_function flags name)
+class_function path flags name stmts body = child (nested_class path name) (class_shape name) (class_scope stmts body) (made_function flags name)
 
 -- what builds a class is called with its function, its name, its bases and its keywords
 abbrev pub class_call : (name : List ℕ) → (function : Emission) → (bases : tree.Exprs) → tree.Keywords → Emission
 class_call name function bases keywords =
-    emission_of_call (Function (emit op.LoadBuildClass 0)) (behind_name (counted_build op.BuildTuple) function (emit_constant op.LoadConst (const.str name)) (elements (all_emissions bases))) (keyword_emissions keywords)
+    emission_of_call (Function (emit op.LoadBuildClass 0))
+    (after_name (counted_build op.BuildTuple) function (emit_constant op.LoadConst (const.str name)) (elements (all_emissions bases)))
+    (keyword_emissions keywords)
 
 -- a class without type parameters, by what is emitted of its statements
 unfoldable pub emission_of_class : (name : List ℕ) → (bases : tree.Exprs) → tree.Keywords → tree.Stmts → (body : Emission) → Emission
@@ -124,7 +126,7 @@ emission_of_class name bases keywords stmts body = by_context (λ c. class_call 
 -- one with type parameters is built in a type-parameter scope; whether its name is global is asked around that
 unfoldable pub emission_of_generic_class : (name : List ℕ) → (bases : tree.Exprs) → tree.Keywords → tree.Stmts → tree.TypeParams → (body : Emission) → Emission
 emission_of_generic_class name bases keywords stmts generic body =
-    by_context (λ c. hidden name no_defaults (class_call name (emission_of_params generic ▸ class_function (class_path c name) 0x10 name stmts body) bases keywords))
+    by_context (λ c. in_type_param_scope name no_defaults (class_call name (emission_of_params generic ▸ class_function (class_path c name) 0x10 name stmts body) bases keywords))
 
 -- a class with or without type parameters
 abbrev pub emission_of_built : (name : List ℕ) → (bases : tree.Exprs) → tree.Keywords → tree.Stmts → tree.TypeParams → (body : Emission) → Emission
@@ -134,7 +136,7 @@ emission_of_built name bases keywords stmts (tree.more_type_params t ts) body = 
 -- an alias; with type parameters it is made in a type-parameter scope
 abbrev pub alias_value : (name : List ℕ) → tree.TypeParams → (value : tree.Expr) → Emission
 alias_value name tree.no_type_params e = plain_alias name (emission e)
-alias_value name (tree.more_type_params t ts) e = hidden name no_defaults (generic_alias name (emission_of_params (tree.more_type_params t ts)) (emission e))
+alias_value name (tree.more_type_params t ts) e = in_type_param_scope name no_defaults (generic_alias name (emission_of_params (tree.more_type_params t ts)) (emission e))
 
 -- only a name is an alias
 abbrev pub emission_of_alias : (target : tree.Expr) → tree.TypeParams → (value : tree.Expr) → Emission

@@ -21,9 +21,9 @@ abbrev pub after_future_import : Future → Emission → Emission
 after_future_import f a = if postpones f then postponed_part a else a
 
 -- future imports, and the statements after them by what is emitted of these
-abbrev pub emission_behind : (tree.Stmts → Emission) → tree.Stmts → Emission
-emission_behind emission tree.no_stmts = emission tree.no_stmts
-emission_behind emission (tree.more_stmts s ss) = elim (future_of s) [
+abbrev pub emission_after : (tree.Stmts → Emission) → tree.Stmts → Emission
+emission_after emission tree.no_stmts = emission tree.no_stmts
+emission_after emission (tree.more_stmts s ss) = elim (future_of s) [
   | None ↦ emission (tree.more_stmts s ss)
-  | Some f ↦ emission_of_future f ▸ after_future_import f (emission_behind emission ss)
+  | Some f ↦ emission_of_future f ▸ after_future_import f (emission_after emission ss)
 ]

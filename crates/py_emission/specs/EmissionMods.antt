@@ -15,7 +15,7 @@ use Rattle.py_emission_parts.specs.Emitting.{Emission, Faults, Outcome, ◌▸�
 use Rattle.py_emission_parts.specs.EmissionParts.{values}
 use Rattle.py_emission.specs.Emission.{all_emissions, emission, emission_of_return}
 use Rattle.py_emission.specs.EmissionDefs.{emission_of_built, emission_of_end, emission_of_function, emission_of_setup}
-use Rattle.py_emission.specs.EmissionFutures.{emission_behind, emission_of_future, after_future_import}
+use Rattle.py_emission.specs.EmissionFutures.{emission_after, emission_of_future, after_future_import}
 use Rattle.py_emission.specs.Futures.{future_of}
 use Rattle.py_emission.specs.EmissionStmts.{emission_of_rest, emission_of_stmt, emission_of_stmts}
 use Rattle.py_emission.specs.Predicates.{any_annotates, none}
@@ -28,7 +28,7 @@ emission_of_doc (Some text) = emit_constant op.LoadConst (const.str text) ▸ em
 -- the docstring that is kept, room for annotations where there are any, future imports and what follows, and a return of None
 abbrev pub emission_of_program : tree.Stmts → Emission
 emission_of_program body =
-    by_level (λ l. emission_of_doc (doc_of l body)) ▸ emission_of_setup (any_annotates (after_doc body)) ▸ emission_behind emission_of_stmts (after_doc body) ▸ emit_constant op.ReturnConst const.none
+    by_level (λ l. emission_of_doc (doc_of l body)) ▸ emission_of_setup (any_annotates (after_doc body)) ▸ emission_after emission_of_stmts (after_doc body) ▸ emit_constant op.ReturnConst const.none
 
 -- an expression at a prompt is printed, and the last is returned too
 abbrev pub emission_of_printed : (last : Bool) → (value rest : Emission) → Emission
@@ -58,7 +58,9 @@ stored_and_returned name = emit op.Duplicate 0 ▸ emission_of_stored name ▸ e
 abbrev pub emission_of_value : tree.Stmt → Emission
 emission_of_value (tree.StmtExpr at value) = move at ▸ emission_of_return value
 emission_of_value (tree.FunctionDef at name params body decorators returns generic) =
-    move at ▸ decorated_value (values (all_emissions decorators)) (emission_of_function name params body returns generic (emission_of_rest body ▸ emission_of_end (after_doc body))) ▸ stored_and_returned name
+    move at ▸ decorated_value (values (all_emissions decorators))
+    (emission_of_function name params body returns generic (emission_of_rest body ▸ emission_of_end (after_doc body)))
+    ▸ stored_and_returned name
 emission_of_value (tree.ClassDef at name bases keywords body decorators generic) =
     move at ▸ decorated_value (values (all_emissions decorators)) (emission_of_built name bases keywords body generic (emission_of_rest body)) ▸ stored_and_returned name
 emission_of_value other = emission_of_stmt other ▸ emit_constant op.ReturnConst const.none
@@ -72,7 +74,7 @@ emission_of_block (tree.more_stmts s (tree.more_stmts t ts)) = emission_of_stmt 
 -- what is entered at a prompt, and a file whose last value is given; in the other modes there is no such tree
 abbrev pub emission_of_interactive : Mode → tree.Stmts → Emission
 emission_of_interactive mode.Single ss = emission_of_prompt ss
-emission_of_interactive other ss = emission_behind emission_of_block ss
+emission_of_interactive other ss = emission_after emission_of_block ss
 
 -- a type of a function, which is no tree of a program in any mode, is at fault as a whole
 abbrev pub unsupported_tree : Emission

@@ -58,7 +58,9 @@ emission_of_annotation other = emit op.Pop 0
 
 -- a function does nothing with the annotations of its names, which are only scanned
 abbrev pub emission_of_annotated : (target annotation : tree.Expr) → Emission
-emission_of_annotated target annotation = by_context (λ c. if is_function c.typ then pass_scopes (λ postponed. scopes_in_annotation postponed annotation) else emission_of_note annotation ▸ emission_of_annotation target)
+emission_of_annotated target annotation = by_context
+    (λ c. if is_function c.typ then pass_scopes (λ postponed. scopes_in_annotation postponed annotation) else emission_of_note annotation
+    ▸ emission_of_annotation target)
 
 -- what is returned, or None
 abbrev pub emission_of_returned : tree.OptExpr → Emission
@@ -108,7 +110,9 @@ emission_of_last (tree.more_stmts s ss) last = last ▸ emit op.EndFinally 0
 abbrev mutual
   pub emission_of_stmt : tree.Stmt → Emission
   emission_of_stmt (tree.FunctionDef at name params body decorators returns generic) =
-      move at ▸ decorated_value (values (all_emissions decorators)) (emission_of_function name params body returns generic (emission_of_rest body ▸ emission_of_end (after_doc body))) ▸ emission_of_stored name
+      move at ▸ decorated_value (values (all_emissions decorators))
+      (emission_of_function name params body returns generic (emission_of_rest body ▸ emission_of_end (after_doc body)))
+      ▸ emission_of_stored name
   emission_of_stmt (tree.ClassDef at name bases keywords body decorators generic) =
       move at ▸ decorated_value (values (all_emissions decorators)) (emission_of_built name bases keywords body generic (emission_of_rest body)) ▸ emission_of_stored name
   emission_of_stmt (tree.Return at value) = move at ▸ only_in_function error.InvalidReturn (emission_of_returned value)
@@ -128,7 +132,8 @@ abbrev mutual
       move at ▸ (if itemless items then refuse error.EmptyWithItems else emission_of_items at items (if none body then refuse error.EmptyWithBody else emission_of_stmts body))
   emission_of_stmt (tree.Raise at exc cause) = move at ▸ emission_of_raise exc cause
   emission_of_stmt (tree.Try at body excepts orelse finalbody) =
-      move at ▸ try_body (not (none finalbody)) (emission_of_stmts body) (emission_of_handlers excepts (not (none finalbody))) (emission_of_stmts orelse) (emission_of_last finalbody (emission_of_stmts finalbody))
+      move at ▸ try_body (not (none finalbody)) (emission_of_stmts body) (emission_of_handlers excepts (not (none finalbody)))
+      (emission_of_stmts orelse) (emission_of_last finalbody (emission_of_stmts finalbody))
   emission_of_stmt (tree.Assert at t msg) = move at ▸ by_level (emission_of_assert t msg)
   emission_of_stmt (tree.Import at names) = move at ▸ emission_of_import names
   emission_of_stmt (tree.ImportFrom at path names level) = move at ▸ emission_of_import_from path names level

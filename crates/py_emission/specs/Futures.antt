@@ -27,7 +27,8 @@ future_of other = None
 -- what can be taken from the future
 abbrev pub features : List (List ℕ)
 features =
-    codes "nested_scopes" ∷ codes "generators" ∷ codes "division" ∷ codes "absolute_import" ∷ codes "with_statement" ∷ codes "print_function" ∷ codes "unicode_literals" ∷ codes "generator_stop" ∷ codes "annotations" ∷ []
+    codes "nested_scopes" ∷ codes "generators" ∷ codes "division" ∷ codes "absolute_import" ∷ codes "with_statement"
+    ∷ codes "print_function" ∷ codes "unicode_literals" ∷ codes "generator_stop" ∷ codes "annotations" ∷ []
 
 abbrev pub is_feature : (name : List ℕ) → Bool
 is_feature name = list_any (text_eq name) features

@@ -1,7 +1,7 @@
 -- The parameters of functions: their names, and what a code object says of them.
 use Rattle.std.specs.Prelude.{ℕ, ◌+◌, List, [], ◌∷◌, ◌++◌, length}
 use Rattle.py_tree.specs.Tree as tree
-use Rattle.py_emission_parts.specs.Within.{Shape, some_flag}
+use Rattle.py_emission_parts.specs.NestedScopes.{Shape, some_flag}
 
 abbrev pub arg_names : tree.Args → List (List ℕ)
 arg_names tree.no_args = []

@@ -13,7 +13,7 @@ abbrev pub itemless : tree.WithItems → Bool
 itemless tree.no_items = true
 itemless (tree.more_items e target items) = false
 
--- whether an annotated assignment stands among the statements, or in those within them; handlers are left out
+-- whether an annotated assignment stands among the statements, or in those nested in them; handlers are left out
 abbrev mutual
   pub annotates : tree.Stmt → Bool
   annotates (tree.AnnAssign at target annotation value simple) = true

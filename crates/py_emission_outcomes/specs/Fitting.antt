@@ -1,4 +1,4 @@
--- The emission of a tree without faults is done, and its tables are small, as are those of each code object within: no operand is too large, and no cell is missing.
+-- The emission of a tree without faults is done, and its tables are small, as are those of each nested code object: no operand is too large, and no cell is missing.
 use Rattle.std.specs.Prelude.{◌≡◌, ℕ, ◌<◌, ◌^◌, List, [], length}
 use Rattle.py_tree.specs.Tree as tree
 use Rattle.py_tree.specs.declared.modules.Mode.{Mode}
@@ -31,7 +31,10 @@ pub record HasShortTables (o : Object) : Type 0 where
   pub arguments : (head o).arg_count < 2 ^ 30
   pub keywords : (head o).kwonlyarg_count < 2 ^ 30
 
--- what is emitted of a tree without faults is done, its tables, blocks and scopes are so few, and the tables of its code object and of each code object within are so short and its parameters so few, in each mode, at each level of optimization and from each path
+-- what is emitted of a tree without faults is done, its tables, blocks and scopes are so few, and the tables of its code object and of each
+-- code object within are so short and its parameters so few, in each mode, at each level of optimization and from each path
 abbrev pub TreesFit : Type 0
 TreesFit =
-    (t : tree.Mod) (m : Mode) (level : ℕ) (path : List ℕ) → faults t m level ≡ [] → (s : State) × (emission_outcome t m (outermost level path (scopes_of t)) ≡ Done s) × IsSmall s × Everywhere HasShortTables (assembled_object level (module_head (outermost level path (scopes_of t))) s)
+    (t : tree.Mod) (m : Mode) (level : ℕ) (path : List ℕ) → faults t m level ≡ []
+    → (s : State) × (emission_outcome t m (outermost level path (scopes_of t)) ≡ Done s) × IsSmall s
+    × Everywhere HasShortTables (assembled_object level (module_head (outermost level path (scopes_of t))) s)

@@ -7,8 +7,12 @@ use Rattle.py_bytecode.specs.declared.instruction.Instruction.{Instruction}
 use Rattle.py_bytecode.specs.Equality.{const_eq, insert_if_new, text_eq}
 use Rattle.py_bytecode.specs.Objects.{Const, Object}
 use Rattle.py_emission_parts.specs.Context.{Context}
-use Rattle.py_emission_parts.specs.Emitting.{Put, State, Outcome, Done, TooWide, Refused, Emission, Idle, Then, Op, Counted, To, OfName, OfVarname, OfConstant, AddsVarname, AddsConstant, Generates, Passes, Moves, Refuses, Faults, One, Two, Three, ByContext, ByLoops, InLoop, Postpones, Retold, Within, initial_state, place_in, with_step, with_block, with_name, with_varname, with_constant, with_location, with_loops, with_postponed}
-use Rattle.py_emission_parts.specs.Running.{Action, ◌▹◌, begin, begins, behind_child, code_head, on_done, on_sealed, put, retold_in, run}
+use Rattle.py_emission_parts.specs.Emitting.{Put, State, Outcome, Done, TooWide, Refused, Emission, Idle, Then, Op, Counted, To, OfName}
+use Rattle.py_emission_parts.specs.Emitting.{OfVarname, OfConstant, AddsVarname, AddsConstant, Generates, Passes, Moves, Refuses, Faults}
+use Rattle.py_emission_parts.specs.Emitting.{One, Two, Three, ByContext, ByLoops, InLoop, Postpones, Rewritten, Nested, initial_state}
+use Rattle.py_emission_parts.specs.Emitting.{place_in, with_step, with_block, with_name, with_varname, with_constant, with_location}
+use Rattle.py_emission_parts.specs.Emitting.{with_loops, with_postponed}
+use Rattle.py_emission_parts.specs.Running.{Action, ◌▹◌, begin, begins, after_child, code_head, on_done, on_sealed, put_instruction, rewritten_in, run}
 use Rattle.py_emission_parts.specs.Sealed.{Head, assembled_object}
 use Rattle.py_emission_parts.proofs.EmissionLawLemmas.{EmissionLawHolds}
 
@@ -41,8 +45,8 @@ module _ (C : ℕ → Const → Type 0) (O : ℕ → Object → Type 0) where
   Asks (ByLoops f) k = (x : _) → Asks (f x) k
   Asks (InLoop x a) k = Asks a k
   Asks (Postpones a) k = Asks a k
-  Asks (Retold a) k = Asks a k
-  Asks (Within w h body f) k = (j : ℕ) × Asks body j × ((o : Object) → O j o → Asks (f o) k)
+  Asks (Rewritten a) k = Asks a k
+  Asks (Nested w h body f) k = (j : ℕ) × Asks body j × ((o : Object) → O j o → Asks (f o) k)
   Asks other k = Unit {0}
 
   abbrev ConstantLawGood : ℕ → State → Type 0
@@ -59,11 +63,11 @@ module _ (C : ℕ → Const → Type 0) (O : ℕ → Object → Type 0) where
     constant_law_chosen k true o h = h
     constant_law_chosen k false o h = tt
 
-    put_good : (k : ℕ) (i : Instruction) (n : ℕ) (s : State) → ConstantLawGood k s → EmissionLawHolds (ConstantLawGood k) (put i n s)
-    unfolding put with_step
+    put_good : (k : ℕ) (i : Instruction) (n : ℕ) (s : State) → ConstantLawGood k s → EmissionLawHolds (ConstantLawGood k) (put_instruction i n s)
+    unfolding put_instruction with_step
     put_good k i n s g = constant_law_chosen k (nat_lt n (2 ^ 32)) (Done (with_step (Put i n None s.location) s)) g
 
-    constant_law_told : (k : ℕ) (o : Outcome) → EmissionLawHolds (ConstantLawGood k) o → EmissionLawHolds (ConstantLawGood k) (retold_in o)
+    constant_law_told : (k : ℕ) (o : Outcome) → EmissionLawHolds (ConstantLawGood k) o → EmissionLawHolds (ConstantLawGood k) (rewritten_in o)
     constant_law_told k (Done t) h = h
     constant_law_told k TooWide h = tt
     constant_law_told k (Refused e at) h = tt
@@ -71,17 +75,17 @@ module _ (C : ℕ → Const → Type 0) (O : ℕ → Object → Type 0) where
     on_scope : (k j level : ℕ) (h : Head) (s : State) (o : Outcome) (f : Object → Action) → ConstantLawGood k s → EmissionLawHolds (ConstantLawGood j) o
         → ((x : Object) (t : State) → O j x → ConstantLawGood k t → EmissionLawHolds (ConstantLawGood k) (f x t))
         → EmissionLawHolds (ConstantLawGood k) (on_sealed level h s o f)
-    on_scope k j level h s (Done t) f g d x = x (assembled_object level h t) (behind_child s t) (seals j level h t d) g
+    on_scope k j level h s (Done t) f g d x = x (assembled_object level h t) (after_child s t) (seals j level h t d) g
     on_scope k j level h s TooWide f g d x = tt
     on_scope k j level h s (Refused e at) f g d x = tt
 
-    -- from a state whose constants are so, it comes to one whose constants are
+    -- from a state whose constants are so, it reaches one whose constants are
     pub stays_good : (a : Emission) (k : ℕ) (s : State) → Asks a k → ConstantLawGood k s → EmissionLawHolds (ConstantLawGood k) (run a s)
     unfolding with_step with_name with_varname with_constant with_location with_block with_loops with_postponed
     stays_good Idle k s x g = g
     stays_good (Then a b) k s x g = constant_law_after k (run a s) (run b) (stays_good a k s x.0 g) (λ t h. stays_good b k t x.1 h)
     stays_good (Op i n) k s x g = put_good k i n s g
-    stays_good (Counted i n) k s x g = constant_law_chosen k (nat_lt n (2 ^ 30)) (put i n s) (put_good k i n s g)
+    stays_good (Counted i n) k s x g = constant_law_chosen k (nat_lt n (2 ^ 30)) (put_instruction i n s) (put_good k i n s g)
     stays_good (To i b) k s x g = g
     stays_good (OfName i y) k s x g = put_good k i (place_in text_eq s.names y) (with_name y s) g
     stays_good (OfVarname i y) k s x g = put_good k i (place_in text_eq s.varnames y) (with_varname y s) g
@@ -113,12 +117,13 @@ module _ (C : ℕ → Const → Type 0) (O : ℕ → Object → Type 0) where
         constant_law_after k (run (f n m l) b) (begin n ▹ run (h n m l) ▹ third) (stays_good (f n m l) k b (x.0 n m l) g)
         (λ t y. constant_law_after k (run (h n m l) (begins n t)) third (stays_good (h n m l) k (begins n t) (x.1 n m l) y)
         (λ u z. constant_law_after k (run (i n m l) (begins m u)) last (stays_good (i n m l) k (begins m u) (x.2 n m l) z) (λ v w. stays_good (j n m l) k (begins l v) (x.3 n m l) w)))
-    stays_good (ByContext f) k s x g = stays_good (f s.around.context) k s (x s.around.context) g
-    stays_good (ByLoops f) k s x g = stays_good (f s.around.loops) k s (x s.around.loops) g
-    stays_good (InLoop y a) k s x g = constant_law_after k (run a (with_loops (Some y) s)) (λ t. Done (with_loops s.around.loops t)) (stays_good a k (with_loops (Some y) s) x g) (λ t h. h)
-    stays_good (Postpones a) k s x g = constant_law_after k (run a (with_postponed true s)) (λ t. Done (with_postponed s.around.context.postponed t)) (stays_good a k (with_postponed true s) x g) (λ t h. h)
-    stays_good (Retold a) k s x g = constant_law_told k (run a s) (stays_good a k s x g)
-    stays_good (Within w h body f) k s x g =
-        let c = w s.around.context s.next in
+    stays_good (ByContext f) k s x g = stays_good (f s.node_context.context) k s (x s.node_context.context) g
+    stays_good (ByLoops f) k s x g = stays_good (f s.node_context.loops) k s (x s.node_context.loops) g
+    stays_good (InLoop y a) k s x g = constant_law_after k (run a (with_loops (Some y) s)) (λ t. Done (with_loops s.node_context.loops t)) (stays_good a k (with_loops (Some y) s) x g) (λ t h. h)
+    stays_good (Postpones a) k s x g = constant_law_after k (run a (with_postponed true s))
+        (λ t. Done (with_postponed s.node_context.context.postponed t)) (stays_good a k (with_postponed true s) x g) (λ t h. h)
+    stays_good (Rewritten a) k s x g = constant_law_told k (run a s) (stays_good a k s x g)
+    stays_good (Nested w h body f) k s x g =
+        let c = w s.node_context.context s.next in
         let b = initial_state c s.location (suc s.next) in
         on_scope k x.0 c.level (code_head c h s.location) s (run body b) (λ o. run (f o)) g (stays_good body x.0 b x.1 tt) (λ o t y z. stays_good (f o) k t (x.2 o y) z)

@@ -2,7 +2,8 @@
 use Rattle.std.proofs.Common.{◌≡◌, ◌≢◌, ℕ, ◌<◌, ◌≤◌, List, [], ◌∷◌, ◌++◌, Option, inl, inr, refl, ap, ◌∙◌, subst, arith}
 use Rattle.py_base.specs.declared.location.SourceLocation.{SourceLocation}
 use Rattle.py_bytecode.specs.declared.instruction.Instruction.{Instruction}
-use Rattle.py_emission_parts.specs.Emitting.{Around, Step, Put, Begin, State, Outcome, Done, Emission, with_step, with_block, with_name, with_varname, with_constant, with_location, with_loops, with_postponed}
+use Rattle.py_emission_parts.specs.Emitting.{NodeContext, Step, Put, Begin, State, Outcome, Done, Emission, with_step, with_block}
+use Rattle.py_emission_parts.specs.Emitting.{with_name, with_varname, with_constant, with_location, with_loops, with_postponed}
 use Rattle.py_emission_parts.specs.Listed.{Begun}
 use Rattle.py_emission_parts.specs.Running.{run}
 use Rattle.py_emission_parts.proofs.EmissionLawLemmas.{EmissionLawHolds, Law, all_hold, next_law}
@@ -34,7 +35,7 @@ pub grow_law : Law Grows
 unfolding with_step with_name with_varname with_constant with_location with_block with_loops with_postponed
 grow_law = record {
   same = λ s. record { blocks = omega arith; begun = λ b l h. h };
-  behind = λ s t u g h. record { blocks = (let x = g.blocks in let y = h.blocks in omega (arith, x, y)); begun = λ b l i. g.begun b l (h.begun b (let x = g.blocks in omega (arith, l, x)) i) };
+  after = λ s t u g h. record { blocks = (let x = g.blocks in let y = h.blocks in omega (arith, x, y)); begun = λ b l i. g.begun b l (h.begun b (let x = g.blocks in omega (arith, l, x)) i) };
   stepped = λ s i n to at. record { blocks = omega arith; begun = λ b l h. begun_put b s.steps i n to at h };
   named = λ s x. record { blocks = omega arith; begun = λ b l h. h };
   varnamed = λ s x. record { blocks = omega arith; begun = λ b l h. h };
@@ -56,12 +57,12 @@ all_grow a s r e = of_done (Grows s) (run a s) r e (all_hold Grows grow_law a s)
 pub numbers_grow : (a : Emission) (s r : State) → run a s ≡ Done r → s.next ≤ r.next
 numbers_grow a s r e = of_done (λ t. s.next ≤ t.next) (run a s) r e (all_hold (λ s t. s.next ≤ t.next) next_law a s)
 
--- what stands around stays
-around_law : Law (λ s t. t.around ≡ s.around)
+-- the context stays
+node_context_law : Law (λ s t. t.node_context ≡ s.node_context)
 unfolding with_step with_name with_varname with_constant with_location with_block with_loops with_postponed
-around_law = record {
+node_context_law = record {
   same = λ s. refl;
-  behind = λ s t u h k. k ∙ h;
+  after = λ s t u h k. k ∙ h;
   stepped = λ s i n to at. refl;
   named = λ s x. refl;
   varnamed = λ s x. refl;
@@ -70,10 +71,10 @@ around_law = record {
   placed = λ s at. refl;
   blocked = λ s. refl;
   begins_block = λ s t b l h. h;
-  looped = λ s t x h. ap {A = Around} {B = Around} (λ (c : Around). record c { loops = s.around.loops }) h;
-  postponed = λ s t p h. ap {A = Around} {B = Around} (λ (c : Around). record c { context = record c.context { postponed = s.around.context.postponed } }) h;
+  looped = λ s t x h. ap {A = NodeContext} {B = NodeContext} (λ (c : NodeContext). record c { loops = s.node_context.loops }) h;
+  postponed = λ s t p h. ap {A = NodeContext} {B = NodeContext} (λ (c : NodeContext). record c { context = record c.context { postponed = s.node_context.context.postponed } }) h;
   numbered = λ s n h. refl;
 }
 
-pub around_stays : (a : Emission) (s r : State) → run a s ≡ Done r → r.around ≡ s.around
-around_stays a s r e = of_done (λ t. t.around ≡ s.around) (run a s) r e (all_hold (λ s t. t.around ≡ s.around) around_law a s)
+pub node_context_stays : (a : Emission) (s r : State) → run a s ≡ Done r → r.node_context ≡ s.node_context
+node_context_stays a s r e = of_done (λ t. t.node_context ≡ s.node_context) (run a s) r e (all_hold (λ s t. t.node_context ≡ s.node_context) node_context_law a s)

@@ -1,56 +1,60 @@
 -- The states that an emission passes, those of scopes within too: their numbers of scopes are no larger than the one at its end.
 use Rattle.std.proofs.Common.{◌≡◌, ◌⊎◌, ℕ, suc, ◌≤◌, Some, true, inl, inr, refl, sym, subst, arith}
 use Rattle.py_bytecode.specs.Objects.{Object}
-use Rattle.py_emission_parts.specs.Emitting.{State, Outcome, Done, TooWide, Refused, Emission, Then, One, Two, Three, ByContext, ByLoops, InLoop, Postpones, Retold, Within, initial_state, with_block, with_loops, with_postponed, with_step}
-use Rattle.py_emission_parts.specs.Running.{Action, begins, behind_child, code_head, on_done, on_sealed, retold_in, run}
+use Rattle.py_emission_parts.specs.Emitting.{State, Outcome, Done, TooWide, Refused, Emission, Then, One, Two, Three, ByContext, ByLoops}
+use Rattle.py_emission_parts.specs.Emitting.{InLoop, Postpones, Rewritten, Nested, initial_state, with_block, with_loops, with_postponed}
+use Rattle.py_emission_parts.specs.Emitting.{with_step}
+use Rattle.py_emission_parts.specs.Running.{Action, begins, after_child, code_head, on_done, on_sealed, rewritten_in, run}
 use Rattle.py_emission_parts.specs.Sealed.{Head, assembled_object}
 use Rattle.py_emission_parts.proofs.EmissionLawLemmas.{EmissionLawHolds}
 use Rattle.py_emission_parts.proofs.GrowthLemmas.{numbers_grow}
 
 -- this state is passed first, or one of those after it, where it is done
-abbrev pub Behind : Outcome → (State → Type 0) → Type 0
-Behind (Done m) P = P m
-Behind TooWide P = ⊥
-Behind (Refused e at) P = ⊥
+abbrev pub After : Outcome → (State → Type 0) → Type 0
+After (Done m) P = P m
+After TooWide P = ⊥
+After (Refused e at) P = ⊥
 
 -- where an emission from the first state passes the second: before it, after its finally block, or within
 abbrev pub Passes : Emission → State → State → Type 0
-Passes (Then a b) s t = Passes a s t ⊎ Behind (run a s) (λ m. Passes b m t)
+Passes (Then a b) s t = Passes a s t ⊎ After (run a s) (λ m. Passes b m t)
 Passes (One f g) s t =
     let n = s.blocks in
-    Passes (f n) (with_block s) t ⊎ Behind (run (f n) (with_block s)) (λ m. Passes (g n) (begins n m) t)
+    Passes (f n) (with_block s) t ⊎ After (run (f n) (with_block s)) (λ m. Passes (g n) (begins n m) t)
 Passes (Two f g h) s t =
     let n = s.blocks in
     let m = suc n in
     let b = with_block (with_block s) in
-    Passes (f n m) b t ⊎ Behind (run (f n m) b) (λ u. Passes (g n m) (begins n u) t ⊎ Behind (run (g n m) (begins n u)) (λ v. Passes (h n m) (begins m v) t))
+    Passes (f n m) b t ⊎ After (run (f n m) b) (λ u. Passes (g n m) (begins n u) t ⊎ After (run (g n m) (begins n u)) (λ v. Passes (h n m) (begins m v) t))
 Passes (Three f g h i) s t =
     let n = s.blocks in
     let m = suc n in
     let l = suc m in
     let b = with_block (with_block (with_block s)) in
-    Passes (f n m l) b t ⊎ Behind (run (f n m l) b) (λ u. Passes (g n m l) (begins n u) t ⊎ Behind (run (g n m l) (begins n u)) (λ v. Passes (h n m l) (begins m v) t ⊎ Behind (run (h n m l) (begins m v)) (λ w. Passes (i n m l) (begins l w) t)))
-Passes (ByContext f) s t = Passes (f s.around.context) s t
-Passes (ByLoops f) s t = Passes (f s.around.loops) s t
+    Passes (f n m l) b t ⊎ After (run (f n m l) b)
+    (λ u. Passes (g n m l) (begins n u) t ⊎ After (run (g n m l) (begins n u))
+    (λ v. Passes (h n m l) (begins m v) t ⊎ After (run (h n m l) (begins m v)) (λ w. Passes (i n m l) (begins l w) t)))
+Passes (ByContext f) s t = Passes (f s.node_context.context) s t
+Passes (ByLoops f) s t = Passes (f s.node_context.loops) s t
 Passes (InLoop x a) s t = Passes a (with_loops (Some x) s) t
 Passes (Postpones a) s t = Passes a (with_postponed true s) t
-Passes (Retold a) s t = Passes a s t
-Passes (Within within h body k) s t =
-    let c = within s.around.context s.next in
+Passes (Rewritten a) s t = Passes a s t
+Passes (Nested nested h body k) s t =
+    let c = nested s.node_context.context s.next in
     Passes body (initial_state c s.location (suc s.next)) t
-    ⊎ Behind (run body (initial_state c s.location (suc s.next))) (λ m. Passes (k (assembled_object c.level (code_head c h s.location) m)) (behind_child s m) t)
+    ⊎ After (run body (initial_state c s.location (suc s.next))) (λ m. Passes (k (assembled_object c.level (code_head c h s.location) m)) (after_child s m) t)
 Passes other s t = t ≡ s
 
 -- one part after another
 passed_number_parts : (o : Outcome) (b : Action) (r t : State) (P : Type 0) (Q : State → Type 0) → on_done o b ≡ Done r
     → ((m : State) → o ≡ Done m → P → t.next ≤ m.next) → ((m : State) → b m ≡ Done r → m.next ≤ r.next) → ((m : State) → b m ≡ Done r → Q m → t.next ≤ r.next)
-    → P ⊎ Behind o Q → t.next ≤ r.next
+    → P ⊎ After o Q → t.next ≤ r.next
 passed_number_parts (Done m) b r t P Q e f g h (inl p) = let x = f m refl p in let y = g m e in omega (arith, x, y)
 passed_number_parts (Done m) b r t P Q e f g h (inr q) = h m e q
 passed_number_parts TooWide b r t P Q e f g h p = absurd cc
 passed_number_parts (Refused x at) b r t P Q e f g h p = absurd cc
 
-passed_number_told_done : (o : Outcome) (r : State) → retold_in o ≡ Done r → o ≡ Done r
+passed_number_told_done : (o : Outcome) (r : State) → rewritten_in o ≡ Done r → o ≡ Done r
 passed_number_told_done (Done t) r e = e
 passed_number_told_done TooWide r e = absurd cc
 passed_number_told_done (Refused x at) r e = absurd cc
@@ -61,13 +65,13 @@ record PassedNumberComes (o : Outcome) (r : State) : Type 0 where
   done : o ≡ Done at
   next : at.next ≡ r.next
 
-unlooped : (o : Outcome) (s r : State) → on_done o (λ t. Done (with_loops s.around.loops t)) ≡ Done r → PassedNumberComes o r
+unlooped : (o : Outcome) (s r : State) → on_done o (λ t. Done (with_loops s.node_context.loops t)) ≡ Done r → PassedNumberComes o r
 unfolding with_loops
 unlooped (Done t) s r e = record { at = t; done = refl; next = subst (λ (o : Outcome). EmissionLawHolds (λ x. t.next ≡ x.next) o) e refl }
 unlooped TooWide s r e = absurd cc
 unlooped (Refused x at) s r e = absurd cc
 
-unpostponed : (o : Outcome) (s r : State) → on_done o (λ t. Done (with_postponed s.around.context.postponed t)) ≡ Done r → PassedNumberComes o r
+unpostponed : (o : Outcome) (s r : State) → on_done o (λ t. Done (with_postponed s.node_context.context.postponed t)) ≡ Done r → PassedNumberComes o r
 unfolding with_postponed
 unpostponed (Done t) s r e = record { at = t; done = refl; next = subst (λ (o : Outcome). EmissionLawHolds (λ x. t.next ≡ x.next) o) e refl }
 unpostponed TooWide s r e = absurd cc
@@ -75,8 +79,8 @@ unpostponed (Refused x at) s r e = absurd cc
 
 sealed_parts : (level : ℕ) (h : Head) (s : State) (o : Outcome) (k : Object → Action) (r t : State) (P : Type 0) (Q : State → Type 0)
     → on_sealed level h s o k ≡ Done r → ((m : State) → o ≡ Done m → P → t.next ≤ m.next)
-    → ((m : State) → k (assembled_object level h m) (behind_child s m) ≡ Done r → m.next ≤ r.next)
-    → ((m : State) → k (assembled_object level h m) (behind_child s m) ≡ Done r → Q m → t.next ≤ r.next) → P ⊎ Behind o Q → t.next ≤ r.next
+    → ((m : State) → k (assembled_object level h m) (after_child s m) ≡ Done r → m.next ≤ r.next)
+    → ((m : State) → k (assembled_object level h m) (after_child s m) ≡ Done r → Q m → t.next ≤ r.next) → P ⊎ After o Q → t.next ≤ r.next
 sealed_parts level h s (Done m) k r t P Q e f g i (inl p) = let x = f m refl p in let y = g m e in omega (arith, x, y)
 sealed_parts level h s (Done m) k r t P Q e f g i (inr q) = i m e q
 sealed_parts level h s TooWide k r t P Q e f g i p = absurd cc
@@ -100,26 +104,28 @@ at_first s r t a e p = subst (λ (x : State). x.next ≤ r.next) (sym p) (number
 
 -- where an emission is done, the numbers that it passes are no larger than the last
 pub passed_numbers : (a : Emission) (s r t : State) → run a s ≡ Done r → Passes a s t → t.next ≤ r.next
-passed_numbers (Then a b) s r t e p = passed_number_parts (run a s) (run b) r t (Passes a s t) (λ m. Passes b m t) e (λ m d q. passed_numbers a s m t d q) (λ m d. numbers_grow b m r d) (λ m d q. passed_numbers b m r t d q) p
+passed_numbers (Then a b) s r t e p = passed_number_parts (run a s) (run b) r t (Passes a s t) (λ m. Passes b m t) e
+    (λ m d q. passed_numbers a s m t d q) (λ m d. numbers_grow b m r d) (λ m d q. passed_numbers b m r t d q) p
 passed_numbers (One f g) s r t e p =
     let n = s.blocks in
     passed_number_parts (run (f n) (with_block s)) (λ m. run (g n) (begins n m)) r t (Passes (f n) (with_block s) t) (λ m. Passes (g n) (begins n m) t) e
     (λ m d q. passed_numbers (f n) (with_block s) m t d q) (λ m d. from_begun n (g n) m r d) (λ m d q. passed_numbers (g n) (begins n m) r t d q) p
-passed_numbers (ByContext f) s r t e p = passed_numbers (f s.around.context) s r t e p
-passed_numbers (ByLoops f) s r t e p = passed_numbers (f s.around.loops) s r t e p
+passed_numbers (ByContext f) s r t e p = passed_numbers (f s.node_context.context) s r t e p
+passed_numbers (ByLoops f) s r t e p = passed_numbers (f s.node_context.loops) s r t e p
 passed_numbers (InLoop x a) s r t e p =
     let c = unlooped (run a (with_loops (Some x) s)) s r e in
     subst (λ n. t.next ≤ n) c.next (passed_numbers a (with_loops (Some x) s) c.at t c.done p)
 passed_numbers (Postpones a) s r t e p =
     let c = unpostponed (run a (with_postponed true s)) s r e in
     subst (λ n. t.next ≤ n) c.next (passed_numbers a (with_postponed true s) c.at t c.done p)
-passed_numbers (Retold a) s r t e p = passed_numbers a s r t (passed_number_told_done (run a s) r e) p
-passed_numbers (Within within h body k) s r t e p =
-    let c = within s.around.context s.next in
+passed_numbers (Rewritten a) s r t e p = passed_numbers a s r t (passed_number_told_done (run a s) r e) p
+passed_numbers (Nested nested h body k) s r t e p =
+    let c = nested s.node_context.context s.next in
     let b = initial_state c s.location (suc s.next) in
     let d = code_head c h s.location in
-    sealed_parts c.level d s (run body b) (λ o. run (k o)) r t (Passes body b t) (λ m. Passes (k (assembled_object c.level d m)) (behind_child s m) t) e
-    (λ m x q. passed_numbers body b m t x q) (λ m x. numbers_grow (k (assembled_object c.level d m)) (behind_child s m) r x) (λ m x q. passed_numbers (k (assembled_object c.level d m)) (behind_child s m) r t x q) p
+    sealed_parts c.level d s (run body b) (λ o. run (k o)) r t (Passes body b t) (λ m. Passes (k (assembled_object c.level d m)) (after_child s m) t) e
+    (λ m x q. passed_numbers body b m t x q) (λ m x. numbers_grow (k (assembled_object c.level d m)) (after_child s m) r x)
+    (λ m x q. passed_numbers (k (assembled_object c.level d m)) (after_child s m) r t x q) p
 passed_numbers (Two f g h) s r t e p =
     let n = s.blocks in
     let m = suc n in

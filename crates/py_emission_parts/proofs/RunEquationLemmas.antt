@@ -14,9 +14,13 @@ use Rattle.py_emission_parts.specs.Accesses.{name_access, accessed_in}
 use Rattle.py_emission_parts.specs.Children.{child, load_cell}
 use Rattle.py_emission_parts.specs.Comprehensions.{as_element}
 use Rattle.py_emission_parts.specs.Context.{Context, cell_place, mangled_by}
-use Rattle.py_emission_parts.specs.Emitting.{Put, State, Done, TooWide, Refused, LoopBlocks, Emission, ◌▸◌, add_constant, add_varname, initial_state, by_context, by_level, by_loops, emit, emit_constant, emit_count, emit_mangled, emit_name, emit_varname, generator_mark, in_loop, jump, keep, with_location, move, one_block, pass_over, place_in, postponed_part, refuse, three_blocks, two_blocks, with_block, with_constant, with_loops, with_name, with_postponed, with_step, with_varname}
-use Rattle.py_emission_parts.specs.Running.{Action, ◌▹◌, begin, code_head, on_done, on_sealed, put, retold_in, run}
-use Rattle.py_emission_parts.specs.Within.{Shape}
+use Rattle.py_emission_parts.specs.Emitting.{Put, State, Done, TooWide, Refused, LoopBlocks, Emission, ◌▸◌, add_constant, add_varname}
+use Rattle.py_emission_parts.specs.Emitting.{initial_state, by_context, by_level, by_loops, emit, emit_constant, emit_count, emit_mangled}
+use Rattle.py_emission_parts.specs.Emitting.{emit_name, emit_varname, generator_mark, in_loop, jump, keep, with_location, move, one_block}
+use Rattle.py_emission_parts.specs.Emitting.{pass_over, place_in, postponed_part, refuse, three_blocks, two_blocks, with_block}
+use Rattle.py_emission_parts.specs.Emitting.{with_constant, with_loops, with_name, with_postponed, with_step, with_varname}
+use Rattle.py_emission_parts.specs.Running.{Action, ◌▹◌, begin, code_head, on_done, on_sealed, put_instruction, rewritten_in, run}
+use Rattle.py_emission_parts.specs.NestedScopes.{Shape}
 
 -- a block is made, which begins later
 new_block : (ℕ → Action) → Action
@@ -29,7 +33,7 @@ then_is : (a b : Emission) (s : State) → run (a ▸ b) s ≡ on_done (run a s)
 then_is a b s = refl
 
 emit_is : (i : Instruction) (n : ℕ) (s : State) → run (emit i n) s ≡ (if nat_lt n (2 ^ 32) then Done (with_step (Put i n None s.location) s) else TooWide)
-unfolding emit put
+unfolding emit put_instruction
 emit_is i n s = refl
 
 jump_is : (i : Instruction) (b : ℕ) (s : State) → run (jump i b) s ≡ Done (with_step (Put i 0 (Some b) s.location) s)
@@ -52,7 +56,7 @@ constant_is : (i : Instruction) (c : Const) (s : State) → run (emit_constant i
 unfolding emit_constant emit
 constant_is i c s = refl
 
-mangled_is : (i : Instruction) (x : List ℕ) (s : State) → run (emit_mangled i x) s ≡ run (emit_name i (mangled_by s.around.context x)) s
+mangled_is : (i : Instruction) (x : List ℕ) (s : State) → run (emit_mangled i x) s ≡ run (emit_name i (mangled_by s.node_context.context x)) s
 unfolding emit_mangled
 mangled_is i x s = refl
 
@@ -60,7 +64,7 @@ refuse_is : (e : CodegenErrorType) (s : State) → run (refuse e) s ≡ Refused 
 unfolding refuse
 refuse_is e s = refl
 
-added_is : (x : List ℕ) (s : State) → run (add_varname x) s ≡ Done (with_varname (mangled_by s.around.context x) s)
+added_is : (x : List ℕ) (s : State) → run (add_varname x) s ≡ Done (with_varname (mangled_by s.node_context.context x) s)
 unfolding add_varname
 added_is x s = refl
 
@@ -80,31 +84,31 @@ move_is : (at : SourceLocation) (s : State) → run (move at) s ≡ Done (with_l
 unfolding move
 move_is at s = refl
 
-context_is : (a : Context → Emission) (s : State) → run (by_context a) s ≡ run (a s.around.context) s
+context_is : (a : Context → Emission) (s : State) → run (by_context a) s ≡ run (a s.node_context.context) s
 unfolding by_context
 context_is a s = refl
 
-level_is : (a : ℕ → Emission) (s : State) → run (by_level a) s ≡ run (a s.around.context.level) s
+level_is : (a : ℕ → Emission) (s : State) → run (by_level a) s ≡ run (a s.node_context.context.level) s
 unfolding by_level
 level_is a s = refl
 
-loops_is : (a : Option LoopBlocks → Emission) (s : State) → run (by_loops a) s ≡ run (a s.around.loops) s
+loops_is : (a : Option LoopBlocks → Emission) (s : State) → run (by_loops a) s ≡ run (a s.node_context.loops) s
 unfolding by_loops
 loops_is a s = refl
 
-loop_is : (x : LoopBlocks) (a : Emission) (s : State) → run (in_loop x a) s ≡ on_done (run a (with_loops (Some x) s)) (λ t. Done (with_loops s.around.loops t))
+loop_is : (x : LoopBlocks) (a : Emission) (s : State) → run (in_loop x a) s ≡ on_done (run a (with_loops (Some x) s)) (λ t. Done (with_loops s.node_context.loops t))
 unfolding in_loop
 loop_is x a s = refl
 
-postponing_is : (a : Emission) (s : State) → run (postponed_part a) s ≡ on_done (run a (with_postponed true s)) (λ t. Done (with_postponed s.around.context.postponed t))
+postponing_is : (a : Emission) (s : State) → run (postponed_part a) s ≡ on_done (run a (with_postponed true s)) (λ t. Done (with_postponed s.node_context.context.postponed t))
 unfolding postponed_part
 postponing_is a s = refl
 
-element_is : (a : Emission) (s : State) → run (as_element a) s ≡ retold_in (run a s)
+element_is : (a : Emission) (s : State) → run (as_element a) s ≡ rewritten_in (run a s)
 unfolding as_element
 element_is a s = refl
 
-accessed_is : (u : Usage) (x : List ℕ) (s : State) → run (name_access u x) s ≡ run (accessed_in s.around.context u (mangled_by s.around.context x)) s
+accessed_is : (u : Usage) (x : List ℕ) (s : State) → run (name_access u x) s ≡ run (accessed_in s.node_context.context u (mangled_by s.node_context.context x)) s
 unfolding name_access by_context
 accessed_is u x s = refl
 
@@ -113,14 +117,17 @@ run_equation_chosen true v w s = refl
 run_equation_chosen false v w s = refl
 
 run_equation_cell_is : (x : List ℕ) (s : State)
-    → run (load_cell x) s ≡ (if list_any (text_eq x) (s.around.context.cells ++ s.around.context.frees) then run (emit op.LoadClosure (cell_place s.around.context x)) s else run (refuse error.MissingCell) s)
+    → run (load_cell x) s ≡ (if list_any (text_eq x) (s.node_context.context.cells ++ s.node_context.context.frees) then run
+    (emit op.LoadClosure (cell_place s.node_context.context x)) s else run (refuse error.MissingCell) s)
 unfolding load_cell by_context
-run_equation_cell_is x s = run_equation_chosen (list_any (text_eq x) (s.around.context.cells ++ s.around.context.frees)) (emit op.LoadClosure (cell_place s.around.context x)) (refuse error.MissingCell) s
+run_equation_cell_is x s = run_equation_chosen (list_any (text_eq x) (s.node_context.context.cells ++ s.node_context.context.frees))
+    (emit op.LoadClosure (cell_place s.node_context.context x)) (refuse error.MissingCell) s
 
-child_is : (within : Context → (number : ℕ) → Context) (h : Shape) (body : Emission) (k : Object → Emission) (s : State) →
-    run (child within h body k) s ≡ (let c = within s.around.context s.next in on_sealed c.level (code_head c h s.location) s (run body (initial_state c s.location (suc s.next))) (λ o. run (k o)))
+child_is : (nested : Context → (number : ℕ) → Context) (h : Shape) (body : Emission) (k : Object → Emission) (s : State) →
+    run (child nested h body k) s ≡ (let c = nested s.node_context.context s.next in on_sealed c.level (code_head c h s.location) s
+    (run body (initial_state c s.location (suc s.next))) (λ o. run (k o)))
 unfolding child
-child_is within h body k s = refl
+child_is nested h body k s = refl
 
 one_is : (f g : ℕ → Emission) (s : State) → run (one_block f g) s ≡ new_block (λ b. run (f b) ▹ begin b ▹ run (g b)) s
 unfolding one_block new_block

@@ -39,8 +39,22 @@ longer_law : Law Longer
 unfolding with_step with_name with_varname with_constant with_location with_block with_loops with_postponed
 longer_law = record {
   same = λ s. record { steps = extends_same s.steps; names = extends_same s.names; varnames = extends_same s.varnames; constants = extends_same s.constants };
-  behind = λ s t u g h. record { steps = extends_then s.steps t.steps u.steps g.steps h.steps; names = extends_then s.names t.names u.names g.names h.names; varnames = extends_then s.varnames t.varnames u.varnames g.varnames h.varnames; constants = extends_then s.constants t.constants u.constants g.constants h.constants };
-  stepped = λ s i n to at. record { steps = extends_one s.steps s.steps _ (extends_same s.steps); names = extends_same s.names; varnames = extends_same s.varnames; constants = extends_same s.constants };
+  after = λ s t u g h. record {
+    steps = extends_then s.steps t.steps u.steps g.steps h.steps;
+    names =
+        extends_then s.names t.names u.names g.names h.names;
+    varnames =
+        extends_then s.varnames t.varnames u.varnames g.varnames h.varnames;
+    constants =
+        extends_then s.constants t.constants u.constants g.constants h.constants;
+  };
+  stepped = λ s i n to at. record {
+    steps = extends_one s.steps s.steps _ (extends_same s.steps);
+    names = extends_same s.names;
+    varnames =
+        extends_same s.varnames;
+    constants = extends_same s.constants;
+  };
   named = λ s x. record { steps = extends_same s.steps; names = extends_entered text_eq s.names x; varnames = extends_same s.varnames; constants = extends_same s.constants };
   varnamed = λ s x. record { steps = extends_same s.steps; names = extends_same s.names; varnames = extends_entered text_eq s.varnames x; constants = extends_same s.constants };
   constant = λ s c. record { steps = extends_same s.steps; names = extends_same s.names; varnames = extends_same s.varnames; constants = extends_entered const_eq s.constants c };

@@ -7,16 +7,16 @@ use Rattle.py_bytecode.specs.Equality.{text_eq}
 use Rattle.py_bytecode.specs.Objects as const
 use Rattle.py_bytecode.specs.Objects.{Object}
 use Rattle.py_emission_parts.specs.Context.{Context, cell_place, mangled_by, qualified_under}
-use Rattle.py_emission_parts.specs.Emitting.{Emission, Within, ◌▸◌, add_constant, add_varname, by_context, emit, emit_constant, emit_count, emit_name, keep, refuse}
+use Rattle.py_emission_parts.specs.Emitting.{Emission, Nested, ◌▸◌, add_constant, add_varname, by_context, emit, emit_constant, emit_count, emit_name, keep, refuse}
 use Rattle.py_emission_parts.specs.EmissionParts.{counted_build, in_turn, map_of, unless_debug}
 use Rattle.py_emission_parts.specs.Refused.{no_assignment}
-use Rattle.py_emission_parts.specs.Within.{Shape, some_flag}
+use Rattle.py_emission_parts.specs.NestedScopes.{Shape, some_flag}
 
 -- a child within, which the present context and the number of the next scope tell
-unfoldable pub child : (within : Context → (number : ℕ) → Context) → Shape → (body : Emission) → (Object → Emission) → Emission
-child within h body k = Within within h body k
+unfoldable pub child : (nested : Context → (number : ℕ) → Context) → Shape → (body : Emission) → (Object → Emission) → Emission
+child nested h body k = Nested nested h body k
 
--- a cell that a function is made of, which is one of the present scope's or comes to it from outside; where it is not there, that is refused
+-- a cell that a function is made of, which is one of the present scope's or reaches it from outside; where it is not there, that is refused
 unfoldable pub load_cell : List ℕ → Emission
 load_cell x = by_context (λ c. if list_any (text_eq x) (c.cells ++ c.frees) then emit op.LoadClosure (cell_place c x) else refuse error.MissingCell)
 
@@ -29,7 +29,7 @@ abbrev pub closure : List (List ℕ) → Emission
 closure [] = keep
 closure (x ∷ xs) = counted_build op.BuildTuple (cell_loads (x ∷ xs))
 
--- the names that the code object has from outside
+-- the free names of the code object
 abbrev pub free_names : Object → List (List ℕ)
 free_names o = (const.head o).freevars
 

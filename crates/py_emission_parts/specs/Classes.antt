@@ -3,7 +3,7 @@ use Rattle.std.specs.Prelude.{ℕ, List, [], ◌∷◌, Option, codes}
 use Rattle.py_bytecode.specs.declared.instruction.Instruction.TheVariants as op
 use Rattle.py_bytecode.specs.Objects as const
 use Rattle.py_emission_parts.specs.Children.{load_cell}
-use Rattle.py_emission_parts.specs.Within.{Shape, doc_const}
+use Rattle.py_emission_parts.specs.NestedScopes.{Shape, doc_const}
 use Rattle.py_emission_parts.specs.Context.{class_cells}
 use Rattle.py_emission_parts.specs.Emitting.{Emission, ◌▸◌, by_context, emit, emit_constant, emit_name}
 

@@ -6,8 +6,8 @@ use Rattle.py_bytecode.specs.declared.instruction.Instruction.TheVariants as op
 use Rattle.py_bytecode.specs.Objects as const
 use Rattle.py_base.specs.declared.errors.CodegenErrorType.TheVariants as error
 use Rattle.py_emission_parts.specs.Children.{child, made_function}
-use Rattle.py_emission_parts.specs.Within.{Shape, comprehension_inside}
-use Rattle.py_emission_parts.specs.Emitting.{Emission, Retold, ◌▸◌, emit, emit_constant, emit_count, emit_varname, generator_mark, jump, keep, refuse, two_blocks}
+use Rattle.py_emission_parts.specs.NestedScopes.{Shape, comprehension_inside}
+use Rattle.py_emission_parts.specs.Emitting.{Emission, Rewritten, ◌▸◌, emit, emit_constant, emit_count, emit_varname, generator_mark, jump, keep, refuse, two_blocks}
 use Rattle.py_emission_parts.specs.EmissionParts.{Emissions}
 
 -- a comprehension takes the first iterator; it has names of its own, and quick locals
@@ -30,22 +30,22 @@ conditions [] start = keep
 conditions (e ∷ es) start = e.test false start ▸ conditions es start
 
 -- a clause over an iterator, around what is within
-abbrev pub clause : (iterator : Emission) → ClauseEmissions → (within : Emission) → Emission
-clause iterator c within =
-    two_blocks (λ start end. iterator) (λ start end. jump op.ForIter end ▸ c.target ▸ conditions c.conditions start ▸ within ▸ jump op.Jump start) (λ start end. keep)
+abbrev pub clause : (iterator : Emission) → ClauseEmissions → (nested : Emission) → Emission
+clause iterator c nested =
+    two_blocks (λ start end. iterator) (λ start end. jump op.ForIter end ▸ c.target ▸ conditions c.conditions start ▸ nested ▸ jump op.Jump start) (λ start end. keep)
 
 -- clauses that have iterables of their own
-abbrev pub further_clauses : List ClauseEmissions → (within : Emission) → Emission
-further_clauses [] within = within
-further_clauses (c ∷ cs) within = clause (c.iterable ▸ emit op.GetIter 0) c (further_clauses cs within)
+abbrev pub further_clauses : List ClauseEmissions → (nested : Emission) → Emission
+further_clauses [] nested = nested
+further_clauses (c ∷ cs) nested = clause (c.iterable ▸ emit op.GetIter 0) c (further_clauses cs nested)
 
 -- the first clause goes over what is handed in
-abbrev pub clauses : List ClauseEmissions → (within : Emission) → Emission
-clauses [] within = within
-clauses (c ∷ cs) within = clause handed_iterator c (further_clauses cs within)
+abbrev pub clauses : List ClauseEmissions → (nested : Emission) → Emission
+clauses [] nested = nested
+clauses (c ∷ cs) nested = clause handed_iterator c (further_clauses cs nested)
 
 unfoldable pub as_element : Emission → Emission
-as_element a = Retold a
+as_element a = Rewritten a
 
 -- the scope of a comprehension that adds each element to a collection
 abbrev pub collection_scope : (build append : Instruction) → List ClauseEmissions → (element : Emission) → Emission

@@ -34,7 +34,7 @@ pub record Context : Type 0 where
 abbrev pub symbols_in : List ScopeEntry → (number : ℕ) → List Symbol
 symbols_in scopes n = elim (symbols_at scopes n) [ None ↦ [] | Some symbols ↦ symbols ]
 
--- a name that a scope within needs
+-- a name that a nested scope needs
 abbrev pub is_cell : SymbolScope → Bool
 is_cell scope.Unknown = false
 is_cell scope.Local = false
@@ -61,7 +61,7 @@ names_of_those p (s ∷ ss) = if p s then s.name ∷ names_of_those p ss else na
 abbrev pub cells_here : Symbol → Bool
 cells_here s = is_cell s.scope
 
--- a name that the scope has from outside, or that a class hands on
+-- a free name of the scope, or that a class hands on
 abbrev pub frees_here : Symbol → Bool
 frees_here s = is_free s.scope || intersects s.flags.0 0x100
 
@@ -81,8 +81,8 @@ outermost l source scopes =
     inside kind.Module 0 (record { level = l; source = source; class = None; path = []; postponed = false; typ = kind.Module; scopes = scopes; here = 0; cells = []; frees = [] })
 
 -- the class mangles the names within it
-unfoldable pub within_class : (name : List ℕ) → Context → Context
-within_class name c = record c { class = Some name }
+unfoldable pub nested_in_class : (name : List ℕ) → Context → Context
+nested_in_class name c = record c { class = Some name }
 
 -- another qualified name
 unfoldable pub with_path : (path : List ℕ) → Context → Context
@@ -150,7 +150,7 @@ place_by Global n = 0
 place_by Deref n = n
 place_by ClassDeref n = n
 
--- what the present scope is told by its names
+-- what the present scope is given by its names
 abbrev pub head_of : Context → Head
 head_of c = record {
   number = c.here;
@@ -162,13 +162,13 @@ head_of c = record {
 }
 
 -- after a dot, where anything stands before
-abbrev pub behind_dot : (path name : List ℕ) → List ℕ
-behind_dot [] name = name
-behind_dot (x ∷ path) name = (x ∷ path) ++ (codes "." ++ name)
+abbrev pub after_dot : (path name : List ℕ) → List ℕ
+after_dot [] name = name
+after_dot (x ∷ path) name = (x ∷ path) ++ (codes "." ++ name)
 
 -- the qualified name of what stands in the present scope under this name
 abbrev pub qualified_under : Context → (name : List ℕ) → List ℕ
-qualified_under c name = behind_dot c.path name
+qualified_under c name = after_dot c.path name
 
 -- the qualified name of what stands in a function
 abbrev pub function_path : Context → (name : List ℕ) → List ℕ

@@ -37,10 +37,10 @@ module _ {B A : Type 0} where
   front (Spread x ∷ es) = []
 
   -- what follows it
-  abbrev pub behind : List (Element B A) → List (Element B A)
-  behind [] = []
-  behind (Single x ∷ es) = behind es
-  behind (Spread x ∷ es) = Spread x ∷ es
+  abbrev pub later_elements : List (Element B A) → List (Element B A)
+  later_elements [] = []
+  later_elements (Single x ∷ es) = later_elements es
+  later_elements (Spread x ∷ es) = Spread x ∷ es
 
 module _ {A : Type 0} where
   -- the values, starred or not

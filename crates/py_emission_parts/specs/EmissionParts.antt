@@ -15,7 +15,7 @@ use Rattle.py_bytecode.specs.Values.{flip}
 use Rattle.py_base.specs.declared.errors.CodegenErrorType.{CodegenErrorType}
 use Rattle.py_base.specs.declared.errors.CodegenErrorType.TheVariants as error
 use Rattle.py_emission_parts.specs.Context.{is_function}
-use Rattle.py_emission_parts.specs.Elements.{Element, Single, Spread, Callee, Function, Method, has_starred, bare, stars, before_star, after_star, groups, front, behind, pairs, sides}
+use Rattle.py_emission_parts.specs.Elements.{Element, Single, Spread, Callee, Function, Method, has_starred, bare, stars, before_star, after_star, groups, front, later_elements, pairs, sides}
 use Rattle.py_emission_parts.specs.TableParts.{unary_case, deciding_truth, is_debug, any}
 use Rattle.py_emission_parts.specs.Emitting.{Emission, ◌▸◌, by_context, emit, emit_constant, emit_count, emit_mangled, jump, keep, move, one_block, pass_over, refuse, two_blocks}
 use Rattle.py_emission_parts.specs.Refused.{few_aside, no_assignment}
@@ -150,7 +150,9 @@ packed_arguments es ks = packed_tuple es ks ▸ joined_map (groups map_of [] ks)
 abbrev pub positional_call : Callee Emission → List Emission → Keywords → Emission
 positional_call c vs [] = call_by c op.CallFunctionPositional op.CallMethodPositional (in_turn vs) (length vs)
 positional_call c vs (p ∷ ps) =
-    call_by c op.CallFunctionKeyword op.CallMethodKeyword (in_turn vs ▸ keyword_checks (p ∷ ps) ▸ in_turn (values_in (p ∷ ps)) ▸ emit_constant op.LoadConst (const.tuple (names_in (p ∷ ps)))) (length vs + length (p ∷ ps))
+    call_by c op.CallFunctionKeyword op.CallMethodKeyword
+    (in_turn vs ▸ keyword_checks (p ∷ ps) ▸ in_turn (values_in (p ∷ ps)) ▸ emit_constant op.LoadConst (const.tuple (names_in (p ∷ ps))))
+    (length vs + length (p ∷ ps))
 
 abbrev pub emission_of_call : Callee Emission → List (Element Emission Emission) → Keywords → Emission
 emission_of_call c es ks = if has_starred es || has_starred ks then call_by c op.CallFunctionEx op.CallMethodEx (packed_arguments es ks) (any ks) else positional_call c (bare es) ks
@@ -166,7 +168,7 @@ map_of_pairs ps = in_turn (sides ps) ▸ emit_count op.BuildMap (length ps)
 
 -- the first run of pairs is a map, to which each later run and each map that is unpacked adds, in order
 abbrev pub dict_value : List (Element (Emission × Emission) Emission) → Emission
-dict_value es = map_of_pairs (front es) ▸ updates (groups map_of_pairs [] (behind es))
+dict_value es = map_of_pairs (front es) ▸ updates (groups map_of_pairs [] (later_elements es))
 
 -- the entries of a dict display, which has as many keys, or stars in their places, as values
 abbrev pub emission_of_dict : List (Option Emission) → List Emission → Emission

@@ -7,7 +7,7 @@ use Rattle.py_bytecode.specs.Objects.{Const, Object}
 use Rattle.py_bytecode.specs.Equality.{const_eq, text_eq, insert_if_new}
 use Rattle.py_base.specs.declared.errors.CodegenErrorType.{CodegenErrorType}
 use Rattle.py_emission_parts.specs.Context.{Context, mangled_by}
-use Rattle.py_emission_parts.specs.Within.{Shape}
+use Rattle.py_emission_parts.specs.NestedScopes.{Shape}
 
 -- an instruction with its operand or the block that it jumps to, and where it stands in the source; or the place where a block begins
 pub data Step : Type 0 where
@@ -20,13 +20,13 @@ pub record LoopBlocks : Type 0 where
   pub on_continue : ℕ
 
 -- the context of the present node, and the innermost loop of its scope
-pub record Around : Type 0 where
+pub record NodeContext : Type 0 where
   pub context : Context
   pub loops : Option LoopBlocks
 
 -- what is emitted so far, in order; how many blocks are made, where block 0 begins it all; the tables that operands name: names, names of
 -- the code object's own, and constants; whether it is a generator; where the next instruction stands; the number of the next scope
--- within; and what stands around
+-- within; and the context
 pub record State : Type 0 where
   pub steps : List Step
   pub blocks : ℕ
@@ -36,7 +36,7 @@ pub record State : Type 0 where
   pub generator : Bool
   pub location : SourceLocation
   pub next : ℕ
-  pub around : Around
+  pub node_context : NodeContext
 
 -- all is emitted; or an operand is too large; or the tree is refused
 pub data Outcome : Type 0 where
@@ -62,15 +62,15 @@ pub data Emission : Type 0 where
   Moves : SourceLocation → Emission
   Refuses : CodegenErrorType → Emission
   Faults : CodegenErrorType → Emission
-  One : (before behind : (block : ℕ) → Emission) → Emission
-  Two : (before between behind : (first second : ℕ) → Emission) → Emission
-  Three : (before between further behind : (first second third : ℕ) → Emission) → Emission
+  One : (before after : (block : ℕ) → Emission) → Emission
+  Two : (before between after : (first second : ℕ) → Emission) → Emission
+  Three : (before between further after : (first second third : ℕ) → Emission) → Emission
   ByContext : (Context → Emission) → Emission
   ByLoops : (Option LoopBlocks → Emission) → Emission
   InLoop : LoopBlocks → Emission → Emission
   Postpones : Emission → Emission
-  Retold : Emission → Emission
-  Within : (within : Context → (number : ℕ) → Context) → Shape → (body : Emission) → (Object → Emission) → Emission
+  Rewritten : Emission → Emission
+  Nested : (nested : Context → (number : ℕ) → Context) → Shape → (body : Emission) → (Object → Emission) → Emission
 
 -- one emission and then another
 infixr 10 ◌▸◌
@@ -104,13 +104,13 @@ unfoldable pub with_location : SourceLocation → State → State
 with_location at s = record s { location = at }
 
 unfoldable pub with_loops : Option LoopBlocks → State → State
-with_loops x s = record s { around = record s.around { loops = x } }
+with_loops x s = record s { node_context = record s.node_context { loops = x } }
 
 unfoldable pub with_context : Context → State → State
-with_context c s = record s { around = record s.around { context = c } }
+with_context c s = record s { node_context = record s.node_context { context = c } }
 
 unfoldable pub with_postponed : (postponed : Bool) → State → State
-with_postponed p s = record s { around = record s.around { context = record s.around.context { postponed = p } } }
+with_postponed p s = record s { node_context = record s.node_context { context = record s.node_context.context { postponed = p } } }
 
 unfoldable pub refuse : CodegenErrorType → Emission
 refuse e = Refuses e
@@ -134,7 +134,7 @@ emit_varname i x = OfVarname i x
 unfoldable pub emit_constant : Instruction → Const → Emission
 emit_constant i c = OfConstant i c
 
--- what is emitted by what stands around
+-- what is emitted by the context
 unfoldable pub by_context : (Context → Emission) → Emission
 by_context a = ByContext a
 
@@ -177,19 +177,19 @@ unfoldable pub postponed_part : Emission → Emission
 postponed_part a = Postpones a
 
 -- one block, which begins between these
-unfoldable pub one_block : (before behind : (block : ℕ) → Emission) → Emission
+unfoldable pub one_block : (before after : (block : ℕ) → Emission) → Emission
 one_block f g = One f g
 
 -- two, and three blocks, which begin in the order in which they are made
-unfoldable pub two_blocks : (before between behind : (first second : ℕ) → Emission) → Emission
+unfoldable pub two_blocks : (before between after : (first second : ℕ) → Emission) → Emission
 two_blocks f g h = Two f g h
 
-unfoldable pub three_blocks : (before between further behind : (first second third : ℕ) → Emission) → Emission
+unfoldable pub three_blocks : (before between further after : (first second third : ℕ) → Emission) → Emission
 three_blocks f g h i = Three f g h i
 
 -- before anything is emitted of a scope there is one block, and it stands in no loop
 abbrev pub initial_state : Context → SourceLocation → (next : ℕ) → State
-initial_state c at n = record { steps = []; blocks = 1; names = []; varnames = []; constants = []; generator = false; location = at; next = n; around = record { context = c; loops = None } }
+initial_state c at n = record { steps = []; blocks = 1; names = []; varnames = []; constants = []; generator = false; location = at; next = n; node_context = record { context = c; loops = None } }
 
 -- the outermost scope begins at row 1 and column 1; scope 1 is the first within
 abbrev pub nothing : Context → State

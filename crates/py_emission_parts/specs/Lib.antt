@@ -12,5 +12,5 @@ pub mod Comprehensions
 pub mod Everywhere
 pub mod Classes
 pub mod TypeParameters
-pub mod Within
+pub mod NestedScopes
 pub mod Refused

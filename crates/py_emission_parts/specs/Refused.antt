@@ -17,10 +17,10 @@ few_aside es = nat_lt (before_star es) 256 && nat_lt (after_star es) 256
 abbrev pub lone_star : List ℕ
 lone_star = codes "starred assignment target must be in a list or tuple"
 
--- a star in an element is told in other words
+-- a star in an element is reported in other words
 abbrev pub no_unpacking : List ℕ
 no_unpacking = codes "iterable unpacking cannot be used in comprehension"
 
-abbrev pub retold : CodegenErrorType → CodegenErrorType
-retold error.InvalidStarExpr = error.SyntaxError no_unpacking
-retold other = other
+abbrev pub rewritten : CodegenErrorType → CodegenErrorType
+rewritten error.InvalidStarExpr = error.SyntaxError no_unpacking
+rewritten other = other

@@ -1,14 +1,18 @@
--- What an emission does to a state. It goes on from where another has come to, and the first refusal ends it.
+-- What an emission does to a state. It goes on from where another has reached, and the first refusal ends it.
 use Rattle.std.specs.Prelude.{ℕ, suc, ◌+◌, ◌^◌, Some, None, nat_lt, true, if◌then◌else◌}
 use Rattle.py_base.specs.declared.location.SourceLocation.{SourceLocation}
 use Rattle.py_bytecode.specs.declared.instruction.Instruction.{Instruction}
 use Rattle.py_bytecode.specs.Equality.{const_eq, text_eq}
 use Rattle.py_bytecode.specs.Objects.{Object}
 use Rattle.py_emission_parts.specs.Context.{Context, mangled_by}
-use Rattle.py_emission_parts.specs.Emitting.{Put, Begin, State, Outcome, Done, TooWide, Refused, Emission, Idle, Then, Op, Counted, To, OfName, OfVarname, OfConstant, AddsVarname, AddsConstant, Generates, Passes, Moves, Refuses, Faults, One, Two, Three, ByContext, ByLoops, InLoop, Postpones, Retold, Within, initial_state, place_in, with_step, with_block, with_name, with_varname, with_constant, with_location, with_loops, with_postponed}
-use Rattle.py_emission_parts.specs.Refused.{retold}
+use Rattle.py_emission_parts.specs.Emitting.{Put, Begin, State, Outcome, Done, TooWide, Refused, Emission, Idle, Then, Op, Counted, To}
+use Rattle.py_emission_parts.specs.Emitting.{OfName, OfVarname, OfConstant, AddsVarname, AddsConstant, Generates, Passes, Moves, Refuses}
+use Rattle.py_emission_parts.specs.Emitting.{Faults, One, Two, Three, ByContext, ByLoops, InLoop, Postpones, Rewritten, Nested}
+use Rattle.py_emission_parts.specs.Emitting.{initial_state, place_in, with_step, with_block, with_name, with_varname, with_constant}
+use Rattle.py_emission_parts.specs.Emitting.{with_location, with_loops, with_postponed}
+use Rattle.py_emission_parts.specs.Refused.{rewritten}
 use Rattle.py_emission_parts.specs.Sealed.{Head, assembled_object}
-use Rattle.py_emission_parts.specs.Within.{Shape}
+use Rattle.py_emission_parts.specs.NestedScopes.{Shape}
 
 -- what is done to a state
 abbrev pub Action : Type 0
@@ -25,10 +29,10 @@ infixr 10 ◌▹◌
 abbrev pub ◌▹◌ : Action → Action → Action
 (a ▹ b) s = on_done (a s) b
 
-abbrev pub retold_in : Outcome → Outcome
-retold_in (Done s) = Done s
-retold_in TooWide = TooWide
-retold_in (Refused e at) = Refused (retold e) at
+abbrev pub rewritten_in : Outcome → Outcome
+rewritten_in (Done s) = Done s
+rewritten_in TooWide = TooWide
+rewritten_in (Refused e at) = Refused (rewritten e) at
 
 -- the head of a scope's code object, whose first line is that of the place where it begins
 abbrev pub code_head : Context → Shape → SourceLocation → Head
@@ -45,18 +49,18 @@ code_head c h at = record {
 }
 
 -- a parent goes on where its child leaves off
-abbrev pub behind_child : (parent child : State) → State
-behind_child s t = record s { location = t.location; next = t.next }
+abbrev pub after_child : (parent child : State) → State
+after_child s t = record s { location = t.location; next = t.next }
 
--- what a child comes to is sealed, and what follows goes on with its code object
+-- what a child reaches is sealed, and what follows goes on with its code object
 abbrev pub on_sealed : (level : ℕ) → Head → (parent : State) → Outcome → (Object → Action) → Outcome
-on_sealed level h s (Done t) k = k (assembled_object level h t) (behind_child s t)
+on_sealed level h s (Done t) k = k (assembled_object level h t) (after_child s t)
 on_sealed level h s TooWide k = TooWide
 on_sealed level h s (Refused e at) k = Refused e at
 
 -- one instruction, whose operand is not too large
-unfoldable pub put : Instruction → (operand : ℕ) → Action
-put i n s = if nat_lt n (2 ^ 32) then Done (with_step (Put i n None s.location) s) else TooWide
+unfoldable pub put_instruction : Instruction → (operand : ℕ) → Action
+put_instruction i n s = if nat_lt n (2 ^ 32) then Done (with_step (Put i n None s.location) s) else TooWide
 
 -- what follows begins a block
 abbrev pub begins : (block : ℕ) → State → State
@@ -68,13 +72,13 @@ begin b s = Done (begins b s)
 abbrev pub run : Emission → Action
 run Idle s = Done s
 run (Then a b) s = (run a ▹ run b) s
-run (Op i n) s = put i n s
-run (Counted i n) s = if nat_lt n (2 ^ 30) then put i n s else TooWide
+run (Op i n) s = put_instruction i n s
+run (Counted i n) s = if nat_lt n (2 ^ 30) then put_instruction i n s else TooWide
 run (To i b) s = Done (with_step (Put i 0 (Some b) s.location) s)
-run (OfName i x) s = put i (place_in text_eq s.names x) (with_name x s)
-run (OfVarname i x) s = put i (place_in text_eq s.varnames x) (with_varname x s)
-run (OfConstant i c) s = put i (place_in const_eq s.constants c) (with_constant c s)
-run (AddsVarname x) s = Done (with_varname (mangled_by s.around.context x) s)
+run (OfName i x) s = put_instruction i (place_in text_eq s.names x) (with_name x s)
+run (OfVarname i x) s = put_instruction i (place_in text_eq s.varnames x) (with_varname x s)
+run (OfConstant i c) s = put_instruction i (place_in const_eq s.constants c) (with_constant c s)
+run (AddsVarname x) s = Done (with_varname (mangled_by s.node_context.context x) s)
 run (AddsConstant c) s = Done (with_constant c s)
 run Generates s = Done (record s { generator = true })
 run (Passes n) s = Done (record s { next = s.next + n })
@@ -91,13 +95,13 @@ run (Three f g h i) s =
     let b = suc a in
     let c = suc b in
     (run (f a b c) ▹ begin a ▹ run (g a b c) ▹ begin b ▹ run (h a b c) ▹ begin c ▹ run (i a b c)) (with_block (with_block (with_block s)))
-run (ByContext f) s = run (f s.around.context) s
-run (ByLoops f) s = run (f s.around.loops) s
-run (InLoop x a) s = on_done (run a (with_loops (Some x) s)) (λ t. Done (with_loops s.around.loops t))
-run (Postpones a) s = on_done (run a (with_postponed true s)) (λ t. Done (with_postponed s.around.context.postponed t))
-run (Retold a) s = retold_in (run a s)
-run (Within within h body k) s =
-    let c = within s.around.context s.next in
+run (ByContext f) s = run (f s.node_context.context) s
+run (ByLoops f) s = run (f s.node_context.loops) s
+run (InLoop x a) s = on_done (run a (with_loops (Some x) s)) (λ t. Done (with_loops s.node_context.loops t))
+run (Postpones a) s = on_done (run a (with_postponed true s)) (λ t. Done (with_postponed s.node_context.context.postponed t))
+run (Rewritten a) s = rewritten_in (run a s)
+run (Nested nested h body k) s =
+    let c = nested s.node_context.context s.next in
     on_sealed c.level (code_head c h s.location) s (run body (initial_state c s.location (suc s.next))) (λ o. run (k o))
 
 -- what comes next goes on from what is emitted, unless that is refused

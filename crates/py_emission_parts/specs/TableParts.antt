@@ -19,8 +19,10 @@ use Rattle.py_bytecode.specs.declared.instruction.Instruction.TheVariants as op
 use Rattle.py_bytecode.specs.Objects as const
 use Rattle.py_bytecode.specs.Objects.{Const, Consts, no_consts, more_consts}
 use Rattle.py_bytecode.specs.Values.{Operation, operation, Bare, Number, Named}
-use Rattle.py_emission_parts.specs.Elements.{Element, Single, Spread, Callee, Function, Method, has_starred, bare, stars, before_star, after_star, groups, front, behind, sides}
-use Rattle.py_control.specs.Form.{VForm, VConst, VLoad, VOp, VShort, VChain, VAt, VForms, VNone, VMore, VMethod, Shorts, OneShort, MoreShort, Links, LastLink, MoreLink, TForm, TTruth, TNot, TAll, Tests, OneTest, MoreTest, Resolved, Target, GUnpack, Targets, NoTarget, MoreTarget}
+use Rattle.py_emission_parts.specs.Elements.{Element, Single, Spread, Callee, Function, Method, has_starred, bare, stars, before_star, after_star, groups, front, later_elements, sides}
+use Rattle.py_control.specs.Form.{VForm, VConst, VLoad, VOp, VShort, VChain, VAt, VForms, VNone, VMore, VMethod, Shorts, OneShort}
+use Rattle.py_control.specs.Form.{MoreShort, Links, LastLink, MoreLink, TForm, TTruth, TNot, TAll, Tests, OneTest, MoreTest, Resolved}
+use Rattle.py_control.specs.Form.{Target, GUnpack, Targets, NoTarget, MoreTarget}
 
 -- the number of a binary operator among the operations
 abbrev pub binary_case : Operator → ℕ
@@ -229,7 +231,7 @@ map_of_pairs ps = VOp (counted_operation op.BuildMap (length ps)) (parts_of (sid
 
 -- the first run of pairs is a map, to which each later run and each map that is unpacked adds, in order
 abbrev pub dict_form : List (Element (VForm × VForm) VForm) → VForm
-dict_form es = updated_map (map_of_pairs (front es)) (groups map_of_pairs [] (behind es))
+dict_form es = updated_map (map_of_pairs (front es)) (groups map_of_pairs [] (later_elements es))
 
 -- the value, or a constant where there is none
 abbrev pub value_or : Const → Option VForm → VForm

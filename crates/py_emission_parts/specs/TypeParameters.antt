@@ -4,12 +4,12 @@ use Rattle.py_bytecode.specs.declared.instruction.Instruction.TheVariants as op
 use Rattle.py_bytecode.specs.Objects as const
 use Rattle.py_emission_parts.specs.Accesses.{emission_of_stored}
 use Rattle.py_emission_parts.specs.Children.{DefaultEmissions, child, emission_of_defaults, made_function}
-use Rattle.py_emission_parts.specs.Within.{Shape, passed_defaults, hidden_inside, hidden_name}
+use Rattle.py_emission_parts.specs.NestedScopes.{Shape, passed_defaults, type_param_scope_inside, type_param_scope_name}
 use Rattle.py_emission_parts.specs.Emitting.{Emission, ◌▸◌, emit, emit_constant, emit_count, emit_varname, keep}
 
 -- a type-parameter scope takes what it is handed by its place
-abbrev pub hidden_shape : (count : ℕ) → (name : List ℕ) → Shape
-hidden_shape count name = record { flags = 0x21; posonlyarg_count = count; arg_count = count; kwonlyarg_count = 0; obj_name = hidden_name name }
+abbrev pub type_param_scope_shape : (count : ℕ) → (name : List ℕ) → Shape
+type_param_scope_shape count name = record { flags = 0x21; posonlyarg_count = count; arg_count = count; kwonlyarg_count = 0; obj_name = type_param_scope_name name }
 
 -- a type parameter is kept, and stored under its name
 abbrev pub kept_as : (name : List ℕ) → Emission
@@ -29,10 +29,11 @@ load_handed [] = keep
 load_handed (x ∷ xs) = emit_varname op.LoadFast x ▸ load_handed xs
 
 -- a type-parameter scope returns what is made in it, and is called with the defaults
-abbrev pub hidden : (name : List ℕ) → DefaultEmissions → (value : Emission) → Emission
-hidden name d value =
+abbrev pub in_type_param_scope : (name : List ℕ) → DefaultEmissions → (value : Emission) → Emission
+in_type_param_scope name d value =
     let count = length (passed_defaults d.positional d.keyword) in
-    child hidden_inside (hidden_shape count name) (value ▸ emit op.ReturnValue 0) (made_function 0 (hidden_name name)) ▸ emission_of_defaults d ▸ emit_count op.CallFunctionPositional count
+    child type_param_scope_inside (type_param_scope_shape count name) (value ▸ emit op.ReturnValue 0)
+    (made_function 0 (type_param_scope_name name)) ▸ emission_of_defaults d ▸ emit_count op.CallFunctionPositional count
 
 -- nothing is handed to the type-parameter scope of a class or an alias
 abbrev pub no_defaults : DefaultEmissions

@@ -1,5 +1,5 @@
 pub mod Texts
-pub mod Burden
+pub mod SizeBound
 pub mod DistinctNames
 pub mod WellMade
 pub mod CodeNameLemmas
@@ -29,7 +29,7 @@ pub mod Numbers
 pub mod Refuted
 pub mod Readings
 pub mod BlockPlacementLemmas
-pub mod Within
+pub mod NestedScopes
 pub mod Cells
 pub mod Functions
 pub mod Pushed

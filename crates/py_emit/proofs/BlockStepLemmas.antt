@@ -1,5 +1,7 @@
 -- What each call on blocks does to the steps that they hold.
-use Rattle.std.proofs.Common.{◌≡◌, ◌≢◌, ◌⊎◌, ℕ, zero, suc, ◌-◌, ◌<◌, ◌≤◌, List, [], ◌∷◌, ◌++◌, length, set, get_or, map, Bool, true, false, Some, None, refl, sym, inl, inr, ap, ◌∙◌, subst, arith, append_assoc, append-nil, length-set, get_or-set_same, get_or-set_other, rules}
+use Rattle.std.proofs.Common.{◌≡◌, ◌≢◌, ◌⊎◌, ℕ, zero, suc, ◌-◌, ◌<◌, ◌≤◌, List, [], ◌∷◌, ◌++◌, length, set, get_or, map, Bool, true, false}
+use Rattle.std.proofs.Common.{Some, None, refl, sym, inl, inr, ap, ◌∙◌, subst, arith, append_assoc, append-nil, length-set, get_or-set_same}
+use Rattle.std.proofs.Common.{get_or-set_other, rules}
 use Rattle.std.specs.Prelude.{nat_eq, if◌then◌else◌}
 use Rattle.std.specs.List.{Contains}
 use Rattle.std.proofs.lemmas.Bool.{cases_eq}
@@ -57,14 +59,18 @@ block_step_along v w =
     let l = chain_leads bs w.chain w.is_chain in
     let long : length bs ≡ length v.blocks = length-map v.blocks plain in
     let short : length (0 ∷ l.0) ≤ length bs = subst (λ cs. length cs ≤ length bs) l.1 (chain_short bs w.chain w.is_chain.path) in
-    let apart : (i j : ℕ) → i < j → j < length (0 ∷ l.0) → get_or (0 ∷ l.0) i 0 ≢ get_or (0 ∷ l.0) j 0 = λ i j ij lt. subst (λ cs. get_or cs i 0 ≢ get_or cs j 0) l.1 (w.is_chain.path.distinct i j 0 ij (subst (λ cs. j < length cs) (sym l.1) lt)) in
+    let apart : (i j : ℕ) → i < j → j < length (0 ∷ l.0)
+    → get_or (0 ∷ l.0) i 0 ≢ get_or (0 ∷ l.0) j 0 = λ i j ij lt.
+    subst (λ cs. get_or cs i 0 ≢ get_or cs j 0) l.1 (w.is_chain.path.distinct i j 0 ij (subst (λ cs. j < length cs) (sym l.1) lt)) in
     record {
       rest = l.0;
       leads = l.2;
       apart = apart;
       tails = tails_from v.current.0 0 l.0 apart (subst (λ cs. get_or cs (length cs - 1) 0 ≡ v.current.0) l.1 w.last);
       short = omega (arith, short, long);
-      inside = λ k lt. let h : get_or (0 ∷ l.0) k 0 < length bs = subst (λ cs. get_or cs k 0 < length bs) l.1 (w.is_chain.path.inside k 0 (subst (λ cs. k < length cs) (sym l.1) lt)) in omega (arith, h, long);
+      inside = λ k lt. let h : get_or (0 ∷ l.0) k 0 < length bs =
+          subst (λ cs. get_or cs k 0 < length bs) l.1 (w.is_chain.path.inside k 0 (subst (λ cs. k < length cs) (sym l.1) lt)) in omega
+          (arith, h, long);
       outside = λ b lt n. w.outside b lt (λ c. n (subst (λ cs. Contains cs b) l.1 c));
       steps = steps_are bs (length bs) 0 l.0 l.2 short;
     }
@@ -114,7 +120,12 @@ push_steps v x w =
     let at_last : blk ds last ≡ plain block = blk_at (set v.blocks last block) last ∙ ap plain (get_or-set_same v.blocks last block empty_block here) in
     let was_last : blk bs last ≡ plain (current_block v) = blk_at v.blocks last in
     let others : (b : ℕ) → b ≢ last → blk ds b ≡ blk bs b = (λ b n. blk_at (set v.blocks last block) b ∙ ap plain (get_or-set_other v.blocks last b block empty_block n) ∙ sym (blk_at v.blocks b)) in
-    let next_same : (b : ℕ) → (blk ds b).next ≡ (blk bs b).next = (λ b. elim (number_cases b last) [ inl e ↦ subst (λ n. (blk ds n).next ≡ (blk bs n).next) (sym e) (ap (λ (y : Blk). y.next) at_last ∙ sym (ap (λ (y : Blk). y.next) was_last)) | inr n ↦ ap (λ (y : Blk). y.next) (others b n) ]) in
+    let next_same : (b : ℕ) → (blk ds b).next ≡ (blk bs b).next =
+    (λ b. elim (number_cases b last) [
+      | inl e ↦ subst (λ n. (blk ds n).next ≡ (blk bs n).next) (sym e)
+          (ap (λ (y : Blk). y.next) at_last ∙ sym (ap (λ (y : Blk). y.next) was_last))
+      | inr n ↦ ap (λ (y : Blk). y.next) (others b n)
+    ]) in
     let more : (blk ds last).items ≡ (blk bs last).items ++ x ∷ [] = ap (λ (y : Blk). y.items) at_last ∙ ap (λ (y : Blk). y.items ++ x ∷ []) (sym was_last) in
     let long : length ds ≡ length v.blocks = length-map (set v.blocks last block) plain ∙ length-set v.blocks last block in
     let short = a.short in
@@ -123,7 +134,9 @@ push_steps v x w =
     ∙ ap (λ l. l ++ step_of x ∷ []) (sym a.steps)
 
 -- a block that begins after the last one
-module _ (bs ds : List Blk) (last b : ℕ) (others : (c : ℕ) → c ≢ last → blk ds c ≡ blk bs c) (items : (blk ds last).items ≡ (blk bs last).items) (next : (blk ds last).next ≡ Some b) (nothing : (blk ds b).items ≡ []) (ends : (blk ds b).next ≡ None) where
+module _ (bs ds : List Blk) (last b : ℕ) (others : (c : ℕ) → c ≢ last → blk ds c ≡ blk bs c)
+    (items : (blk ds last).items ≡ (blk bs last).items) (next : (blk ds last).next ≡ Some b) (nothing : (blk ds b).items ≡ [])
+    (ends : (blk ds b).next ≡ None) where
   begun_path : (c : ℕ) (cs : List ℕ) → Tails last c cs → path_steps ds c (cs ++ b ∷ []) ≡ path_steps bs c cs ++ Begin b ∷ []
   begun_path c [] e =
       ap (λ n. map step_of (blk ds n).items ++ Begin b ∷ map step_of (blk ds b).items) e
@@ -238,7 +251,9 @@ new_steps v w =
     let a = block_step_along v w in
     let bs = map plain v.blocks in
     let ds = map plain (v.blocks ++ empty_block ∷ []) in
-    let same : (k : ℕ) → k < length (0 ∷ a.rest) → blk ds (get_or (0 ∷ a.rest) k 0) ≡ blk bs (get_or (0 ∷ a.rest) k 0) = (λ k l. let n = get_or (0 ∷ a.rest) k 0 in blk_at (v.blocks ++ empty_block ∷ []) n ∙ ap plain (get_or_append_left v.blocks (empty_block ∷ []) empty_block n (a.inside k l)) ∙ sym (blk_at v.blocks n)) in
+    let same : (k : ℕ) → k < length (0 ∷ a.rest) → blk ds (get_or (0 ∷ a.rest) k 0) ≡ blk bs (get_or (0 ∷ a.rest) k 0) =
+    (λ k l. let n = get_or (0 ∷ a.rest) k 0 in blk_at (v.blocks ++ empty_block ∷ []) n
+    ∙ ap plain (get_or_append_left v.blocks (empty_block ∷ []) empty_block n (a.inside k l)) ∙ sym (blk_at v.blocks n)) in
     let long : length ds ≡ suc (length v.blocks) = length-map (v.blocks ++ empty_block ∷ []) plain ∙ new_long v in
     let short = a.short in
     steps_are ds (length ds) 0 a.rest (same_leads bs ds 0 a.rest same a.leads) (omega (arith, short, long))

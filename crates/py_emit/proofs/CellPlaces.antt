@@ -39,9 +39,9 @@ module _ {A : Type 0} (f : A → Bool) where
       go true l next = refl
       go false l next = let e = next (omega (arith, l)) in omega (arith, e)
 
-  pub place_behind : (xs ys : List A) → length xs ≤ position_or_len f xs → position_or_len f xs + position_or_len f ys ≡ position_or_len f (xs ++ ys)
-  place_behind [] ys h = omega arith
-  place_behind (x ∷ xs) ys h = go (f x) h (place_behind xs ys)
+  pub place_after : (xs ys : List A) → length xs ≤ position_or_len f xs → position_or_len f xs + position_or_len f ys ≡ position_or_len f (xs ++ ys)
+  place_after [] ys h = omega arith
+  place_after (x ∷ xs) ys h = go (f x) h (place_after xs ys)
     where
       go : (b : Bool) → length (x ∷ xs) ≤ cond (not b) (1 + position_or_len f xs) 0
           → (length xs ≤ position_or_len f xs → position_or_len f xs + position_or_len f ys ≡ position_or_len f (xs ++ ys))

@@ -3,16 +3,16 @@ use Rattle.std.proofs.Common.{◌≡◌, ◌≢◌, ℕ, suc, ◌+◌, ◌<◌, 
 use Rattle.std.proofs.Math.Seq.{drop-cons}
 use Rattle.std.specs.Prelude.{codes}
 use Rattle.py_base.proofs.Numbers.{suc_is_plus_one}
-use Rattle.py_emission_parts.specs.Context.{behind_dot}
-use Rattle.py_emit.specs.Around.{but_last}
+use Rattle.py_emission_parts.specs.Context.{after_dot}
+use Rattle.py_emit.specs.NodeContext.{but_last}
 use Rattle.py_emit.specs.Dotted.{each_after_dot}
 use Rattle.py_emit.specs.States.{dotted}
 
-pub dotted_behind : (path name : List ℕ) → path ≢ [] → behind_dot path name ≡ path ++ (codes "." ++ name)
-dotted_behind [] name some = absurd (some refl)
-dotted_behind (x ∷ path) name some = refl
+pub dotted_after : (path name : List ℕ) → path ≢ [] → after_dot path name ≡ path ++ (codes "." ++ name)
+dotted_after [] name some = absurd (some refl)
+dotted_after (x ∷ path) name some = refl
 
-pub bare : (path name : List ℕ) → path ≡ [] → behind_dot path name ≡ name
+pub bare : (path name : List ℕ) → path ≡ [] → after_dot path name ≡ name
 bare [] name e = refl
 bare (x ∷ path) name e = absurd cc
 

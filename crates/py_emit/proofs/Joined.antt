@@ -8,7 +8,7 @@ use Rattle.py_base.specs.declared.errors.CodegenErrorType.TheVariants as error
 use Rattle.py_emission_parts.specs.Emitting.{State, Outcome, Done, TooWide, Refused, Emission, ◌▸◌, keep}
 use Rattle.py_emission_parts.specs.Running.{Action, ◌▹◌, on_done, run}
 use Rattle.py_emission_parts.specs.EmissionParts.{in_turn}
-use Rattle.py_emit.specs.States.{Goes, IsTold, Rest, Same}
+use Rattle.py_emit.specs.States.{Goes, IsReported, Rest, Same}
 
 -- it does not matter which two actions are taken together
 pub joined_grouped : (o : Outcome) (a b : Action) → on_done (on_done o a) b ≡ on_done o (λ s. on_done (a s) b)
@@ -32,7 +32,7 @@ pub turn_append : (vs ws : List Emission) → run (in_turn (vs ++ ws)) ≡ run (
 turn_append [] ws = refl
 turn_append (v ∷ vs) ws = ap (λ (w : Action). run v ▹ w) (turn_append vs ws) ∙ sym (joined_actions v (in_turn vs) (in_turn ws))
 
--- what follows one that comes to a state
+-- what follows one that reaches a state
 pub went : (o : Outcome) (b : Action) (s : State) → o ≡ Done s → on_done o b ≡ b s
 went o b s e = ap (λ x. on_done x b) e
 
@@ -40,7 +40,7 @@ went o b s e = ap (λ x. on_done x b) e
 pub joined_refused_first : (o : Outcome) (b : Action) (e : CodegenErrorType) (at : Option SourceLocation) → o ≡ Refused e at → on_done o b ≡ Refused e at
 joined_refused_first o b e at h = ap (λ x. on_done x b) h
 
--- what an action comes to after another: the state between, and how the second goes on
+-- what an action reaches after another: the state between, and how the second goes on
 pub record JoinedBetween (o : Outcome) (b : Action) (r : State) : Type 0 where
   pub mid : State
   pub first : o ≡ Done mid
@@ -68,7 +68,7 @@ first_refuses r x s o p b e q h = refuses_as r x s (on_done o b) p e q (λ n. jo
 
 -- the error of a step names the path of what was before it
 pub same_error : {A : Type 0} (r : Result A (LocatedError CodegenErrorType)) (x : LocatedError CodegenErrorType) (after before first : Rest) → r ≡ Err x
-    → IsTold x before.path → before ≡ first → Same r after first
+    → IsReported x before.path → before ≡ first → Same r after first
 same_error r x after before first e p q = subst (λ y. Same y after first) (sym e) (p.0 ∙ ap (λ (z : Rest). z.path) q, p.1)
 
 pub done_same : (r o : State) → ◌≡◌ {A = Outcome} (Done r) (Done o) → r ≡ o

@@ -56,7 +56,8 @@ pub pop_nothing : (v : BlockList) → None ≡ last_item v → without_last_item
 pop_nothing v e =
     let b = current_block v in
     let none : b.instructions ≡ [] = none_last b.instructions (sym e) in
-    let same : without_last b ≡ b = ap (λ (l : List InstructionInfo). record { instructions = take (length l - 1) l; next = b.next }) none ∙ ap (λ (l : List InstructionInfo). record { instructions = l; next = b.next }) (sym none) in
+    let same : without_last b ≡ b = ap (λ (l : List InstructionInfo). record { instructions = take (length l - 1) l; next = b.next }) none
+    ∙ ap (λ (l : List InstructionInfo). record { instructions = l; next = b.next }) (sym none) in
     ap (λ (bs : List Block). record { blocks = bs; current = v.current }) (ap (set v.blocks v.current.0) same ∙ set-get_or v.blocks v.current.0 empty_block)
 
 ends_after : (xs ys : List Step) (b : ℕ) → EndsAtBegin ys → EndsAtBegin (xs ++ Begin b ∷ ys)
@@ -110,7 +111,9 @@ return_first s h = ap (λ (l : List Step). record s { steps = l }) (sym (returne
 pub closed_load : (x y : InstructionInfo) (s r : State) → x.instr ≡ op.LoadConst → y ≡ record x { instr = op.ReturnConst } → r ≡ with_step (step_of y) s → r ≡ with_closed (step_of x) s
 unfolding with_step with_closed
 closed_load x y s r i e h =
-    h ∙ ap (λ (z : InstructionInfo). record s { steps = s.steps ++ step_of z ∷ [] }) e ∙ ap (λ (l : List Step). record s { steps = s.steps ++ l }) (sym (ap (λ n. closed_step s.location (Put n x.arg.0 (block_number x.target.0) x.location)) i))
+    h ∙ ap (λ (z : InstructionInfo). record s { steps = s.steps ++ step_of z ∷ [] }) e
+    ∙ ap (λ (l : List Step). record s { steps = s.steps ++ l })
+    (sym (ap (λ n. closed_step s.location (Put n x.arg.0 (block_number x.target.0) x.location)) i))
 
 closed_other : (at there : SourceLocation) (i : Instruction) (n : ℕ) (to : Option ℕ) → i ≢ op.LoadConst → closed_step at (Put i n to there) ≡ Put i n to there ∷ Put op.ReturnValue 0 None at ∷ []
 closed_other at there i n to h = search (rules, h)
@@ -120,4 +123,6 @@ unfolding with_step with_closed
 closed_value x s r q n h g =
     g
     ∙ ap (λ (t : State). record t { steps = t.steps ++ Put op.ReturnValue 0 None t.location ∷ [] }) h
-    ∙ ap (λ (l : List Step). record s { steps = l }) (append_assoc s.steps (step_of x ∷ []) (Put op.ReturnValue 0 None s.location ∷ []) ∙ ap (λ l. s.steps ++ l) (sym (closed_other s.location x.location x.instr x.arg.0 (block_number x.target.0) n)))
+    ∙ ap (λ (l : List Step). record s { steps = l })
+    (append_assoc s.steps (step_of x ∷ []) (Put op.ReturnValue 0 None s.location ∷ [])
+    ∙ ap (λ l. s.steps ++ l) (sym (closed_other s.location x.location x.instr x.arg.0 (block_number x.target.0) n)))

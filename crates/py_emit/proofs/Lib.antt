@@ -9,7 +9,7 @@ mod Samples
 pub mod Placed
 pub mod SealedLaid
 pub mod Cells
-pub mod Within
+pub mod NestedScopes
 pub mod CellPlaces
 pub mod Closures
 pub mod Dotted

@@ -16,14 +16,14 @@ use Rattle.py_emit.specs.Steps.{steps_in}
 use Rattle.py_emit.specs.declared.emitter.Emitter.{Emitter}
 
 pub state_stepped : (x : Step) (s r : State) → r.steps ≡ s.steps ++ x ∷ [] → r.blocks ≡ s.blocks → r.names ≡ s.names → r.varnames ≡ s.varnames
-    → r.constants ≡ s.constants → r.generator ≡ s.generator → r.location ≡ s.location → r.next ≡ s.next → r.around ≡ s.around → r ≡ with_step x s
+    → r.constants ≡ s.constants → r.generator ≡ s.generator → r.location ≡ s.location → r.next ≡ s.next → r.node_context ≡ s.node_context → r ≡ with_step x s
 unfolding with_step
-state_stepped x s r p q n v c g l k a = λ i. record { steps = p i; blocks = q i; names = n i; varnames = v i; constants = c i; generator = g i; location = l i; next = k i; around = a i }
+state_stepped x s r p q n v c g l k a = λ i. record { steps = p i; blocks = q i; names = n i; varnames = v i; constants = c i; generator = g i; location = l i; next = k i; node_context = a i }
 
 pub blocked : (s r : State) → r.steps ≡ s.steps → r.blocks ≡ suc s.blocks → r.names ≡ s.names → r.varnames ≡ s.varnames → r.constants ≡ s.constants
-    → r.generator ≡ s.generator → r.location ≡ s.location → r.next ≡ s.next → r.around ≡ s.around → r ≡ with_block s
+    → r.generator ≡ s.generator → r.location ≡ s.location → r.next ≡ s.next → r.node_context ≡ s.node_context → r ≡ with_block s
 unfolding with_block
-blocked s r p q n v c g l k a = λ i. record { steps = p i; blocks = q i; names = n i; varnames = v i; constants = c i; generator = g i; location = l i; next = k i; around = a i }
+blocked s r p q n v c g l k a = λ i. record { steps = p i; blocks = q i; names = n i; varnames = v i; constants = c i; generator = g i; location = l i; next = k i; node_context = a i }
 
 -- a scope before anything is emitted of it, within this context
 pub begun_state : (x : Source) (o : OpenScope) (h : Head) (c : Context) (at : SourceLocation) (next : ℕ) → IsFirst o.code h → o.generator ≡ false
@@ -37,7 +37,7 @@ begun_state x o h c at next f g e l = λ i. record {
   generator = g i;
   location = at;
   next = next;
-  around = record { context = e i; loops = loop_blocks (l i) };
+  node_context = record { context = e i; loops = loop_blocks (l i) };
 }
 
 pub state_unrefused : (e : Emitter) → IsUnrefused (rest e).opts.optimize (info e) → IsUnrefused e.opts.optimize (info_of (flagged_code e.scope))

@@ -4,7 +4,7 @@ use Rattle.py_scope.specs.declared.flat.ScopeEntry.{ScopeEntry}
 use Rattle.py_scope.specs.declared.table_type.SymbolTableType.{SymbolTableType}
 use Rattle.py_scope.specs.declared.table_type.SymbolTableType.TheVariants as kind
 use Rattle.py_scope.specs.Flat.{next_at, typ_at}
-use Rattle.py_emit.specs.Tables.{Stand, behind, beyond, typ_in}
+use Rattle.py_emit.specs.Tables.{Stand, number_after_scopes, beyond, typ_in}
 
 pub beyond_is : (es : List ScopeEntry) (k m : ℕ) → next_at es k ≡ Some m → beyond es k ≡ m
 beyond_is es k m e = ap (λ (o : Option ℕ). elim o [ None ↦ k | Some n ↦ n ]) e
@@ -20,16 +20,16 @@ table_drop_one_left es before count i k l s =
     let t : Stand es before (suc (count - (i + 1))) k = rw e at s in
     (t.1, t.2)
 
-pub one_behind : (es : List ScopeEntry) (count i k : ℕ) → i < count → behind es (count - i) k ≡ behind es (count - (i + 1)) (beyond es k)
-one_behind es count i k l =
+pub one_drop_after : (es : List ScopeEntry) (count i k : ℕ) → i < count → number_after_scopes es (count - i) k ≡ number_after_scopes es (count - (i + 1)) (beyond es k)
+one_drop_after es count i k l =
     let e : count - i ≡ suc (count - (i + 1)) = omega (arith, l) in
-    ap (λ n. behind es n k) e
+    ap (λ n. number_after_scopes es n k) e
 
-pub table_drop_none_left : (es : List ScopeEntry) (count k : ℕ) → behind es (count - count) k ≡ k
-table_drop_none_left es count k = let e : count - count ≡ 0 = omega arith in ap (λ n. behind es n k) e
+pub table_drop_none_left : (es : List ScopeEntry) (count k : ℕ) → number_after_scopes es (count - count) k ≡ k
+table_drop_none_left es count k = let e : count - count ≡ 0 = omega arith in ap (λ n. number_after_scopes es n k) e
 
 pub all_left : (es : List ScopeEntry) (before count k : ℕ) → Stand es before count k → Stand es before (count - 0) k
 all_left es before count k s = let e : count - 0 ≡ count = omega arith in rw e s
 
-pub table_drop_all_behind : (es : List ScopeEntry) (count k : ℕ) → behind es (count - 0) k ≡ behind es count k
-table_drop_all_behind es count k = let e : count - 0 ≡ count = omega arith in ap (λ n. behind es n k) e
+pub table_drop_all_after : (es : List ScopeEntry) (count k : ℕ) → number_after_scopes es (count - 0) k ≡ number_after_scopes es count k
+table_drop_all_after es count k = let e : count - 0 ≡ count = omega arith in ap (λ n. number_after_scopes es n k) e

@@ -3,6 +3,6 @@ pub mod States
 pub mod Access
 pub mod Emitted
 pub mod Placed
-pub mod Around
+pub mod NodeContext
 pub mod Tables
 pub mod Dotted

@@ -17,11 +17,11 @@ use Rattle.py_ir.specs.Refusals.{TooLong, Refused as IsRefused}
 use Rattle.py_scope.specs.declared.flat.ScopeEntry.{ScopeEntry}
 use Rattle.py_scope.specs.declared.table_type.SymbolTableType.{SymbolTableType}
 use Rattle.py_scope.specs.declared.symbols.Symbol.{Symbol}
-use Rattle.py_emission_parts.specs.Context.{Context, cells_among, frees_among, inside, outermost, with_path, within_class}
-use Rattle.py_emission_parts.specs.Emitting.{Around, Emission, State, LoopBlocks, Outcome, Done, Refused}
+use Rattle.py_emission_parts.specs.Context.{Context, cells_among, frees_among, inside, outermost, with_path, nested_in_class}
+use Rattle.py_emission_parts.specs.Emitting.{NodeContext, Emission, State, LoopBlocks, Outcome, Done, Refused}
 use Rattle.py_emission_parts.specs.Sealed.{Head, flags_of}
 use Rattle.py_emission_parts.specs.Running.{Action, code_head, run}
-use Rattle.py_emission_parts.specs.Within.{Shape}
+use Rattle.py_emission_parts.specs.NestedScopes.{Shape}
 use Rattle.py_base.specs.declared.errors.CodegenErrorType.{CodegenErrorType}
 use Rattle.py_base.specs.declared.errors.CodegenErrorType.TheVariants as error
 use Rattle.py_emit.specs.declared.context.CompileOpts.{CompileOpts}
@@ -63,10 +63,10 @@ context_of x o = record {
 }
 
 -- the context of the present node of a scope
-abbrev pub around : Source → OpenScope → Around
-around x o = record { context = context_of x o; loops = loop_blocks o.context.loop_blocks }
+abbrev pub node_context : Source → OpenScope → NodeContext
+node_context x o = record { context = context_of x o; loops = loop_blocks o.context.loop_blocks }
 
--- what is emitted of a scope, where the next instruction stands there and the next scope within has this number
+-- what is emitted of a scope, where the next instruction stands there and the next nested scope has this number
 abbrev pub state_of : Source → OpenScope → SourceLocation → (next : ℕ) → State
 state_of x o at next = record {
   steps = steps_in (map plain o.code.body.blocks);
@@ -77,7 +77,7 @@ state_of x o at next = record {
   generator = o.generator;
   location = at;
   next = next;
-  around = around x o;
+  node_context = node_context x o;
 }
 
 abbrev pub source_of : Emitter → Source
@@ -99,8 +99,8 @@ head_of c = record {
   freevars = c.freevar_cache;
 }
 
--- how it is compiled, what the enclosing code says, the parts of the qualified name of what stands around, the path that errors name, all
--- scopes, what the scope is, and those around it, which wait
+-- how it is compiled, what the enclosing code says, the parts of the qualified name of the context, the path that errors name, all
+-- scopes, what the scope is, and those that enclose it, which wait
 pub record Rest : Type 0 where
   pub opts : CompileOpts
   pub context : EmitContext
@@ -170,30 +170,30 @@ placed_error e at path = record { error = e; location = Some at; source_path = p
 
 -- no path is left to name in errors
 abbrev pub without_source : State → State
-without_source s = record s { around = record s.around { context = record s.around.context { source = [] } } }
+without_source s = record s { node_context = record s.node_context { context = record s.node_context.context { source = [] } } }
 
 abbrev pub without_path : Rest → Rest
 without_path r = record r { path = [] }
 
 -- the error says that there was no memory, which stands nowhere
-pub record IsStarved (e : LocatedError CodegenErrorType) (path : List ℕ) : Type 0 where
+pub record IsOutOfMemory (e : LocatedError CodegenErrorType) (path : List ℕ) : Type 0 where
   pub error_is : e.error ≡ error.OutOfMemory
   pub location_is : e.location ≡ None
   pub path_is : e.source_path ≡ path
 
--- where a call is Ok, the emission has come to this state; where it is not, the emission is refused so, unless memory is wanting
+-- where a call is Ok, the emission has reached this state; where it is not, the emission is refused so, unless memory is wanting
 abbrev pub Goes : {A : Type 0} → Result A (LocatedError CodegenErrorType) → State → Outcome → Type 0
 Goes (Ok a) s o = o ≡ Done s
 Goes (Err e) s o = e.error ≢ error.OutOfMemory → o ≡ Refused e.error e.location
 
 -- an error names the path, and out of memory stands nowhere
-abbrev pub IsTold : LocatedError CodegenErrorType → (path : List ℕ) → Type 0
-IsTold e path = (e.source_path ≡ path) × (e.error ≡ error.OutOfMemory → e.location ≡ None)
+abbrev pub IsReported : LocatedError CodegenErrorType → (path : List ℕ) → Type 0
+IsReported e path = (e.source_path ≡ path) × (e.error ≡ error.OutOfMemory → e.location ≡ None)
 
 -- where a call is Ok, the rest is as it was; where it is not, the error names the path, and out of memory stands nowhere
 abbrev pub Same : {A : Type 0} → Result A (LocatedError CodegenErrorType) → (after before : Rest) → Type 0
 Same (Ok a) after before = after ≡ before
-Same (Err e) after before = IsTold e before.path
+Same (Err e) after before = IsReported e before.path
 
 -- a call emits this: where it is Ok, it has come from the state before to the one after, and the rest is as it was; where it is not, the
 -- emission is refused so, and the error names the path, unless memory is wanting
@@ -209,23 +209,24 @@ pub record Does {A : Type 0} (r : Result A (LocatedError CodegenErrorType)) (a :
 -- the code is refused only when memory runs out, where its tables are short enough
 abbrev pub IsUnrefused : (level : ℕ) → CodeInfo → Type 0
 IsUnrefused level i =
-    (chain : List ℕ) → IsChain (map plain i.blocks) chain → ¬ TooLong (lens_of (tables_of i)) → (e : FinalizeError) → IsRefused (tables_of i) level (map plain i.blocks) e → e ≡ FinalizeError.OutOfMemory
+    (chain : List ℕ) → IsChain (map plain i.blocks) chain → ¬ TooLong (lens_of (tables_of i)) → (e : FinalizeError)
+    → IsRefused (tables_of i) level (map plain i.blocks) e → e ≡ FinalizeError.OutOfMemory
 
 -- what class mangles the names within a scope, and the qualified name of their context
 abbrev pub named_in : Naming → Context → Context
-named_in naming.AsAround c = c
+named_in naming.AsEnclosing c = c
 named_in (naming.Function path) c = with_path path c
-named_in (naming.Class name path) c = with_path path (within_class name c)
+named_in (naming.Class name path) c = with_path path (nested_in_class name c)
 
 -- and the parts of that name: it is one part, but where it stays
 abbrev pub parts_in : Naming → (parts : List (List ℕ)) → List (List ℕ)
-parts_in naming.AsAround parts = parts
+parts_in naming.AsEnclosing parts = parts
 parts_in (naming.Function path) parts = path ∷ []
 parts_in (naming.Class name path) parts = path ∷ []
 
 -- a nested scope, which begins with nothing
 abbrev pub nested_context : SymbolTableType → Naming → State → Context
-nested_context typ n s = inside typ s.next (named_in n s.around.context)
+nested_context typ n s = inside typ s.next (named_in n s.node_context.context)
 
 -- what a code object says of its scope, which begins at that line and has these symbols
 abbrev pub head_in : Shape → (source : List ℕ) → (line : ℕ) → List Symbol → Head

@@ -12,9 +12,9 @@ abbrev pub beyond : List ScopeEntry → ℕ → ℕ
 beyond entries i = elim (next_at entries i) [ None ↦ i | Some n ↦ n ]
 
 -- the number after so many scopes that stand side by side from number k on
-abbrev pub behind : List ScopeEntry → (count k : ℕ) → ℕ
-behind entries zero k = k
-behind entries (suc n) k = behind entries n (beyond entries k)
+abbrev pub number_after_scopes : List ScopeEntry → (count k : ℕ) → ℕ
+number_after_scopes entries zero k = k
+number_after_scopes entries (suc n) k = number_after_scopes entries n (beyond entries k)
 
 -- at least so many scopes stand side by side from number k on, before a number
 abbrev pub Stand : List ScopeEntry → (before count k : ℕ) → Type 0
@@ -23,7 +23,7 @@ Stand entries before (suc n) k = (k < before) × (k < length entries) × Stand e
 
 -- so many tables are left within the present scope
 abbrev pub AreLeft : (count : ℕ) → State → Type 0
-AreLeft count s = Stand s.around.context.scopes (beyond s.around.context.scopes s.around.context.here) count s.next
+AreLeft count s = Stand s.node_context.context.scopes (beyond s.node_context.context.scopes s.node_context.context.here) count s.next
 
 -- what the table with this number says that its scope is
 abbrev pub typ_in : List ScopeEntry → ℕ → SymbolTableType
@@ -31,4 +31,4 @@ typ_in entries i = elim (typ_at entries i) [ None ↦ kind.Module | Some typ ↦
 
 -- within the scope of the next table, where the class and the qualified name stay
 abbrev pub next_within : State → Context
-next_within s = inside (typ_in s.around.context.scopes s.next) s.next s.around.context
+next_within s = inside (typ_in s.node_context.context.scopes s.next) s.next s.node_context.context

@@ -5,7 +5,7 @@ ghost use Rattle.py_bytecode.specs.Equality.{text_eq};
 ghost use Rattle.py_bytecode.specs.Objects.{code as code_constant};
 ghost use Rattle.py_bytecode.specs.View.{object};
 ghost use Rattle.py_emission_parts.specs.Children.{cell_loads, closure, load_cell as cell_load, made_function};
-ghost use Rattle.py_emission_parts.specs.Within.{some_flag};
+ghost use Rattle.py_emission_parts.specs.NestedScopes.{some_flag};
 ghost use Rattle.py_emission_parts.specs.EmissionParts.{in_turn};
 ghost use Rattle.py_emission_parts.specs.Emitting.{◌▸◌, emit_constant, emit_count};
 ghost use Rattle.py_emit.specs.States.{Emits, placed_error, rest, state};
@@ -20,12 +20,16 @@ impl Emitter {
     /// Appends the load of a cell. Whether it is there is asked before there is anything to want memory for.
     ///
     /// # Errors
-    /// MissingCell where the name is no cell of the scope and does not come to it from outside, at the present location,
+    /// MissingCell where the name is no cell of the scope and does not reach it from outside, at the present location,
     /// or OutOfMemory.
     #[tactic(auto, unfolding(py_emission_parts::specs::Children::load_cell, py_emission_parts::specs::Emitting::by_context, py_emission_parts::specs::Emitting::refuse), using(crate::proofs::CellPlaces::any_within, crate::proofs::CellPlaces::none_within))]
     pub fn load_cell(&mut self, name: &str) -> Result<(), CodegenError>
         ensures emits { Emits result (cell_load name.now) self.old self.new }
-        ensures missing { list_any (text_eq name.now) ((state self.old).around.context.cells ++ (state self.old).around.context.frees) ≡ false → result ≡ Err (placed_error CodegenErrorType.MissingCell (state self.old).location (rest self.old).path) }
+        ensures missing { list_any (text_eq name.now)
+            ((state self.old).node_context.context.cells
+            ++ (state self.old).node_context.context.frees) ≡ false
+            → result ≡ Err (placed_error CodegenErrorType.MissingCell (state self.old).location
+            (rest self.old).path) }
     {
         let place = cell_position(&self.scope.code, name);
         if place >= self.cell_count() {
@@ -49,7 +53,7 @@ impl Emitter {
     /// order, and one `BuildTuple`. False where there is none, and then nothing is appended.
     ///
     /// # Errors
-    /// MissingCell, at the present location, where one of them is no cell of the scope and does not come to it from outside,
+    /// MissingCell, at the present location, where one of them is no cell of the scope and does not reach it from outside,
     /// or OutOfMemory.
     #[tactic(auto, using(crate::proofs::Closures::closure_is))]
     pub fn build_closure(&mut self, code: &CodeObject) -> Result<bool, CodegenError>
@@ -66,7 +70,8 @@ impl Emitter {
 
     /// Appends the loads of cells, and the tuple of them.
     fn build_cells(&mut self, names: &[Text]) -> Result<(), CodegenError>
-        ensures { Emits result (in_turn (cell_loads names.now) ▸ emit_count Instruction.BuildTuple (length names.now)) self.old self.new }
+        ensures { Emits result (in_turn (cell_loads names.now)
+            ▸ emit_count Instruction.BuildTuple (length names.now)) self.old self.new }
     {
         self.load_cells(names)?;
         self.emit_count(Instruction::BuildTuple, names.len())
@@ -77,7 +82,7 @@ impl Emitter {
     ///
     /// # Errors
     /// MissingCell, at the present location, where a name that the code object has from outside is no cell of the scope and
-    /// does not come to it from outside, or OutOfMemory.
+    /// does not reach it from outside, or OutOfMemory.
     pub fn make_function(
         &mut self,
         flags: MakeFunctionFlags,
@@ -98,7 +103,8 @@ impl Emitter {
     /// # Errors
     /// OutOfMemory alone.
     fn load_code(&mut self, code: CodeObject) -> Result<(), CodegenError>
-        ensures { Emits result (emit_constant Instruction.LoadConst (code_constant (object code))) self.old self.new }
+        ensures { Emits result (emit_constant Instruction.LoadConst (code_constant (object code)))
+            self.old self.new }
     {
         match Box::new(self.alloc(), code) {
             Ok(code) => self.load_const(ConstantData::Code { code }),

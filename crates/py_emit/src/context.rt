@@ -1,4 +1,4 @@
-//! What an emitter is told of the enclosing code.
+//! What an emitter is reported of the enclosing code.
 
 use py_base::Text;
 use py_bytecode::CodeFlags;
@@ -29,14 +29,14 @@ pub struct ScopeHead {
     pub obj_name: Text,
 }
 
-/// By what class the names of a scope are mangled, and what qualified name stands before those within it.
+/// By what class the names of a scope are mangled, and what qualified name stands before those nested in it.
 #[derive(Drop)]
 pub enum Naming {
     /// As in the enclosing scope: a lambda or a comprehension.
-    AsAround,
-    /// A function: `f.<locals>` after what stands around.
+    AsEnclosing,
+    /// A function: `f.<locals>` after the context.
     Function { path: Text },
-    /// A class, whose name mangles those within it.
+    /// A class, whose name mangles those nested in it.
     Class { name: Text, path: Text },
 }
 

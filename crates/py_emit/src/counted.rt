@@ -2,8 +2,8 @@
 ghost use Rattle.std.specs.Prelude.{◌≡◌, ◌+◌, ℕ, suc, IfErr, OnOk};
 ghost use Rattle.py_emission_parts.specs.Running.{code_head};
 ghost use Rattle.py_emission_parts.specs.Emitting.{initial_state};
-ghost use Rattle.py_emit.specs.States.{IsStarved, entered_rest, rest, shape_of, state};
-ghost use Rattle.py_emit.specs.Tables.{AreLeft, Stand, behind, next_within};
+ghost use Rattle.py_emit.specs.States.{IsOutOfMemory, entered_rest, rest, shape_of, state};
+ghost use Rattle.py_emit.specs.Tables.{AreLeft, Stand, number_after_scopes, next_within};
 
 use crate::context::{Naming, ScopeHead};
 use crate::emitter::Emitter;
@@ -24,15 +24,20 @@ impl Emitter {
         steps: &mut Steps<L>,
     ) -> Result<(), CodegenError>
         requires left { AreLeft 1 (state self.old) }
-        ensures state { OnOk result (state self.new ≡ initial_state (next_within (state self.old)) (state self.old).location (suc (state self.old).next)) }
-        ensures rest { OnOk result (rest self.new ≡ entered_rest Naming.AsAround self.old.scope (code_head (next_within (state self.old)) (shape_of head) (state self.old).location) (rest self.old)) }
-        ensures err { IfErr result (λ e. IsStarved e (rest self.old).path) }
+        ensures state { OnOk result (state self.new
+            ≡ initial_state (next_within (state self.old)) (state self.old).location
+            (suc (state self.old).next)) }
+        ensures rest { OnOk result (rest self.new
+            ≡ entered_rest Naming.AsEnclosing self.old.scope
+            (code_head (next_within (state self.old)) (shape_of head) (state self.old).location)
+            (rest self.old)) }
+        ensures err { IfErr result (λ e. IsOutOfMemory e (rest self.old).path) }
         ensures steps { steps.new ≡ steps.old + 1 }
     {
         let number = self.next_scope();
         let typ = self.scopes.typ(number);
         self.scopes.after(number, steps);
-        self.open_scope(head, typ, Naming::AsAround)
+        self.open_scope(head, typ, Naming::AsEnclosing)
     }
 
     /// Drops the first so many tables that are left within the present scope: they stand in parts that are scanned and not
@@ -40,24 +45,29 @@ impl Emitter {
     #[tactic(auto, unfolding(crate::specs::States::rest))]
     pub fn drop_tables<L: Ledger>(&mut self, count: u32, steps: &mut Steps<L>)
         requires left { AreLeft count (state self.old) }
-        ensures state { state self.new ≡ record (state self.old) { next = behind (state self.old).around.context.scopes count (state self.old).next } }
+        ensures state { state self.new
+            ≡ record (state self.old) {
+              next =
+                  number_after_scopes (state self.old).node_context.context.scopes count
+                  (state self.old).next;
+            } }
         ensures rest { rest self.new ≡ rest self.old }
         ensures steps { steps.new ≡ steps.old + count }
     {
-        let next = number_behind(&self.scopes, self.next_scope(), count, steps);
+        let next = number_after(&self.scopes, self.next_scope(), count, steps);
         self.pass_scopes(next);
     }
 }
 
 /// The number after so many scopes that stand side by side from this number on. It counts a step for each.
-fn number_behind<L: Ledger>(
+fn number_after<L: Ledger>(
     scopes: &FlatScopes,
     first: usize,
     count: u32,
     steps: &mut Steps<L>,
 ) -> usize
     requires left { (before : ℕ) × Stand scopes.now before count first }
-    ensures number { result ≡ behind scopes.now count first }
+    ensures number { result ≡ number_after_scopes scopes.now count first }
     ensures steps { steps.new ≡ steps.old + count }
 {
     let mut next = first;

@@ -9,12 +9,12 @@ ghost use Rattle.py_emission_parts.specs.Running.{code_head, run};
 ghost use Rattle.py_emission_parts.specs.Context.{inside, outermost, symbols_in};
 ghost use Rattle.py_emission_parts.specs.Emitting.{Begin, Done, Put, initial_state, emit as emission_of, emit_count, generator_mark, jump as jumping, with_location, nothing, with_block, with_loops, with_postponed, with_step};
 ghost use Rattle.py_emission_parts.specs.Sealed.{assembled_object};
-ghost use Rattle.py_emit.specs.States.{Emits, Goes, IsFirst, IsStarved, IsUnrefused, nested_context, entered_rest, first_rest, head_in, head_of, info, left_scope, left_rest, loop_blocks, looped_rest, module_shape, named_in, parts_in, placed_error, postponed_rest, rest, shape_of, source_of, state, state_of, told_rest, unlooped_context, without_path, without_source};
+ghost use Rattle.py_emit.specs.States.{Emits, Goes, IsFirst, IsOutOfMemory, IsUnrefused, nested_context, entered_rest, first_rest, head_in, head_of, info, left_scope, left_rest, loop_blocks, looped_rest, module_shape, named_in, parts_in, placed_error, postponed_rest, rest, shape_of, source_of, state, state_of, told_rest, unlooped_context, without_path, without_source};
 ghost use Rattle.py_emit.specs.Steps.{IsOpen, step_of};
 
 use crate::context::{CompileOpts, EmitContext, Naming, ScopeHead};
 use crate::paths::{alone, copied};
-use crate::refusals::{has_short_tables, only_starved, starved};
+use crate::refusals::{has_short_tables, only_out_of_memory, out_of_memory};
 use crate::scopes::{OpenScope, first_code, laid_out};
 use py_base::{
     CodegenError, CodegenErrorType, LocatedError, Names, OneIndexed, SourceLocation, Text,
@@ -28,7 +28,7 @@ use std::mem;
 /// The number of values that no instruction counts.
 const COUNT_LIMIT: usize = 1 << 30;
 
-/// What is emitted so far of the present scope, and of those around it, which wait, and where the next instruction stands
+/// What is emitted so far of the present scope, and of those that enclose it, which wait, and where the next instruction stands
 /// in the source. Besides what its contract says and the table entry of an instruction that it appends, a call changes
 /// nothing. After an error it may only be dropped.
 #[derive(Drop)]
@@ -38,7 +38,7 @@ pub struct Emitter {
     source_path: Text,
     pub(crate) scopes: FlatScopes,
     location: SourceLocation,
-    /// The number of the next scope within, in the order in which they are compiled.
+    /// The number of the next nested scope, in the order in which they are compiled.
     next: usize,
     pub(crate) scope: OpenScope,
     outer: Vec<OpenScope>,
@@ -56,18 +56,20 @@ impl Emitter {
         source_path: Text,
         table: SymbolTable,
     ) -> Result<Emitter, CodegenError>
-        ensures state { IfOk result (λ em. state em ≡ nothing (outermost opts.optimize source_path (flat_table table 0))) }
-        ensures rest { IfOk result (λ em. rest em ≡ first_rest opts source_path (flat_table table 0)) }
-        ensures err { IfErr result (λ e. IsStarved e source_path) }
+        ensures state { IfOk result (λ em.
+            state em ≡ nothing (outermost opts.optimize source_path (flat_table table 0))) }
+        ensures rest { IfOk result (λ em. rest em
+            ≡ first_rest opts source_path (flat_table table 0)) }
+        ensures err { IfErr result (λ e. IsOutOfMemory e source_path) }
     {
         match FlatScopes::from_table(alloc, table) {
             Ok(scopes) => Emitter::over(alloc, opts, source_path, scopes),
-            Err(_) => Err(starved(source_path)),
+            Err(_) => Err(out_of_memory(source_path)),
         }
     }
 
     /// One scope `<module>`, which is the first of these, with one empty block, at row 1 and column 1, with no class and
-    /// no loop around.
+    /// no enclosing loop.
     ///
     /// # Errors
     /// OutOfMemory alone.
@@ -78,12 +80,13 @@ impl Emitter {
         source_path: Text,
         scopes: FlatScopes,
     ) -> Result<Emitter, CodegenError>
-        ensures state { IfOk result (λ em. state em ≡ nothing (outermost opts.optimize source_path scopes)) }
+        ensures state { IfOk result (λ em.
+            state em ≡ nothing (outermost opts.optimize source_path scopes)) }
         ensures rest { IfOk result (λ em. rest em ≡ first_rest opts source_path scopes) }
-        ensures err { IfErr result (λ e. IsStarved e source_path) }
+        ensures err { IfErr result (λ e. IsOutOfMemory e source_path) }
     {
         let Ok(code) = module_code(alloc, &source_path, &scopes) else {
-            return Err(starved(source_path));
+            return Err(out_of_memory(source_path));
         };
         Ok(Emitter {
             alloc,
@@ -153,7 +156,8 @@ impl Emitter {
     pub fn set_future_over(&mut self, over: bool) -> bool
         ensures old { result ≡ (rest self.old).context.future_over }
         ensures state { state self.new ≡ state self.old }
-        ensures rest { rest self.new ≡ told_rest (record (rest self.old).context { future_over = over }) (rest self.old) }
+        ensures rest { rest self.new ≡ told_rest
+            (record (rest self.old).context { future_over = over }) (rest self.old) }
     {
         mem::replace(&mut self.scope.context.future_over, over)
     }
@@ -197,9 +201,11 @@ impl Emitter {
         arg: OpArg,
         target: BlockIdx,
     ) -> Result<(), CodegenError>
-        ensures ok { OnOk result (state self.new ≡ with_step (Put instr arg.0 (block_number target.0) (state self.old).location) (state self.old)) }
+        ensures ok { OnOk result (state self.new
+            ≡ with_step (Put instr arg.0 (block_number target.0) (state self.old).location)
+            (state self.old)) }
         ensures rest { OnOk result (rest self.new ≡ rest self.old) }
-        ensures err { IfErr result (λ e. IsStarved e (rest self.old).path) }
+        ensures err { IfErr result (λ e. IsOutOfMemory e (rest self.old).path) }
     {
         self.put(InstructionInfo {
             instr,
@@ -217,7 +223,7 @@ impl Emitter {
     pub(crate) fn put(&mut self, info: InstructionInfo) -> Result<(), CodegenError>
         ensures ok { OnOk result (state self.new ≡ with_step (step_of info) (state self.old)) }
         ensures rest { OnOk result (rest self.new ≡ rest self.old) }
-        ensures err { IfErr result (λ e. IsStarved e (rest self.old).path) }
+        ensures err { IfErr result (λ e. IsOutOfMemory e (rest self.old).path) }
     {
         match self.scope.code.body.push(info) {
             Ok(()) => Ok(()),
@@ -274,7 +280,7 @@ impl Emitter {
         ensures below { IfOk result (λ block. block.0 < 0xffff_ffff) }
         ensures made { IfOk result (λ block. IsOpen block.0 (state self.new)) }
         ensures rest { OnOk result (rest self.new ≡ rest self.old) }
-        ensures err { IfErr result (λ e. IsStarved e (rest self.old).path) }
+        ensures err { IfErr result (λ e. IsOutOfMemory e (rest self.old).path) }
     {
         match self.scope.code.body.new_block() {
             Ok(block) => Ok(block),
@@ -305,19 +311,24 @@ impl Emitter {
         typ: SymbolTableType,
         naming: Naming,
     ) -> Result<(), CodegenError>
-        ensures state { OnOk result (state self.new ≡ initial_state (nested_context typ naming (state self.old)) (state self.old).location (suc (state self.old).next)) }
-        ensures rest { OnOk result (rest self.new ≡ entered_rest naming self.old.scope (code_head (nested_context typ naming (state self.old)) (shape_of head) (state self.old).location) (rest self.old)) }
-        ensures err { IfErr result (λ e. IsStarved e (rest self.old).path) }
+        ensures state { OnOk result (state self.new
+            ≡ initial_state (nested_context typ naming (state self.old)) (state self.old).location
+            (suc (state self.old).next)) }
+        ensures rest { OnOk result (rest self.new
+            ≡ entered_rest naming self.old.scope
+            (code_head (nested_context typ naming (state self.old)) (shape_of head)
+            (state self.old).location) (rest self.old)) }
+        ensures err { IfErr result (λ e. IsOutOfMemory e (rest self.old).path) }
     {
         let number = self.next;
-        let Ok(scope) = self.scope_within(head, typ, naming, number) else {
+        let Ok(scope) = self.nested_scope(head, typ, naming, number) else {
             return Err(self.error(CodegenErrorType::OutOfMemory));
         };
         let Some(next) = number.checked_add(1) else {
             return Err(self.error(CodegenErrorType::OutOfMemory));
         };
-        let around = mem::replace(&mut self.scope, scope);
-        let Ok(()) = push_scope(&mut self.outer, around) else {
+        let enclosing = mem::replace(&mut self.scope, scope);
+        let Ok(()) = push_scope(&mut self.outer, enclosing) else {
             return Err(self.error(CodegenErrorType::OutOfMemory));
         };
         self.next = next;
@@ -328,20 +339,26 @@ impl Emitter {
     /// around goes on.
     ///
     /// # Errors
-    /// OutOfMemory alone: a table of 2^31 entries, and blocks that have no code, count as that. The part "Want of memory"
-    /// of docs/DECISIONS.md says what no tree without faults comes to.
+    /// OutOfMemory alone: a table of 2^31 entries, and blocks that have no code, count as that. The part "Out of memory"
+    /// of docs/DECISIONS.md says what no tree without faults reaches.
     #[tactic(auto, unfolding(crate::specs::States::rest))]
     pub fn leave_scope(&mut self) -> Result<CodeObject, CodegenError>
         requires inner { (rest self.old).outer ≢ [] }
-        ensures code { IfOk result (λ code. object code ≡ assembled_object (rest self.old).opts.optimize (rest self.old).head (state self.old)) }
-        ensures state { OnOk result ((outer : Scopes OpenScope) (o : OpenScope) → (rest self.old).outer ≡ outer ++ o ∷ [] → state self.new ≡ left_scope (rest self.old) o (state self.old)) }
-        ensures rest { OnOk result ((outer : Scopes OpenScope) (o : OpenScope) → (rest self.old).outer ≡ outer ++ o ∷ [] → rest self.new ≡ left_rest outer o (rest self.old)) }
-        ensures err { IfErr result (λ e. IsStarved e (rest self.old).path) }
+        ensures code { IfOk result (λ code.
+            object code ≡ assembled_object (rest self.old).opts.optimize (rest self.old).head
+            (state self.old)) }
+        ensures state { OnOk result ((outer : Scopes OpenScope) (o : OpenScope)
+            → (rest self.old).outer ≡ outer ++ o ∷ []
+            → state self.new ≡ left_scope (rest self.old) o (state self.old)) }
+        ensures rest { OnOk result ((outer : Scopes OpenScope) (o : OpenScope)
+            → (rest self.old).outer ≡ outer ++ o ∷ []
+            → rest self.new ≡ left_rest outer o (rest self.old)) }
+        ensures err { IfErr result (λ e. IsOutOfMemory e (rest self.old).path) }
     {
-        let Some(around) = self.outer.pop() else {
+        let Some(enclosing) = self.outer.pop() else {
             unreachable!();
         };
-        let scope = mem::replace(&mut self.scope, around);
+        let scope = mem::replace(&mut self.scope, enclosing);
         if !has_short_tables(&scope.code) {
             return Err(self.error(CodegenErrorType::OutOfMemory));
         }
@@ -351,7 +368,7 @@ impl Emitter {
         }
     }
 
-    /// The number of the next scope within.
+    /// The number of the next nested scope.
     pub fn next_scope(&self) -> usize
         ensures { result ≡ (state self.now).next }
     {
@@ -378,7 +395,7 @@ impl Emitter {
 
     /// The kind of the present scope.
     pub fn scope_type(&self) -> SymbolTableType
-        ensures { result ≡ (state self.now).around.context.typ }
+        ensures { result ≡ (state self.now).node_context.context.typ }
     {
         self.scope.typ
     }
@@ -391,8 +408,10 @@ impl Emitter {
     pub fn finish(self) -> Result<CodeObject, CodegenError>
         requires { IsUnrefused (rest self).opts.optimize (info self) }
         ensures code { IfOk result (λ code. IsFinal (rest self).opts.optimize (info self) code) }
-        ensures sealed { IfOk result (λ code. object code ≡ assembled_object (rest self).opts.optimize (rest self).head (state self)) }
-        ensures err { IfErr result (λ e. IsStarved e (rest self).path) }
+        ensures sealed { IfOk result (λ code.
+            object code ≡ assembled_object (rest self).opts.optimize (rest self).head
+            (state self)) }
+        ensures err { IfErr result (λ e. IsOutOfMemory e (rest self).path) }
     {
         let Emitter {
             alloc,
@@ -405,24 +424,29 @@ impl Emitter {
             outer: _,
         } = self;
         if !has_short_tables(&scope.code) {
-            return Err(starved(source_path));
+            return Err(out_of_memory(source_path));
         }
         match laid_out(alloc, opts.optimize, scope) {
             Ok(code) => Ok(code),
-            Err(error) => Err(only_starved(error, source_path)),
+            Err(error) => Err(only_out_of_memory(error, source_path)),
         }
     }
 
-    /// A scope within before anything is emitted.
-    fn scope_within(
+    /// A nested scope before anything is emitted.
+    fn nested_scope(
         &self,
         head: ScopeHead,
         typ: SymbolTableType,
         naming: Naming,
         number: usize,
     ) -> Result<OpenScope, AllocError>
-        ensures state { IfOk result (λ o. (at : Location) (next : ℕ) → state_of (source_of self.now) o at next ≡ initial_state (inside typ number (named_in naming (state self.now).around.context)) at next) }
-        ensures head { IfOk result (λ o. head_of o.code ≡ head_in (shape_of head) self.now.source_path self.now.location.row (symbols_in self.now.scopes number)) }
+        ensures state { IfOk result (λ o. (at : Location) (next : ℕ)
+            → state_of (source_of self.now) o at next
+            ≡ initial_state (inside typ number
+            (named_in naming (state self.now).node_context.context)) at next) }
+        ensures head { IfOk result (λ o. head_of o.code
+            ≡ head_in (shape_of head) self.now.source_path self.now.location.row
+            (symbols_in self.now.scopes number)) }
         ensures context { IfOk result (λ o. o.context ≡ unlooped_context self.now.scope.context) }
         ensures parts { IfOk result (λ o. o.path ≡ parts_in naming self.now.scope.path) }
     {
@@ -451,14 +475,15 @@ impl Emitter {
     }
 
     /// What class mangles the names of a nested scope, and the parts of the qualified name of their context.
-    #[tactic(auto, unfolding(py_emission_parts::specs::Context::with_path, py_emission_parts::specs::Context::within_class))]
+    #[tactic(auto, unfolding(py_emission_parts::specs::Context::with_path, py_emission_parts::specs::Context::nested_in_class))]
     fn names_within(&self, naming: Naming) -> Result<(Option<Text>, Names), AllocError>
-        ensures class { IfOk result (λ names. names.0 ≡ (named_in naming (state self.now).around.context).class) }
+        ensures class { IfOk result (λ names.
+            names.0 ≡ (named_in naming (state self.now).node_context.context).class) }
         ensures parts { IfOk result (λ names. names.1 ≡ parts_in naming self.now.scope.path) }
     {
         let alloc = self.alloc;
         match naming {
-            Naming::AsAround => Ok((self.class_name()?, copied(alloc, &self.scope.path)?)),
+            Naming::AsEnclosing => Ok((self.class_name()?, copied(alloc, &self.scope.path)?)),
             Naming::Function { path } => Ok((self.class_name()?, alone(alloc, path)?)),
             Naming::Class { name, path } => Ok((Some(name), alone(alloc, path)?)),
         }
@@ -494,7 +519,8 @@ fn module_code(
     source_path: &Text,
     scopes: &FlatScopes,
 ) -> Result<FlatCode, AllocError>
-    ensures { IfOk result (λ code. IsFirst code (head_in module_shape source_path.now 1 (symbols_in scopes.now 0))) }
+    ensures { IfOk result (λ code. IsFirst code
+        (head_in module_shape source_path.now 1 (symbols_in scopes.now 0))) }
 {
     let head = ScopeHead {
         flags: CodeFlags::NEW_LOCALS,

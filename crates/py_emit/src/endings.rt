@@ -1,7 +1,7 @@
 //! The last instruction of a block, and the return of a value.
 ghost use Rattle.std.specs.Prelude.{◌≡◌, IfNone, IfSome, IfErr, OnOk};
 ghost use Rattle.py_emission_parts.specs.Emitting.{with_step};
-ghost use Rattle.py_emit.specs.States.{IsStarved, rest, state};
+ghost use Rattle.py_emit.specs.States.{IsOutOfMemory, rest, state};
 ghost use Rattle.py_emit.specs.Steps.{EndsAtBegin, step_of, with_closed, with_return};
 
 use crate::emitter::Emitter;
@@ -13,7 +13,8 @@ impl Emitter {
     /// Takes out the last instruction of the current block. None where that block is empty.
     #[tactic(auto, unfolding(crate::specs::States::rest))]
     pub fn take_last(&mut self) -> Option<InstructionInfo>
-        ensures taken { IfSome result (λ info. state self.old ≡ with_step (step_of info) (state self.new)) }
+        ensures taken { IfSome result (λ info.
+            state self.old ≡ with_step (step_of info) (state self.new)) }
         ensures empty { IfNone result (EndsAtBegin (state self.old).steps) }
         ensures none { IfNone result (state self.new ≡ state self.old) }
         ensures rest { rest self.new ≡ rest self.old }
@@ -30,7 +31,7 @@ impl Emitter {
     pub fn return_value(&mut self) -> Result<(), CodegenError>
         ensures ok { OnOk result (state self.new ≡ with_return (state self.old)) }
         ensures rest { OnOk result (rest self.new ≡ rest self.old) }
-        ensures err { IfErr result (λ e. IsStarved e (rest self.old).path) }
+        ensures err { IfErr result (λ e. IsOutOfMemory e (rest self.old).path) }
     {
         match self.take_last() {
             Some(last) => self.return_after(last),
@@ -43,7 +44,7 @@ impl Emitter {
     fn return_after(&mut self, last: InstructionInfo) -> Result<(), CodegenError>
         ensures ok { OnOk result (state self.new ≡ with_closed (step_of last) (state self.old)) }
         ensures rest { OnOk result (rest self.new ≡ rest self.old) }
-        ensures err { IfErr result (λ e. IsStarved e (rest self.old).path) }
+        ensures err { IfErr result (λ e. IsOutOfMemory e (rest self.old).path) }
     {
         match last.instr {
             Instruction::LoadConst => self.put(InstructionInfo {

@@ -1,7 +1,6 @@
 //! What is emitted of a scope: instructions with their locations, in blocks, and the tables that their operands name.
 #![tactic(auto)]
 
-mod around;
 mod children;
 mod context;
 mod counted;
@@ -10,6 +9,7 @@ mod endings;
 mod laws;
 mod macros;
 mod names;
+mod node_context;
 mod paths;
 mod refusals;
 mod scopes;

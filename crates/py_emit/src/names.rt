@@ -2,7 +2,7 @@
 ghost use Rattle.std.specs.Prelude.{◌≡◌, ◌≢◌, ◌++◌, ◌<◌, ◌^◌, find, length, IfOk, IfErr, OnOk};
 ghost use Rattle.std.specs.List.{list_any, position_or_len};
 ghost use Rattle.std.specs.Option.{option_copied};
-ghost use Rattle.py_base.specs.Mangle.{mangling as mangled_name};
+ghost use Rattle.py_base.specs.Mangle.{mangling_of as mangled_name};
 ghost use Rattle.py_bytecode.specs.View.{constant};
 ghost use Rattle.py_bytecode.specs.Equality.{text_eq};
 ghost use Rattle.py_scope.specs.Names.{same_name};
@@ -14,7 +14,7 @@ ghost use Rattle.py_emission_parts.specs.Emitting.{Refused, emit as emission_of_
 ghost use Rattle.py_emission_parts.specs.Running.{run};
 ghost use Rattle.py_emission_parts.specs.TableParts.{debug_constant as constant_debug, is_debug as named_debug};
 ghost use Rattle.py_emit.specs.Access.{emission_of_access, kind_of, usage_of};
-ghost use Rattle.py_emit.specs.States.{Emits, IsStarved, IsTold, rest, state};
+ghost use Rattle.py_emit.specs.States.{Emits, IsOutOfMemory, IsReported, rest, state};
 
 use crate::context::{CompileOpts, NameUsage};
 use crate::emitter::Emitter;
@@ -97,7 +97,7 @@ fn access_by(typ: SymbolTableType, usage: NameUsage, scope: SymbolScope) -> Acce
 
 impl Emitter {
     /// Appends an access to a name, as the innermost class writes it: by its place where it is one of a function's own, by
-    /// the place of its cell where a scope within or around shares it, and else by its name, globally where the scope says
+    /// the place of its cell where a nested or an enclosing scope shares it, and else by its name, globally where the scope says
     /// so. The name `__debug__` is the constant that says whether the level is 0.
     ///
     /// # Errors
@@ -129,7 +129,8 @@ impl Emitter {
 
     /// Appends what stores or deletes a name, or leaves with the text where the name is `__debug__`.
     fn change_name(&mut self, usage: NameUsage, name: &str, text: &str) -> Result<(), CodegenError>
-        ensures { Emits result (unless_debug text.now name.now (name_access (usage_of usage) name.now)) self.old self.new }
+        ensures { Emits result (unless_debug text.now name.now
+            (name_access (usage_of usage) name.now)) self.old self.new }
     {
         if is_debug(name) {
             return Err(self.syntax_error(text));
@@ -156,9 +157,10 @@ impl Emitter {
     /// # Errors
     /// OutOfMemory alone.
     pub fn mangled(&mut self, name: &str) -> Result<Text, CodegenError>
-        ensures data { IfOk result (λ text. text ≡ mangled_here (state self.old).around.context name.now) }
+        ensures data { IfOk result (λ text.
+            text ≡ mangled_here (state self.old).node_context.context name.now) }
         ensures same { OnOk result (self.new ≡ self.old) }
-        ensures err { IfErr result (λ e. IsStarved e (rest self.old).path) }
+        ensures err { IfErr result (λ e. IsOutOfMemory e (rest self.old).path) }
     {
         match self.mangled_if_private(name)? {
             Some(other) => Ok(other),
@@ -171,9 +173,10 @@ impl Emitter {
     /// # Errors
     /// OutOfMemory alone.
     pub fn mangled_if_private(&mut self, name: &str) -> Result<Option<Text>, CodegenError>
-        ensures data { IfOk result (λ other. other ≡ mangled_name (state self.old).around.context.class name.now) }
+        ensures data { IfOk result (λ other.
+            other ≡ mangled_name (state self.old).node_context.context.class name.now) }
         ensures same { OnOk result (self.new ≡ self.old) }
-        ensures err { IfErr result (λ e. IsStarved e (rest self.old).path) }
+        ensures err { IfErr result (λ e. IsOutOfMemory e (rest self.old).path) }
     {
         let class = match &self.scope.class {
             Some(class) => Some(class.as_str()),
@@ -187,7 +190,8 @@ impl Emitter {
 
     /// Appends an access to a name that is written as the innermost class writes it.
     fn access_mangled(&mut self, usage: NameUsage, name: &str) -> Result<(), CodegenError>
-        ensures { Emits result (accessed_in (state self.old).around.context (usage_of usage) name.now) self.old self.new }
+        ensures { Emits result (accessed_in (state self.old).node_context.context
+            (usage_of usage) name.now) self.old self.new }
     {
         let access = self.access_of(usage, name);
         match usage {
@@ -198,7 +202,8 @@ impl Emitter {
     }
 
     fn load_by(&mut self, access: Access, name: &str) -> Result<(), CodegenError>
-        ensures { Emits result (load_by (kind_of access) name.now (cell_place (state self.old).around.context name.now)) self.old self.new }
+        ensures { Emits result (load_by (kind_of access) name.now
+            (cell_place (state self.old).node_context.context name.now)) self.old self.new }
     {
         match access {
             Access::Fast => self.emit_varname(Instruction::LoadFast, name),
@@ -210,7 +215,8 @@ impl Emitter {
     }
 
     fn store_by(&mut self, access: Access, name: &str) -> Result<(), CodegenError>
-        ensures { Emits result (store_by (kind_of access) name.now (cell_place (state self.old).around.context name.now)) self.old self.new }
+        ensures { Emits result (store_by (kind_of access) name.now
+            (cell_place (state self.old).node_context.context name.now)) self.old self.new }
     {
         match access {
             Access::Fast => self.emit_varname(Instruction::StoreFast, name),
@@ -221,7 +227,8 @@ impl Emitter {
     }
 
     fn delete_by(&mut self, access: Access, name: &str) -> Result<(), CodegenError>
-        ensures { Emits result (delete_by (kind_of access) name.now (cell_place (state self.old).around.context name.now)) self.old self.new }
+        ensures { Emits result (delete_by (kind_of access) name.now
+            (cell_place (state self.old).node_context.context name.now)) self.old self.new }
     {
         match access {
             Access::Fast => self.emit_varname(Instruction::DeleteFast, name),
@@ -233,14 +240,15 @@ impl Emitter {
 
     /// How a name that is written as the innermost class writes it is come at.
     fn access_of(&self, usage: NameUsage, name: &str) -> Access
-        ensures { kind_of result ≡ access_kind (state self.now).around.context (usage_of usage) Resolved name.now }
+        ensures { kind_of result ≡ access_kind (state self.now).node_context.context
+            (usage_of usage) Resolved name.now }
     {
         access_by(self.scope.typ, usage, self.scope_of(name))
     }
 
     /// What a name is in the present scope, where it is written as the innermost class writes it.
     pub(crate) fn scope_of(&self, name: &str) -> SymbolScope
-        ensures { result ≡ scope_of (state self.now).around.context name.now }
+        ensures { result ≡ scope_of (state self.now).node_context.context name.now }
     {
         match self.symbol(name) {
             Some(symbol) => symbol.scope,
@@ -250,7 +258,9 @@ impl Emitter {
 
     /// The symbol of this name in the present scope. None where it has none.
     pub fn symbol(&self, name: &str) -> Option<&Symbol>
-        ensures { option_copied result ≡ find (λ s. same_name name.now s.name) (symbols_in (state self.now).around.context.scopes (state self.now).around.context.here) }
+        ensures { option_copied result ≡ find (λ s. same_name name.now s.name)
+            (symbols_in (state self.now).node_context.context.scopes
+            (state self.now).node_context.context.here) }
     {
         match symbols_of(&self.scopes, self.scope.here) {
             Some(symbols) => symbols.get(name),
@@ -260,7 +270,8 @@ impl Emitter {
 
     /// Appends an instruction that names a cell.
     fn emit_cell(&mut self, instr: Instruction, name: &str) -> Result<(), CodegenError>
-        ensures { Emits result (emission_of_arg instr (cell_place (state self.old).around.context name.now)) self.old self.new }
+        ensures { Emits result (emission_of_arg instr
+            (cell_place (state self.old).node_context.context name.now)) self.old self.new }
     {
         let place = self.cell_place(name)?;
         self.emit_arg(instr, place)
@@ -271,9 +282,10 @@ impl Emitter {
     /// # Errors
     /// OutOfMemory alone.
     pub(crate) fn cell_place(&mut self, name: &str) -> Result<u32, CodegenError>
-        ensures place { IfOk result (λ place. place ≡ cell_place (state self.old).around.context name.now) }
+        ensures place { IfOk result (λ place.
+            place ≡ cell_place (state self.old).node_context.context name.now) }
         ensures same { OnOk result (self.new ≡ self.old) }
-        ensures err { IfErr result (λ e. IsStarved e (rest self.old).path) }
+        ensures err { IfErr result (λ e. IsOutOfMemory e (rest self.old).path) }
     {
         let place = cell_position(&self.scope.code, name);
         self.narrow(place)
@@ -281,14 +293,15 @@ impl Emitter {
 
     /// Whether the scope has a cell of this name.
     pub fn has_cell(&self, name: &str) -> bool
-        ensures { result ≡ list_any (text_eq name.now) (state self.now).around.context.cells }
+        ensures { result ≡ list_any (text_eq name.now) (state self.now).node_context.context.cells }
     {
         self.scope.code.cellvar_cache.place_of(name).is_some()
     }
 
     /// The number of cells and free names.
     pub(crate) fn cell_count(&self) -> usize
-        ensures { result ≡ length ((state self.now).around.context.cells ++ (state self.now).around.context.frees) }
+        ensures { result ≡ length ((state self.now).node_context.context.cells
+            ++ (state self.now).node_context.context.frees) }
     {
         self.scope.code.cellvar_cache.len() + self.scope.code.freevar_cache.len()
     }
@@ -310,8 +323,10 @@ impl Emitter {
     /// The SyntaxError with a text, or out of memory for it.
     #[tactic(auto, unfolding(py_emission_parts::specs::Emitting::refuse))]
     pub fn syntax_error(&mut self, text: &str) -> CodegenError
-        ensures goes { result.error ≢ CodegenErrorType.OutOfMemory → run (refuse (CodegenErrorType.SyntaxError text.now)) (state self.old) ≡ Refused result.error result.location }
-        ensures told { IsTold result (rest self.old).path }
+        ensures goes { result.error ≢ CodegenErrorType.OutOfMemory
+            → run (refuse (CodegenErrorType.SyntaxError text.now)) (state self.old)
+            ≡ Refused result.error result.location }
+        ensures told { IsReported result (rest self.old).path }
     {
         match self.text(text) {
             Ok(copy) => self.error(CodegenErrorType::SyntaxError(copy)),
@@ -326,7 +341,7 @@ impl Emitter {
     pub fn text(&mut self, text: &str) -> Result<Text, CodegenError>
         ensures data { IfOk result (λ copy. copy ≡ text.now) }
         ensures same { OnOk result (self.new ≡ self.old) }
-        ensures err { IfErr result (λ e. IsStarved e (rest self.old).path) }
+        ensures err { IfErr result (λ e. IsOutOfMemory e (rest self.old).path) }
     {
         match String::from_str(self.alloc(), text) {
             Ok(copy) => Ok(Text::from_string(copy)),
@@ -336,9 +351,10 @@ impl Emitter {
 }
 
 /// The place of a name among cells and free names, or one past the last.
-#[tactic(auto, using(crate::proofs::CellPlaces::place_first, crate::proofs::CellPlaces::place_behind))]
+#[tactic(auto, using(crate::proofs::CellPlaces::place_first, crate::proofs::CellPlaces::place_after))]
 pub(crate) fn cell_position(code: &FlatCode, name: &str) -> usize
-    ensures { result ≡ position_or_len (text_eq name.now) (code.now.cellvar_cache ++ code.now.freevar_cache) }
+    ensures { result ≡ position_or_len (text_eq name.now)
+        (code.now.cellvar_cache ++ code.now.freevar_cache) }
 {
     let place = place_among(&code.cellvar_cache, name);
     if place < code.cellvar_cache.len() {

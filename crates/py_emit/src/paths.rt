@@ -1,8 +1,8 @@
 //! Qualified names.
 ghost use Rattle.std.specs.Prelude.{◌≡◌, ◌++◌, ◌∷◌, [], IfErr, IfOk, OnOk};
-ghost use Rattle.py_emission_parts.specs.Within.{class_path as path_of_class, is_global as is_declared_global};
-ghost use Rattle.py_emission_parts.specs.Context.{behind_dot, function_path as path_of_function, mangled_by, qualified_under as qualified_name, scope_of};
-ghost use Rattle.py_emit.specs.States.{IsStarved, dotted, rest, state};
+ghost use Rattle.py_emission_parts.specs.NestedScopes.{class_path as path_of_class, is_global as is_declared_global};
+ghost use Rattle.py_emission_parts.specs.Context.{after_dot, function_path as path_of_function, mangled_by, qualified_under as qualified_name, scope_of};
+ghost use Rattle.py_emit.specs.States.{IsOutOfMemory, dotted, rest, state};
 ghost use Rattle.py_emit.specs.Dotted.{each_after_dot};
 
 use crate::emitter::Emitter;
@@ -16,9 +16,10 @@ impl Emitter {
     /// # Errors
     /// OutOfMemory alone.
     pub fn qualified(&mut self, name: &str) -> Result<Text, CodegenError>
-        ensures data { IfOk result (λ full. full ≡ qualified_name (state self.old).around.context name.now) }
+        ensures data { IfOk result (λ full.
+            full ≡ qualified_name (state self.old).node_context.context name.now) }
         ensures same { OnOk result (self.new ≡ self.old) }
-        ensures err { IfErr result (λ e. IsStarved e (rest self.old).path) }
+        ensures err { IfErr result (λ e. IsOutOfMemory e (rest self.old).path) }
     {
         match self.below(name, "") {
             Ok(full) => Ok(full),
@@ -31,9 +32,10 @@ impl Emitter {
     /// # Errors
     /// OutOfMemory alone.
     pub fn function_path(&mut self, name: &str) -> Result<Text, CodegenError>
-        ensures data { IfOk result (λ path. path ≡ path_of_function (state self.old).around.context name.now) }
+        ensures data { IfOk result (λ path.
+            path ≡ path_of_function (state self.old).node_context.context name.now) }
         ensures same { OnOk result (self.new ≡ self.old) }
-        ensures err { IfErr result (λ e. IsStarved e (rest self.old).path) }
+        ensures err { IfErr result (λ e. IsOutOfMemory e (rest self.old).path) }
     {
         match self.below(name, ".<locals>") {
             Ok(path) => Ok(path),
@@ -41,15 +43,16 @@ impl Emitter {
         }
     }
 
-    /// A name after the qualified name of what stands around, and what follows it.
+    /// A name after the qualified name of the context, and what follows it.
     ///
     /// # Errors
     /// There is no memory for it.
     fn below(&self, name: &str, end: &str) -> Result<Text, AllocError>
-        ensures { IfOk result (λ full. full ≡ qualified_name (state self.now).around.context name.now ++ end.now) }
+        ensures { IfOk result (λ full. full
+            ≡ qualified_name (state self.now).node_context.context name.now ++ end.now) }
     {
         let path = joined(self.alloc(), self.scope.path.as_slice())?;
-        behind_dot(self.alloc(), path.as_str(), name, end)
+        after_dot(self.alloc(), path.as_str(), name, end)
     }
 
     /// The qualified name of a class of this name, which stands in the present scope: where the name is declared global
@@ -58,9 +61,10 @@ impl Emitter {
     /// # Errors
     /// OutOfMemory alone.
     pub fn class_path(&mut self, name: &str) -> Result<Text, CodegenError>
-        ensures data { IfOk result (λ path. path ≡ path_of_class (state self.old).around.context name.now) }
+        ensures data { IfOk result (λ path.
+            path ≡ path_of_class (state self.old).node_context.context name.now) }
         ensures same { OnOk result (self.new ≡ self.old) }
-        ensures err { IfErr result (λ e. IsStarved e (rest self.old).path) }
+        ensures err { IfErr result (λ e. IsOutOfMemory e (rest self.old).path) }
     {
         if self.is_declared_global(name)? {
             return self.text(name);
@@ -70,9 +74,11 @@ impl Emitter {
 
     /// Whether a name is declared global in the present scope.
     fn is_declared_global(&mut self, name: &str) -> Result<bool, CodegenError>
-        ensures data { IfOk result (λ global. global ≡ is_declared_global (scope_of (state self.old).around.context (mangled_by (state self.old).around.context name.now))) }
+        ensures data { IfOk result (λ global.
+            global ≡ is_declared_global (scope_of (state self.old).node_context.context
+            (mangled_by (state self.old).node_context.context name.now))) }
         ensures same { OnOk result (self.new ≡ self.old) }
-        ensures err { IfErr result (λ e. IsStarved e (rest self.old).path) }
+        ensures err { IfErr result (λ e. IsOutOfMemory e (rest self.old).path) }
     {
         let scope = match self.mangled_if_private(name)? {
             Some(other) => self.scope_of(other.as_str()),
@@ -86,9 +92,9 @@ impl Emitter {
 ///
 /// # Errors
 /// There is no memory for it.
-#[tactic(auto, using(crate::proofs::Dotted::dotted_behind, crate::proofs::Dotted::bare))]
-fn behind_dot(alloc: Global, path: &str, name: &str, end: &str) -> Result<Text, AllocError>
-    ensures { IfOk result (λ full. full ≡ behind_dot path.now name.now ++ end.now) }
+#[tactic(auto, using(crate::proofs::Dotted::dotted_after, crate::proofs::Dotted::bare))]
+fn after_dot(alloc: Global, path: &str, name: &str, end: &str) -> Result<Text, AllocError>
+    ensures { IfOk result (λ full. full ≡ after_dot path.now name.now ++ end.now) }
 {
     let mut full = String::new(alloc);
     if !path.is_empty() {

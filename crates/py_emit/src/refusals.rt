@@ -4,7 +4,7 @@ ghost use Rattle.py_ir.specs.Checks.{lens_of};
 ghost use Rattle.py_ir.specs.Final.{tables_of};
 ghost use Rattle.py_ir.specs.FlatCode.{info_of};
 ghost use Rattle.py_ir.specs.Refusals.{TooLong};
-ghost use Rattle.py_emit.specs.States.{IsStarved};
+ghost use Rattle.py_emit.specs.States.{IsOutOfMemory};
 
 use py_base::{CodegenError, CodegenErrorType, LocatedError, Text};
 use py_ir::{FinalizeError, FlatCode};
@@ -23,8 +23,8 @@ pub(crate) fn has_short_tables(code: &FlatCode) -> bool
 }
 
 /// There is no memory. That stands nowhere.
-pub(crate) fn starved(source_path: Text) -> CodegenError
-    ensures { IsStarved result source_path }
+pub(crate) fn out_of_memory(source_path: Text) -> CodegenError
+    ensures { IsOutOfMemory result source_path }
 {
     LocatedError {
         error: CodegenErrorType::OutOfMemory,
@@ -34,10 +34,10 @@ pub(crate) fn starved(source_path: Text) -> CodegenError
 }
 
 /// The error where blocks that no refusal holds of have no code: there is no memory.
-pub(crate) fn only_starved(error: FinalizeError, source_path: Text) -> CodegenError
+pub(crate) fn only_out_of_memory(error: FinalizeError, source_path: Text) -> CodegenError
     requires { error ≡ FinalizeError.OutOfMemory }
-    ensures { IsStarved result source_path }
+    ensures { IsOutOfMemory result source_path }
 {
     let _ = error;
-    starved(source_path)
+    out_of_memory(source_path)
 }

@@ -28,7 +28,7 @@ pub struct OpenScope {
     pub(crate) here: usize,
     /// The innermost class, by which names are mangled.
     pub(crate) class: Option<Text>,
-    /// The parts of the qualified name of what stands around the names of this scope.
+    /// The parts of the qualified name of the context of the names of this scope.
     pub(crate) path: Names,
     pub(crate) context: EmitContext,
 }
@@ -65,15 +65,20 @@ pub(crate) fn laid_out(
 ) -> Result<CodeObject, FinalizeError>
     ensures whole { IsWhole scope.code.body }
     ensures code { IfOk result (λ code. IsFinal optimize (info_of (flagged_code scope)) code) }
-    ensures clear { IfOk result (λ code. NoneBefore 10 (tables_of (info_of (flagged_code scope))) optimize (map plain scope.code.body.blocks)) }
-    ensures refused { IfErr result (λ e. Refused (tables_of (info_of (flagged_code scope))) optimize (map plain scope.code.body.blocks) e) }
+    ensures clear { IfOk result (λ code.
+        NoneBefore 10 (tables_of (info_of (flagged_code scope))) optimize
+        (map plain scope.code.body.blocks)) }
+    ensures refused { IfErr result
+        (λ e. Refused (tables_of (info_of (flagged_code scope))) optimize
+        (map plain scope.code.body.blocks) e) }
 {
     scope.into_code().finalize(alloc, optimize)
 }
 
 /// The symbols of the scope with this number. None where there is no such scope.
 pub(crate) fn symbols_of(scopes: &FlatScopes, number: usize) -> Option<&Symbols>
-    ensures { symbols_in scopes.now number ≡ elim (option_copied result) [ None ↦ [] | Some symbols ↦ symbols ] }
+    ensures { symbols_in scopes.now number
+        ≡ elim (option_copied result) [ None ↦ [] | Some symbols ↦ symbols ] }
 {
     if number < scopes.len() {
         Some(scopes.symbols(number))
@@ -82,7 +87,7 @@ pub(crate) fn symbols_of(scopes: &FlatScopes, number: usize) -> Option<&Symbols>
     }
 }
 
-/// Whether a scope within needs the name.
+/// Whether a nested scope needs the name.
 fn is_cell(symbol: &Symbol) -> bool
     ensures { result ≡ cells_here symbol.now }
 {
@@ -172,7 +177,8 @@ pub(crate) fn first_code(
     scopes: &FlatScopes,
     number: usize,
 ) -> Result<FlatCode, AllocError>
-    ensures { IfOk result (λ code. IsFirst code (head_in (shape_of head) source_path.now line (symbols_in scopes.now number))) }
+    ensures { IfOk result (λ code. IsFirst code
+        (head_in (shape_of head) source_path.now line (symbols_in scopes.now number))) }
 {
     let (cellvar_cache, freevar_cache) = cells_in(alloc, scopes, number)?;
     let ScopeHead {

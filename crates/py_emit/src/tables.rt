@@ -6,7 +6,7 @@ ghost use Rattle.py_emission_parts.specs.Emitting.{add_constant, add_varname, em
 ghost use Rattle.py_emission_parts.specs.Context.{mangled_by};
 ghost use Rattle.py_emission_parts.specs.EmissionParts.{unless_debug};
 ghost use Rattle.py_emission_parts.specs.Refused.{no_assignment};
-ghost use Rattle.py_emit.specs.States.{Emits, IsStarved, rest, state};
+ghost use Rattle.py_emit.specs.States.{Emits, IsOutOfMemory, rest, state};
 
 use crate::emitter::Emitter;
 use crate::names::is_debug;
@@ -19,10 +19,14 @@ impl Emitter {
     /// # Errors
     /// OutOfMemory alone.
     pub fn name(&mut self, name: &str) -> Result<u32, CodegenError>
-        ensures place { IfOk result (λ place. place ≡ place_in text_eq (state self.old).names (mangled_by (state self.old).around.context name.now)) }
-        ensures next { OnOk result (state self.new ≡ with_name (mangled_by (state self.old).around.context name.now) (state self.old)) }
+        ensures place { IfOk result (λ place.
+            place ≡ place_in text_eq (state self.old).names
+            (mangled_by (state self.old).node_context.context name.now)) }
+        ensures next { OnOk result (state self.new
+            ≡ with_name (mangled_by (state self.old).node_context.context name.now)
+            (state self.old)) }
         ensures rest { OnOk result (rest self.new ≡ rest self.old) }
-        ensures err { IfErr result (λ e. IsStarved e (rest self.old).path) }
+        ensures err { IfErr result (λ e. IsOutOfMemory e (rest self.old).path) }
     {
         match self.mangled_if_private(name)? {
             Some(other) => self.own_name(other.as_str()),
@@ -36,10 +40,11 @@ impl Emitter {
     /// OutOfMemory alone.
     #[tactic(auto, unfolding(py_emission_parts::specs::Emitting::with_name, crate::specs::States::rest))]
     fn own_name(&mut self, name: &str) -> Result<u32, CodegenError>
-        ensures place { IfOk result (λ place. place ≡ place_in text_eq (state self.old).names name.now) }
+        ensures place { IfOk result (λ place.
+            place ≡ place_in text_eq (state self.old).names name.now) }
         ensures next { OnOk result (state self.new ≡ with_name name.now (state self.old)) }
         ensures rest { OnOk result (rest self.new ≡ rest self.old) }
-        ensures err { IfErr result (λ e. IsStarved e (rest self.old).path) }
+        ensures err { IfErr result (λ e. IsOutOfMemory e (rest self.old).path) }
     {
         let alloc = self.alloc();
         match self.scope.code.name_cache.enter(alloc, name) {
@@ -54,8 +59,11 @@ impl Emitter {
     /// # Errors
     /// SyntaxError where the name is `__debug__`, at the present location, or OutOfMemory.
     pub fn varname(&mut self, name: &str) -> Result<u32, CodegenError>
-        ensures place { IfOk result (λ place. place ≡ place_in text_eq (state self.old).varnames (mangled_by (state self.old).around.context name.now)) }
-        ensures emits { Emits result (unless_debug no_assignment name.now (add_varname name.now)) self.old self.new }
+        ensures place { IfOk result (λ place.
+            place ≡ place_in text_eq (state self.old).varnames
+            (mangled_by (state self.old).node_context.context name.now)) }
+        ensures emits { Emits result (unless_debug no_assignment name.now (add_varname name.now))
+            self.old self.new }
     {
         if is_debug(name) {
             return Err(self.syntax_error("cannot assign to __debug__"));
@@ -66,7 +74,9 @@ impl Emitter {
     /// The place of a name, as the innermost class writes it, among those that the code object has of its own.
     #[tactic(auto, unfolding(py_emission_parts::specs::Emitting::add_varname))]
     fn mangled_varname(&mut self, name: &str) -> Result<u32, CodegenError>
-        ensures place { IfOk result (λ place. place ≡ place_in text_eq (state self.old).varnames (mangled_by (state self.old).around.context name.now)) }
+        ensures place { IfOk result (λ place.
+            place ≡ place_in text_eq (state self.old).varnames
+            (mangled_by (state self.old).node_context.context name.now)) }
         ensures emits { Emits result (add_varname name.now) self.old self.new }
     {
         match self.mangled_if_private(name)? {
@@ -81,10 +91,11 @@ impl Emitter {
     /// OutOfMemory alone.
     #[tactic(auto, unfolding(py_emission_parts::specs::Emitting::with_varname, crate::specs::States::rest))]
     fn own_varname(&mut self, name: &str) -> Result<u32, CodegenError>
-        ensures place { IfOk result (λ place. place ≡ place_in text_eq (state self.old).varnames name.now) }
+        ensures place { IfOk result (λ place.
+            place ≡ place_in text_eq (state self.old).varnames name.now) }
         ensures next { OnOk result (state self.new ≡ with_varname name.now (state self.old)) }
         ensures rest { OnOk result (rest self.new ≡ rest self.old) }
-        ensures err { IfErr result (λ e. IsStarved e (rest self.old).path) }
+        ensures err { IfErr result (λ e. IsOutOfMemory e (rest self.old).path) }
     {
         let alloc = self.alloc();
         match self.scope.code.varname_cache.enter(alloc, name) {
@@ -98,7 +109,8 @@ impl Emitter {
     /// # Errors
     /// SyntaxError where the name is `__debug__`, at the present location, or OutOfMemory.
     pub fn add_parameter(&mut self, name: &str) -> Result<(), CodegenError>
-        ensures { Emits result (unless_debug no_assignment name.now (add_varname name.now)) self.old self.new }
+        ensures { Emits result (unless_debug no_assignment name.now (add_varname name.now)) self.old
+            self.new }
     {
         self.varname(name)?;
         Ok(())
@@ -134,10 +146,12 @@ impl Emitter {
     /// OutOfMemory alone.
     #[tactic(auto, unfolding(py_emission_parts::specs::Emitting::with_constant, crate::specs::States::rest), using(py_bytecode::proofs::Entered::constants_entered, py_bytecode::proofs::Entered::constant_place))]
     pub fn add_constant(&mut self, constant: ConstantData) -> Result<u32, CodegenError>
-        ensures place { IfOk result (λ place. place ≡ place_in const_eq (state self.old).constants (constant_of constant)) }
-        ensures next { OnOk result (state self.new ≡ with_constant (constant_of constant) (state self.old)) }
+        ensures place { IfOk result (λ place.
+            place ≡ place_in const_eq (state self.old).constants (constant_of constant)) }
+        ensures next { OnOk result (state self.new
+            ≡ with_constant (constant_of constant) (state self.old)) }
         ensures rest { OnOk result (rest self.new ≡ rest self.old) }
-        ensures err { IfErr result (λ e. IsStarved e (rest self.old).path) }
+        ensures err { IfErr result (λ e. IsOutOfMemory e (rest self.old).path) }
     {
         match self.scope.code.constants.insert_full(constant) {
             Ok(place) => self.narrow(place),
@@ -164,7 +178,7 @@ impl Emitter {
     pub fn narrow(&mut self, place: usize) -> Result<u32, CodegenError>
         ensures value { IfOk result (λ n. n ≡ place) }
         ensures same { OnOk result (self.new ≡ self.old) }
-        ensures err { IfErr result (λ e. IsStarved e (rest self.old).path) }
+        ensures err { IfErr result (λ e. IsOutOfMemory e (rest self.old).path) }
     {
         match u32::try_from(place) {
             Ok(n) => Ok(n),
@@ -178,7 +192,8 @@ impl Emitter {
     /// OutOfMemory alone.
     #[tactic(auto, unfolding(py_emission_parts::specs::Emitting::emit_constant, py_emission_parts::specs::Emitting::emit))]
     pub fn load_const(&mut self, constant: ConstantData) -> Result<(), CodegenError>
-        ensures { Emits result (emit_constant Instruction.LoadConst (constant_of constant)) self.old self.new }
+        ensures { Emits result (emit_constant Instruction.LoadConst (constant_of constant)) self.old
+            self.new }
     {
         let place = self.add_constant(constant)?;
         self.emit_arg(Instruction::LoadConst, place)
@@ -190,7 +205,8 @@ impl Emitter {
     /// OutOfMemory alone.
     #[tactic(auto, unfolding(py_emission_parts::specs::Emitting::emit_constant, py_emission_parts::specs::Emitting::emit))]
     pub fn return_const(&mut self, constant: ConstantData) -> Result<(), CodegenError>
-        ensures { Emits result (emit_constant Instruction.ReturnConst (constant_of constant)) self.old self.new }
+        ensures { Emits result (emit_constant Instruction.ReturnConst (constant_of constant))
+            self.old self.new }
     {
         let place = self.add_constant(constant)?;
         self.emit_arg(Instruction::ReturnConst, place)

@@ -21,7 +21,9 @@ use py_tree::{Expr, ExprCall, Exprs, Keyword, List};
 /// Emits what is called, its arguments and the call.
 #[cycle(code)]
 pub(crate) fn compile_call(em: &mut Emitter, e: &ExprCall) -> Result<(), CodegenError>
-    ensures { Emits result (call_emission (emissions (expr_tree e.now.func.value)).callee (elements (all_emissions (exprs expr_tree e.now.args))) (keyword_emissions (keyword_trees expr_tree e.now.keywords))) em.old em.new }
+    ensures { Emits result (call_emission (emissions (expr_tree e.now.func.value)).callee
+        (elements (all_emissions (exprs expr_tree e.now.args)))
+        (keyword_emissions (keyword_trees expr_tree e.now.keywords))) em.old em.new }
 {
     let is_method = compile_callee(em, &e.func)?;
     let call = compile_call_arguments(em, e)?;
@@ -32,7 +34,8 @@ pub(crate) fn compile_call(em: &mut Emitter, e: &ExprCall) -> Result<(), Codegen
 #[cycle(code)]
 fn compile_callee(em: &mut Emitter, func: &Expr) -> Result<bool, CodegenError>
     ensures method { IfOk result (λ b. b ≡ is_method (emissions (expr_tree func.now)).callee) }
-    ensures emits { Emits result (callee_value (emissions (expr_tree func.now)).callee) em.old em.new }
+    ensures emits { Emits result (callee_value (emissions (expr_tree func.now)).callee) em.old
+        em.new }
 {
     match func {
         Expr::Attribute(e) => {
@@ -50,8 +53,12 @@ fn compile_callee(em: &mut Emitter, func: &Expr) -> Result<bool, CodegenError>
 /// Emits the arguments of a call. Answers what the call takes.
 #[cycle(code)]
 fn compile_call_arguments(em: &mut Emitter, e: &ExprCall) -> Result<CallType, CodegenError>
-    ensures call { IfOk result (λ c. c ≡ taken_type 0 (elements (all_emissions (exprs expr_tree e.now.args))) (keyword_emissions (keyword_trees expr_tree e.now.keywords))) }
-    ensures emits { Emits result (arguments 0 (elements (all_emissions (exprs expr_tree e.now.args))) (keyword_emissions (keyword_trees expr_tree e.now.keywords))) em.old em.new }
+    ensures call { IfOk result (λ c. c
+        ≡ taken_type 0 (elements (all_emissions (exprs expr_tree e.now.args)))
+        (keyword_emissions (keyword_trees expr_tree e.now.keywords))) }
+    ensures emits { Emits result (arguments 0
+        (elements (all_emissions (exprs expr_tree e.now.args)))
+        (keyword_emissions (keyword_trees expr_tree e.now.keywords))) em.old em.new }
 {
     let args = e.args.as_slice();
     let keywords = e.keywords.as_slice();
@@ -71,8 +78,12 @@ pub fn compile_call_inner(
     args: &Exprs,
     keywords: &List<Keyword>,
 ) -> Result<CallType, CodegenError>
-    ensures call { IfOk result (λ c. c ≡ taken_type additional (elements (all_emissions (exprs expr_tree args.now))) (keyword_emissions (keyword_trees expr_tree keywords.now))) }
-    ensures emits { Emits result (arguments additional (elements (all_emissions (exprs expr_tree args.now))) (keyword_emissions (keyword_trees expr_tree keywords.now))) em.old em.new }
+    ensures call { IfOk result (λ c. c
+        ≡ taken_type additional (elements (all_emissions (exprs expr_tree args.now)))
+        (keyword_emissions (keyword_trees expr_tree keywords.now))) }
+    ensures emits { Emits result (arguments additional
+        (elements (all_emissions (exprs expr_tree args.now)))
+        (keyword_emissions (keyword_trees expr_tree keywords.now))) em.old em.new }
 {
     let args = args.as_slice();
     let keywords = keywords.as_slice();
@@ -91,8 +102,11 @@ fn compile_positional(
     args: &[Expr],
     keywords: &[Keyword],
 ) -> Result<(), CodegenError>
-    requires plain { packed ≡ false → has_starred (elements (all_emissions (exprs expr_tree args.now))) ≡ false }
-    ensures { Emits result (positional packed additional (elements (all_emissions (exprs expr_tree args.now))) (keyword_emissions (keyword_trees expr_tree keywords.now))) em.old em.new }
+    requires plain { packed ≡ false → has_starred
+        (elements (all_emissions (exprs expr_tree args.now))) ≡ false }
+    ensures { Emits result (positional packed additional
+        (elements (all_emissions (exprs expr_tree args.now)))
+        (keyword_emissions (keyword_trees expr_tree keywords.now))) em.old em.new }
 {
     if packed {
         return compile_argument_tuple(em, additional, args, keywords);
@@ -104,7 +118,8 @@ fn compile_positional(
 #[cycle(code)]
 fn compile_plain(em: &mut Emitter, args: &[Expr]) -> Result<(), CodegenError>
     requires plain { has_starred (elements (all_emissions (exprs expr_tree args.now))) ≡ false }
-    ensures { Emits result (in_turn (bare (elements (all_emissions (exprs expr_tree args.now))))) em.old em.new }
+    ensures { Emits result (in_turn (bare (elements (all_emissions (exprs expr_tree args.now)))))
+        em.old em.new }
 {
     compile_expressions(em, args)
 }
@@ -118,7 +133,9 @@ fn compile_argument_tuple(
     args: &[Expr],
     keywords: &[Keyword],
 ) -> Result<(), CodegenError>
-    ensures { Emits result (argument_tuple additional (elements (all_emissions (exprs expr_tree args.now))) (keyword_emissions (keyword_trees expr_tree keywords.now))) em.old em.new }
+    ensures { Emits result (argument_tuple additional
+        (elements (all_emissions (exprs expr_tree args.now)))
+        (keyword_emissions (keyword_trees expr_tree keywords.now))) em.old em.new }
 {
     if has_star(args) {
         let own = close_run(em, additional as usize)?;
@@ -138,7 +155,8 @@ fn compile_keywords(
     packed: bool,
     keywords: &[Keyword],
 ) -> Result<(), CodegenError>
-    ensures { Emits result (keyword_arguments packed (keyword_emissions (keyword_trees expr_tree keywords.now))) em.old em.new }
+    ensures { Emits result (keyword_arguments packed
+        (keyword_emissions (keyword_trees expr_tree keywords.now))) em.old em.new }
 {
     if packed {
         return compile_keyword_map(em, keywords);

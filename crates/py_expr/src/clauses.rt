@@ -24,9 +24,13 @@ pub(crate) fn open_clauses(
     em: &mut Emitter,
     generators: &[Comprehension],
 ) -> Result<List<ClauseBlocks>, CodegenError>
-    ensures opened { IfOk result (λ blocks. AreOpened (clause_emissions (clause_trees expr_tree generators.now)) (state em.old) (state em.new) blocks) }
+    ensures opened { IfOk result (λ blocks.
+        AreOpened (clause_emissions (clause_trees expr_tree generators.now)) (state em.old)
+        (state em.new) blocks) }
     ensures open { IfOk result (λ blocks. AllOpen blocks (state em.new)) }
-    ensures refused { IfErr result (λ e. AreRefused e (clause_emissions (clause_trees expr_tree generators.now)) (state em.old)) }
+    ensures refused { IfErr result
+        (λ e. AreRefused e (clause_emissions (clause_trees expr_tree generators.now))
+        (state em.old)) }
     ensures same { Same result (rest em.new) (rest em.old) }
 {
     let mut blocks = List::new(em.alloc());
@@ -50,7 +54,8 @@ fn open_clause(
     ensures start { IfOk result (λ blocks. blocks.start.0 ≡ (state em.old).blocks) }
     ensures end { IfOk result (λ blocks. blocks.end.0 ≡ suc (state em.old).blocks) }
     ensures open { IfOk result (λ blocks. IsOpenClause blocks (state em.new)) }
-    ensures emits { Does result (opened_clause (iterator_of first (clause_of clause.now).iterable) (clause_of clause.now)) em.old em.new }
+    ensures emits { Does result (opened_clause (iterator_of first (clause_of clause.now).iterable)
+        (clause_of clause.now)) em.old em.new }
 {
     let start = em.new_block()?;
     let end = em.new_block()?;
@@ -71,7 +76,8 @@ fn begin_clause(
     requires open { IsOpen blocks.now.start.0 (state em.old) }
     requires start_below { blocks.now.start.0 < 0xffff_ffff }
     requires end_below { blocks.now.end.0 < 0xffff_ffff }
-    ensures { Does result (clause_start (iterator_of first (clause_of clause.now).iterable) (clause_of clause.now) blocks.now.start.0 blocks.now.end.0) em.old em.new }
+    ensures { Does result (clause_start (iterator_of first (clause_of clause.now).iterable)
+        (clause_of clause.now) blocks.now.start.0 blocks.now.end.0) em.old em.new }
 {
     compile_iterator(em, &clause.iter, first)?;
     em.switch_to_block(blocks.start);
@@ -101,7 +107,8 @@ pub(crate) fn compile_iterator(
 #[cycle(code)]
 fn compile_conditions(em: &mut Emitter, ifs: &[Expr], start: BlockIdx) -> Result<(), CodegenError>
     requires { start.0 < 0xffff_ffff }
-    ensures { Emits result (conditions (all_emissions (exprs expr_tree ifs.now)) start.0) em.old em.new }
+    ensures { Emits result (conditions (all_emissions (exprs expr_tree ifs.now)) start.0) em.old
+        em.new }
 {
     for condition in ifs {
         let jump = JumpIf {

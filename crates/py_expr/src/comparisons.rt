@@ -18,7 +18,9 @@ use py_tree::{CmpOp, Expr, ExprCompare, Malformed};
 /// Emits one comparison, or a chain of them.
 #[cycle(code)]
 pub(crate) fn compile_compare(em: &mut Emitter, e: &ExprCompare) -> Result<(), CodegenError>
-    ensures { Emits result (emission_of_compare (emissions (expr_tree e.now.left.value)).value e.now.ops (all_emissions (exprs expr_tree e.now.comparators))) em.old em.new }
+    ensures { Emits result (emission_of_compare
+        (emissions (expr_tree e.now.left.value)).value e.now.ops
+        (all_emissions (exprs expr_tree e.now.comparators))) em.old em.new }
 {
     let count = e.ops.len();
     if count == 0 {
@@ -37,7 +39,9 @@ pub(crate) fn compile_compare(em: &mut Emitter, e: &ExprCompare) -> Result<(), C
 #[tactic(auto, using(py_expr_parts::proofs::Steps::step_steps))]
 fn compile_one_comparison(em: &mut Emitter, e: &ExprCompare) -> Result<(), CodegenError>
     requires { 0 < length e.now.ops }
-    ensures { Emits result ((emissions (expr_tree e.now.left.value)).value ▸ in_turn (values (all_emissions (exprs expr_tree e.now.comparators))) ▸ first_comparison e.now.ops) em.old em.new }
+    ensures { Emits result ((emissions (expr_tree e.now.left.value)).value
+        ▸ in_turn (values (all_emissions (exprs expr_tree e.now.comparators)))
+        ▸ first_comparison e.now.ops) em.old em.new }
 {
     compile_expression(em, &e.left)?;
     compile_expressions(em, e.comparators.as_slice())?;
@@ -49,7 +53,8 @@ fn compile_one_comparison(em: &mut Emitter, e: &ExprCompare) -> Result<(), Codeg
 #[tactic(auto, using(py_expr_parts::proofs::Steps::step_steps))]
 fn compile_chain(em: &mut Emitter, e: &ExprCompare) -> Result<(), CodegenError>
     requires { length e.now.ops ≡ length e.now.comparators }
-    ensures { Emits result (chain (emissions (expr_tree e.now.left.value)).value e.now.ops (all_emissions (exprs expr_tree e.now.comparators))) em.old em.new }
+    ensures { Emits result (chain (emissions (expr_tree e.now.left.value)).value e.now.ops
+        (all_emissions (exprs expr_tree e.now.comparators))) em.old em.new }
 {
     let out = em.new_block()?;
     let end = em.new_block()?;
@@ -73,7 +78,8 @@ fn compile_links(
 ) -> Result<(), CodegenError>
     requires even { length ops.now ≡ length values.now }
     requires below { out.0 < 0xffff_ffff }
-    ensures { Emits result (links out.0 ops.now (all_emissions (exprs expr_tree values.now))) em.old em.new }
+    ensures { Emits result (links out.0 ops.now (all_emissions (exprs expr_tree values.now))) em.old
+        em.new }
 {
     for (i, value) in values.iter().enumerate() {
         compile_linked(em, out, ops[i], i + 1 < values.len(), value)?;

@@ -3,7 +3,7 @@ ghost use Rattle.std.specs.Prelude.{◌≡◌, ◌<◌, length};
 ghost use Rattle.py_tree.specs.View.{dict_comp_tree, expr_tree, generator_exp_tree, generators as clause_trees, list_comp_tree, set_comp_tree};
 ghost use Rattle.py_emission_parts.specs.Children.{child, made_function};
 ghost use Rattle.py_emission_parts.specs.Comprehensions.{as_element, called_at_once, clauses, comprehension_shape};
-ghost use Rattle.py_emission_parts.specs.Within.{comprehension_inside};
+ghost use Rattle.py_emission_parts.specs.NestedScopes.{comprehension_inside};
 ghost use Rattle.py_emission_parts.specs.Emitting.{◌▸◌};
 ghost use Rattle.py_emission_parts.specs.Running.{run};
 ghost use Rattle.py_emission.specs.Emission.{clause_emissions, emission};
@@ -19,7 +19,7 @@ use py_emit::{Emitter, refuse};
 use py_expr_scopes::clauses::close_clauses;
 use py_expr_scopes::comprehensions::{
     ComprehensionElement, add_element, begin_collection, enter_comprehension, finish_collection,
-    is_awaited, make_named, retell, scope_name,
+    is_awaited, make_named, rewrite_error, scope_name,
 };
 use py_tree::{
     Comprehension, Expr, ExprDictComp, ExprGeneratorExp, ExprListComp, ExprSetComp, Malformed, Text,
@@ -83,7 +83,8 @@ pub fn compile_comprehension(
     generators: &[Comprehension],
     element: &ComprehensionElement<'_>,
 ) -> Result<(), CodegenError>
-    ensures { Emits result (comprehension_of (clause_trees expr_tree generators.now) element.now) em.old em.new }
+    ensures { Emits result (comprehension_of (clause_trees expr_tree generators.now) element.now)
+        em.old em.new }
 {
     if generators.is_empty() {
         refuse!(em, CodegenErrorType::MalformedTree(Malformed::NoGenerator));
@@ -103,7 +104,9 @@ fn call_comprehension(
     element: &ComprehensionElement<'_>,
 ) -> Result<(), CodegenError>
     requires { 0 < length generators.now }
-    ensures { Emits result (called_at_once (name_of element.now) (scope_of (clause_emissions (clause_trees expr_tree generators.now)) element.now) (first_iterable (clause_emissions (clause_trees expr_tree generators.now)))) em.old em.new }
+    ensures { Emits result (called_at_once (name_of element.now)
+        (scope_of (clause_emissions (clause_trees expr_tree generators.now)) element.now)
+        (first_iterable (clause_emissions (clause_trees expr_tree generators.now)))) em.old em.new }
 {
     make_comprehension(em, generators, element)?;
     compile_iterator(em, &generators[0].iter, false)?;
@@ -117,7 +120,9 @@ fn make_comprehension(
     generators: &[Comprehension],
     element: &ComprehensionElement<'_>,
 ) -> Result<(), CodegenError>
-    ensures { Emits result (child comprehension_inside (comprehension_shape (name_of element.now)) (scope_of (clause_emissions (clause_trees expr_tree generators.now)) element.now) (made_function 0 (name_of element.now))) em.old em.new }
+    ensures { Emits result (child comprehension_inside (comprehension_shape (name_of element.now))
+        (scope_of (clause_emissions (clause_trees expr_tree generators.now)) element.now)
+        (made_function 0 (name_of element.now))) em.old em.new }
 {
     let name = em.text(scope_name(element))?;
     let code = compile_comprehension_scope(em, generators, element, name)?;
@@ -132,7 +137,10 @@ fn compile_comprehension_scope(
     element: &ComprehensionElement<'_>,
     name: Text,
 ) -> Result<CodeObject, CodegenError>
-    ensures goes { Gives result (state em.new) (λ k. run (child comprehension_inside (comprehension_shape name) (scope_of (clause_emissions (clause_trees expr_tree generators.now)) element.now) k) (state em.old)) }
+    ensures goes { Gives result (state em.new)
+        (λ k. run (child comprehension_inside (comprehension_shape name)
+        (scope_of (clause_emissions (clause_trees expr_tree generators.now)) element.now) k)
+        (state em.old)) }
     ensures same { Same result (rest em.new) (rest em.old) }
 {
     enter_comprehension(em, name)?;
@@ -147,7 +155,8 @@ fn compile_turns(
     generators: &[Comprehension],
     element: &ComprehensionElement<'_>,
 ) -> Result<(), CodegenError>
-    ensures { Emits result (scope_of (clause_emissions (clause_trees expr_tree generators.now)) element.now) em.old em.new }
+    ensures { Emits result (scope_of (clause_emissions (clause_trees expr_tree generators.now))
+        element.now) em.old em.new }
 {
     begin_collection(em, element)?;
     compile_clauses(em, generators, element)?;
@@ -161,7 +170,9 @@ fn compile_clauses(
     generators: &[Comprehension],
     element: &ComprehensionElement<'_>,
 ) -> Result<(), CodegenError>
-    ensures { Emits result (clauses (clause_emissions (clause_trees expr_tree generators.now)) (turn (clause_emissions (clause_trees expr_tree generators.now)) element.now)) em.old em.new }
+    ensures { Emits result (clauses (clause_emissions (clause_trees expr_tree generators.now))
+        (turn (clause_emissions (clause_trees expr_tree generators.now)) element.now)) em.old
+        em.new }
 {
     let blocks = open_clauses(em, generators)?;
     compile_turn(em, element, generators.len())?;
@@ -175,7 +186,8 @@ fn compile_turn(
     element: &ComprehensionElement<'_>,
     depth: usize,
 ) -> Result<(), CodegenError>
-    ensures { Emits result (element_of element.now ▸ added_element element.now depth) em.old em.new }
+    ensures { Emits result (element_of element.now ▸ added_element element.now depth) em.old
+        em.new }
 {
     compile_element(em, element)?;
     add_element(em, element, depth)
@@ -197,13 +209,13 @@ fn compile_element(em: &mut Emitter, element: &ComprehensionElement<'_>) -> Resu
     }
 }
 
-/// Emits an element, in which a star is told in other words.
+/// Emits an element, in which a star is reported in other words.
 #[cycle(code)]
 fn compile_unstarred(em: &mut Emitter, elt: &Expr) -> Result<(), CodegenError>
     ensures { Emits result (as_element (emission (expr_tree elt.now))) em.old em.new }
 {
     match compile_expression(em, elt) {
         Ok(()) => Ok(()),
-        Err(error) => Err(retell(em.alloc(), error)),
+        Err(error) => Err(rewrite_error(em.alloc(), error)),
     }
 }

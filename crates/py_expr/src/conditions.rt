@@ -27,7 +27,8 @@ pub(crate) fn compile_bool_op(em: &mut Emitter, e: &ExprBoolOp) -> Result<(), Co
 /// Emits a value of `and` or `or`.
 #[cycle(code)]
 fn compile_bool_value(em: &mut Emitter, op: BoolOp, values: &[Expr]) -> Result<(), CodegenError>
-    ensures { Emits result (bool_value op (all_emissions (exprs expr_tree values.now))) em.old em.new }
+    ensures { Emits result (bool_value op (all_emissions (exprs expr_tree values.now))) em.old
+        em.new }
 {
     if values.is_empty() {
         refuse!(em, CodegenErrorType::MalformedTree(Malformed::NoOperand));
@@ -39,7 +40,8 @@ fn compile_bool_value(em: &mut Emitter, op: BoolOp, values: &[Expr]) -> Result<(
 #[cycle(code)]
 #[tactic(auto, using(py_expr_parts::proofs::Steps::step_steps))]
 fn compile_some_values(em: &mut Emitter, op: BoolOp, values: &[Expr]) -> Result<(), CodegenError>
-    ensures { Emits result (some_values op (all_emissions (exprs expr_tree values.now))) em.old em.new }
+    ensures { Emits result (some_values op (all_emissions (exprs expr_tree values.now))) em.old
+        em.new }
 {
     let end = em.new_block()?;
     compile_shorts(em, op, end, values)?;
@@ -56,7 +58,8 @@ fn compile_shorts(
     values: &[Expr],
 ) -> Result<(), CodegenError>
     requires below { end.0 < 0xffff_ffff }
-    ensures { Emits result (shorts op end.0 (all_emissions (exprs expr_tree values.now))) em.old em.new }
+    ensures { Emits result (shorts op end.0 (all_emissions (exprs expr_tree values.now))) em.old
+        em.new }
 {
     for (i, value) in values.iter().enumerate() {
         compile_short(em, op, end, i + 1 < values.len(), value)?;
@@ -95,7 +98,8 @@ pub fn compile_jump_if(
     target: BlockIdx,
 ) -> Result<(), CodegenError>
     requires { target.0 < 0xffff_ffff }
-    ensures { Emits result (emission_of_test (expr_tree expr.now) condition target.0) em.old em.new }
+    ensures { Emits result (emission_of_test (expr_tree expr.now) condition target.0) em.old
+        em.new }
 {
     let jump = JumpIf {
         truth: condition,
@@ -109,7 +113,8 @@ pub fn compile_jump_if(
 #[tactic(auto, using(py_tree::proofs::View::trees, py_expr_parts::proofs::Steps::step_steps))]
 pub(crate) fn compile_test(em: &mut Emitter, expr: &Expr, jump: &JumpIf) -> Result<(), CodegenError>
     requires below { jump.now.block.0 < 0xffff_ffff }
-    ensures { Emits result (emission_of_test (expr_tree expr.now) jump.now.truth jump.now.block.0) em.old em.new }
+    ensures { Emits result (emission_of_test (expr_tree expr.now) jump.now.truth jump.now.block.0)
+        em.old em.new }
 {
     match expr {
         Expr::BoolOp(e) => compile_bool_test(em, e, jump),
@@ -126,7 +131,8 @@ pub(crate) fn compile_test(em: &mut Emitter, expr: &Expr, jump: &JumpIf) -> Resu
 #[tactic(auto, using(py_expr_parts::proofs::Steps::step_steps))]
 fn compile_not(em: &mut Emitter, operand: &Expr, jump: &JumpIf) -> Result<(), CodegenError>
     requires below { jump.now.block.0 < 0xffff_ffff }
-    ensures { Emits result (emission_of_test (expr_tree operand.now) (flip jump.now.truth) jump.now.block.0) em.old em.new }
+    ensures { Emits result (emission_of_test (expr_tree operand.now)
+        (flip jump.now.truth) jump.now.block.0) em.old em.new }
 {
     let turned = JumpIf {
         truth: !jump.truth,
@@ -139,7 +145,8 @@ fn compile_not(em: &mut Emitter, operand: &Expr, jump: &JumpIf) -> Result<(), Co
 #[cycle(code)]
 fn compile_truth(em: &mut Emitter, expr: &Expr, jump: &JumpIf) -> Result<(), CodegenError>
     requires below { jump.now.block.0 < 0xffff_ffff }
-    ensures { Emits result (truth_of (emission (expr_tree expr.now)) jump.now.truth jump.now.block.0) em.old em.new }
+    ensures { Emits result (truth_of (emission (expr_tree expr.now)) jump.now.truth
+        jump.now.block.0) em.old em.new }
 {
     compile_expression(em, expr)?;
     emit!(em, testing_jump(jump.truth) => jump.block);
@@ -150,7 +157,9 @@ fn compile_truth(em: &mut Emitter, expr: &Expr, jump: &JumpIf) -> Result<(), Cod
 #[cycle(code)]
 fn compile_bool_test(em: &mut Emitter, e: &ExprBoolOp, jump: &JumpIf) -> Result<(), CodegenError>
     requires below { jump.now.block.0 < 0xffff_ffff }
-    ensures { Emits result (bool_test e.now.op (all_emissions (exprs expr_tree e.now.values)) jump.now.truth jump.now.block.0) em.old em.new }
+    ensures { Emits result (bool_test e.now.op
+        (all_emissions (exprs expr_tree e.now.values)) jump.now.truth jump.now.block.0) em.old
+        em.new }
 {
     let values = e.values.as_slice();
     if values.is_empty() {
@@ -168,7 +177,8 @@ fn compile_some_test(
     values: &[Expr],
 ) -> Result<(), CodegenError>
     requires below { jump.now.block.0 < 0xffff_ffff }
-    ensures { Emits result (some_test deciding jump.now.truth (all_emissions (exprs expr_tree values.now)) jump.now.block.0) em.old em.new }
+    ensures { Emits result (some_test deciding jump.now.truth
+        (all_emissions (exprs expr_tree values.now)) jump.now.block.0) em.old em.new }
 {
     if jump.truth == deciding {
         return compile_tests(em, jump, jump, values);
@@ -186,7 +196,8 @@ fn compile_past_tests(
     values: &[Expr],
 ) -> Result<(), CodegenError>
     requires below { jump.now.block.0 < 0xffff_ffff }
-    ensures { Emits result (past_tests deciding jump.now.truth (all_emissions (exprs expr_tree values.now)) jump.now.block.0) em.old em.new }
+    ensures { Emits result (past_tests deciding jump.now.truth
+        (all_emissions (exprs expr_tree values.now)) jump.now.block.0) em.old em.new }
 {
     let end = em.new_block()?;
     let stop = JumpIf {
@@ -208,7 +219,8 @@ fn compile_tests(
 ) -> Result<(), CodegenError>
     requires stop { stop.now.block.0 < 0xffff_ffff }
     requires last { last.now.block.0 < 0xffff_ffff }
-    ensures { Emits result (tests stop.now.truth stop.now.block.0 last.now.truth last.now.block.0 (all_emissions (exprs expr_tree values.now))) em.old em.new }
+    ensures { Emits result (tests stop.now.truth stop.now.block.0 last.now.truth last.now.block.0
+        (all_emissions (exprs expr_tree values.now))) em.old em.new }
 {
     for (i, value) in values.iter().enumerate() {
         let jump = either(i + 1 < values.len(), stop, last);

@@ -68,7 +68,8 @@ fn compile_display(
     build: Instruction,
     unpack: Instruction,
 ) -> Result<(), CodegenError>
-    ensures { Emits result (display build unpack (elements (all_emissions (exprs expr_tree elts.now)))) em.old em.new }
+    ensures { Emits result (display build unpack
+        (elements (all_emissions (exprs expr_tree elts.now)))) em.old em.new }
 {
     if has_star(elts) {
         return compile_unpacked(em, elts, unpack);
@@ -80,7 +81,8 @@ fn compile_display(
 /// Emits a dict display, which has as many keys as values.
 #[cycle(code)]
 pub(crate) fn compile_dict(em: &mut Emitter, e: &ExprDict) -> Result<(), CodegenError>
-    ensures { Emits result (emission_of_dict (opt_emissions (opt_exprs expr_tree e.now.keys)) (values (all_emissions (exprs expr_tree e.now.values)))) em.old em.new }
+    ensures { Emits result (emission_of_dict (opt_emissions (opt_exprs expr_tree e.now.keys))
+        (values (all_emissions (exprs expr_tree e.now.values)))) em.old em.new }
 {
     let count = e.keys.len();
     if count != e.values.len() {
@@ -93,7 +95,9 @@ pub(crate) fn compile_dict(em: &mut Emitter, e: &ExprDict) -> Result<(), Codegen
 /// unpacked value is added.
 #[cycle(code)]
 fn compile_entries(em: &mut Emitter, e: &ExprDict) -> Result<(), CodegenError>
-    ensures { Emits result (dict_value (pairs (opt_emissions (opt_exprs expr_tree e.now.keys)) (values (all_emissions (exprs expr_tree e.now.values))))) em.old em.new }
+    ensures { Emits result (dict_value
+        (pairs (opt_emissions (opt_exprs expr_tree e.now.keys))
+        (values (all_emissions (exprs expr_tree e.now.values))))) em.old em.new }
 {
     let keys = e.keys.as_slice();
     let values = e.values.as_slice();
@@ -145,7 +149,8 @@ pub(crate) fn compile_or_none(
     em: &mut Emitter,
     bound: &Option<Box<Expr>>,
 ) -> Result<(), CodegenError>
-    ensures { Emits result (value_or object.none (opt_emission (opt_box expr_tree bound.now))) em.old em.new }
+    ensures { Emits result (value_or object.none (opt_emission (opt_box expr_tree bound.now)))
+        em.old em.new }
 {
     match bound {
         Some(value) => compile_expression(em, value),

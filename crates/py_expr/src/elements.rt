@@ -5,7 +5,7 @@ ghost use Rattle.py_emission_parts.specs.Elements.{groups};
 ghost use Rattle.py_emission_parts.specs.EmissionParts.{counted_build, elements, in_turn, unpacked_value};
 ghost use Rattle.py_emission.specs.Emission.{all_emissions, emissions};
 ghost use Rattle.py_emit.specs.States.{Emits};
-ghost use Rattle.py_expr_parts.specs.Turns.{groups_by, element_behind};
+ghost use Rattle.py_expr_parts.specs.Turns.{groups_by, element_after};
 
 use crate::expressions::compile_expression;
 use py_base::CodegenError;
@@ -21,7 +21,8 @@ pub(crate) fn compile_unpacked(
     elts: &[Expr],
     unpack: Instruction,
 ) -> Result<(), CodegenError>
-    ensures { Emits result (unpacked_value unpack (elements (all_emissions (exprs expr_tree elts.now)))) em.old em.new }
+    ensures { Emits result (unpacked_value unpack
+        (elements (all_emissions (exprs expr_tree elts.now)))) em.old em.new }
 {
     let groups = compile_groups(em, elts)?;
     em.emit_count(unpack, groups)
@@ -31,9 +32,13 @@ pub(crate) fn compile_unpacked(
 /// such groups there are.
 #[cycle(code)]
 pub(crate) fn compile_groups(em: &mut Emitter, elts: &[Expr]) -> Result<usize, CodegenError>
-    ensures count { IfOk result (λ n. n ≡ length (groups (counted_build Instruction.BuildTuple) [] (elements (all_emissions (exprs expr_tree elts.now))))) }
+    ensures count { IfOk result (λ n. n
+        ≡ length (groups (counted_build Instruction.BuildTuple) []
+        (elements (all_emissions (exprs expr_tree elts.now))))) }
     ensures few { IfOk result (λ n. n ≤ length elts.now) }
-    ensures emits { Emits result (in_turn (groups (counted_build Instruction.BuildTuple) [] (elements (all_emissions (exprs expr_tree elts.now))))) em.old em.new }
+    ensures emits { Emits result (in_turn
+        (groups (counted_build Instruction.BuildTuple) []
+        (elements (all_emissions (exprs expr_tree elts.now))))) em.old em.new }
 {
     let mut groups = 0;
     let mut run = 0;
@@ -50,7 +55,8 @@ pub(crate) fn compile_groups(em: &mut Emitter, elts: &[Expr]) -> Result<usize, C
 #[cycle(code)]
 fn compile_element(em: &mut Emitter, elt: &Expr, run: usize) -> Result<usize, CodegenError>
     ensures count { IfOk result (λ n. n ≡ groups_by run (emissions (expr_tree elt.now)).element) }
-    ensures emits { Emits result (element_behind run (emissions (expr_tree elt.now)).element) em.old em.new }
+    ensures emits { Emits result (element_after run (emissions (expr_tree elt.now)).element) em.old
+        em.new }
 {
     match elt {
         Expr::Starred(e) => {

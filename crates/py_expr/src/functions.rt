@@ -2,7 +2,7 @@
 ghost use Rattle.std.specs.Prelude.{◌≡◌, ◌+◌, ◌≤◌, length, IfOk};
 ghost use Rattle.py_tree.specs.View.{args, arguments, expr_tree, opt_box};
 ghost use Rattle.py_emission_parts.specs.Children.{child, emission_of_defaults, flags_of_defaults, function_scope, some_emitted};
-ghost use Rattle.py_emission_parts.specs.Within.{lambda_inside, some_flag};
+ghost use Rattle.py_emission_parts.specs.NestedScopes.{lambda_inside, some_flag};
 ghost use Rattle.py_emission_parts.specs.EmissionParts.{counted_build, in_turn, map_of};
 ghost use Rattle.py_emission_parts.specs.Running.{run};
 ghost use Rattle.py_emission.specs.Emission.{default_emissions, emission_of_return, lambda_value};
@@ -23,7 +23,9 @@ use py_tree::{ArgWithDefault, Arguments, Expr, ExprLambda, Text};
 /// Emits the defaults of a lambda, its scope, and what makes a function of it.
 #[cycle(code)]
 pub(crate) fn compile_lambda(em: &mut Emitter, e: &ExprLambda) -> Result<(), CodegenError>
-    ensures { Emits result (lambda_value (arguments expr_tree e.now.args.value) (default_emissions (arguments expr_tree e.now.args.value)) (emission_of_return (expr_tree e.now.body.value))) em.old em.new }
+    ensures { Emits result (lambda_value (arguments expr_tree e.now.args.value)
+        (default_emissions (arguments expr_tree e.now.args.value))
+        (emission_of_return (expr_tree e.now.body.value))) em.old em.new }
 {
     let params: &Arguments = &e.args;
     let body: &Expr = &e.body;
@@ -41,10 +43,13 @@ fn compile_lambda_scope(
     params: &Arguments,
     name: Text,
 ) -> Result<CodeObject, CodegenError>
-    ensures goes { Gives result (state em.new) (λ k. run (child lambda_inside (function_shape (arguments expr_tree params.now) name) (function_scope (parameters (arguments expr_tree params.now)) (emission_of_return (expr_tree body.now))) k) (state em.old)) }
+    ensures goes { Gives result (state em.new)
+        (λ k. run (child lambda_inside (function_shape (arguments expr_tree params.now) name)
+        (function_scope (parameters (arguments expr_tree params.now))
+        (emission_of_return (expr_tree body.now))) k) (state em.old)) }
     ensures same { Same result (rest em.new) (rest em.old) }
 {
-    enter_function(em, params, name, Naming::AsAround)?;
+    enter_function(em, params, name, Naming::AsEnclosing)?;
     begin_function(em, params)?;
     compile_return(em, body)?;
     em.leave_scope()
@@ -57,8 +62,11 @@ fn compile_lambda_scope(
 /// The first compile fault of a default, with its location; MissingCell; or OutOfMemory.
 #[cycle(code)]
 pub fn compile_defaults(em: &mut Emitter, params: &Arguments) -> Result<Defaults, CodegenError>
-    ensures flags { IfOk result (λ d. flags_of_defaults (default_emissions (arguments expr_tree params.now)) ≡ flag_if 0x08 d.positional + flag_if 0x04 d.keyword) }
-    ensures emits { Emits result (emission_of_defaults (default_emissions (arguments expr_tree params.now))) em.old em.new }
+    ensures flags { IfOk result (λ d. flags_of_defaults
+        (default_emissions (arguments expr_tree params.now)) ≡ flag_if 0x08 d.positional
+        + flag_if 0x04 d.keyword) }
+    ensures emits { Emits result (emission_of_defaults
+        (default_emissions (arguments expr_tree params.now))) em.old em.new }
 {
     let positional = compile_positional_defaults(em, params)?;
     let keyword = compile_keyword_defaults(em, params)?;
@@ -72,8 +80,10 @@ pub fn compile_defaults(em: &mut Emitter, params: &Arguments) -> Result<Defaults
 #[cycle(code)]
 #[tactic(auto, using(py_expr_scopes::proofs::Signatures::positional_goes, py_expr_scopes::proofs::Signatures::positional_any))]
 fn compile_positional_defaults(em: &mut Emitter, params: &Arguments) -> Result<bool, CodegenError>
-    ensures any { IfOk result (λ any. some_flag 0x08 (default_emissions (arguments expr_tree params.now)).positional ≡ flag_if 0x08 any) }
-    ensures emits { Emits result (some_emitted (counted_build Instruction.BuildTuple) (default_emissions (arguments expr_tree params.now)).positional) em.old em.new }
+    ensures any { IfOk result (λ any. some_flag 0x08
+        (default_emissions (arguments expr_tree params.now)).positional ≡ flag_if 0x08 any) }
+    ensures emits { Emits result (some_emitted (counted_build Instruction.BuildTuple)
+        (default_emissions (arguments expr_tree params.now)).positional) em.old em.new }
 {
     let posonly = params.posonlyargs.as_slice();
     let others = params.args.as_slice();
@@ -86,8 +96,10 @@ fn compile_positional_defaults(em: &mut Emitter, params: &Arguments) -> Result<b
 #[cycle(code)]
 #[tactic(auto, using(py_expr_scopes::proofs::Signatures::keyword_goes, py_expr_scopes::proofs::Signatures::keyword_any))]
 fn compile_keyword_defaults(em: &mut Emitter, params: &Arguments) -> Result<bool, CodegenError>
-    ensures any { IfOk result (λ any. some_flag 0x04 (default_emissions (arguments expr_tree params.now)).keyword ≡ flag_if 0x04 any) }
-    ensures emits { Emits result (some_emitted map_of (default_emissions (arguments expr_tree params.now)).keyword) em.old em.new }
+    ensures any { IfOk result (λ any. some_flag 0x04
+        (default_emissions (arguments expr_tree params.now)).keyword ≡ flag_if 0x04 any) }
+    ensures emits { Emits result (some_emitted map_of
+        (default_emissions (arguments expr_tree params.now)).keyword) em.old em.new }
 {
     let count = compile_each_default(em, params.kwonlyargs.as_slice(), true)?;
     build_some(em, Instruction::BuildMap, count)
@@ -100,9 +112,11 @@ fn compile_each_default(
     items: &[ArgWithDefault],
     named: bool,
 ) -> Result<usize, CodegenError>
-    ensures count { IfOk result (λ n. n ≡ length (default_values named (args expr_tree items.now))) }
+    ensures count { IfOk result (λ n. n
+        ≡ length (default_values named (args expr_tree items.now))) }
     ensures few { IfOk result (λ n. n ≤ length items.now) }
-    ensures emits { Emits result (in_turn (default_values named (args expr_tree items.now))) em.old em.new }
+    ensures emits { Emits result (in_turn (default_values named (args expr_tree items.now))) em.old
+        em.new }
 {
     let mut count = 0;
     for item in items {
@@ -119,7 +133,8 @@ fn compile_default(
     named: bool,
 ) -> Result<usize, CodegenError>
     ensures count { IfOk result (λ n. n ≡ default_count (opt_box expr_tree item.now.default)) }
-    ensures emits { Emits result (default_value named item.now.def.arg (opt_box expr_tree item.now.default)) em.old em.new }
+    ensures emits { Emits result (default_value named item.now.def.arg
+        (opt_box expr_tree item.now.default)) em.old em.new }
 {
     match &item.default {
         Some(value) => {

@@ -5,7 +5,7 @@ ghost use Rattle.py_emission_parts.specs.Elements.{groups};
 ghost use Rattle.py_emission_parts.specs.EmissionParts.{in_turn, joined_map, map_of, values_in};
 ghost use Rattle.py_emission.specs.Emission.{keyword_emissions};
 ghost use Rattle.py_emit.specs.States.{Emits};
-ghost use Rattle.py_expr_parts.specs.Calls.{keyword_behind, keyword_emission, named_if_any, named_values};
+ghost use Rattle.py_expr_parts.specs.Calls.{keyword_after, keyword_emission, named_if_any, named_values};
 ghost use Rattle.py_expr_parts.specs.Turns.{groups_by};
 
 use crate::expressions::compile_expression;
@@ -22,7 +22,8 @@ pub(crate) fn compile_named_values(
     em: &mut Emitter,
     keywords: &[Keyword],
 ) -> Result<(), CodegenError>
-    ensures { Emits result (named_if_any (keyword_emissions (keyword_trees expr_tree keywords.now))) em.old em.new }
+    ensures { Emits result (named_if_any (keyword_emissions (keyword_trees expr_tree keywords.now)))
+        em.old em.new }
 {
     if keywords.is_empty() {
         return Ok(());
@@ -32,7 +33,8 @@ pub(crate) fn compile_named_values(
 
 #[cycle(code)]
 fn compile_some_named(em: &mut Emitter, keywords: &[Keyword]) -> Result<(), CodegenError>
-    ensures { Emits result (named_values (keyword_emissions (keyword_trees expr_tree keywords.now))) em.old em.new }
+    ensures { Emits result (named_values (keyword_emissions (keyword_trees expr_tree keywords.now)))
+        em.old em.new }
 {
     check_keywords(em, keywords)?;
     compile_values(em, keywords)?;
@@ -42,7 +44,8 @@ fn compile_some_named(em: &mut Emitter, keywords: &[Keyword]) -> Result<(), Code
 /// Emits the values of keywords one after the other.
 #[cycle(code)]
 fn compile_values(em: &mut Emitter, keywords: &[Keyword]) -> Result<(), CodegenError>
-    ensures { Emits result (in_turn (values_in (keyword_emissions (keyword_trees expr_tree keywords.now)))) em.old em.new }
+    ensures { Emits result (in_turn
+        (values_in (keyword_emissions (keyword_trees expr_tree keywords.now)))) em.old em.new }
 {
     for keyword in keywords {
         compile_expression(em, &keyword.value)?;
@@ -56,7 +59,9 @@ pub(crate) fn compile_keyword_map(
     em: &mut Emitter,
     keywords: &[Keyword],
 ) -> Result<(), CodegenError>
-    ensures { Emits result (joined_map (groups map_of [] (keyword_emissions (keyword_trees expr_tree keywords.now)))) em.old em.new }
+    ensures { Emits result (joined_map
+        (groups map_of [] (keyword_emissions (keyword_trees expr_tree keywords.now)))) em.old
+        em.new }
 {
     let maps = compile_maps(em, keywords)?;
     if maps > 1 {
@@ -69,8 +74,11 @@ pub(crate) fn compile_keyword_map(
 /// maps there are.
 #[cycle(code)]
 fn compile_maps(em: &mut Emitter, keywords: &[Keyword]) -> Result<usize, CodegenError>
-    ensures count { IfOk result (λ n. n ≡ length (groups map_of [] (keyword_emissions (keyword_trees expr_tree keywords.now)))) }
-    ensures emits { Emits result (in_turn (groups map_of [] (keyword_emissions (keyword_trees expr_tree keywords.now)))) em.old em.new }
+    ensures count { IfOk result (λ n. n
+        ≡ length (groups map_of [] (keyword_emissions (keyword_trees expr_tree keywords.now)))) }
+    ensures emits { Emits result (in_turn
+        (groups map_of [] (keyword_emissions (keyword_trees expr_tree keywords.now)))) em.old
+        em.new }
 {
     let mut maps = 0;
     let mut run = 0;
@@ -86,8 +94,10 @@ fn compile_maps(em: &mut Emitter, keywords: &[Keyword]) -> Result<usize, Codegen
 /// complete now.
 #[cycle(code)]
 fn compile_keyword(em: &mut Emitter, keyword: &Keyword, run: usize) -> Result<usize, CodegenError>
-    ensures count { IfOk result (λ n. n ≡ groups_by run (keyword_emission keyword.now.arg (expr_tree keyword.now.value))) }
-    ensures emits { Emits result (keyword_behind run (keyword_emission keyword.now.arg (expr_tree keyword.now.value))) em.old em.new }
+    ensures count { IfOk result (λ n. n
+        ≡ groups_by run (keyword_emission keyword.now.arg (expr_tree keyword.now.value))) }
+    ensures emits { Emits result (keyword_after run
+        (keyword_emission keyword.now.arg (expr_tree keyword.now.value))) em.old em.new }
 {
     match &keyword.arg {
         Some(name) => {

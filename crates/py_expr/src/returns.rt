@@ -50,7 +50,8 @@ fn return_entered(em: &mut Emitter, expr: &Expr) -> Result<(), CodegenError>
 #[tactic(auto, using(py_expr_parts::proofs::Steps::step_steps))]
 fn return_value(em: &mut Emitter, expr: &Expr) -> Result<(), CodegenError>
     requires at { (state em.old).location ≡ expr_location (expr_tree expr.now) }
-    ensures { Emits result (emission (expr_tree expr.now) ▸ emitting Instruction.ReturnValue 0) em.old em.new }
+    ensures { Emits result (emission (expr_tree expr.now) ▸ emitting Instruction.ReturnValue 0)
+        em.old em.new }
 {
     compile_entered(em, expr)?;
     emit!(em, Instruction::ReturnValue);
@@ -70,7 +71,8 @@ fn return_joined_str(em: &mut Emitter, e: &ExprJoinedStr) -> Result<(), CodegenE
 #[cycle(code)]
 #[tactic(auto, using(py_bytecode::proofs::View::views))]
 fn return_joined(em: &mut Emitter, parts: &[Expr]) -> Result<(), CodegenError>
-    ensures { Emits result (joined_return (texts_of (exprs expr_tree parts.now)) (values (all_emissions (exprs expr_tree parts.now)))) em.old em.new }
+    ensures { Emits result (joined_return (texts_of (exprs expr_tree parts.now))
+        (values (all_emissions (exprs expr_tree parts.now)))) em.old em.new }
 {
     if let Some(value) = whole_text(em, parts)? {
         return em.return_const(ConstantData::Str { value });

@@ -49,7 +49,8 @@ fn compile_attribute_change(
     instr: Instruction,
     text: &str,
 ) -> Result<(), CodegenError>
-    ensures { Emits result (unless_debug text.now e.now.attr (emission (expr_tree e.now.value.value) ▸ emit_mangled instr e.now.attr)) em.old em.new }
+    ensures { Emits result (unless_debug text.now e.now.attr
+        (emission (expr_tree e.now.value.value) ▸ emit_mangled instr e.now.attr)) em.old em.new }
 {
     if is_debug(e.attr.as_str()) {
         refuse!(em, SyntaxError: text);
@@ -65,7 +66,8 @@ fn compile_subscript_change(
     e: &ExprSubscript,
     instr: Instruction,
 ) -> Result<(), CodegenError>
-    ensures { Emits result (emission (expr_tree e.now.value.value) ▸ emission (expr_tree e.now.slice.value) ▸ emitting instr 0) em.old em.new }
+    ensures { Emits result (emission (expr_tree e.now.value.value)
+        ▸ emission (expr_tree e.now.slice.value) ▸ emitting instr 0) em.old em.new }
 {
     compile_expression(em, &e.value)?;
     compile_expression(em, &e.slice)?;

@@ -28,7 +28,8 @@ pub(crate) fn compile_joined_str(em: &mut Emitter, e: &ExprJoinedStr) -> Result<
 #[cycle(code)]
 #[tactic(auto, using(py_bytecode::proofs::View::views))]
 fn compile_joined(em: &mut Emitter, parts: &[Expr]) -> Result<(), CodegenError>
-    ensures { Emits result (joined_value (texts_of (exprs expr_tree parts.now)) (values (all_emissions (exprs expr_tree parts.now)))) em.old em.new }
+    ensures { Emits result (joined_value (texts_of (exprs expr_tree parts.now))
+        (values (all_emissions (exprs expr_tree parts.now)))) em.old em.new }
 {
     if let Some(value) = whole_text(em, parts)? {
         return em.load_const(ConstantData::Str { value });
@@ -39,7 +40,8 @@ fn compile_joined(em: &mut Emitter, parts: &[Expr]) -> Result<(), CodegenError>
 /// Emits parts of an f-string and the instruction that joins them.
 #[cycle(code)]
 pub(crate) fn compile_parts(em: &mut Emitter, parts: &[Expr]) -> Result<(), CodegenError>
-    ensures { Emits result (counted_build Instruction.BuildString (values (all_emissions (exprs expr_tree parts.now)))) em.old em.new }
+    ensures { Emits result (counted_build Instruction.BuildString
+        (values (all_emissions (exprs expr_tree parts.now)))) em.old em.new }
 {
     compile_expressions(em, parts)?;
     em.emit_count(Instruction::BuildString, parts.len())
@@ -68,7 +70,8 @@ pub(crate) fn compile_formatted_value(
 #[cycle(code)]
 #[tactic(auto, using(py_bytecode::proofs::View::views))]
 fn compile_format_spec(em: &mut Emitter, spec: &Option<Box<Expr>>) -> Result<(), CodegenError>
-    ensures { Emits result (value_or (object.str []) (opt_emission (opt_box expr_tree spec.now))) em.old em.new }
+    ensures { Emits result (value_or (object.str []) (opt_emission (opt_box expr_tree spec.now)))
+        em.old em.new }
 {
     match spec {
         Some(spec) => compile_expression(em, spec),

@@ -27,7 +27,9 @@ pub(crate) fn compile_yield(em: &mut Emitter, e: &ExprYield) -> Result<(), Codeg
 /// Emits what hands a value on, which only a function may do.
 #[cycle(code)]
 fn yield_within(em: &mut Emitter, value: &Option<Box<Expr>>) -> Result<(), CodegenError>
-    ensures { Emits result (only_in_function CodegenErrorType.InvalidYield (generator_mark ▸ value_or object.none (opt_emission (opt_box expr_tree value.now)) ▸ emitting Instruction.YieldValue 0)) em.old em.new }
+    ensures { Emits result (only_in_function CodegenErrorType.InvalidYield
+        (generator_mark ▸ value_or object.none (opt_emission (opt_box expr_tree value.now))
+        ▸ emitting Instruction.YieldValue 0)) em.old em.new }
 {
     check_in_function(em, CodegenErrorType::InvalidYield)?;
     yield_value(em, value)
@@ -37,7 +39,9 @@ fn yield_within(em: &mut Emitter, value: &Option<Box<Expr>>) -> Result<(), Codeg
 #[cycle(code)]
 #[tactic(auto, using(py_expr_parts::proofs::Steps::step_steps))]
 fn yield_value(em: &mut Emitter, value: &Option<Box<Expr>>) -> Result<(), CodegenError>
-    ensures { Emits result (generator_mark ▸ value_or object.none (opt_emission (opt_box expr_tree value.now)) ▸ emitting Instruction.YieldValue 0) em.old em.new }
+    ensures { Emits result (generator_mark
+        ▸ value_or object.none (opt_emission (opt_box expr_tree value.now))
+        ▸ emitting Instruction.YieldValue 0) em.old em.new }
 {
     em.mark_generator();
     compile_or_none(em, value)?;
@@ -57,7 +61,10 @@ pub(crate) fn compile_yield_from(em: &mut Emitter, e: &ExprYieldFrom) -> Result<
 /// Emits what hands on all that a value gives, which only a function may do.
 #[cycle(code)]
 fn yield_all_within(em: &mut Emitter, value: &Expr) -> Result<(), CodegenError>
-    ensures { Emits result (only_in_function CodegenErrorType.InvalidYieldFrom (generator_mark ▸ emission (expr_tree value.now) ▸ emitting Instruction.GetIter 0 ▸ emit_constant Instruction.LoadConst object.none ▸ emitting Instruction.YieldFrom 0)) em.old em.new }
+    ensures { Emits result (only_in_function CodegenErrorType.InvalidYieldFrom
+        (generator_mark ▸ emission (expr_tree value.now) ▸ emitting Instruction.GetIter 0
+        ▸ emit_constant Instruction.LoadConst object.none
+        ▸ emitting Instruction.YieldFrom 0)) em.old em.new }
 {
     check_in_function(em, CodegenErrorType::InvalidYieldFrom)?;
     yield_all(em, value)
@@ -67,7 +74,9 @@ fn yield_all_within(em: &mut Emitter, value: &Expr) -> Result<(), CodegenError>
 #[cycle(code)]
 #[tactic(auto, using(py_bytecode::proofs::View::views))]
 fn yield_all(em: &mut Emitter, value: &Expr) -> Result<(), CodegenError>
-    ensures { Emits result (generator_mark ▸ emission (expr_tree value.now) ▸ emitting Instruction.GetIter 0 ▸ emit_constant Instruction.LoadConst object.none ▸ emitting Instruction.YieldFrom 0) em.old em.new }
+    ensures { Emits result (generator_mark ▸ emission (expr_tree value.now)
+        ▸ emitting Instruction.GetIter 0 ▸ emit_constant Instruction.LoadConst object.none
+        ▸ emitting Instruction.YieldFrom 0) em.old em.new }
 {
     em.mark_generator();
     compile_expression(em, value)?;

@@ -10,11 +10,13 @@ use Rattle.py_emission_parts.specs.Elements.{Element, Single, Spread, Callee, Fu
 use Rattle.py_emission_parts.specs.TableParts.{any}
 use Rattle.py_emission_parts.specs.Emitting.{Emission, ◌▸◌, emit_count, emit_mangled}
 use Rattle.py_emission_parts.specs.Running.{Action, ◌▹◌, run}
-use Rattle.py_emission_parts.specs.EmissionParts.{Keywords, counted_build, call_by, keyword_checks, elements, emission_of_call, in_turn, joined_map, map_of, packed_arguments, packed_tuple, positional_call}
+use Rattle.py_emission_parts.specs.EmissionParts.{Keywords, counted_build, call_by, keyword_checks, elements, emission_of_call, in_turn}
+use Rattle.py_emission_parts.specs.EmissionParts.{joined_map, map_of, packed_arguments, packed_tuple, positional_call}
 use Rattle.py_emission.specs.Emission.{all_emissions, keyword_emissions}
 use Rattle.py_expr_parts.specs.declared.calls.CallType.{CallType}
 use Rattle.py_expr_parts.specs.declared.calls.CallType.TheVariants as call
-use Rattle.py_expr_parts.specs.Calls.{argument_tuple, call_operand, call_emission, callee_value, call_of_type, function_call, is_method, keyword_arguments, method_call, named_if_any, named_values, positional, taken_type, type_of}
+use Rattle.py_expr_parts.specs.Calls.{argument_tuple, call_operand, call_emission, callee_value, call_of_type, function_call, is_method}
+use Rattle.py_expr_parts.specs.Calls.{keyword_arguments, method_call, named_if_any, named_values, positional, taken_type, type_of}
 use Rattle.py_expr_parts.specs.Turns.{closed_run}
 use Rattle.py_emit.proofs.Joined.{joined_actions, keep_last}
 use Rattle.py_expr_parts.proofs.Groups.{many_elements}
@@ -46,14 +48,20 @@ tuple_alone es ks = by_star (has_starred es)
 
     by_star : (b : Bool) →
         run (if b then in_turn gs ▸ keyword_checks ks ▸ emit_count op.BuildTupleUnpack (length gs) else in_turn (bare es) ▸ keyword_checks ks ▸ emit_count op.BuildTuple (length es))
-        ≡ run (if b then closed_run 0 ▸ in_turn gs ▸ keyword_checks ks ▸ emit_count op.BuildTupleUnpack (0 + length gs) else in_turn (bare es) ▸ keyword_checks ks ▸ emit_count op.BuildTuple (0 + length es))
+        ≡ run (if b then closed_run 0 ▸ in_turn gs ▸ keyword_checks ks
+        ▸ emit_count op.BuildTupleUnpack (0 + length gs) else in_turn (bare es) ▸ keyword_checks ks
+        ▸ emit_count op.BuildTuple (0 + length es))
     by_star true = ap (λ n. run (in_turn gs ▸ keyword_checks ks ▸ emit_count op.BuildTupleUnpack n)) (call_operand_none_more (length gs))
     by_star false = ap (λ n. run (in_turn (bare es) ▸ keyword_checks ks ▸ emit_count op.BuildTuple n)) (call_operand_none_more (length es))
 
 module _ (c : Callee Emission) (es : List (Element Emission Emission)) where
   packed_call : (ks : Keywords)
-      → run (call_by c op.CallFunctionEx op.CallMethodEx (packed_arguments es ks) (any ks)) ≡ run (callee_value c ▸ (argument_tuple 0 es ks ▸ joined_map (groups map_of [] ks)) ▸ call_of_type (is_method c) (type_of true (0 + length es) (length ks)))
-  packed_call [] = by_type c op.CallFunctionEx op.CallMethodEx (packed_arguments es []) 0 (call.Ex false) refl refl refl ∙ ap (λ (w : Action). run (callee_value c) ▹ (w ▹ run (joined_map [])) ▹ run (call_of_type (is_method c) (call.Ex false))) (tuple_alone es [])
+      → run (call_by c op.CallFunctionEx op.CallMethodEx (packed_arguments es ks) (any ks))
+      ≡ run (callee_value c ▸ (argument_tuple 0 es ks ▸ joined_map (groups map_of [] ks))
+      ▸ call_of_type (is_method c) (type_of true (0 + length es) (length ks)))
+  packed_call [] = by_type c op.CallFunctionEx op.CallMethodEx (packed_arguments es []) 0 (call.Ex false) refl refl refl
+      ∙ ap (λ (w : Action). run (callee_value c) ▹ (w ▹ run (joined_map [])) ▹ run (call_of_type (is_method c) (call.Ex false)))
+      (tuple_alone es [])
   packed_call (p ∷ ps) =
       by_type c op.CallFunctionEx op.CallMethodEx (packed_arguments es (p ∷ ps)) 1 (call.Ex true) refl refl refl
       ∙ ap (λ (w : Action). run (callee_value c) ▹ (w ▹ run (joined_map (groups map_of [] (p ∷ ps)))) ▹ run (call_of_type (is_method c) (call.Ex true))) (tuple_alone es (p ∷ ps))
@@ -61,13 +69,17 @@ module _ (c : Callee Emission) (es : List (Element Emission Emission)) where
   placed_call : (ks : Keywords)
       → run (positional_call c (bare es) ks) ≡ run (callee_value c ▸ (in_turn (bare es) ▸ named_if_any ks) ▸ call_of_type (is_method c) (type_of false (0 + length es) (length ks)))
   placed_call [] =
-      by_type c op.CallFunctionPositional op.CallMethodPositional (in_turn (bare es)) (length (bare es)) (call.Positional (0 + length es)) refl refl (same_count es ∙ call_operand_none_more (length es))
+      by_type c op.CallFunctionPositional op.CallMethodPositional (in_turn (bare es)) (length (bare es))
+      (call.Positional (0 + length es)) refl refl (same_count es ∙ call_operand_none_more (length es))
       ∙ ap (λ (w : Action). run (callee_value c) ▹ w ▹ run (call_of_type (is_method c) (call.Positional (0 + length es)))) (sym (keep_last (in_turn (bare es))))
   placed_call (p ∷ ps) =
-      by_type c op.CallFunctionKeyword op.CallMethodKeyword (in_turn (bare es) ▸ named_values (p ∷ ps)) (length (bare es) + length (p ∷ ps)) (call.Keyword (0 + length es + suc (length ps))) refl refl (let e = same_count es in omega (arith, e))
+      by_type c op.CallFunctionKeyword op.CallMethodKeyword (in_turn (bare es) ▸ named_values (p ∷ ps)) (length (bare es) + length (p ∷ ps))
+      (call.Keyword (0 + length es + suc (length ps))) refl refl (let e = same_count es in omega (arith, e))
 
   if_call : (b : Bool) (ks : Keywords)
-      → run (if b then call_by c op.CallFunctionEx op.CallMethodEx (packed_arguments es ks) (any ks) else positional_call c (bare es) ks) ≡ run (callee_value c ▸ (positional b 0 es ks ▸ keyword_arguments b ks) ▸ call_of_type (is_method c) (type_of b (0 + length es) (length ks)))
+      → run (if b then call_by c op.CallFunctionEx op.CallMethodEx (packed_arguments es ks) (any ks) else positional_call c (bare es) ks)
+      ≡ run (callee_value c ▸ (positional b 0 es ks ▸ keyword_arguments b ks)
+      ▸ call_of_type (is_method c) (type_of b (0 + length es) (length ks)))
   if_call true ks = packed_call ks
   if_call false ks = placed_call ks
 

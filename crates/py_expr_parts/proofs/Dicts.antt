@@ -2,15 +2,15 @@
 use Rattle.std.proofs.Common.{◌≡◌, ℕ, suc, ◌+◌, List, [], ◌∷◌, ◌++◌, length, Bool, true, false, refl, sym, ap, ◌∙◌, arith}
 use Rattle.std.proofs.lemmas.List.{length-append}
 use Rattle.py_bytecode.specs.declared.instruction.Instruction.TheVariants as op
-use Rattle.py_emission_parts.specs.Elements.{Element, Single, Spread, front, behind, run_tuple, groups, sides}
+use Rattle.py_emission_parts.specs.Elements.{Element, Single, Spread, front, later_elements, run_tuple, groups, sides}
 use Rattle.py_emission_parts.specs.Emitting.{Emission, ◌▸◌, emit, emit_count}
 use Rattle.py_emission_parts.specs.Running.{Action, ◌▹◌, run}
 use Rattle.py_emission_parts.specs.EmissionParts.{dict_value, in_turn, map_of_pairs, updates}
 use Rattle.py_emit.proofs.Joined.{joined_actions, keep_last}
 use Rattle.py_tree.specs.Tree as tree
 use Rattle.py_emission.specs.Emission.{emission}
-use Rattle.py_expr_parts.specs.Dicts.{begun_behind, closed_pairs, dict_rest, entry_begun, entry_behind, entry_ended, entry_of}
-use Rattle.py_expr_parts.specs.Turns.{run_behind}
+use Rattle.py_expr_parts.specs.Dicts.{begun_after, closed_pairs, dict_rest, entry_begun, entry_after, entry_ended, entry_of}
+use Rattle.py_expr_parts.specs.Turns.{run_length_after}
 
 abbrev Pairs : Type 0
 Pairs = List (Emission × Emission)
@@ -74,11 +74,13 @@ dict_one_more : (n m : ℕ) → n + suc m ≡ n + 1 + m
 dict_one_more n m = omega arith
 
 -- the pairs at the front, and what is left after them
-first_rest : (n : ℕ) (es : DictEntries) → run (in_turn (sides (front es)) ▸ emit_count op.BuildMap (n + length (front es)) ▸ updates (groups map_of_pairs [] (behind es))) ≡ run (dict_rest false n es)
+first_rest : (n : ℕ) (es : DictEntries)
+    → run (in_turn (sides (front es)) ▸ emit_count op.BuildMap (n + length (front es))
+    ▸ updates (groups map_of_pairs [] (later_elements es))) ≡ run (dict_rest false n es)
 first_rest n [] = keep_last (emit_count op.BuildMap (n + 0)) ∙ ap (λ m. run (emit_count op.BuildMap m)) (dict_none_more n)
 first_rest n (Single p ∷ es) =
     let first : Emission = in_turn (sides (front es)) in
-    let more : Emission = updates (groups map_of_pairs [] (behind es)) in
+    let more : Emission = updates (groups map_of_pairs [] (later_elements es)) in
     let map : ℕ → Emission = λ m. emit_count op.BuildMap m in
     let last : Emission = map (n + suc (length (front es))) ▸ more in
     joined_actions p.0 (p.1 ▸ first) last
@@ -94,20 +96,20 @@ first_rest n (Spread v ∷ es) =
 pub dict_as_rest : (es : DictEntries) → run (dict_value es) ≡ run (dict_rest false 0 es)
 dict_as_rest es =
     let first : Emission = in_turn (sides (front es)) in
-    let more : Emission = updates (groups map_of_pairs [] (behind es)) in
+    let more : Emission = updates (groups map_of_pairs [] (later_elements es)) in
     joined_actions first (emit_count op.BuildMap (length (front es))) more
     ∙ ap (λ n. run (first ▸ emit_count op.BuildMap n ▸ more)) (none_before (length (front es)))
     ∙ first_rest 0 es
 
-entry_parts : (b : Bool) (n : ℕ) (k : tree.OptExpr) (v : tree.Expr) → run (entry_behind b n (entry_of k v)) ≡ run (entry_begun b n k ▸ emission v ▸ entry_ended k)
+entry_parts : (b : Bool) (n : ℕ) (k : tree.OptExpr) (v : tree.Expr) → run (entry_after b n (entry_of k v)) ≡ run (entry_begun b n k ▸ emission v ▸ entry_ended k)
 entry_parts b n tree.no_expr v = refl
 entry_parts b n (tree.some_expr k) v = ap (λ (w : Action). run (emission k) ▹ w) (sym (keep_last (emission v)))
 
 -- an entry in its three parts, and what is left after it
 pub entry_next : (b : Bool) (n : ℕ) (k : tree.OptExpr) (v : tree.Expr) (es : DictEntries)
-    → run (dict_rest b n (entry_of k v ∷ es)) ≡ run (entry_begun b n k ▸ emission v ▸ entry_ended k ▸ dict_rest (begun_behind b (entry_of k v)) (run_behind n (entry_of k v)) es)
+    → run (dict_rest b n (entry_of k v ∷ es)) ≡ run (entry_begun b n k ▸ emission v ▸ entry_ended k ▸ dict_rest (begun_after b (entry_of k v)) (run_length_after n (entry_of k v)) es)
 entry_next b n k v es =
-    let rest : Emission = dict_rest (begun_behind b (entry_of k v)) (run_behind n (entry_of k v)) es in
+    let rest : Emission = dict_rest (begun_after b (entry_of k v)) (run_length_after n (entry_of k v)) es in
     ap (λ (w : Action). w ▹ run rest) (entry_parts b n k v)
     ∙ joined_actions (entry_begun b n k) (emission v ▸ entry_ended k) rest
     ∙ ap (λ (w : Action). run (entry_begun b n k) ▹ w) (joined_actions (emission v) (entry_ended k) rest)

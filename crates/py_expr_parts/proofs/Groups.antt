@@ -16,7 +16,7 @@ use Rattle.py_emission_parts.specs.EmissionParts.{counted_build, display, elemen
 use Rattle.py_emission.specs.Emission.{all_emissions, emissions}
 use Rattle.py_emit.proofs.Joined.{joined_actions, keep_last, turn_append}
 use Rattle.py_expr_parts.proofs.Turns.{if_not}
-use Rattle.py_expr_parts.specs.Turns.{closed_run, group_count, group_rest, groups_by, is_spread, run_behind, runs}
+use Rattle.py_expr_parts.specs.Turns.{closed_run, group_count, group_rest, groups_by, is_spread, run_length_after, runs}
 
 group_longer : (vs : List Emission) (v : Emission) → length (vs ++ v ∷ []) ≡ length vs + 1
 group_longer vs v = length-append vs (v ∷ [])
@@ -58,9 +58,9 @@ last_count [] = refl
 last_count (x ∷ vs) = refl
 
 module _ {B A : Type 0} where
-  pub plain_behind : (n : ℕ) (e : Element B A) → is_spread e ≡ false → n + 1 ≡ run_behind n e
-  plain_behind n (Single x) h = refl
-  plain_behind n (Spread x) h = absurd cc
+  pub plain_after : (n : ℕ) (e : Element B A) → is_spread e ≡ false → n + 1 ≡ run_length_after n e
+  plain_after n (Single x) h = refl
+  plain_after n (Spread x) h = absurd cc
 
 pub group_none_more : (n : ℕ) → n ≡ 0 + n
 group_none_more n = omega arith
@@ -76,7 +76,7 @@ few_runs zero = omega arith
 few_runs (suc n) = omega arith
 
 -- an element ends no more groups than elements come to stand in them
-pub few_groups : {B A : Type 0} (n : ℕ) (e : Element B A) → groups_by n e + run_behind n e ≤ n + 1
+pub few_groups : {B A : Type 0} (n : ℕ) (e : Element B A) → groups_by n e + run_length_after n e ≤ n + 1
 few_groups n (Single v) = omega arith
 few_groups n (Spread v) = let h = few_runs n in omega (arith, h)
 

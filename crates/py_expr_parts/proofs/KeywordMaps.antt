@@ -46,7 +46,8 @@ values_next (Some name) e ks = refl
 
 pub values_at : (xs : List (KeywordOf Expr)) (i : ℕ) (d x : KeywordOf Expr) → x ≡ get_or xs i d → i < length xs
     → in_turn (values_in (keyword_emissions (keywords expr_tree (drop i xs)))) ≡ emission (expr_tree x.value) ▸ in_turn (values_in (keyword_emissions (keywords expr_tree (drop (i + 1) xs))))
-values_at xs i d x is lt = ap (λ ks. in_turn (values_in ks)) (keywords_at xs i d x is lt) ∙ ap in_turn (values_next x.arg (expr_tree x.value) (keyword_emissions (keywords expr_tree (drop (i + 1) xs))))
+values_at xs i d x is lt = ap (λ ks. in_turn (values_in ks)) (keywords_at xs i d x is lt)
+    ∙ ap in_turn (values_next x.arg (expr_tree x.value) (keyword_emissions (keywords expr_tree (drop (i + 1) xs))))
 
 pub many_keywords : (xs : List (KeywordOf Expr)) → length (keyword_emissions (keywords expr_tree xs)) ≡ length xs
 many_keywords [] = refl

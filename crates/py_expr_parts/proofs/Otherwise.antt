@@ -7,7 +7,8 @@ use Rattle.py_tree.specs.declared.expressions.Expr as expr
 use Rattle.py_tree.specs.declared.expressions.Expr.{Expr}
 use Rattle.py_tree.specs.declared.expressions.Expr.TheOpen as kind
 use Rattle.py_tree.specs.declared.expressions.Expr.TheOpen.{Expr-F}
-use Rattle.py_tree.specs.declared.expressions.Expr.TheViews.{roll-Expr, out-Expr, roll-out-Expr, rolls-Attribute, rolls-BoolOp, rolls-Constant, rolls-JoinedStr, rolls-Name, rolls-Starred, rolls-UnaryOp}
+use Rattle.py_tree.specs.declared.expressions.Expr.TheViews.{roll-Expr, out-Expr, roll-out-Expr, rolls-Attribute, rolls-BoolOp}
+use Rattle.py_tree.specs.declared.expressions.Expr.TheViews.{rolls-Constant, rolls-JoinedStr, rolls-Name, rolls-Starred, rolls-UnaryOp}
 use Rattle.py_tree.specs.declared.expressions.ExprAttributeOf.{ExprAttributeOf}
 use Rattle.py_tree.specs.declared.expressions.ExprBoolOpOf.{ExprBoolOpOf}
 use Rattle.py_tree.specs.declared.expressions.ExprConstant.{ExprConstant}
@@ -50,7 +51,8 @@ truth_layer y h g c to = refl
 
 pub truth_test : (x : Expr) → ((e : ExprBoolOpOf Expr) → x ≢ expr.BoolOp e) → ((e : ExprUnaryOpOf Expr) → x ≢ expr.UnaryOp e) → (c : Bool) (to : ℕ)
     → emission_of_test (expr_tree x) c to ≡ truth_of (emission (expr_tree x)) c to
-truth_test x h g c to = subst (λ (t : tree.Expr). emission_of_test t c to ≡ truth_of (emission t) c to) (sym (otherwise_as_layer x)) (truth_layer (out-Expr x) (otherwise_apart expr.BoolOp x h) (otherwise_apart expr.UnaryOp x g) c to)
+truth_test x h g c to = subst (λ (t : tree.Expr). emission_of_test t c to ≡ truth_of (emission t) c to) (sym (otherwise_as_layer x))
+    (truth_layer (out-Expr x) (otherwise_apart expr.BoolOp x h) (otherwise_apart expr.UnaryOp x g) c to)
 
 value_layer : (y : Expr-F Expr) → ((e : ExprJoinedStrOf Expr) → roll-Expr y ≢ expr.JoinedStr e) → ((e : ExprConstant) → roll-Expr y ≢ expr.Constant e)
     → ((e : ExprName) → roll-Expr y ≢ expr.Name e) → emission_of_return (expr_layer expr_tree y) ≡ emission (expr_layer expr_tree y) ▸ emit op.ReturnValue 0
@@ -61,4 +63,5 @@ value_layer y h g f = refl
 
 pub value_return : (x : Expr) → ((e : ExprJoinedStrOf Expr) → x ≢ expr.JoinedStr e) → ((e : ExprConstant) → x ≢ expr.Constant e)
     → ((e : ExprName) → x ≢ expr.Name e) → emission_of_return (expr_tree x) ≡ emission (expr_tree x) ▸ emit op.ReturnValue 0
-value_return x h g f = subst (λ (t : tree.Expr). emission_of_return t ≡ emission t ▸ emit op.ReturnValue 0) (sym (otherwise_as_layer x)) (value_layer (out-Expr x) (otherwise_apart expr.JoinedStr x h) (otherwise_apart expr.Constant x g) (otherwise_apart expr.Name x f))
+value_return x h g f = subst (λ (t : tree.Expr). emission_of_return t ≡ emission t ▸ emit op.ReturnValue 0) (sym (otherwise_as_layer x))
+    (value_layer (out-Expr x) (otherwise_apart expr.JoinedStr x h) (otherwise_apart expr.Constant x g) (otherwise_apart expr.Name x f))

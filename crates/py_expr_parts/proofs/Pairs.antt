@@ -6,8 +6,8 @@ use Rattle.py_base.proofs.Numbers.{suc_is_plus_one}
 use Rattle.py_tree.specs.declared.expressions.Expr.{Expr}
 use Rattle.py_tree.specs.View.{expr_tree, opt_expr}
 use Rattle.py_tree.specs.Tree as tree
-use Rattle.py_expr_parts.specs.Dicts.{begun_behind, begun_by, entry_of, pairs_by}
-use Rattle.py_expr_parts.specs.Turns.{pairs_of, run_behind}
+use Rattle.py_expr_parts.specs.Dicts.{begun_after, begun_by, entry_of, pairs_by}
+use Rattle.py_expr_parts.specs.Turns.{pairs_of, run_length_after}
 
 one_entry : (k : Option Expr) (v : Expr) (ks : List (Option Expr)) (vs : List Expr) → pairs_of (k ∷ ks) (v ∷ vs) ≡ entry_of (opt_expr expr_tree k) (expr_tree v) ∷ pairs_of ks vs
 one_entry None v ks vs = refl
@@ -25,11 +25,11 @@ pairs_at ks vs i c k d v p q m n =
     ∙ one_entry k v (drop (i + 1) ks) (drop (i + 1) vs)
 
 -- its key says what is after it
-pub begun_at : (b : Bool) (k : Option Expr) (t : tree.Expr) → begun_by b k ≡ begun_behind b (entry_of (opt_expr expr_tree k) t)
+pub begun_at : (b : Bool) (k : Option Expr) (t : tree.Expr) → begun_by b k ≡ begun_after b (entry_of (opt_expr expr_tree k) t)
 begun_at b None t = refl
 begun_at b (Some k) t = refl
 
-pub run_at : (n : ℕ) (k : Option Expr) (t : tree.Expr) → pairs_by n k ≡ run_behind n (entry_of (opt_expr expr_tree k) t)
+pub run_at : (n : ℕ) (k : Option Expr) (t : tree.Expr) → pairs_by n k ≡ run_length_after n (entry_of (opt_expr expr_tree k) t)
 run_at n None t = refl
 run_at n (Some k) t = refl
 
@@ -58,5 +58,7 @@ pair_first (v ∷ vs) i lt = v
 
 -- none is left after the last pair, whose keys and values have other names
 pub pairs_over : (ks js : List (Option Expr)) (vs ws : List Expr) (i n : ℕ) → js ≡ ks → ws ≡ vs → n ≤ i → i ≤ n → (n ≡ length ks) ⊎ (n ≡ length vs) → pairs_of (drop i js) (drop i ws) ≡ []
-pairs_over ks js vs ws i n p q a b (inl e) = ap (λ xs. pairs_of (drop i xs) (drop i ws)) p ∙ ap (λ ys. pairs_of (drop i ks) (drop i ys)) q ∙ pairs_end ks vs i (inl (let h : i ≡ n = omega arith in h ∙ e))
-pairs_over ks js vs ws i n p q a b (inr e) = ap (λ xs. pairs_of (drop i xs) (drop i ws)) p ∙ ap (λ ys. pairs_of (drop i ks) (drop i ys)) q ∙ pairs_end ks vs i (inr (let h : i ≡ n = omega arith in h ∙ e))
+pairs_over ks js vs ws i n p q a b (inl e) = ap (λ xs. pairs_of (drop i xs) (drop i ws)) p ∙ ap (λ ys. pairs_of (drop i ks) (drop i ys)) q
+    ∙ pairs_end ks vs i (inl (let h : i ≡ n = omega arith in h ∙ e))
+pairs_over ks js vs ws i n p q a b (inr e) = ap (λ xs. pairs_of (drop i xs) (drop i ws)) p ∙ ap (λ ys. pairs_of (drop i ks) (drop i ys)) q
+    ∙ pairs_end ks vs i (inr (let h : i ≡ n = omega arith in h ∙ e))

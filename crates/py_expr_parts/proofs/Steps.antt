@@ -26,7 +26,9 @@ pub one_goes : (f g : ℕ → Emission) (s : State) → run (one_block f g) s �
 unfolding one_block
 one_goes f g s = refl
 
-pub two_goes : (f g h : ℕ → ℕ → Emission) (s : State) → run (two_blocks f g h) s ≡ (let t = with_block s in let a = s.blocks in let b = t.blocks in (run (f a b) ▹ begin a ▹ run (g a b) ▹ begin b ▹ run (h a b)) (with_block t))
+pub two_goes : (f g h : ℕ → ℕ → Emission) (s : State)
+    → run (two_blocks f g h) s ≡ (let t = with_block s in let a = s.blocks in let b =
+    t.blocks in (run (f a b) ▹ begin a ▹ run (g a b) ▹ begin b ▹ run (h a b)) (with_block t))
 unfolding two_blocks with_block
 two_goes f g h s = refl
 
@@ -41,7 +43,7 @@ pub refuse_goes : (e : CodegenErrorType) (s : State) → run (refuse e) s ≡ Re
 unfolding refuse
 refuse_goes e s = refl
 
-pub level_goes : (a : ℕ → Emission) (s : State) → run (by_level a) s ≡ run (a s.around.context.level) s
+pub level_goes : (a : ℕ → Emission) (s : State) → run (by_level a) s ≡ run (a s.node_context.context.level) s
 unfolding by_level
 level_goes a s = refl
 

@@ -50,10 +50,10 @@ module _ {A : Type 0} where
   before_next (Spread x) es false h = absurd cc
 
   -- the star stands between those before it and those after it
-  pub store_around_star : (es : List (Element A A)) → stars es ≢ 0 → before_star es + 1 + after_star es ≡ length es
-  store_around_star [] h = absurd (h refl)
-  store_around_star (Single x ∷ es) h = let e = store_around_star es h in omega (arith, e)
-  store_around_star (Spread x ∷ es) h = omega arith
+  pub store_beside_star : (es : List (Element A A)) → stars es ≢ 0 → before_star es + 1 + after_star es ≡ length es
+  store_beside_star [] h = absurd (h refl)
+  store_beside_star (Single x ∷ es) h = let e = store_beside_star es h in omega (arith, e)
+  store_beside_star (Spread x ∷ es) h = omega arith
 
   pub before_low : (es : List (Element A A)) → before_star es ≤ length es
   before_low [] = omega arith
@@ -61,10 +61,10 @@ module _ {A : Type 0} where
   before_low (Spread x ∷ es) = omega arith
 
 -- where the count of the stars is not 0
-pub store_around : (xs : List Expr) (starred before : ℕ) → starred ≢ 0 → starred ≡ stars (all_stores (exprs expr_tree xs))
+pub store_beside : (xs : List Expr) (starred before : ℕ) → starred ≢ 0 → starred ≡ stars (all_stores (exprs expr_tree xs))
     → before ≡ before_star (all_stores (exprs expr_tree xs)) → before + 1 + after_star (all_stores (exprs expr_tree xs)) ≡ length xs
-store_around xs starred before n s b =
-    let e = store_around_star (all_stores (exprs expr_tree xs)) (λ z. n (s ∙ z)) in
+store_beside xs starred before n s b =
+    let e = store_beside_star (all_stores (exprs expr_tree xs)) (λ z. n (s ∙ z)) in
     let m = many_targets xs in
     omega (arith, e, m, b)
 

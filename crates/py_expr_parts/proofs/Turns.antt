@@ -20,9 +20,11 @@ use Rattle.py_emission_parts.specs.Elements.{pairs}
 use Rattle.py_emission_parts.specs.TableParts.{deciding_truth}
 use Rattle.py_emission_parts.specs.Emitting.{Emission, State, Refused, ◌▸◌, jump, refuse}
 use Rattle.py_emission_parts.specs.Running.{run}
-use Rattle.py_emission_parts.specs.EmissionParts.{Emissions, chain, comparisons, dict_value, emission_of_compare, emission_of_dict, emission_of_link, first_comparison, in_turn, keeping_jump, links, shorts, some_test, past_tests, tests, values}
+use Rattle.py_emission_parts.specs.EmissionParts.{Emissions, chain, comparisons, dict_value, emission_of_compare, emission_of_dict}
+use Rattle.py_emission_parts.specs.EmissionParts.{emission_of_link, first_comparison, in_turn, keeping_jump, links, shorts, some_test}
+use Rattle.py_emission_parts.specs.EmissionParts.{past_tests, tests, values}
 use Rattle.py_emission.specs.Emission.{all_emissions, emission, emission_of_test, opt_emissions}
-use Rattle.py_emit.specs.States.{IsTold, placed_error}
+use Rattle.py_emit.specs.States.{IsReported, placed_error}
 use Rattle.py_emit.proofs.Joined.{joined_actions, keep_last}
 use Rattle.py_expr_parts.specs.Turns.{linked_value, short}
 use Rattle.py_base.specs.declared.location.LocatedError.{LocatedError}
@@ -42,7 +44,8 @@ pub refused_as : (e : CodegenErrorType) (s : State) (r : LocatedError CodegenErr
 refused_as e s r p q = refuse_goes e s ∙ (λ i. Refused (sym p i) (sym q i))
 
 -- a refusal at the location of the state, but as memory runs out
-pub refused_by : (e : CodegenErrorType) (s : State) (path : List ℕ) (r : LocatedError CodegenErrorType) → r ≡ record { error = e; location = Some s.location; source_path = path } → run (refuse e) s ≡ Refused r.error r.location
+pub refused_by : (e : CodegenErrorType) (s : State) (path : List ℕ) (r : LocatedError CodegenErrorType)
+    → r ≡ record { error = e; location = Some s.location; source_path = path } → run (refuse e) s ≡ Refused r.error r.location
 refused_by e s path r h = refused_as e s r (ap (λ (x : LocatedError CodegenErrorType). x.error) h) (ap (λ (x : LocatedError CodegenErrorType). x.location) h)
 
 abbrev pub some : {A : Type 0} → List A → Bool
@@ -70,9 +73,14 @@ shorts_next o end x (y ∷ xs) b e =
     ∙ ap (λ c. run (short o end c (expr_tree x) ▸ shorts o end (all_emissions (exprs expr_tree (y ∷ xs))))) (sym e)
 
 tests_next : (stop : Bool) (out : ℕ) (c : Bool) (to : ℕ) (x : Expr) (xs : List Expr) (b : Bool) → b ≡ some xs
-    → run (tests stop out c to (all_emissions (exprs expr_tree (x ∷ xs)))) ≡ run (emission_of_test (expr_tree x) (if b then stop else c) (if b then out else to) ▸ tests stop out c to (all_emissions (exprs expr_tree xs)))
-tests_next stop out c to x [] b e = sym (keep_last (emission_of_test (expr_tree x) c to)) ∙ ap (λ d. run (emission_of_test (expr_tree x) (if d then stop else c) (if d then out else to) ▸ tests stop out c to [])) (sym e)
-tests_next stop out c to x (y ∷ xs) b e = ap (λ d. run (emission_of_test (expr_tree x) (if d then stop else c) (if d then out else to) ▸ tests stop out c to (all_emissions (exprs expr_tree (y ∷ xs))))) (sym e)
+    → run (tests stop out c to (all_emissions (exprs expr_tree (x ∷ xs))))
+    ≡ run (emission_of_test (expr_tree x) (if b then stop else c) (if b then out else to)
+    ▸ tests stop out c to (all_emissions (exprs expr_tree xs)))
+tests_next stop out c to x [] b e = sym (keep_last (emission_of_test (expr_tree x) c to))
+    ∙ ap (λ d. run (emission_of_test (expr_tree x) (if d then stop else c) (if d then out else to) ▸ tests stop out c to [])) (sym e)
+tests_next stop out c to x (y ∷ xs) b e =
+    ap (λ d. run (emission_of_test (expr_tree x) (if d then stop else c) (if d then out else to)
+    ▸ tests stop out c to (all_emissions (exprs expr_tree (y ∷ xs))))) (sym e)
 
 links_next : (out : ℕ) (o : CmpOp) (ops : List CmpOp) (x : Expr) (xs : List Expr) (b : Bool) → length ops ≡ length xs → b ≡ some xs
     → run (links out (o ∷ ops) (all_emissions (exprs expr_tree (x ∷ xs)))) ≡ run (linked_value out o b (expr_tree x) ▸ links out ops (all_emissions (exprs expr_tree xs)))
@@ -93,16 +101,21 @@ shorts_at o end xs i d x is lt =
     ∙ ap (λ y. run (short o end (nat_lt (i + 1) (length xs)) (expr_tree y) ▸ shorts o end (all_emissions (exprs expr_tree (drop (i + 1) xs))))) (sym is)
 
 pub tests_at : (stop : Bool) (out : ℕ) (c : Bool) (to : ℕ) (xs : List Expr) (i : ℕ) (d x : Expr) → x ≡ get_or xs i d → i < length xs
-    → run (tests stop out c to (all_emissions (exprs expr_tree (drop i xs)))) ≡ run (emission_of_test (expr_tree x) (if nat_lt (i + 1) (length xs) then stop else c) (if nat_lt (i + 1) (length xs) then out else to) ▸ tests stop out c to (all_emissions (exprs expr_tree (drop (i + 1) xs))))
+    → run (tests stop out c to (all_emissions (exprs expr_tree (drop i xs))))
+    ≡ run (emission_of_test (expr_tree x) (if nat_lt (i + 1) (length xs) then stop else c)
+    (if nat_lt (i + 1) (length xs) then out else to) ▸ tests stop out c to (all_emissions (exprs expr_tree (drop (i + 1) xs))))
 tests_at stop out c to xs i d x is lt =
     let b = nat_lt (i + 1) (length xs) in
     ap (λ ys. run (tests stop out c to (all_emissions (exprs expr_tree ys)))) (drop-cons xs i d lt)
     ∙ tests_next stop out c to (get_or xs i d) (drop (suc i) xs) b (more_left xs i lt)
-    ∙ ap (λ j. run (emission_of_test (expr_tree (get_or xs i d)) (if b then stop else c) (if b then out else to) ▸ tests stop out c to (all_emissions (exprs expr_tree (drop j xs))))) (suc_is_plus_one i)
+    ∙ ap (λ j. run (emission_of_test (expr_tree (get_or xs i d)) (if b then stop else c) (if b then out else to)
+    ▸ tests stop out c to (all_emissions (exprs expr_tree (drop j xs))))) (suc_is_plus_one i)
     ∙ ap (λ y. run (emission_of_test (expr_tree y) (if b then stop else c) (if b then out else to) ▸ tests stop out c to (all_emissions (exprs expr_tree (drop (i + 1) xs))))) (sym is)
 
 pub links_at : (out : ℕ) (ops : List CmpOp) (o : CmpOp) (xs : List Expr) (i : ℕ) (d x : Expr) → x ≡ get_or xs i d → length ops ≡ length xs → i < length xs
-    → run (links out (drop i ops) (all_emissions (exprs expr_tree (drop i xs)))) ≡ run (linked_value out (get_or ops i o) (nat_lt (i + 1) (length xs)) (expr_tree x) ▸ links out (drop (i + 1) ops) (all_emissions (exprs expr_tree (drop (i + 1) xs))))
+    → run (links out (drop i ops) (all_emissions (exprs expr_tree (drop i xs))))
+    ≡ run (linked_value out (get_or ops i o) (nat_lt (i + 1) (length xs)) (expr_tree x)
+    ▸ links out (drop (i + 1) ops) (all_emissions (exprs expr_tree (drop (i + 1) xs))))
 links_at out ops o xs i d x is even lt =
     let b = nat_lt (i + 1) (length xs) in
     let long = length-drop (suc i) xs in
@@ -161,8 +174,12 @@ pub refused_shape : (m : Malformed) (s : State) (path : List ℕ) (r : LocatedEr
     → run (refuse (error.MalformedTree m)) s ≡ Refused r.error r.location
 refused_shape m s path r e = refused_as (error.MalformedTree m) s r (ap (λ (x : LocatedError CodegenErrorType). x.error) e) (ap (λ (x : LocatedError CodegenErrorType). x.location) e)
 
-pub path_of : (m : Malformed) (s : State) (path : List ℕ) (r : LocatedError CodegenErrorType) → r ≡ placed_error (error.MalformedTree m) s.location path → IsTold r path
-path_of m s path r e = (ap (λ (x : LocatedError CodegenErrorType). x.source_path) e, λ o. absurd (let q : error.MalformedTree m ≡ error.OutOfMemory = sym (ap (λ (x : LocatedError CodegenErrorType). x.error) e) ∙ o in cc))
+pub path_of : (m : Malformed) (s : State) (path : List ℕ) (r : LocatedError CodegenErrorType) → r ≡ placed_error (error.MalformedTree m) s.location path → IsReported r path
+path_of m s path r e = (
+  ap (λ (x : LocatedError CodegenErrorType). x.source_path) e,
+  λ o.
+      absurd (let q : error.MalformedTree m ≡ error.OutOfMemory = sym (ap (λ (x : LocatedError CodegenErrorType). x.error) e) ∙ o in cc),
+)
 
 -- an error at the location of the state, unless it says that memory is wanting
 pub refused_so : (e : CodegenErrorType) (s : State) (path : List ℕ) (r : LocatedError CodegenErrorType) → r ≡ placed_error e s.location path
@@ -170,6 +187,10 @@ pub refused_so : (e : CodegenErrorType) (s : State) (path : List ℕ) (r : Locat
 refused_so error.OutOfMemory s path r h n = absurd (n (ap (λ (x : LocatedError CodegenErrorType). x.error) h))
 refused_so e s path r h n = refused_as e s r (ap (λ (x : LocatedError CodegenErrorType). x.error) h) (ap (λ (x : LocatedError CodegenErrorType). x.location) h)
 
-pub placed_path : (e : CodegenErrorType) (at : SourceLocation) (path : List ℕ) (r : LocatedError CodegenErrorType) → r ≡ placed_error e at path → IsTold r path
+pub placed_path : (e : CodegenErrorType) (at : SourceLocation) (path : List ℕ) (r : LocatedError CodegenErrorType) → r ≡ placed_error e at path → IsReported r path
 placed_path error.OutOfMemory at path r h = (ap (λ (x : LocatedError CodegenErrorType). x.source_path) h, λ o. ap (λ (x : LocatedError CodegenErrorType). x.location) h)
-placed_path e at path r h = (ap (λ (x : LocatedError CodegenErrorType). x.source_path) h, λ o. absurd (let q : e ≡ error.OutOfMemory = sym (ap (λ (x : LocatedError CodegenErrorType). x.error) h) ∙ o in cc))
+placed_path e at path r h = (
+  ap (λ (x : LocatedError CodegenErrorType). x.source_path) h,
+  λ o.
+      absurd (let q : e ≡ error.OutOfMemory = sym (ap (λ (x : LocatedError CodegenErrorType). x.error) h) ∙ o in cc),
+)

@@ -11,7 +11,7 @@ use Rattle.py_emission_parts.specs.Refused.{no_assignment}
 use Rattle.py_emission.specs.Emission.{emissions}
 use Rattle.py_expr_parts.specs.declared.calls.CallType.{CallType}
 use Rattle.py_expr_parts.specs.declared.calls.CallType.TheVariants as call
-use Rattle.py_expr_parts.specs.Turns.{closed_run, run_behind, runs}
+use Rattle.py_expr_parts.specs.Turns.{closed_run, run_length_after, runs}
 
 abbrev pub is_method : Callee Emission → Bool
 is_method (Function v) = false
@@ -25,7 +25,8 @@ callee_value (Method name v) = v ▸ emit_mangled op.LoadMethod name
 -- a tuple of arguments, after so many values: where some are starred, the tuple of these values stands before the groups
 abbrev pub argument_tuple : (additional : ℕ) → List (Element Emission Emission) → Keywords → Emission
 argument_tuple n es ks =
-    if has_starred es then closed_run n ▸ in_turn (groups (counted_build op.BuildTuple) [] es) ▸ keyword_checks ks ▸ emit_count op.BuildTupleUnpack (runs n + length (groups (counted_build op.BuildTuple) [] es))
+    if has_starred es then closed_run n ▸ in_turn (groups (counted_build op.BuildTuple) [] es) ▸ keyword_checks ks
+    ▸ emit_count op.BuildTupleUnpack (runs n + length (groups (counted_build op.BuildTuple) [] es))
     else in_turn (bare es) ▸ keyword_checks ks ▸ emit_count op.BuildTuple (n + length es)
 
 -- the values of keywords, and the tuple of their names
@@ -98,11 +99,11 @@ closed_map zero = keep
 closed_map (suc n) = emit_count op.BuildMap (suc n)
 
 -- a keyword after a run of so many named ones, which an unpacked one ends
-abbrev pub keyword_behind : (run : ℕ) → Element (List ℕ × Emission) Emission → Emission
-keyword_behind n (Single p) = emit_constant op.LoadConst (const.str p.0) ▸ p.1
-keyword_behind n (Spread v) = closed_map n ▸ v
+abbrev pub keyword_after : (run : ℕ) → Element (List ℕ × Emission) Emission → Emission
+keyword_after n (Single p) = emit_constant op.LoadConst (const.str p.0) ▸ p.1
+keyword_after n (Spread v) = closed_map n ▸ v
 
 -- what is left to emit of keywords after a run of so many named ones
 abbrev pub map_rest : (run : ℕ) → Keywords → Emission
 map_rest n [] = closed_map n
-map_rest n (e ∷ es) = keyword_behind n e ▸ map_rest (run_behind n e) es
+map_rest n (e ∷ es) = keyword_after n e ▸ map_rest (run_length_after n e) es

@@ -5,7 +5,7 @@ use Rattle.py_bytecode.specs.declared.instruction.Instruction.TheVariants as op
 use Rattle.py_emission_parts.specs.Elements.{Element, Single, Spread}
 use Rattle.py_emission_parts.specs.Emitting.{Emission, ◌▸◌, emit, emit_count, keep}
 use Rattle.py_emission.specs.Emission.{emission}
-use Rattle.py_expr_parts.specs.Turns.{run_behind}
+use Rattle.py_expr_parts.specs.Turns.{run_length_after}
 
 -- a value with its key, or one that is unpacked
 abbrev pub entry_of : tree.OptExpr → tree.Expr → Element (Emission × Emission) Emission
@@ -28,14 +28,14 @@ entry_ended tree.no_expr = emit op.DictUpdate 0
 entry_ended (tree.some_expr key) = keep
 
 -- an entry after a run of so many pairs, which a value that is unpacked ends
-abbrev pub entry_behind : (begun : Bool) → (run : ℕ) → Element (Emission × Emission) Emission → Emission
-entry_behind b n (Single p) = p.0 ▸ p.1
-entry_behind b n (Spread v) = closed_pairs b n ▸ v ▸ emit op.DictUpdate 0
+abbrev pub entry_after : (begun : Bool) → (run : ℕ) → Element (Emission × Emission) Emission → Emission
+entry_after b n (Single p) = p.0 ▸ p.1
+entry_after b n (Spread v) = closed_pairs b n ▸ v ▸ emit op.DictUpdate 0
 
 -- whether the first map is built after it
-abbrev pub begun_behind : (begun : Bool) → Element (Emission × Emission) Emission → Bool
-begun_behind b (Single p) = b
-begun_behind b (Spread v) = true
+abbrev pub begun_after : (begun : Bool) → Element (Emission × Emission) Emission → Bool
+begun_after b (Single p) = b
+begun_after b (Spread v) = true
 
 -- by the key alone: whether the first map is built, and how many pairs stand together
 abbrev pub begun_by : {K : Type 0} → (begun : Bool) → Option K → Bool
@@ -49,4 +49,4 @@ pairs_by n (Some key) = n + 1
 -- what is left to emit of entries
 abbrev pub dict_rest : (begun : Bool) → (run : ℕ) → List (Element (Emission × Emission) Emission) → Emission
 dict_rest b n [] = closed_pairs b n
-dict_rest b n (e ∷ es) = entry_behind b n e ▸ dict_rest (begun_behind b e) (run_behind n e) es
+dict_rest b n (e ∷ es) = entry_after b n e ▸ dict_rest (begun_after b e) (run_length_after n e) es

@@ -36,9 +36,9 @@ runs zero = 0
 runs (suc n) = 1
 
 -- an element after a run of so many plain ones, which a starred one ends
-abbrev pub element_behind : (run : ℕ) → Element Emission Emission → Emission
-element_behind n (Single v) = v
-element_behind n (Spread v) = closed_run n ▸ v
+abbrev pub element_after : (run : ℕ) → Element Emission Emission → Emission
+element_after n (Single v) = v
+element_after n (Spread v) = closed_run n ▸ v
 
 module _ {B A : Type 0} where
   -- how many groups are complete with it
@@ -47,19 +47,19 @@ module _ {B A : Type 0} where
   groups_by n (Spread x) = runs n + 1
 
   -- the run of plain elements after it
-  abbrev pub run_behind : (run : ℕ) → Element B A → ℕ
-  run_behind n (Single x) = n + 1
-  run_behind n (Spread x) = 0
+  abbrev pub run_length_after : (run : ℕ) → Element B A → ℕ
+  run_length_after n (Single x) = n + 1
+  run_length_after n (Spread x) = 0
 
   -- how many groups elements give after it
   abbrev pub group_count : (run : ℕ) → List (Element B A) → ℕ
   group_count n [] = runs n
-  group_count n (e ∷ es) = groups_by n e + group_count (run_behind n e) es
+  group_count n (e ∷ es) = groups_by n e + group_count (run_length_after n e) es
 
 -- what is left to emit of elements after a run of so many plain ones
 abbrev pub group_rest : (run : ℕ) → List (Element Emission Emission) → Emission
 group_rest n [] = closed_run n
-group_rest n (e ∷ es) = element_behind n e ▸ group_rest (run_behind n e) es
+group_rest n (e ∷ es) = element_after n e ▸ group_rest (run_length_after n e) es
 
 -- the entries of a dict display
 abbrev pub pairs_of : List (Option Expr) → List Expr → List (Element (Emission × Emission) Emission)

@@ -4,7 +4,7 @@ ghost use Rattle.py_tree.specs.View.{expr_tree, exprs, keywords as keyword_trees
 ghost use Rattle.py_emission_parts.specs.EmissionParts.{elements};
 ghost use Rattle.py_emission.specs.Emission.{all_emissions, keyword_emissions};
 ghost use Rattle.py_emission_parts.specs.Elements.{has_starred};
-ghost use Rattle.py_emit.specs.States.{Emits, IsStarved, rest};
+ghost use Rattle.py_emit.specs.States.{Emits, IsOutOfMemory, rest};
 ghost use Rattle.py_expr_parts.specs.Calls.{call_operand, call_of_type, function_call, method_call, type_of};
 
 use crate::elements::has_star;
@@ -27,7 +27,8 @@ pub enum CallType {
 
 /// Whether arguments come in one tuple and one map: where one is starred, or a keyword is unpacked.
 pub fn is_packed(args: &[Expr], keywords: &[Keyword]) -> bool
-    ensures { result ≡ (has_starred (elements (all_emissions (exprs expr_tree args.now))) || has_starred (keyword_emissions (keyword_trees expr_tree keywords.now))) }
+    ensures { result ≡ (has_starred (elements (all_emissions (exprs expr_tree args.now))) ||
+        has_starred (keyword_emissions (keyword_trees expr_tree keywords.now))) }
 {
     has_star(args) || has_double_star(keywords)
 }
@@ -43,9 +44,10 @@ pub fn call_type(
     args: &[Expr],
     keywords: &[Keyword],
 ) -> Result<CallType, CodegenError>
-    ensures call { IfOk result (λ c. c ≡ type_of packed (additional + length args.now) (length keywords.now)) }
+    ensures call { IfOk result (λ c. c
+        ≡ type_of packed (additional + length args.now) (length keywords.now)) }
     ensures same { OnOk result (em.new ≡ em.old) }
-    ensures err { IfErr result (λ e. IsStarved e (rest em.old).path) }
+    ensures err { IfErr result (λ e. IsOutOfMemory e (rest em.old).path) }
 {
     if packed {
         return Ok(CallType::Ex {

@@ -5,7 +5,7 @@ ghost use Rattle.py_emission_parts.specs.Elements.{has_starred};
 ghost use Rattle.py_emission_parts.specs.EmissionParts.{elements};
 ghost use Rattle.py_emission.specs.Emission.{all_emissions, emissions, stores};
 ghost use Rattle.py_emit.specs.States.{Emits};
-ghost use Rattle.py_expr_parts.specs.Turns.{is_spread, run_behind, runs, closed_run};
+ghost use Rattle.py_expr_parts.specs.Turns.{is_spread, run_length_after, runs, closed_run};
 
 use py_base::CodegenError;
 use py_bytecode::Instruction;
@@ -39,7 +39,7 @@ pub(crate) fn is_star(elt: &Expr) -> bool
 /// How many plain elements stand together after an element, where so many stand before it.
 pub fn run_after(elt: &Expr, run: usize) -> usize
     requires { run < 0xffff_ffff_ffff_ffff }
-    ensures { result ≡ run_behind run (emissions (expr_tree elt.now)).element }
+    ensures { result ≡ run_length_after run (emissions (expr_tree elt.now)).element }
 {
     if is_star(elt) { 0 } else { run + 1 }
 }

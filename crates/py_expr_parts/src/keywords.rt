@@ -10,7 +10,7 @@ ghost use Rattle.py_emission_parts.specs.Refused.{no_assignment};
 ghost use Rattle.py_emission.specs.Emission.{keyword_emissions};
 ghost use Rattle.py_emit.specs.States.{Emits};
 ghost use Rattle.py_expr_parts.specs.Calls.{checked_name, closed_map, keyword_emission};
-ghost use Rattle.py_expr_parts.specs.Turns.{run_behind, runs};
+ghost use Rattle.py_expr_parts.specs.Turns.{run_length_after, runs};
 
 use py_base::{CodegenError, CodegenErrorType};
 use py_bytecode::{ConstantData, Instruction};
@@ -36,7 +36,8 @@ pub(crate) fn has_double_star(keywords: &[Keyword]) -> bool
 /// # Errors
 /// SyntaxError where one is, or OutOfMemory for its text.
 pub fn check_keywords(em: &mut Emitter, keywords: &[Keyword]) -> Result<(), CodegenError>
-    ensures { Emits result (keyword_checks (keyword_emissions (keyword_trees expr_tree keywords.now))) em.old em.new }
+    ensures { Emits result (keyword_checks
+        (keyword_emissions (keyword_trees expr_tree keywords.now))) em.old em.new }
 {
     for keyword in keywords {
         check_keyword(em, keyword)?;
@@ -67,7 +68,9 @@ fn check_name(em: &mut Emitter, name: &Text) -> Result<(), CodegenError>
 /// # Errors
 /// OutOfMemory alone.
 pub fn load_names(em: &mut Emitter, keywords: &[Keyword]) -> Result<(), CodegenError>
-    ensures { Emits result (emit_constant Instruction.LoadConst (tuple (names_in (keyword_emissions (keyword_trees expr_tree keywords.now))))) em.old em.new }
+    ensures { Emits result (emit_constant Instruction.LoadConst
+        (tuple (names_in (keyword_emissions (keyword_trees expr_tree keywords.now))))) em.old
+        em.new }
 {
     match name_tuple(em.alloc(), keywords) {
         Ok(names) => em.load_const(names),
@@ -78,7 +81,8 @@ pub fn load_names(em: &mut Emitter, keywords: &[Keyword]) -> Result<(), CodegenE
 /// The tuple of the names of keywords.
 #[tactic(auto, using(py_bytecode::proofs::View::views))]
 fn name_tuple(alloc: Global, keywords: &[Keyword]) -> Result<ConstantData, AllocError>
-    ensures { IfOk result (λ c. constant c ≡ tuple (names_in (keyword_emissions (keyword_trees expr_tree keywords.now)))) }
+    ensures { IfOk result (λ c. constant c
+        ≡ tuple (names_in (keyword_emissions (keyword_trees expr_tree keywords.now)))) }
 {
     let mut names = Vec::new(alloc);
     for keyword in keywords {
@@ -93,7 +97,8 @@ fn name_tuple(alloc: Global, keywords: &[Keyword]) -> Result<ConstantData, Alloc
 /// How many named values stand together after a keyword, where so many stand before it.
 pub fn run_after(keyword: &Keyword, run: usize) -> usize
     requires { run < 0xffff_ffff_ffff_ffff }
-    ensures { result ≡ run_behind run (keyword_emission keyword.now.arg (expr_tree keyword.now.value)) }
+    ensures { result ≡ run_length_after run
+        (keyword_emission keyword.now.arg (expr_tree keyword.now.value)) }
 {
     if keyword.arg.is_none() { 0 } else { run + 1 }
 }

@@ -19,7 +19,7 @@ use py_tree::{Expr, SourceLocation};
 /// The most targets that stand on one side of a star.
 const MOST_ASIDE: usize = 255;
 
-/// Emits what unpacks a value to as many targets, or with a star to those around it and a list of the others.
+/// Emits what unpacks a value to as many targets, or with a star to those that enclose it and a list of the others.
 ///
 /// # Errors
 /// TooManyStarUnpack where more than 255 targets stand on one side of a star, MultipleStarArgs where several are starred, or
@@ -29,7 +29,8 @@ pub fn emit_unpack(
     location: SourceLocation,
     elts: &[Expr],
 ) -> Result<(), CodegenError>
-    ensures { Emits result (unpack_emission location (all_stores (exprs expr_tree elts.now))) em.old em.new }
+    ensures { Emits result (unpack_emission location (all_stores (exprs expr_tree elts.now))) em.old
+        em.new }
 {
     let starred = star_count(elts);
     if starred == 0 {
@@ -47,7 +48,8 @@ fn emit_starred_unpack(
 ) -> Result<(), CodegenError>
     requires some { starred ≢ 0 }
     requires counted { starred ≡ stars (all_stores (exprs expr_tree elts.now)) }
-    ensures { Emits result (unpack_starred location (all_stores (exprs expr_tree elts.now))) em.old em.new }
+    ensures { Emits result (unpack_starred location (all_stores (exprs expr_tree elts.now))) em.old
+        em.new }
 {
     let before = before_star(elts);
     let after = elts.len() - before - 1;
@@ -104,7 +106,8 @@ pub fn refuse_lone_star(em: &mut Emitter) -> Result<(), CodegenError>
 /// Assign, which names the kind of the expression, or OutOfMemory for its name.
 #[tactic(auto, using(crate::proofs::Steps::step_steps))]
 pub fn refuse_store(em: &mut Emitter, target: &Expr) -> Result<(), CodegenError>
-    ensures { Emits result (refuse (CodegenErrorType.Assign (python_name (expr_tree target.now)))) em.old em.new }
+    ensures { Emits result (refuse (CodegenErrorType.Assign (python_name (expr_tree target.now))))
+        em.old em.new }
 {
     let name = em.text(target.python_name())?;
     refuse!(em, CodegenErrorType::Assign(name));
@@ -116,7 +119,8 @@ pub fn refuse_store(em: &mut Emitter, target: &Expr) -> Result<(), CodegenError>
 /// Delete, which names the kind of the expression, or OutOfMemory for its name.
 #[tactic(auto, using(crate::proofs::Steps::step_steps))]
 pub fn refuse_delete(em: &mut Emitter, target: &Expr) -> Result<(), CodegenError>
-    ensures { Emits result (refuse (CodegenErrorType.Delete (deletion_name (expr_tree target.now)))) em.old em.new }
+    ensures { Emits result (refuse (CodegenErrorType.Delete (deletion_name (expr_tree target.now))))
+        em.old em.new }
 {
     let name = em.text(deletion_name(target))?;
     refuse!(em, CodegenErrorType::Delete(name));

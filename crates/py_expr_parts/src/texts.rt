@@ -5,7 +5,7 @@ ghost use Rattle.py_bytecode.specs.View.{constant};
 ghost use Rattle.py_emission.specs.Texts.{texts_of};
 ghost use Rattle.py_emission_parts.specs.TableParts.{constant_of};
 ghost use Rattle.py_emission.specs.Emission.{emission};
-ghost use Rattle.py_emit.specs.States.{Emits, IsStarved, rest, state};
+ghost use Rattle.py_emit.specs.States.{Emits, IsOutOfMemory, rest, state};
 
 use py_base::{CodegenError, CodegenErrorType};
 use py_bytecode::ConstantData;
@@ -34,7 +34,7 @@ pub(crate) fn copied_constant(
 ) -> Result<ConstantData, CodegenError>
     ensures data { IfOk result (λ c. constant c ≡ constant_of (literal_of value.now)) }
     ensures same { OnOk result (em.new ≡ em.old) }
-    ensures err { IfErr result (λ e. IsStarved e (rest em.old).path) }
+    ensures err { IfErr result (λ e. IsOutOfMemory e (rest em.old).path) }
 {
     match constant_data(em.alloc(), value) {
         Ok(data) => Ok(data),
@@ -49,7 +49,7 @@ pub(crate) fn copied_constant(
 pub fn whole_text(em: &mut Emitter, parts: &[Expr]) -> Result<Option<Text>, CodegenError>
     ensures text { IfOk result (λ t. t ≡ texts_of (exprs expr_tree parts.now)) }
     ensures same { OnOk result (em.new ≡ em.old) }
-    ensures err { IfErr result (λ e. IsStarved e (rest em.old).path) }
+    ensures err { IfErr result (λ e. IsOutOfMemory e (rest em.old).path) }
 {
     match texts_of(em.alloc(), parts) {
         Ok(text) => Ok(text),

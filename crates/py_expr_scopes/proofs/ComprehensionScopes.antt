@@ -13,14 +13,14 @@ use Rattle.py_base.specs.declared.errors.CodegenErrorType.{CodegenErrorType}
 use Rattle.py_base.specs.declared.errors.CodegenErrorType.TheVariants as error
 use Rattle.py_emission_parts.specs.Children.{child, made_function}
 use Rattle.py_emission_parts.specs.Comprehensions.{ClauseEmissions, as_element, called_at_once, comprehension, comprehension_shape}
-use Rattle.py_emission_parts.specs.Refused.{retold}
-use Rattle.py_emission_parts.specs.Within.{comprehension_inside}
+use Rattle.py_emission_parts.specs.Refused.{rewritten}
+use Rattle.py_emission_parts.specs.NestedScopes.{comprehension_inside}
 use Rattle.py_emission_parts.specs.Emitting.{Done, Emission, Refused, State, ◌▸◌, initial_state, emit, emit_count, refuse}
 use Rattle.py_emission.specs.Emission.{clause_emissions, emission}
 use Rattle.py_emit.specs.States.{state}
 use Rattle.py_emit.specs.Steps.{IsOpen}
 use Rattle.py_emit.specs.declared.emitter.Emitter.{Emitter}
-use Rattle.py_emission_parts.specs.Running.{Action, ◌▹◌, code_head, on_done, on_sealed, retold_in, run}
+use Rattle.py_emission_parts.specs.Running.{Action, ◌▹◌, code_head, on_done, on_sealed, rewritten_in, run}
 use Rattle.py_emit.proofs.Joined.{joined_actions}
 use Rattle.py_expr_scopes.specs.Comprehensions.{added_element, comprehension_of, element_of, first_iterable, is_awaited, name_of, scope_of}
 use Rattle.py_expr_scopes.specs.declared.comprehensions.ComprehensionElement.{ComprehensionElement}
@@ -67,18 +67,20 @@ unfolding called_at_once child
 scope_alike awaited name [] v w s e = refl
 scope_alike true name (c ∷ cs) v w s e = refl
 scope_alike false name (c ∷ cs) v w s e =
-    let x = comprehension_inside s.around.context s.next in
-    ap (λ (f : Action). on_done (on_sealed x.level (code_head x (comprehension_shape name) s.location) s (f (initial_state x s.location (suc s.next))) (λ o. run (made_function 0 name o))) (run (c.iterable ▸ emit op.GetIter 0 ▸ emit_count op.CallFunctionPositional 1))) e
+    let x = comprehension_inside s.node_context.context s.next in
+    ap (λ (f : Action). on_done (on_sealed x.level (code_head x (comprehension_shape name) s.location) s
+    (f (initial_state x s.location (suc s.next))) (λ o. run (made_function 0 name o)))
+    (run (c.iterable ▸ emit op.GetIter 0 ▸ emit_count op.CallFunctionPositional 1))) e
 
--- an element, in which a star is told in other words
+-- an element, in which a star is reported in other words
 module _ (v : Emission) (s : State) where
   pub comprehension_scope_told_done : (r : State) → run v s ≡ Done r → run (as_element v) s ≡ Done r
   unfolding as_element
-  comprehension_scope_told_done r h = ap retold_in h
+  comprehension_scope_told_done r h = ap rewritten_in h
 
-  pub told_refused : (e : CodegenErrorType) (at : Option SourceLocation) → run v s ≡ Refused e at → run (as_element v) s ≡ Refused (retold e) at
+  pub told_refused : (e : CodegenErrorType) (at : Option SourceLocation) → run v s ≡ Refused e at → run (as_element v) s ≡ Refused (rewritten e) at
   unfolding as_element
-  told_refused e at h = ap retold_in h
+  told_refused e at h = ap rewritten_in h
 
 -- what is within all clauses begins none of their blocks
 pub turn_opens : (e : ComprehensionElement) (n : ℕ) (s r : State) (b : ℕ) → run (element_of e ▸ added_element e n) s ≡ Done r → IsOpen b s → IsOpen b r

@@ -13,7 +13,7 @@ use Rattle.py_emission_parts.specs.Running.{Action, begin, begins, on_done, run}
 use Rattle.py_emission.specs.Emission.{all_emissions, clause_emissions, emission_of_test}
 use Rattle.py_emit.specs.Steps.{IsOpen}
 use Rattle.py_emit.proofs.Joined.{joined_between, done_last, done_same, joined_grouped}
-use Rattle.py_expr_scopes.specs.Clauses.{AllOpen, AreApart, IsOpenClause, clause_of, clauses_by, closed_clauses, clause_end, iterator_of, clause_start, opened_clause, behind_start}
+use Rattle.py_expr_scopes.specs.Clauses.{AllOpen, AreApart, IsOpenClause, clause_of, clauses_by, closed_clauses, clause_end, iterator_of, clause_start, opened_clause, after_start}
 use Rattle.py_expr_scopes.specs.declared.clauses.ClauseBlocks.{ClauseBlocks}
 use Rattle.py_expr_scopes.proofs.OpenBlocks.{open_block_apart, begin_opens, block_opens, jump_opens, opens}
 
@@ -45,21 +45,21 @@ abbrev open_clause_turned : (start end : ℕ) → Action
 open_clause_turned start end s = on_done (run (jump op.Jump start) s) (begin end)
 
 -- what is within a clause stands between what opens it and what closes it
-clause_is : (iterator : Emission) (c : ClauseEmissions) (within : Emission) (s : State)
-    → run (clause iterator c within) s ≡ on_done (on_done (opened_clause iterator c s) (run within)) (open_clause_turned s.blocks (suc s.blocks))
+clause_is : (iterator : Emission) (c : ClauseEmissions) (nested : Emission) (s : State)
+    → run (clause iterator c nested) s ≡ on_done (on_done (opened_clause iterator c s) (run nested)) (open_clause_turned s.blocks (suc s.blocks))
 unfolding two_blocks
-clause_is iterator c within s = go (run iterator (with_block (with_block s)))
+clause_is iterator c nested s = go (run iterator (with_block (with_block s)))
   where
     n : ℕ
     n = s.blocks
 
     go : (o : Outcome) →
-        on_done o (λ t. on_done (run (jump op.ForIter (suc n) ▸ c.target ▸ conditions c.conditions n ▸ within ▸ jump op.Jump n) (begins n t)) (begin (suc n)))
-        ≡ on_done (on_done (on_done o (λ t. run (behind_start c n (suc n)) (begins n t))) (run within)) (open_clause_turned n (suc n))
+        on_done o (λ t. on_done (run (jump op.ForIter (suc n) ▸ c.target ▸ conditions c.conditions n ▸ nested ▸ jump op.Jump n) (begins n t)) (begin (suc n)))
+        ≡ on_done (on_done (on_done o (λ t. run (after_start c n (suc n)) (begins n t))) (run nested)) (open_clause_turned n (suc n))
     go (Done t) =
         let first = run (jump op.ForIter (suc n)) (begins n t) in
-        ap (λ x. on_done x (begin (suc n))) (last_of_four first (run c.target) (run (conditions c.conditions n)) (run within) (run (jump op.Jump n)))
-        ∙ joined_grouped (on_done (run (behind_start c n (suc n)) (begins n t)) (run within)) (run (jump op.Jump n)) (begin (suc n))
+        ap (λ x. on_done x (begin (suc n))) (last_of_four first (run c.target) (run (conditions c.conditions n)) (run nested) (run (jump op.Jump n)))
+        ∙ joined_grouped (on_done (run (after_start c n (suc n)) (begins n t)) (run nested)) (run (jump op.Jump n)) (begin (suc n))
     go TooWide = refl
     go (Refused x at) = refl
 
@@ -67,32 +67,32 @@ pub closed_push : (bs : List ClauseBlocks) (b : ClauseBlocks) (s : State) → cl
 closed_push [] b s = sym (done_last (clause_end b s))
 closed_push (x ∷ bs) b s = ap (λ o. on_done o (clause_end x)) (closed_push bs b s) ∙ joined_grouped (clause_end b s) (closed_clauses bs) (clause_end x)
 
-open_clause_first_is : (first : Bool) (c : ClauseEmissions) (cs : List ClauseEmissions) (within : Emission)
-    → clauses_by first (c ∷ cs) within ≡ clause (iterator_of first c.iterable) c (further_clauses cs within)
-open_clause_first_is true c cs within = refl
-open_clause_first_is false c cs within = refl
+open_clause_first_is : (first : Bool) (c : ClauseEmissions) (cs : List ClauseEmissions) (nested : Emission)
+    → clauses_by first (c ∷ cs) nested ≡ clause (iterator_of first c.iterable) c (further_clauses cs nested)
+open_clause_first_is true c cs nested = refl
+open_clause_first_is false c cs nested = refl
 
-module _ (first : Bool) (c : ClauseEmissions) (cs : List ClauseEmissions) (within : Emission) (bs : List ClauseBlocks) (s : State) where
+module _ (first : Bool) (c : ClauseEmissions) (cs : List ClauseEmissions) (nested : Emission) (bs : List ClauseBlocks) (s : State) where
   abbrev open_clause_inner : Action
-  open_clause_inner t = on_done (run (further_clauses cs within) t) (open_clause_turned s.blocks (suc s.blocks))
+  open_clause_inner t = on_done (run (further_clauses cs nested) t) (open_clause_turned s.blocks (suc s.blocks))
 
-  -- by what the opening of the first of them comes to
+  -- by what the opening of the first of them reaches
   pub opened_to : (o : Outcome) → opened_clause (iterator_of first c.iterable) c s ≡ o
-      → on_done (run (clauses_by first (c ∷ cs) within) s) (closed_clauses bs) ≡ on_done (on_done o open_clause_inner) (closed_clauses bs)
+      → on_done (run (clauses_by first (c ∷ cs) nested) s) (closed_clauses bs) ≡ on_done (on_done o open_clause_inner) (closed_clauses bs)
   opened_to o h =
-      ap (λ (f : Emission). on_done (run f s) (closed_clauses bs)) (open_clause_first_is first c cs within)
-      ∙ ap (λ x. on_done x (closed_clauses bs)) (clause_is (iterator_of first c.iterable) c (further_clauses cs within) s)
-      ∙ ap (λ x. on_done (on_done (on_done x (run (further_clauses cs within))) (open_clause_turned s.blocks (suc s.blocks))) (closed_clauses bs)) h
-      ∙ ap (λ x. on_done x (closed_clauses bs)) (joined_grouped o (run (further_clauses cs within)) (open_clause_turned s.blocks (suc s.blocks)))
+      ap (λ (f : Emission). on_done (run f s) (closed_clauses bs)) (open_clause_first_is first c cs nested)
+      ∙ ap (λ x. on_done x (closed_clauses bs)) (clause_is (iterator_of first c.iterable) c (further_clauses cs nested) s)
+      ∙ ap (λ x. on_done (on_done (on_done x (run (further_clauses cs nested))) (open_clause_turned s.blocks (suc s.blocks))) (closed_clauses bs)) h
+      ∙ ap (λ x. on_done x (closed_clauses bs)) (joined_grouped o (run (further_clauses cs nested)) (open_clause_turned s.blocks (suc s.blocks)))
 
   -- one clause more is open
   pub opened_more : (b : ClauseBlocks) (r : State) → opened_clause (iterator_of first c.iterable) c s ≡ Done r → b.start.0 ≡ s.blocks → b.end.0 ≡ suc s.blocks
-      → on_done (run (clauses_by first (c ∷ cs) within) s) (closed_clauses bs) ≡ on_done (run (clauses_by false cs within) r) (closed_clauses (bs ++ b ∷ []))
+      → on_done (run (clauses_by first (c ∷ cs) nested) s) (closed_clauses bs) ≡ on_done (run (clauses_by false cs nested) r) (closed_clauses (bs ++ b ∷ []))
   opened_more b r h m n =
       opened_to (Done r) h
-      ∙ joined_grouped (run (further_clauses cs within) r) (open_clause_turned s.blocks (suc s.blocks)) (closed_clauses bs)
-      ∙ (λ i. on_done (run (further_clauses cs within) r) (λ t. on_done (open_clause_turned (sym m i) (sym n i) t) (closed_clauses bs)))
-      ∙ (λ i. on_done (run (further_clauses cs within) r) (λ t. sym (closed_push bs b t) i))
+      ∙ joined_grouped (run (further_clauses cs nested) r) (open_clause_turned s.blocks (suc s.blocks)) (closed_clauses bs)
+      ∙ (λ i. on_done (run (further_clauses cs nested) r) (λ t. on_done (open_clause_turned (sym m i) (sym n i) t) (closed_clauses bs)))
+      ∙ (λ i. on_done (run (further_clauses cs nested) r) (λ t. sym (closed_push bs b t) i))
 
 -- the clause at a place
 pub clauses_at : (xs : List (ComprehensionOf Expr)) (i : ℕ) (d x : ComprehensionOf Expr) → x ≡ get_or xs i d → i < length xs
@@ -127,11 +127,12 @@ module _ (first : Bool) (x : ComprehensionOf Expr) where
   -- what opens a clause begins only blocks that it makes, and of these not the one after it
   pub end_opens : (start end : ℕ) (s r : State) (b : ℕ) → b ≢ start → clause_start iterator c start end s ≡ Done r → IsOpen b s → IsOpen b r
   end_opens start end s r b n e i =
-      let m = joined_between (run iterator s) (λ t. run (behind_start c start end) (begins start t)) r e in
-      opens (behind_start c start end) (begins start m.mid) r b m.second (begun_opens start m.mid b n (opens iterator s m.mid b m.first i))
+      let m = joined_between (run iterator s) (λ t. run (after_start c start end) (begins start t)) r e in
+      opens (after_start c start end) (begins start m.mid) r b m.second (begun_opens start m.mid b n (opens iterator s m.mid b m.first i))
 
   pub clause_opens : (s r : State) (b : ℕ) → opened_clause iterator c s ≡ Done r → IsOpen b s → IsOpen b r
-  clause_opens s r b e i = end_opens s.blocks (suc s.blocks) (with_block (with_block s)) r b (open_block_apart s b s.blocks i refl) e (block_opens (with_block s) (with_block (with_block s)) b refl (block_opens s (with_block s) b refl i))
+  clause_opens s r b e i = end_opens s.blocks (suc s.blocks) (with_block (with_block s)) r b (open_block_apart s b s.blocks i refl) e
+      (block_opens (with_block s) (with_block (with_block s)) b refl (block_opens s (with_block s) b refl i))
 
 -- a clause stays open where its last block does
 stays_open : (b : ClauseBlocks) (s r : State) → (IsOpen b.end.0 s → IsOpen b.end.0 r) → IsOpenClause b s → IsOpenClause b r

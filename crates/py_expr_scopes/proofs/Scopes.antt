@@ -14,33 +14,33 @@ use Rattle.py_scope.specs.declared.table_type.SymbolTableType.{SymbolTableType}
 use Rattle.py_bytecode.specs.Objects as const
 use Rattle.py_emission_parts.specs.Children.{DefaultEmissions, child, emission_of_defaults, enter_parameters, flags_of_defaults, function_scope, made_function}
 use Rattle.py_emission_parts.specs.Running.{Action, code_head, on_sealed, run}
-use Rattle.py_emission_parts.specs.Within.{Shape, lambda_inside}
+use Rattle.py_emission_parts.specs.NestedScopes.{Shape, lambda_inside}
 use Rattle.py_emission_parts.specs.Context.{Context, inside}
 use Rattle.py_emission_parts.specs.Emitting.{Done, Emission, Refused, State, ◌▸◌, add_constant, initial_state}
 use Rattle.py_emission_parts.specs.EmissionParts.{pass_scopes}
 use Rattle.py_emission_parts.specs.Sealed.{assembled_object}
 use Rattle.py_emission.specs.Emission.{lambda_value}
 use Rattle.py_emission.specs.Parameters.{function_shape, parameters}
-use Rattle.py_emit.specs.States.{IsStarved, IsTold, Rest, Same, nested_context, entered_rest, left_scope, left_rest, named_in, rest, state}
+use Rattle.py_emit.specs.States.{IsOutOfMemory, IsReported, Rest, Same, nested_context, entered_rest, left_scope, left_rest, named_in, rest, state}
 use Rattle.py_emit.specs.declared.context.Naming.{Naming}
 use Rattle.py_emit.specs.declared.emitter.Emitter.{Emitter}
 use Rattle.py_emit.specs.declared.scopes.OpenScope.{OpenScope}
 use Rattle.py_emit.proofs.Joined.{joined_actions, joined_refused_first, went}
-use Rattle.py_emit.proofs.Within.{child_goes, left_same, outer_is}
+use Rattle.py_emit.proofs.NestedScopes.{child_goes, left_same, outer_is}
 use Rattle.py_expr_scopes.specs.Functions.{Gives}
 
--- a scope within by another name of what stands around
+-- a nested scope by another name of the context
 pub child_as : (v w : Context → (number : ℕ) → Context) (h : Shape) (body : Emission) (k : Object → Emission) (s : State)
-    → v s.around.context s.next ≡ w s.around.context s.next → run (child v h body k) s ≡ run (child w h body k) s
+    → v s.node_context.context s.next ≡ w s.node_context.context s.next → run (child v h body k) s ≡ run (child w h body k) s
 unfolding child
 child_as v w h body k s e = ap (λ (c : Context). on_sealed c.level (code_head c h s.location) s (run body (initial_state c s.location (suc s.next))) (λ o. run (k o))) e
 
 -- what is refused within is refused
-pub child_refused : (within : Context → (number : ℕ) → Context) (h : Shape) (body : Emission) (k : Object → Emission) (s : State) (e : CodegenErrorType) (at : Option SourceLocation)
-    → run body (initial_state (within s.around.context s.next) s.location (suc s.next)) ≡ Refused e at → run (child within h body k) s ≡ Refused e at
+pub child_refused : (nested : Context → (number : ℕ) → Context) (h : Shape) (body : Emission) (k : Object → Emission) (s : State) (e : CodegenErrorType) (at : Option SourceLocation)
+    → run body (initial_state (nested s.node_context.context s.next) s.location (suc s.next)) ≡ Refused e at → run (child nested h body k) s ≡ Refused e at
 unfolding child
-child_refused within h body k s e at r =
-    let c = within s.around.context s.next in
+child_refused nested h body k s e at r =
+    let c = nested s.node_context.context s.next in
     ap (λ o. on_sealed c.level (code_head c h s.location) s o (λ x. run (k x))) r
 
 -- the parameters and the first constant of a function come first
@@ -60,32 +60,39 @@ module _ (xs : List (List ℕ)) (v : Emission) (s : State) where
   pub body_refused : (mid : State) (e : CodegenErrorType) (at : Option SourceLocation) → run opening s ≡ Done mid → run v mid ≡ Refused e at → run (function_scope xs v) s ≡ Refused e at
   body_refused mid e at a b = scope_is ∙ went _ _ _ a ∙ b
 
-module _ (typ : SymbolTableType) (n : Naming) (h : Shape) (first entry : Emitter) (begins : state entry ≡ initial_state (nested_context typ n (state first)) (state first).location (suc (state first).next)) where
+module _ (typ : SymbolTableType) (n : Naming) (h : Shape) (first entry : Emitter)
+    (begins : state entry ≡ initial_state (nested_context typ n (state first)) (state first).location (suc (state first).next)) where
   abbrev pub inner_child : Emission → (Object → Emission) → Emission
   inner_child body k = child (λ c m. inside typ m (named_in n c)) h body k
 
   -- it is refused
   pub refused_gives : (body : Emission) (r : Result CodeObject (LocatedError CodegenErrorType)) (x : LocatedError CodegenErrorType) (s : State) → r ≡ Err x
       → (x.error ≢ error.OutOfMemory → run body (state entry) ≡ Refused x.error x.location) → Gives r s (λ k. run (inner_child body k) (state first))
-  refused_gives body r x s e why = subst (λ y. Gives y s (λ k. run (inner_child body k) (state first))) (sym e) (λ k ne. child_refused (λ c m. inside typ m (named_in n c)) h body k (state first) x.error x.location (ap (run body) (sym begins) ∙ why ne))
+  refused_gives body r x s e why = subst (λ y. Gives y s (λ k. run (inner_child body k) (state first))) (sym e)
+      (λ k ne. child_refused (λ c m. inside typ m (named_in n c)) h body k (state first) x.error x.location
+      (ap (run body) (sym begins) ∙ why ne))
 
-  module _ (last after : Emitter) (into : rest entry ≡ entered_rest n first.scope (code_head (nested_context typ n (state first)) h (state first).location) (rest first)) (same : rest last ≡ rest entry) where
+  module _ (last after : Emitter)
+      (into : rest entry ≡ entered_rest n first.scope (code_head (nested_context typ n (state first)) h (state first).location)
+      (rest first)) (same : rest last ≡ rest entry) where
     -- it is left, and what follows goes on with its code object
     pub left_gives : (body : Emission) (r : Result CodeObject (LocatedError CodegenErrorType)) → run body (state entry) ≡ Done (state last)
         → IfOk r (λ code. object code ≡ assembled_object (rest last).opts.optimize (rest last).head (state last))
         → OnOk r ((outer : List OpenScope) (o : OpenScope) → (rest last).outer ≡ outer ++ o ∷ [] → state after ≡ left_scope (rest last) o (state last))
-        → IfErr r (λ e. IsStarved e (rest last).path) → Gives r (state after) (λ k. run (inner_child body k) (state first))
-    left_gives body (Ok code) done is goes err = λ k. child_goes typ n h first entry last into same body k code (state after) begins done is (goes (rest first).outer first.scope (outer_is typ n h first entry last into same))
+        → IfErr r (λ e. IsOutOfMemory e (rest last).path) → Gives r (state after) (λ k. run (inner_child body k) (state first))
+    left_gives body (Ok code) done is goes err = λ k.
+        child_goes typ n h first entry last into same body k code (state after) begins done is
+        (goes (rest first).outer first.scope (outer_is typ n h first entry last into same))
     left_gives body (Err e) done is goes err = λ k ne. absurd (ne err.error_is)
 
     -- an error names the path of the enclosing scope
-    pub same_path : (r : Result CodeObject (LocatedError CodegenErrorType)) (x : LocatedError CodegenErrorType) (s : Rest) → r ≡ Err x → IsTold x (rest last).path → Same r s (rest first)
+    pub same_path : (r : Result CodeObject (LocatedError CodegenErrorType)) (x : LocatedError CodegenErrorType) (s : Rest) → r ≡ Err x → IsReported x (rest last).path → Same r s (rest first)
     same_path r x s e why = subst (λ y. Same y s (rest first)) (sym e) (why.0 ∙ ap (λ (z : Rest). z.path) (same ∙ into), why.1)
 
     -- the enclosing scope goes on as it was
     pub left_keeps : (r : Result CodeObject (LocatedError CodegenErrorType))
         → OnOk r ((outer : List OpenScope) (o : OpenScope) → (rest last).outer ≡ outer ++ o ∷ [] → rest after ≡ left_rest outer o (rest last))
-        → IfErr r (λ e. IsStarved e (rest last).path) → Same r (rest after) (rest first)
+        → IfErr r (λ e. IsOutOfMemory e (rest last).path) → Same r (rest after) (rest first)
     left_keeps (Ok code) goes err = left_same typ n h first entry last into same (rest after) (goes (rest first).outer first.scope (outer_is typ n h first entry last into same))
     left_keeps (Err e) goes err = (err.path_is ∙ ap (λ (x : Rest). x.path) (same ∙ into), λ o. err.location_is)
 
@@ -97,11 +104,15 @@ module _ (p : tree.Arguments) (v : Emission) where
   abbrev pub lambda_scope : (name : List ℕ) → (Object → Emission) → Emission
   lambda_scope name k = child lambda_inside (function_shape p name) (function_scope (parameters p) v) k
 
-  pub lambda_done : (d : DefaultEmissions) (flags : ℕ) (s s1 s2 : State) (o : Object) → flags_of_defaults d ≡ flags → run (emission_of_defaults d) s ≡ Done s1 → ((k : Object → Emission) → run (lambda_scope (codes "<lambda>") k) s1 ≡ run (k o) s2) → run (lambda_value p d v) s ≡ run (lambda_made flags o) s2
+  pub lambda_done : (d : DefaultEmissions) (flags : ℕ) (s s1 s2 : State) (o : Object) → flags_of_defaults d ≡ flags
+      → run (emission_of_defaults d) s ≡ Done s1 → ((k : Object → Emission) → run (lambda_scope (codes "<lambda>") k) s1 ≡ run (k o) s2)
+      → run (lambda_value p d v) s ≡ run (lambda_made flags o) s2
   unfolding lambda_value
   lambda_done d flags s s1 s2 o e a b = went _ _ s1 a ∙ b (lambda_made (flags_of_defaults d)) ∙ ap (λ n. run (lambda_made n o) s2) e
 
-  pub scope_refuses : (d : DefaultEmissions) (s s1 : State) (e : CodegenErrorType) (at : Option SourceLocation) → run (emission_of_defaults d) s ≡ Done s1 → ((k : Object → Emission) → run (lambda_scope (codes "<lambda>") k) s1 ≡ Refused e at) → run (lambda_value p d v) s ≡ Refused e at
+  pub scope_refuses : (d : DefaultEmissions) (s s1 : State) (e : CodegenErrorType) (at : Option SourceLocation)
+      → run (emission_of_defaults d) s ≡ Done s1 → ((k : Object → Emission) → run (lambda_scope (codes "<lambda>") k) s1 ≡ Refused e at)
+      → run (lambda_value p d v) s ≡ Refused e at
   unfolding lambda_value
   scope_refuses d s s1 e at a b = went _ _ s1 a ∙ b (lambda_made (flags_of_defaults d))
 
@@ -111,5 +122,6 @@ module _ (p : tree.Arguments) (v : Emission) where
   defaults_refuse d s e at a = joined_refused_first _ _ e at a
 
   -- by another name and in another emitter
-  pub nested_scope_as : (name : List ℕ) (x y : Emitter) (k : Object → Emission) → name ≡ codes "<lambda>" → y ≡ x → run (lambda_scope (codes "<lambda>") k) (state x) ≡ run (lambda_scope name k) (state y)
+  pub nested_scope_as : (name : List ℕ) (x y : Emitter) (k : Object → Emission) → name ≡ codes "<lambda>" → y ≡ x
+      → run (lambda_scope (codes "<lambda>") k) (state x) ≡ run (lambda_scope name k) (state y)
   nested_scope_as name x y k e f = ap (λ z. run (lambda_scope z k) (state x)) (sym e) ∙ ap (λ (z : Emitter). run (lambda_scope name k) (state z)) (sym f)

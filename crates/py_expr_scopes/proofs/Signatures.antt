@@ -15,7 +15,7 @@ use Rattle.py_tree.specs.declared.expressions.ArgumentsOf.{ArgumentsOf}
 use Rattle.py_bytecode.specs.declared.instruction.Instruction.TheVariants as op
 use Rattle.py_bytecode.specs.Objects as const
 use Rattle.py_emission_parts.specs.Children.{enter_parameters, some_emitted}
-use Rattle.py_emission_parts.specs.Within.{Shape, some_flag}
+use Rattle.py_emission_parts.specs.NestedScopes.{Shape, some_flag}
 use Rattle.py_emission_parts.specs.Emitting.{Emission, State, ◌▸◌, emit_constant, emit_count}
 use Rattle.py_emission_parts.specs.Running.{Action, ◌▹◌, run}
 use Rattle.py_emission_parts.specs.EmissionParts.{counted_build, in_turn, map_of, name_values}
@@ -30,7 +30,11 @@ enter_append [] ys = refl
 enter_append (x ∷ xs) ys = ap (λ (v : Action). run (parameter x) ▹ v) (enter_append xs ys) ∙ sym (joined_actions (parameter x) (enter_parameters xs) (enter_parameters ys))
 
 pub parameters_are : (p : ArgumentsOf Expr)
-    → run (enter_parameters (parameters (arguments expr_tree p))) ≡ run (enter_parameters (arg_names (args expr_tree p.posonlyargs)) ▸ enter_parameters (arg_names (args expr_tree p.args)) ▸ enter_parameters (names_given false (args expr_tree p.kwonlyargs)) ▸ enter_parameters (names_given true (args expr_tree p.kwonlyargs)) ▸ enter_parameters (opt_arg_names (opt_arg expr_tree p.vararg)) ▸ enter_parameters (opt_arg_names (opt_arg expr_tree p.kwarg)))
+    → run (enter_parameters (parameters (arguments expr_tree p)))
+    ≡ run (enter_parameters (arg_names (args expr_tree p.posonlyargs)) ▸ enter_parameters (arg_names (args expr_tree p.args))
+    ▸ enter_parameters (names_given false (args expr_tree p.kwonlyargs))
+    ▸ enter_parameters (names_given true (args expr_tree p.kwonlyargs)) ▸ enter_parameters (opt_arg_names (opt_arg expr_tree p.vararg))
+    ▸ enter_parameters (opt_arg_names (opt_arg expr_tree p.kwarg)))
 parameters_are p =
     let a = arg_names (args expr_tree p.posonlyargs) in
     let b = arg_names (args expr_tree p.args) in
@@ -45,7 +49,11 @@ parameters_are p =
     ∙ ap (λ (v : Action). run (enter_parameters d) ▹ v) (enter_append e f))))
 
 pub parameters_go : (p : ArgumentsOf Expr) (s : State)
-    → run (enter_parameters (parameters (arguments expr_tree p))) s ≡ run (enter_parameters (arg_names (args expr_tree p.posonlyargs)) ▸ enter_parameters (arg_names (args expr_tree p.args)) ▸ enter_parameters (names_given false (args expr_tree p.kwonlyargs)) ▸ enter_parameters (names_given true (args expr_tree p.kwonlyargs)) ▸ enter_parameters (opt_arg_names (opt_arg expr_tree p.vararg)) ▸ enter_parameters (opt_arg_names (opt_arg expr_tree p.kwarg))) s
+    → run (enter_parameters (parameters (arguments expr_tree p))) s
+    ≡ run (enter_parameters (arg_names (args expr_tree p.posonlyargs)) ▸ enter_parameters (arg_names (args expr_tree p.args))
+    ▸ enter_parameters (names_given false (args expr_tree p.kwonlyargs))
+    ▸ enter_parameters (names_given true (args expr_tree p.kwonlyargs)) ▸ enter_parameters (opt_arg_names (opt_arg expr_tree p.vararg))
+    ▸ enter_parameters (opt_arg_names (opt_arg expr_tree p.kwarg))) s
 parameters_go p s = ap (λ (f : Action). f s) (parameters_are p)
 
 given_next : (given : Bool) (a : ArgOf Expr) (default : tree.OptExpr) (rest : tree.Args)
@@ -64,7 +72,9 @@ parameter_at xs i d x is lt =
     ∙ ap (λ (y : ArgWithDefaultOf Expr). parameter y.def.arg ▸ enter_parameters (arg_names (args expr_tree (drop (i + 1) xs)))) (sym is)
 
 pub given_at : (given : Bool) (xs : List (ArgWithDefaultOf Expr)) (i : ℕ) (d x : ArgWithDefaultOf Expr) → x ≡ get_or xs i d → i < length xs
-    → run (enter_parameters (names_given given (args expr_tree (drop i xs)))) ≡ run (parameter_given given x.def.arg (opt_box expr_tree x.default) ▸ enter_parameters (names_given given (args expr_tree (drop (i + 1) xs))))
+    → run (enter_parameters (names_given given (args expr_tree (drop i xs))))
+    ≡ run (parameter_given given x.def.arg (opt_box expr_tree x.default)
+    ▸ enter_parameters (names_given given (args expr_tree (drop (i + 1) xs))))
 given_at given xs i d x is lt =
     ap (λ ys. run (enter_parameters (names_given given (args expr_tree ys)))) (drop-cons xs i d lt)
     ∙ ap (λ j. run (enter_parameters (names_given given (args expr_tree (get_or xs i d ∷ drop j xs))))) (suc_is_plus_one i)
@@ -110,10 +120,12 @@ module _ (p : ArgumentsOf Expr) where
   signature_named = default_values true (args expr_tree p.kwonlyargs)
 
   signature_both : posonly ++ signature_others ≡ (default_emissions (arguments expr_tree p)).positional
-  signature_both = ap (λ vs. vs ++ signature_others) (positional_are (args expr_tree p.posonlyargs)) ∙ ap (λ vs. positional_emissions (args expr_tree p.posonlyargs) ++ vs) (positional_are (args expr_tree p.args))
+  signature_both = ap (λ vs. vs ++ signature_others) (positional_are (args expr_tree p.posonlyargs))
+      ∙ ap (λ vs. positional_emissions (args expr_tree p.posonlyargs) ++ vs) (positional_are (args expr_tree p.args))
 
   -- the tuple of the defaults of positional parameters
-  positional_run : run (some_emitted (counted_build op.BuildTuple) (default_emissions (arguments expr_tree p)).positional) ≡ run (in_turn posonly ▸ in_turn signature_others ▸ closed_by op.BuildTuple (length posonly + length signature_others))
+  positional_run : run (some_emitted (counted_build op.BuildTuple) (default_emissions (arguments expr_tree p)).positional)
+      ≡ run (in_turn posonly ▸ in_turn signature_others ▸ closed_by op.BuildTuple (length posonly + length signature_others))
   positional_run =
       ap (λ vs. run (some_emitted (counted_build op.BuildTuple) vs)) (sym signature_both)
       ∙ some_built (posonly ++ signature_others)
@@ -122,7 +134,8 @@ module _ (p : ArgumentsOf Expr) where
       ∙ ap (λ n. run (in_turn posonly ▸ in_turn signature_others ▸ closed_by op.BuildTuple n)) (length-append posonly signature_others)
 
   pub positional_goes : (s : State)
-      → run (some_emitted (counted_build op.BuildTuple) (default_emissions (arguments expr_tree p)).positional) s ≡ run (in_turn posonly ▸ in_turn signature_others ▸ closed_by op.BuildTuple (length posonly + length signature_others)) s
+      → run (some_emitted (counted_build op.BuildTuple) (default_emissions (arguments expr_tree p)).positional) s
+      ≡ run (in_turn posonly ▸ in_turn signature_others ▸ closed_by op.BuildTuple (length posonly + length signature_others)) s
   positional_goes s = ap (λ (f : Action). f s) positional_run
 
   pub positional_any : (any : Bool) → any ≡ is_some (length posonly + length signature_others) → some_flag 0x08 (default_emissions (arguments expr_tree p)).positional ≡ flag_if 0x08 any
@@ -154,7 +167,8 @@ pub shape_is : (p : ArgumentsOf Expr) (s : Shape) → s.flags ≡ 0x21 + (flag_i
     → s.posonlyarg_count ≡ length p.posonlyargs → s.arg_count ≡ length p.posonlyargs + length p.args → s.kwonlyarg_count ≡ length p.kwonlyargs
     → s ≡ function_shape (arguments expr_tree p) s.obj_name
 shape_is p s f g h k = λ i. record {
-  flags = (f ∙ ap (λ n. 0x21 + (n + flag_if 0x10 (option.is_some p.kwarg))) (sym (taken_flag 0x08 p.vararg)) ∙ ap (λ n. 0x21 + (some_flag 0x08 (opt_arg_names (opt_arg expr_tree p.vararg)) + n)) (sym (taken_flag 0x10 p.kwarg))) i;
+  flags = (f ∙ ap (λ n. 0x21 + (n + flag_if 0x10 (option.is_some p.kwarg))) (sym (taken_flag 0x08 p.vararg))
+      ∙ ap (λ n. 0x21 + (some_flag 0x08 (opt_arg_names (opt_arg expr_tree p.vararg)) + n)) (sym (taken_flag 0x10 p.kwarg))) i;
   posonlyarg_count = (g ∙ sym (many_names p.posonlyargs)) i;
   arg_count = (h ∙ ap (λ n. n + length p.args) (sym (many_names p.posonlyargs)) ∙ ap (λ n. length (arg_names (args expr_tree p.posonlyargs)) + n) (sym (many_names p.args))) i;
   kwonlyarg_count = (k ∙ sym (many_names p.kwonlyargs)) i;

@@ -24,11 +24,11 @@ iterator_of true v = handed_iterator
 iterator_of false v = v ▸ emit op.GetIter 0
 
 -- what stands before what is within a clause, and what after it
-abbrev pub behind_start : ClauseEmissions → (start end : ℕ) → Emission
-behind_start c start end = jump op.ForIter end ▸ c.target ▸ conditions c.conditions start
+abbrev pub after_start : ClauseEmissions → (start end : ℕ) → Emission
+after_start c start end = jump op.ForIter end ▸ c.target ▸ conditions c.conditions start
 
 abbrev pub clause_start : (iterator : Emission) → ClauseEmissions → (start end : ℕ) → Action
-clause_start iterator c start end = run iterator ▹ begin start ▹ run (behind_start c start end)
+clause_start iterator c start end = run iterator ▹ begin start ▹ run (after_start c start end)
 
 abbrev pub opened_clause : (iterator : Emission) → ClauseEmissions → Action
 opened_clause iterator c s = clause_start iterator c s.blocks (suc s.blocks) (with_block (with_block s))
@@ -42,17 +42,17 @@ closed_clauses [] s = Done s
 closed_clauses (b ∷ bs) s = (closed_clauses bs ▹ clause_end b) s
 
 -- clauses, the first of which is the first of all or not
-abbrev pub clauses_by : (first : Bool) → List ClauseEmissions → (within : Emission) → Emission
+abbrev pub clauses_by : (first : Bool) → List ClauseEmissions → (nested : Emission) → Emission
 clauses_by true = clauses
 clauses_by false = further_clauses
 
 -- from one state to another the clauses are opened, which these blocks close
 pub record AreOpened (cs : List ClauseEmissions) (s r : State) (bs : List ClauseBlocks) : Type 0 where
-  pub goes : (within : Emission) → run (clauses cs within) s ≡ (run within ▹ closed_clauses bs) r
+  pub goes : (nested : Emission) → run (clauses cs nested) s ≡ (run nested ▹ closed_clauses bs) r
 
 -- the clauses are refused whatever stands within
 pub record AreRefused (e : LocatedError CodegenErrorType) (cs : List ClauseEmissions) (s : State) : Type 0 where
-  pub goes : (within : Emission) → e.error ≢ error.OutOfMemory → run (clauses cs within) s ≡ Refused e.error e.location
+  pub goes : (nested : Emission) → e.error ≢ error.OutOfMemory → run (clauses cs nested) s ≡ Refused e.error e.location
 
 -- a clause that is open has made its blocks, and the one after it has not begun
 pub record IsOpenClause (b : ClauseBlocks) (s : State) : Type 0 where

@@ -1,4 +1,4 @@
--- What is emitted of the parameters of functions and their defaults, and what a nested scope comes to.
+-- What is emitted of the parameters of functions and their defaults, and what a nested scope reaches.
 use Rattle.std.specs.Prelude.{◌≡◌, ◌≢◌, ℕ, zero, suc, List, [], ◌∷◌, Bool, true, false, Result, Ok, Err}
 use Rattle.py_base.specs.declared.location.LocatedError.{LocatedError}
 use Rattle.py_tree.specs.Tree as tree

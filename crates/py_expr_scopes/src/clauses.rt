@@ -1,6 +1,6 @@
 //! The blocks of the clauses of a comprehension, and what closes the clauses.
 ghost use Rattle.std.specs.Prelude.{◌≡◌, ◌++◌, ◌∷◌, [], IfErr, OnOk};
-ghost use Rattle.py_emit.specs.States.{Does, IsStarved, rest, state};
+ghost use Rattle.py_emit.specs.States.{Does, IsOutOfMemory, rest, state};
 ghost use Rattle.py_expr_scopes.specs.Clauses.{AllOpen, IsOpenClause, closed_clauses, clause_end};
 
 use py_base::{CodegenError, CodegenErrorType};
@@ -29,7 +29,7 @@ pub fn keep_blocks(
 ) -> Result<(), CodegenError>
     ensures kept { OnOk result (blocks.new ≡ blocks.old ++ next ∷ []) }
     ensures same { OnOk result (em.new ≡ em.old) }
-    ensures err { IfErr result (λ e. IsStarved e (rest em.old).path) }
+    ensures err { IfErr result (λ e. IsOutOfMemory e (rest em.old).path) }
 {
     match blocks.push(next) {
         Ok(()) => Ok(()),

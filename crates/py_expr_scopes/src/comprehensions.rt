@@ -5,10 +5,10 @@ ghost use Rattle.py_bytecode.specs.View.{object};
 ghost use Rattle.py_emission_parts.specs.Children.{made_function};
 ghost use Rattle.py_emission_parts.specs.Running.{code_head};
 ghost use Rattle.py_emission_parts.specs.Comprehensions.{comprehension_shape};
-ghost use Rattle.py_emission_parts.specs.Refused.{retold};
+ghost use Rattle.py_emission_parts.specs.Refused.{rewritten};
 ghost use Rattle.py_emission_parts.specs.Emitting.{◌▸◌, initial_state, emit as emitting, generator_mark};
 ghost use Rattle.py_emission.specs.Awaits.{some_async};
-ghost use Rattle.py_emit.specs.States.{Emits, IsStarved, nested_context, entered_rest, rest, state};
+ghost use Rattle.py_emit.specs.States.{Emits, IsOutOfMemory, nested_context, entered_rest, rest, state};
 ghost use Rattle.py_expr_scopes.specs.Comprehensions.{added_element, collection, final_return, is_awaited, name_of};
 
 use crate::awaits::contains_await;
@@ -89,9 +89,14 @@ pub fn scope_name(element: &ComprehensionElement<'_>) -> &'static str
 /// # Errors
 /// OutOfMemory alone.
 pub fn enter_comprehension(em: &mut Emitter, name: Text) -> Result<(), CodegenError>
-    ensures state { OnOk result (state em.new ≡ initial_state (nested_context SymbolTableType.Comprehension Naming.AsAround (state em.old)) (state em.old).location (suc (state em.old).next)) }
-    ensures rest { OnOk result (rest em.new ≡ entered_rest Naming.AsAround em.old.scope (code_head (nested_context SymbolTableType.Comprehension Naming.AsAround (state em.old)) (comprehension_shape name) (state em.old).location) (rest em.old)) }
-    ensures err { IfErr result (λ e. IsStarved e (rest em.old).path) }
+    ensures state { OnOk result (state em.new
+        ≡ initial_state (nested_context SymbolTableType.Comprehension Naming.AsEnclosing
+        (state em.old)) (state em.old).location (suc (state em.old).next)) }
+    ensures rest { OnOk result (rest em.new
+        ≡ entered_rest Naming.AsEnclosing em.old.scope
+        (code_head (nested_context SymbolTableType.Comprehension Naming.AsEnclosing (state em.old))
+        (comprehension_shape name) (state em.old).location) (rest em.old)) }
+    ensures err { IfErr result (λ e. IsOutOfMemory e (rest em.old).path) }
 {
     let head = ScopeHead {
         flags: CodeFlags::from_bits_retain(0x21),
@@ -100,7 +105,7 @@ pub fn enter_comprehension(em: &mut Emitter, name: Text) -> Result<(), CodegenEr
         kwonlyarg_count: 0,
         obj_name: name,
     };
-    em.open_scope(head, SymbolTableType::Comprehension, Naming::AsAround)
+    em.open_scope(head, SymbolTableType::Comprehension, Naming::AsEnclosing)
 }
 
 /// Emits the empty collection, where there is one.
@@ -140,12 +145,15 @@ pub fn finish_collection(
     }
 }
 
-/// The error, in which a star is told in other words; OutOfMemory where there is no memory for them.
-pub fn retell(alloc: Global, error: CodegenError) -> CodegenError
-    ensures error { result.error ≢ CodegenErrorType.OutOfMemory → result.error ≡ retold error.error }
-    ensures location { result.error ≢ CodegenErrorType.OutOfMemory → result.location ≡ error.location }
+/// The error, in which a star is reported in other words; OutOfMemory where there is no memory for them.
+pub fn rewrite_error(alloc: Global, error: CodegenError) -> CodegenError
+    ensures error { result.error ≢ CodegenErrorType.OutOfMemory
+        → result.error ≡ rewritten error.error }
+    ensures location { result.error ≢ CodegenErrorType.OutOfMemory
+        → result.location ≡ error.location }
     ensures path { result.source_path ≡ error.source_path }
-    ensures nowhere { (error.error ≡ CodegenErrorType.OutOfMemory → error.location ≡ None) → result.error ≡ CodegenErrorType.OutOfMemory → result.location ≡ None }
+    ensures nowhere { (error.error ≡ CodegenErrorType.OutOfMemory → error.location ≡ None)
+        → result.error ≡ CodegenErrorType.OutOfMemory → result.location ≡ None }
 {
     if !matches!(&error.error, CodegenErrorType::InvalidStarExpr) {
         return error;
@@ -198,7 +206,8 @@ fn append(em: &mut Emitter, instr: Instruction, depth: usize) -> Result<(), Code
 
 /// Emits what hands a value on, and forgets what comes back for it.
 fn hand_on(em: &mut Emitter) -> Result<(), CodegenError>
-    ensures { Emits result (generator_mark ▸ emitting Instruction.YieldValue 0 ▸ emitting Instruction.Pop 0) em.old em.new }
+    ensures { Emits result (generator_mark ▸ emitting Instruction.YieldValue 0
+        ▸ emitting Instruction.Pop 0) em.old em.new }
 {
     em.mark_generator();
     emit!(em, Instruction::YieldValue);

@@ -10,7 +10,7 @@ ghost use Rattle.py_emission_parts.specs.Running.{code_head, run};
 ghost use Rattle.py_emission_parts.specs.Emitting.{◌▸◌, add_constant, initial_state, emit_constant};
 ghost use Rattle.py_emission_parts.specs.EmissionParts.{pass_scopes};
 ghost use Rattle.py_emission.specs.Parameters.{function_shape, parameters};
-ghost use Rattle.py_emit.specs.States.{Emits, Goes, IsStarved, Same, nested_context, entered_rest, rest, state};
+ghost use Rattle.py_emit.specs.States.{Emits, Goes, IsOutOfMemory, Same, nested_context, entered_rest, rest, state};
 ghost use Rattle.py_expr_scopes.specs.Functions.{closed_by, default_name, flag_if, is_some};
 ghost use Rattle.py_bytecode.specs.Objects.{str};
 
@@ -42,7 +42,10 @@ pub fn make_lambda(
     defaults: Defaults,
     code: CodeObject,
 ) -> Result<(), CodegenError>
-    ensures { Emits result (pass_scopes (λ postponed. annotation_scopes postponed (arguments expr_tree params.now)) ▸ made_function (flag_if 0x08 defaults.positional + flag_if 0x04 defaults.keyword) (codes "<lambda>") (code_object code)) em.old em.new }
+    ensures { Emits result (pass_scopes
+        (λ postponed. annotation_scopes postponed (arguments expr_tree params.now))
+        ▸ made_function (flag_if 0x08 defaults.positional + flag_if 0x04 defaults.keyword)
+        (codes "<lambda>") (code_object code)) em.old em.new }
 {
     pass_annotations(em, params)?;
     let name = em.text("<lambda>")?;
@@ -59,9 +62,15 @@ pub fn enter_function(
     name: Text,
     naming: Naming,
 ) -> Result<(), CodegenError>
-    ensures state { OnOk result (state em.new ≡ initial_state (nested_context SymbolTableType.Function naming (state em.old)) (state em.old).location (suc (state em.old).next)) }
-    ensures rest { OnOk result (rest em.new ≡ entered_rest naming em.old.scope (code_head (nested_context SymbolTableType.Function naming (state em.old)) (function_shape (arguments expr_tree params.now) name) (state em.old).location) (rest em.old)) }
-    ensures err { IfErr result (λ e. IsStarved e (rest em.old).path) }
+    ensures state { OnOk result (state em.new
+        ≡ initial_state (nested_context SymbolTableType.Function naming (state em.old))
+        (state em.old).location (suc (state em.old).next)) }
+    ensures rest { OnOk result (rest em.new
+        ≡ entered_rest naming em.old.scope
+        (code_head (nested_context SymbolTableType.Function naming (state em.old))
+        (function_shape (arguments expr_tree params.now) name) (state em.old).location)
+        (rest em.old)) }
+    ensures err { IfErr result (λ e. IsOutOfMemory e (rest em.old).path) }
 {
     let head = function_head(em, params, name)?;
     em.open_scope(head, SymbolTableType::Function, naming)
@@ -74,7 +83,8 @@ pub fn enter_function(
 /// SyntaxError where a parameter is named `__debug__`, or OutOfMemory.
 #[tactic(auto, using(py_bytecode::proofs::View::views))]
 pub fn begin_function(em: &mut Emitter, params: &Arguments) -> Result<(), CodegenError>
-    ensures { Emits result (enter_parameters (parameters (arguments expr_tree params.now)) ▸ add_constant object.none) em.old em.new }
+    ensures { Emits result (enter_parameters (parameters (arguments expr_tree params.now))
+        ▸ add_constant object.none) em.old em.new }
 {
     enter_names(em, params)?;
     em.enter_constant(ConstantData::None)
@@ -86,7 +96,8 @@ pub fn begin_function(em: &mut Emitter, params: &Arguments) -> Result<(), Codege
 /// OutOfMemory alone.
 #[tactic(auto, unfolding(py_emit::specs::States::rest))]
 pub fn pass_annotations(em: &mut Emitter, params: &Arguments) -> Result<(), CodegenError>
-    ensures { Emits result (pass_scopes (λ postponed. annotation_scopes postponed (arguments expr_tree params.now))) em.old em.new }
+    ensures { Emits result (pass_scopes
+        (λ postponed. annotation_scopes postponed (arguments expr_tree params.now))) em.old em.new }
 {
     let postponed = em.context().future_annotations;
     let next = scopes_in_annotations(params, postponed, em.next_scope());
@@ -99,7 +110,9 @@ pub fn pass_annotations(em: &mut Emitter, params: &Arguments) -> Result<(), Code
 /// OutOfMemory alone.
 #[tactic(auto, unfolding(py_emission_parts::specs::Emitting::by_context, py_emission_parts::specs::Emitting::pass_over))]
 pub fn pass_counted(em: &mut Emitter, next: Option<usize>) -> Result<(), CodegenError>
-    ensures goes { (count : (postponed : Bool) → ℕ) → IsSum next ((state em.old).next + count (state em.old).around.context.postponed) → Goes result (state em.new) (run (pass_scopes count) (state em.old)) }
+    ensures goes { (count : (postponed : Bool) → ℕ)
+        → IsSum next ((state em.old).next + count (state em.old).node_context.context.postponed)
+        → Goes result (state em.new) (run (pass_scopes count) (state em.old)) }
     ensures same { Same result (rest em.new) (rest em.old) }
 {
     let Some(number) = next else {
@@ -111,7 +124,8 @@ pub fn pass_counted(em: &mut Emitter, next: Option<usize>) -> Result<(), Codegen
 
 /// What `MakeFunction` takes beside code and name.
 pub fn function_flags(defaults: Defaults, annotated: bool) -> MakeFunctionFlags
-    ensures { result.0 ≡ flag_if 0x08 defaults.positional + flag_if 0x04 defaults.keyword + flag_if 0x02 annotated }
+    ensures { result.0 ≡ flag_if 0x08 defaults.positional + flag_if 0x04 defaults.keyword
+        + flag_if 0x02 annotated }
 {
     let positional = if defaults.positional { 0x08 } else { 0 };
     let keyword = if defaults.keyword { 0x04 } else { 0 };

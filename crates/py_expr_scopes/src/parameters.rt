@@ -3,7 +3,7 @@ ghost use Rattle.std.specs.Prelude.{◌≡◌, ◌+◌, IfErr, IfOk, OnOk};
 ghost use Rattle.py_tree.specs.View.{args, arguments, expr_tree, opt_arg, opt_box};
 ghost use Rattle.py_emission_parts.specs.Children.{enter_parameters};
 ghost use Rattle.py_emission.specs.Parameters.{arg_names, function_shape, opt_arg_names, parameters};
-ghost use Rattle.py_emit.specs.States.{Emits, IsStarved, rest, shape_of};
+ghost use Rattle.py_emit.specs.States.{Emits, IsOutOfMemory, rest, shape_of};
 ghost use Rattle.py_expr_scopes.specs.Functions.{flag_if, names_given, parameter, parameter_given};
 
 use bitflags::Flags;
@@ -21,9 +21,10 @@ pub(crate) fn function_head(
     params: &Arguments,
     name: Text,
 ) -> Result<ScopeHead, CodegenError>
-    ensures shape { IfOk result (λ head. shape_of head ≡ function_shape (arguments expr_tree params.now) name) }
+    ensures shape { IfOk result (λ head.
+        shape_of head ≡ function_shape (arguments expr_tree params.now) name) }
     ensures same { OnOk result (em.new ≡ em.old) }
-    ensures err { IfErr result (λ e. IsStarved e (rest em.old).path) }
+    ensures err { IfErr result (λ e. IsOutOfMemory e (rest em.old).path) }
 {
     let posonly = params.posonlyargs.as_slice();
     let others = params.args.as_slice();
@@ -54,7 +55,8 @@ fn code_flags(vararg: bool, kwarg: bool) -> CodeFlags
 /// before those with one, and the two that take what is left over last.
 #[tactic(auto, using(crate::proofs::Signatures::parameters_go))]
 pub(crate) fn enter_names(em: &mut Emitter, params: &Arguments) -> Result<(), CodegenError>
-    ensures { Emits result (enter_parameters (parameters (arguments expr_tree params.now))) em.old em.new }
+    ensures { Emits result (enter_parameters (parameters (arguments expr_tree params.now))) em.old
+        em.new }
 {
     enter_all(em, params.posonlyargs.as_slice())?;
     enter_all(em, params.args.as_slice())?;
@@ -83,7 +85,8 @@ fn enter_all(em: &mut Emitter, items: &[ArgWithDefault]) -> Result<(), CodegenEr
 
 /// Enters the names of those parameters that have a default, or of those that have none.
 fn enter_given(em: &mut Emitter, items: &[ArgWithDefault], given: bool) -> Result<(), CodegenError>
-    ensures { Emits result (enter_parameters (names_given given (args expr_tree items.now))) em.old em.new }
+    ensures { Emits result (enter_parameters (names_given given (args expr_tree items.now))) em.old
+        em.new }
 {
     for item in items {
         enter_if_given(em, item, given)?;
@@ -93,7 +96,8 @@ fn enter_given(em: &mut Emitter, items: &[ArgWithDefault], given: bool) -> Resul
 
 /// Enters the name of a parameter, if it has a default, or if it has none.
 fn enter_if_given(em: &mut Emitter, item: &ArgWithDefault, given: bool) -> Result<(), CodegenError>
-    ensures { Emits result (parameter_given given item.now.def.arg (opt_box expr_tree item.now.default)) em.old em.new }
+    ensures { Emits result (parameter_given given item.now.def.arg
+        (opt_box expr_tree item.now.default)) em.old em.new }
 {
     match (&item.default, given) {
         (Some(_), true) | (None, false) => enter_one(em, &item.def),
@@ -103,7 +107,8 @@ fn enter_if_given(em: &mut Emitter, item: &ArgWithDefault, given: bool) -> Resul
 
 /// Enters the name of a parameter that may be missing.
 fn enter_optional(em: &mut Emitter, param: &Option<Box<Arg>>) -> Result<(), CodegenError>
-    ensures { Emits result (enter_parameters (opt_arg_names (opt_arg expr_tree param.now))) em.old em.new }
+    ensures { Emits result (enter_parameters (opt_arg_names (opt_arg expr_tree param.now))) em.old
+        em.new }
 {
     match param {
         Some(param) => enter_one(em, param),

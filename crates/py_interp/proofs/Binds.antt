@@ -4,10 +4,10 @@ use Rattle.py_bytecode.specs.Values.{World, Got, Fine, Raises, Stops, then_get}
 
 module _ {K : Type 0} where
   -- what follows the second follows both
-  pub assoc : {A B C : Type 0} (g : Got K A) (f : A → World K → Got K B) (h : B → World K → Got K C) → then_get (then_get g f) h ≡ then_get g (λ x w. then_get (f x w) h)
-  assoc (Fine x w) f h = refl
-  assoc (Raises e w) f h = refl
-  assoc (Stops es) f h = refl
+  pub then_get_assoc : {A B C : Type 0} (g : Got K A) (f : A → World K → Got K B) (h : B → World K → Got K C) → then_get (then_get g f) h ≡ then_get g (λ x w. then_get (f x w) h)
+  then_get_assoc (Fine x w) f h = refl
+  then_get_assoc (Raises e w) f h = refl
+  then_get_assoc (Stops es) f h = refl
 
   -- nothing follows
   pub then_fine : {A : Type 0} (g : Got K A) → then_get g Fine ≡ g

@@ -1,7 +1,9 @@
 -- How a statement ends, shortened, is how the interpreter of it ends.
 use Rattle.py_bytecode.specs.Objects as const
 use Rattle.std.proofs.Common.{◌≡◌, ℕ, zero, suc, [], ◌∷◌, length, Bool, true, false, Option, Some, None, refl, ap, ◌∙◌}
-use Rattle.py_bytecode.specs.Values.{raise_again, match_exception, enter_with, exit_with, Value, Constant, It, Operates, World, Got, Fine, Raises, Stops, for_one, for_two, for_none, truth_of, next_of, on_some, Leave, Breaks, Continues, Returns, Throws, Ended, Normal, Leaves, Halts, on_ended, then_do, use_it, effect, choose}
+use Rattle.py_bytecode.specs.Values.{raise_again, match_exception, enter_with, exit_with, Value, Constant, It, Operates, World, Got, Fine}
+use Rattle.py_bytecode.specs.Values.{Raises, Stops, for_one, for_two, for_none, truth_of, next_of, on_some, Leave, Breaks, Continues}
+use Rattle.py_bytecode.specs.Values.{Returns, Throws, Ended, Normal, Leaves, Halts, on_ended, then_do, use_it, effect, choose}
 use Rattle.py_control.specs.Form.{after_turn, turns, assign_then, rounds, for_run, in_hand, handle, try_run, typed_run, finally_run, exit_run, exit_leave, with_run, reraise_end}
 use Rattle.py_answers.specs.Told.{Known, short_returned, short_value}
 use Rattle.py_interp.specs.Shortened.{short_ended, short_got, short_leave, short_option, short_world}
@@ -53,7 +55,9 @@ module _ {K : Type 0} where
       → Shortens (λ x. x) t t1 → EndedEndsAs a a1 → EndedEndsAs b b1 → EndedEndsAs (turns n t a b) (turns n t1 a1 b1)
   turns_same zero t t1 a b a1 b1 ht ha hb w = refl
   turns_same (suc n) t t1 a b a1 b1 ht ha hb w =
-      use_same (t w) _ (λ x. x) _ _ (ht w) (λ x w1. pick_same x _ (b w1) _ _ (ended_same (a w1) _ _ _ _ _ (ha w1) (turns_same n t t1 a b a1 b1 ht ha hb) (λ why w2. after_same why w2 _ _ (turns_same n t t1 a b a1 b1 ht ha hb))) (hb w1))
+      use_same (t w) _ (λ x. x) _ _ (ht w)
+      (λ x w1. pick_same x _ (b w1) _ _ (ended_same (a w1) _ _ _ _ _ (ha w1) (turns_same n t t1 a b a1 b1 ht ha hb)
+      (λ why w2. after_same why w2 _ _ (turns_same n t t1 a b a1 b1 ht ha hb))) (hb w1))
 
   abbrev pub EndsOn : (Value K → World K → Ended K) → (Value Known → World Known → Ended Known) → Type 0
   EndsOn m m1 = (x : Value K) (w : World K) → m1 (short_value x) (short_world w) ≡ short_ended (m x w)
@@ -64,7 +68,9 @@ module _ {K : Type 0} where
   rounds_same (suc n) it t t1 b b1 ht hb w = use_same (next_of it w) _ (short_option) _ _ (short_next it w) (go (rounds_same n it t t1 b b1 ht hb))
     where
       go : EndedEndsAs (rounds n it t b) (rounds n (short_value it) t1 b1) → (x : Option (Value K)) (w1 : World K)
-          → on_some (short_option x) (λ y. on_ended (t1 y (short_world w1)) (rounds n (short_value it) t1 b1) (λ r w2. after_turn r w2 (rounds n (short_value it) t1 b1)) Halts) (b1 (short_world w1)) ≡ short_ended (on_some x (λ y. on_ended (t y w1) (rounds n it t b) (λ r w2. after_turn r w2 (rounds n it t b)) Halts) (b w1))
+          → on_some (short_option x) (λ y. on_ended (t1 y (short_world w1)) (rounds n (short_value it) t1 b1)
+          (λ r w2. after_turn r w2 (rounds n (short_value it) t1 b1)) Halts) (b1 (short_world w1))
+          ≡ short_ended (on_some x (λ y. on_ended (t y w1) (rounds n it t b) (λ r w2. after_turn r w2 (rounds n it t b)) Halts) (b w1))
       go ih (Some y) w1 = ended_same (t y w1) _ _ _ _ _ (ht y w1) ih (λ why w2. after_same why w2 _ _ ih)
       go ih None w1 = hb w1
 
@@ -72,7 +78,8 @@ module _ {K : Type 0} where
       → ((x : Value K) → Shortens (λ d. d) (t x) (t1 (short_value x))) → EndedEndsAs b b1 → EndsOn (assign_then t b) (assign_then t1 b1)
   assigned_same t t1 b b1 ht hb x w = use_same (t x w) _ (λ d. d) _ _ (ht x w) (λ d w1. hb w1)
 
-  pub for_same : (f : World K → Got K (Value K)) (f1 : World Known → Got Known (Value Known)) (t : Value K → World K → Ended K) (t1 : Value Known → World Known → Ended Known) (b : World K → Ended K) (b1 : World Known → Ended Known)
+  pub for_same : (f : World K → Got K (Value K)) (f1 : World Known → Got Known (Value Known)) (t : Value K → World K → Ended K)
+      (t1 : Value Known → World Known → Ended Known) (b : World K → Ended K) (b1 : World Known → Ended Known)
       → Shortens (short_value) f f1 → EndsOn t t1 → EndedEndsAs b b1 → EndedEndsAs (for_run f t b) (for_run f1 t1 b1)
   for_same f f1 t t1 b b1 hf ht hb w = use_same (f w) _ (short_value) _ _ (hf w) (λ it w1. rounds_same (suc (length w1.answers)) it t t1 b b1 ht hb w1)
 
@@ -92,7 +99,10 @@ module _ {K : Type 0} where
       → ((w : World K) → o1 (short_value e) (short_world w) ≡ short_ended (o e w)) → (w : World K)
       → typed_run f1 b1 o1 (short_value e) (short_world w) ≡ short_ended (typed_run f b o e w)
   typed_same f f1 b o b1 o1 hf e hb ho w =
-      use_same (f w) _ (short_value) _ _ (hf w) (λ x w1. use_same (for_one (Operates match_exception (e ∷ x ∷ [])) w1) _ (short_value) _ _ (short_for_one (Operates match_exception (e ∷ x ∷ [])) _ refl w1) (λ m w2. use_same (truth_of m w2) _ (λ t. t) _ _ (short_truth m w2) (λ t w3. pick_same t (b e w3) (o e w3) _ _ (hb w3) (ho w3))))
+      use_same (f w) _ (short_value) _ _ (hf w)
+      (λ x w1. use_same (for_one (Operates match_exception (e ∷ x ∷ [])) w1) _ (short_value)
+      _ _ (short_for_one (Operates match_exception (e ∷ x ∷ [])) _ refl w1)
+      (λ m w2. use_same (truth_of m w2) _ (λ t. t) _ _ (short_truth m w2) (λ t w3. pick_same t (b e w3) (o e w3) _ _ (hb w3) (ho w3))))
 
   hand_same : (why : Leave K) (slot : Option (Value K)) → in_hand (short_leave why) (short_option slot) ≡ short_option (in_hand why slot)
   hand_same Breaks slot = refl
@@ -109,18 +119,26 @@ module _ {K : Type 0} where
   exit_same : (x e : Value K) (ends : Bool → World K → Ended K) (ends1 : Bool → World Known → Ended Known) → ((t : Bool) → EndedEndsAs (ends t) (ends1 t))
       → EndedEndsAs (exit_run x e ends) (exit_run (short_value x) (short_value e) ends1)
   exit_same x e ends ends1 he w =
-      use_same (for_one (Operates exit_with (x ∷ e ∷ [])) w) _ (short_value) _ _ (short_for_one (Operates exit_with (x ∷ e ∷ [])) _ refl w) (λ a w1. use_same (truth_of a w1) _ (λ t. t) _ _ (short_truth a w1) (λ t w2. he t w2))
+      use_same (for_one (Operates exit_with (x ∷ e ∷ [])) w) _ (short_value) _ _ (short_for_one (Operates exit_with (x ∷ e ∷ [])) _ refl w)
+      (λ a w1. use_same (truth_of a w1) _ (λ t. t) _ _ (short_truth a w1) (λ t w2. he t w2))
 
   exit_leave_same : (x : Value K) (why : Leave K) (w : World K) → exit_leave (short_value x) (short_leave why) (short_world w) ≡ short_ended (exit_leave x why w)
   exit_leave_same x Breaks w = exit_same x (Constant const.none) (λ t w1. Leaves Breaks w1) (λ t w1. Leaves Breaks w1) (λ t w1. refl) w
   exit_leave_same x Continues w = exit_same x (Constant const.none) (λ t w1. Leaves Continues w1) (λ t w1. Leaves Continues w1) (λ t w1. refl) w
   exit_leave_same x (Returns e) w = exit_same x (Constant const.none) (λ t w1. Leaves (Returns e) w1) (λ t w1. Leaves (Returns (It (short_returned e))) w1) (λ t w1. refl) w
-  exit_leave_same x (Throws e) w = exit_same x e (λ t w1. choose t (Normal w1) (Leaves (Throws e) w1)) (λ t w1. choose t (Normal w1) (Leaves (Throws (short_value e)) w1)) (λ t w1. pick_same t (Normal w1) (Leaves (Throws e) w1) _ _ refl refl) w
+  exit_leave_same x (Throws e) w = exit_same x e (λ t w1. choose t (Normal w1) (Leaves (Throws e) w1))
+      (λ t w1. choose t (Normal w1) (Leaves (Throws (short_value e)) w1))
+      (λ t w1. pick_same t (Normal w1) (Leaves (Throws e) w1) _ _ refl refl) w
 
   pub with_same : (f : World K → Got K (Value K)) (f1 : World Known → Got Known (Value Known)) (b : Value K → World K → Ended K) (b1 : Value Known → World Known → Ended Known)
       → Shortens (short_value) f f1 → EndsOn b b1 → EndedEndsAs (with_run f b) (with_run f1 b1)
   with_same f f1 b b1 hf hb w =
-      use_same (f w) _ (short_value) _ _ (hf w) (λ x w1. use_same (for_two (Operates enter_with (x ∷ [])) w1) _ short_pair _ _ (short_for_two (Operates enter_with (x ∷ [])) _ refl w1) (λ xu w2. ended_same (b xu.1 w2) _ _ _ _ _ (hb xu.1 w2) (λ w3. exit_same xu.0 (Constant const.none) (λ t w4. Normal w4) (λ t w4. Normal w4) (λ t w4. refl) w3) (λ why w3. exit_leave_same xu.0 why w3)))
+      use_same (f w) _ (short_value) _ _ (hf w)
+      (λ x w1. use_same (for_two (Operates enter_with (x ∷ [])) w1) _ short_pair
+      _ _ (short_for_two (Operates enter_with (x ∷ [])) _ refl w1)
+      (λ xu w2. ended_same (b xu.1 w2) _ _ _ _ _ (hb xu.1 w2)
+      (λ w3. exit_same xu.0 (Constant const.none) (λ t w4. Normal w4) (λ t w4. Normal w4) (λ t w4. refl) w3)
+      (λ why w3. exit_leave_same xu.0 why w3)))
 
   pub reraised_same : (slot : Option (Value K)) → EndedEndsAs (reraise_end slot) (reraise_end (short_option slot))
   reraised_same None w = effect_same (for_none (Operates raise_again []) true w) _ (short_for_none (Operates raise_again []) _ true refl w)

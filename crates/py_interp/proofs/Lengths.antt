@@ -1,4 +1,4 @@
--- As many values are told as there are.
+-- As many values are reported as there are.
 use Rattle.std.proofs.Common.{◌≡◌, refl, ap, suc, List, [], ◌∷◌, ◌++◌, length}
 use Rattle.py_answers.specs.declared.trace.StepValue.{StepValue}
 use Rattle.py_answers.specs.Told.{value_of, values_of}
@@ -7,6 +7,6 @@ pub lengths : (xs : List StepValue) → length (values_of xs) ≡ length xs
 lengths [] = refl
 lengths (x ∷ xs) = ap suc (lengths xs)
 
-pub length_behind : (xs ys : List StepValue) → values_of (xs ++ ys) ≡ values_of xs ++ values_of ys
-length_behind [] ys = refl
-length_behind (x ∷ xs) ys = ap (λ l. value_of x ∷ l) (length_behind xs ys)
+pub length_after : (xs ys : List StepValue) → values_of (xs ++ ys) ≡ values_of xs ++ values_of ys
+length_after [] ys = refl
+length_after (x ∷ xs) ys = ap (λ l. value_of x ∷ l) (length_after xs ys)

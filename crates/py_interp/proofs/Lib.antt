@@ -12,5 +12,5 @@ mod Imports
 mod Stmts
 mod Trees
 mod Samples
-pub mod Walked
+pub mod InterpreterLemmas
 pub mod Lengths

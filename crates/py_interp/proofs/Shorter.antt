@@ -1,7 +1,10 @@
 -- A run, shortened, is the run of shortened parts.
 use Rattle.std.proofs.Common.{◌≡◌, ℕ, zero, suc, List, [], ◌∷◌, ◌++◌, length, Bool, true, false, Option, Some, None, refl, sym, ap, ◌∙◌, append_assoc}
 use Rattle.std.specs.Prelude.{nat_eq, if◌then◌else◌}
-use Rattle.py_bytecode.specs.Values.{Operation, Value, Given, Answer, Gives, Truth, End, Raised, Event, Operates, AsksTruth, AsksNext, World, Got, Fine, Raises, Stops, then_get, ask_of, ask, ask_for, fits, fits_truth, fits_next, given_values, gives_of, for_one, for_two, for_none, one_of, two_of, none_of, truth_of, next_of, choose, meets}
+use Rattle.py_bytecode.specs.Values.{Operation, Value, Given, Answer, Gives, Truth, End, Raised, Event, Operates, AsksTruth, AsksNext}
+use Rattle.py_bytecode.specs.Values.{World, Got, Fine, Raises, Stops, then_get, ask_of, ask, ask_for, fits, fits_truth, fits_next}
+use Rattle.py_bytecode.specs.Values.{given_values, gives_of, for_one, for_two, for_none, one_of, two_of, none_of, truth_of, next_of, choose}
+use Rattle.py_bytecode.specs.Values.{meets}
 use Rattle.py_control.specs.Form.{decide, stop_test, link}
 use Rattle.py_answers.specs.Told.{Known, short_value, short_values, short_event, short_events}
 use Rattle.py_interp.specs.Shortened.{short_got, short_option, short_world}
@@ -117,7 +120,9 @@ module _ {K : Type 0} where
   pub short_decide : (d : Bool) (a b : World K → Got K (Value K)) (a1 b1 : World Known → Got Known (Value Known)) → Shortens short_value a a1
       → Shortens short_value b b1 → Shortens short_value (decide d a b) (decide d a1 b1)
   short_decide d a b a1 b1 ha hb w =
-      short_then (a w) _ short_value short_value _ _ (ha w) (λ x w1. short_then (truth_of x w1) _ (λ t. t) short_value _ _ (short_truth x w1) (λ t w2. short_meets d t (Fine x w2) (b w2) _ _ short_value refl (hb w2)))
+      short_then (a w) _ short_value short_value _ _ (ha w)
+      (λ x w1. short_then (truth_of x w1) _ (λ t. t) short_value _ _ (short_truth x w1)
+      (λ t w2. short_meets d t (Fine x w2) (b w2) _ _ short_value refl (hb w2)))
 
   pub short_stop : (d : Bool) (a b : World K → Got K Bool) (a1 b1 : World Known → Got Known Bool) → Shortens (λ t. t) a a1 → Shortens (λ t. t) b b1
       → Shortens (λ t. t) (stop_test d a b) (stop_test d a1 b1)
@@ -126,4 +131,6 @@ module _ {K : Type 0} where
   pub short_link : (o : Operation) (l x : Value K) (rest : World K → Got K (Value K)) (rest1 : World Known → Got Known (Value Known))
       → Shortens short_value rest rest1 → Shortens short_value (link o l x rest) (link o (short_value l) (short_value x) rest1)
   short_link o l x rest rest1 hr w =
-      short_then (for_one (Operates o (l ∷ x ∷ [])) w) _ short_value short_value _ _ (short_for_one (Operates o (l ∷ x ∷ [])) _ refl w) (λ r w1. short_then (truth_of r w1) _ (λ t. t) short_value _ _ (short_truth r w1) (λ t w2. short_meets false t (Fine r w2) (rest w2) _ _ short_value refl (hr w2)))
+      short_then (for_one (Operates o (l ∷ x ∷ [])) w) _ short_value short_value _ _ (short_for_one (Operates o (l ∷ x ∷ [])) _ refl w)
+      (λ r w1. short_then (truth_of r w1) _ (λ t. t) short_value _ _ (short_truth r w1)
+      (λ t w2. short_meets false t (Fine r w2) (rest w2) _ _ short_value refl (hr w2)))

@@ -4,13 +4,14 @@ use Rattle.py_tree.specs.declared.statements.Alias.{Alias}
 use Rattle.py_bytecode.specs.declared.instruction.Instruction.TheVariants as op
 use Rattle.py_bytecode.specs.Objects as const
 use Rattle.py_bytecode.specs.Objects.{Const}
-use Rattle.py_bytecode.specs.Values.{Operation, operation, Bare, Number, Value, Constant, Unsaid, Load, Store, Delete, Operates, Accesses, World, Fine, then_get, for_one, for_none, Ended, Normal, then_do, effect}
+use Rattle.py_bytecode.specs.Values.{Operation, operation, Bare, Number, Value, Constant, Unsaid, Load, Store, Delete, Operates, Accesses}
+use Rattle.py_bytecode.specs.Values.{World, Fine, then_get, for_one, for_none, Ended, Normal, then_do, effect}
 use Rattle.py_control.specs.Form.{finally_run}
 use Rattle.py_emission_parts.specs.TableParts.{counted_operation, named_operation}
-use Rattle.py_emission_parts.specs.Within.{hidden_name, some_flag}
+use Rattle.py_emission_parts.specs.NestedScopes.{type_param_scope_name, some_flag}
 use Rattle.py_emission.specs.Imports.{asked_tuple, asked_all, further_segments, import_name, taken_name, takes_all}
 use Rattle.py_answers.specs.Told.{Known}
-use Rattle.py_interp.specs.Doing.{DefaultWalks, Doing, ExprWalk, KeywordWalks, build, call, default_flags, does, get_defaults, get_maps, make, some_star, tested_walk}
+use Rattle.py_interp.specs.Doing.{DefaultInterpreters, Doing, ExprInterpreter, KeywordInterpreters, build, call, default_flags, does, get_defaults, get_maps, make, some_star, tested_interpreter}
 
 abbrev pub Acting : Type 0
 Acting = World Known → Ended Known
@@ -53,14 +54,16 @@ document None f w = f w
 document (Some text) f w = then_get (f w) (λ v w1. then_get (for_none (Operates (named_operation op.StoreAttr (codes "__doc__")) (Constant (const.str text) ∷ v ∷ [])) false w1) (λ d w2. Fine v w2))
 
 -- a function of its defaults and its annotations
-abbrev pub make_function : DefaultWalks → (notes : KeywordWalks) → (name : List ℕ) → Doing (Value Known)
+abbrev pub make_function : DefaultInterpreters → (notes : KeywordInterpreters) → (name : List ℕ) → Doing (Value Known)
 make_function d notes name w = then_get (get_defaults d w) (λ p w1. then_get (get_maps [] 0 [] notes w1) (λ ns w2. make (default_flags p + some_flag 0x02 ns) (p.0 ++ p.1) ns name w2))
 
 -- the type-parameter scope of type parameters is called at once with the defaults that it is handed
-abbrev pub call_hidden : (name : List ℕ) → DefaultWalks → Doing (Value Known)
-call_hidden name d w = then_get (make 0 [] [] (hidden_name name) w) (λ f w1. then_get (get_defaults d w1) (λ p w2. does (counted_operation op.CallFunctionPositional (length p.0 + length p.1)) (f ∷ (p.0 ++ p.1)) w2))
+abbrev pub call_type_param_scope : (name : List ℕ) → DefaultInterpreters → Doing (Value Known)
+call_type_param_scope name d w = then_get (make 0 [] [] (type_param_scope_name name) w)
+    (λ f w1. then_get (get_defaults d w1)
+    (λ p w2. does (counted_operation op.CallFunctionPositional (length p.0 + length p.1)) (f ∷ (p.0 ++ p.1)) w2))
 
-abbrev pub no_defaults : DefaultWalks
+abbrev pub no_defaults : DefaultInterpreters
 no_defaults = record { positional = []; keyword = [] }
 
 -- the function of a class and its name
@@ -68,13 +71,13 @@ abbrev pub class_pair : (name : List ℕ) → Doing (Value Known)
 class_pair name w = then_get (make 0 [] [] name w) (λ f w1. build op.BuildTuple (f ∷ Constant (const.str name) ∷ []) w1)
 
 -- they come before the bases, in a tuple of their own where one of these is starred
-abbrev pub class_args : (starred : Bool) → (name : List ℕ) → (bases : List ExprWalk) → List ExprWalk
-class_args true name bases = record (tested_walk (class_pair name)) { star = true } ∷ bases
-class_args false name bases = tested_walk (make 0 [] [] name) ∷ tested_walk (constant (const.str name)) ∷ bases
+abbrev pub class_args : (starred : Bool) → (name : List ℕ) → (bases : List ExprInterpreter) → List ExprInterpreter
+class_args true name bases = record (tested_interpreter (class_pair name)) { star = true } ∷ bases
+class_args false name bases = tested_interpreter (make 0 [] [] name) ∷ tested_interpreter (constant (const.str name)) ∷ bases
 
 -- a class is what its function, its name, its bases and its keywords build
-abbrev pub build_class : (name : List ℕ) → (bases : List ExprWalk) → KeywordWalks → Doing (Value Known)
-build_class name bases ks = call (tested_walk (λ w. does (operation op.LoadBuildClass Bare) [] w)) (class_args (some_star bases) name bases) ks
+abbrev pub build_class : (name : List ℕ) → (bases : List ExprInterpreter) → KeywordInterpreters → Doing (Value Known)
+build_class name bases ks = call (tested_interpreter (λ w. does (operation op.LoadBuildClass Bare) [] w)) (class_args (some_star bases) name bases) ks
 
 -- ---- imports
 

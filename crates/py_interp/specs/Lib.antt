@@ -1,5 +1,5 @@
 pub mod Doing
-pub mod Walks
+pub mod Interpreters
 pub mod Shortened
 pub mod Laws
 pub mod Acting

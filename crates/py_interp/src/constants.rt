@@ -51,7 +51,8 @@ pub fn text(alloc: Global, text: &Text) -> Result<StepValue, Halt>
 /// # Errors
 /// OutOfMemory alone.
 pub fn literal(alloc: Global, value: &Constant) -> Result<StepValue, Halt>
-    ensures ok { IfOk result (λ v. value_of v ≡ values.Constant (constant_of (literal_of value.now))) }
+    ensures ok { IfOk result (λ v. value_of v
+        ≡ values.Constant (constant_of (literal_of value.now))) }
     ensures err { IfErr result (λ h. h ≡ Halt.OutOfMemory) }
 {
     match constant_data(alloc, value) {

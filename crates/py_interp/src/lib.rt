@@ -2,12 +2,14 @@
 //! of its run with what is done with them.
 #![tactic(auto)]
 
-mod around;
 pub mod constants;
 mod laws;
 pub mod names;
+mod node_context;
 pub mod operands;
 pub mod operations;
 
-pub use around::Around;
-pub use laws::{meanings_walk, targets_walk, tests_walk, trees_walk, values_walk};
+pub use laws::{
+    interprets_meanings, interprets_targets, interprets_tests, interprets_trees, interprets_values,
+};
+pub use node_context::NodeContext;

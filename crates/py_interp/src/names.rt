@@ -4,7 +4,7 @@ ghost use Rattle.py_emission_parts.specs.TableParts.{is_debug};
 ghost use Rattle.py_answers.specs.Log.{Gets, world_of};
 ghost use Rattle.py_answers.specs.Told.{value_of};
 ghost use Rattle.py_interp.specs.Acting.{load, store};
-ghost use Rattle.py_interp.specs.Walks.{name_value};
+ghost use Rattle.py_interp.specs.Interpreters.{name_value};
 
 use py_answers::{Halt, Log, StepValue};
 use py_base::Text;
@@ -33,7 +33,8 @@ pub fn load(log: &mut Log<'_>, name: &Text) -> Result<StepValue, Halt>
 /// # Errors
 /// What ends the run, or OutOfMemory.
 pub fn store(log: &mut Log<'_>, name: &Text, value: StepValue) -> Result<(), Halt>
-    ensures { Gets (λ u. u) result (world_of log.new) (store name.now (value_of value) (world_of log.old)) }
+    ensures { Gets (λ u. u) result (world_of log.new)
+        (store name.now (value_of value) (world_of log.old)) }
 {
     log.store(name, value)
 }
@@ -44,7 +45,8 @@ pub fn store(log: &mut Log<'_>, name: &Text, value: StepValue) -> Result<(), Hal
 /// What ends the run, or OutOfMemory.
 #[tactic(auto, using(py_bytecode::proofs::View::views))]
 pub fn name_value(log: &mut Log<'_>, level: u8, name: &Text) -> Result<StepValue, Halt>
-    ensures { Gets value_of result (world_of log.new) (name_value level name.now (world_of log.old)) }
+    ensures { Gets value_of result (world_of log.new)
+        (name_value level name.now (world_of log.old)) }
 {
     if is_debug(name.as_str()) {
         return Ok(StepValue::Constant(ConstantData::Boolean { value: level == 0 }));

@@ -42,7 +42,8 @@ pub fn copy_value(alloc: Global, value: &StepValue) -> Result<StepValue, Halt>
 /// # Errors
 /// OutOfMemory alone.
 pub fn push(values: &mut Vec<StepValue>, value: StepValue) -> Result<(), Halt>
-    ensures ok { OnOk result (values_of values.new.items ≡ values_of values.old.items ++ value_of value ∷ []) }
+    ensures ok { OnOk result (values_of values.new.items ≡ values_of values.old.items
+        ++ value_of value ∷ []) }
     ensures err { IfErr result (λ h. h ≡ Halt.OutOfMemory) }
 {
     match values.push(value) {
@@ -87,7 +88,8 @@ pub fn three(
     second: StepValue,
     third: StepValue,
 ) -> Result<Vec<StepValue>, Halt>
-    ensures ok { IfOk result (λ v. values_of v.items ≡ value_of first ∷ value_of second ∷ value_of third ∷ []) }
+    ensures ok { IfOk result (λ v. values_of v.items ≡ value_of first ∷ value_of second
+        ∷ value_of third ∷ []) }
     ensures err { IfErr result (λ h. h ≡ Halt.OutOfMemory) }
 {
     let mut values = two(alloc, first, second)?;

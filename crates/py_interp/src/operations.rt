@@ -64,7 +64,8 @@ pub fn does(
     operation: Operation<'_>,
     operands: Vec<StepValue>,
 ) -> Result<StepValue, Halt>
-    ensures { Gets value_of result (world_of log.new) (does (operation_of operation.entry) (values_of operands.items) (world_of log.old)) }
+    ensures { Gets value_of result (world_of log.new)
+        (does (operation_of operation.entry) (values_of operands.items) (world_of log.old)) }
 {
     let answer = log.operate(operation, List::from_vec(operands), Some(1))?;
     Ok(StepValue::Given { answer, index: 0 })
@@ -79,7 +80,8 @@ pub fn does_one(
     operation: Operation<'_>,
     first: StepValue,
 ) -> Result<StepValue, Halt>
-    ensures { Gets value_of result (world_of log.new) (does (operation_of operation.entry) (value_of first ∷ []) (world_of log.old)) }
+    ensures { Gets value_of result (world_of log.new)
+        (does (operation_of operation.entry) (value_of first ∷ []) (world_of log.old)) }
 {
     let operands = one(log.alloc, first)?;
     does(log, operation, operands)
@@ -95,7 +97,9 @@ pub fn does_two(
     first: StepValue,
     second: StepValue,
 ) -> Result<StepValue, Halt>
-    ensures { Gets value_of result (world_of log.new) (does (operation_of operation.entry) (value_of first ∷ value_of second ∷ []) (world_of log.old)) }
+    ensures { Gets value_of result (world_of log.new)
+        (does (operation_of operation.entry) (value_of first ∷ value_of second ∷ [])
+        (world_of log.old)) }
 {
     let operands = two(log.alloc, first, second)?;
     does(log, operation, operands)
@@ -112,7 +116,9 @@ pub fn does_three(
     second: StepValue,
     third: StepValue,
 ) -> Result<StepValue, Halt>
-    ensures { Gets value_of result (world_of log.new) (does (operation_of operation.entry) (value_of first ∷ value_of second ∷ value_of third ∷ []) (world_of log.old)) }
+    ensures { Gets value_of result (world_of log.new)
+        (does (operation_of operation.entry)
+        (value_of first ∷ value_of second ∷ value_of third ∷ []) (world_of log.old)) }
 {
     let operands = three(log.alloc, first, second, third)?;
     does(log, operation, operands)
@@ -127,7 +133,9 @@ pub fn does_none(
     operation: Operation<'_>,
     operands: Vec<StepValue>,
 ) -> Result<(), Halt>
-    ensures { Gets (λ u. u) result (world_of log.new) (for_none (Operates (operation_of operation.entry) (values_of operands.items)) false (world_of log.old)) }
+    ensures { Gets (λ u. u) result (world_of log.new)
+        (for_none (Operates (operation_of operation.entry) (values_of operands.items)) false
+        (world_of log.old)) }
 {
     log.operate(operation, List::from_vec(operands), Some(0))?;
     Ok(())
@@ -138,7 +146,8 @@ pub fn does_none(
 /// # Errors
 /// What ends the run, or OutOfMemory.
 pub fn truth(log: &mut Log<'_>, value: &StepValue) -> Result<bool, Halt>
-    ensures { Gets (λ b. b) result (world_of log.new) (truth_of (value_of value.now) (world_of log.old)) }
+    ensures { Gets (λ b. b) result (world_of log.new)
+        (truth_of (value_of value.now) (world_of log.old)) }
 {
     let value = copy_value(log.alloc, value)?;
     log.truth(value)
@@ -150,7 +159,8 @@ pub fn truth(log: &mut Log<'_>, value: &StepValue) -> Result<bool, Halt>
 /// What ends the run, or OutOfMemory.
 #[tactic(auto, using(crate::proofs::Lengths::lengths))]
 pub fn build(log: &mut Log<'_>, op: Instruction, values: Vec<StepValue>) -> Result<StepValue, Halt>
-    ensures { Gets value_of result (world_of log.new) (build op (values_of values.items) (world_of log.old)) }
+    ensures { Gets value_of result (world_of log.new)
+        (build op (values_of values.items) (world_of log.old)) }
 {
     let operation = counted(op, values.len())?;
     does(log, operation, values)
@@ -161,7 +171,8 @@ pub fn build(log: &mut Log<'_>, op: Instruction, values: Vec<StepValue>) -> Resu
 /// # Errors
 /// What ends the run, or OutOfMemory.
 pub fn build_map(log: &mut Log<'_>, count: usize, values: Vec<StepValue>) -> Result<StepValue, Halt>
-    ensures { Gets value_of result (world_of log.new) (build_map count (values_of values.items) (world_of log.old)) }
+    ensures { Gets value_of result (world_of log.new)
+        (build_map count (values_of values.items) (world_of log.old)) }
 {
     let operation = counted(Instruction::BuildMap, count)?;
     does(log, operation, values)
@@ -172,7 +183,8 @@ pub fn build_map(log: &mut Log<'_>, count: usize, values: Vec<StepValue>) -> Res
 /// # Errors
 /// What ends the run, or OutOfMemory.
 pub fn add_map(log: &mut Log<'_>, map: StepValue, added: StepValue) -> Result<StepValue, Halt>
-    ensures { Gets value_of result (world_of log.new) (add_map (value_of map) (value_of added) (world_of log.old)) }
+    ensures { Gets value_of result (world_of log.new)
+        (add_map (value_of map) (value_of added) (world_of log.old)) }
 {
     does_two(log, bare(Instruction::DictUpdate), map, added)
 }

@@ -4,11 +4,11 @@ use Rattle.std.specs.Prelude.{nat_eq, option_map}
 use Rattle.py_bytecode.specs.declared.instruction.Instruction.TheVariants as op
 use Rattle.py_bytecode.specs.Objects as const
 use Rattle.py_bytecode.specs.Values.{Value, Constant, World, Fine, then_get}
-use Rattle.py_emission_parts.specs.Within.{some_flag}
+use Rattle.py_emission_parts.specs.NestedScopes.{some_flag}
 use Rattle.py_answers.specs.declared.trace.StepValue.{StepValue}
 use Rattle.py_answers.specs.Told.{Known, values_of}
 use Rattle.py_interp_exprs.specs.Options.{told_option}
-use Rattle.py_interp.specs.Doing.{ExprWalk, add_map, build, build_map, close_map, close_pairs, close_run, get_all, join_maps, joined_value, of_all, values_of_all}
+use Rattle.py_interp.specs.Doing.{ExprInterpreter, add_map, build, build_map, close_map, close_pairs, close_run, get_all, join_maps, joined_value, of_all, values_of_all}
 
 pub not_none : {A : Type 0} (x : A) (xs : List A) → nat_eq (length (x ∷ xs)) 0 ≡ true → ⊥
 not_none x xs e = let z : length (x ∷ xs) ≡ 0 = search (rules, e) in absurd (omega (arith, z))
@@ -72,7 +72,7 @@ pub no_text : (v : Option StepValue) → ((x : StepValue) → v ≡ Some x → �
 no_text None h = refl
 no_text (Some x) h = absurd (h x refl)
 
-module _ (es : List ExprWalk) (w : World Known) where
+module _ (es : List ExprInterpreter) (w : World Known) where
   pub joined_so : (t : Option (List ℕ)) (x : Value Known) → Some x ≡ option_map (λ s. text_value s) t → joined_value t es w ≡ Fine x w
   joined_so None x e = absurd cc
   joined_so (Some s) x e = ap (λ y. Fine y w) (text_same (Constant (const.str s)) x (sym e))

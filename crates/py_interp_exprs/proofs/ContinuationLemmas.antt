@@ -7,10 +7,10 @@ use Rattle.py_answers.specs.Log.{Gets}
 use Rattle.py_answers.specs.Told.{Known}
 
 -- what follows the second follows both
-pub assoc : {A B C : Type 0} (g : Got Known A) (f : A → World Known → Got Known B) (h : B → World Known → Got Known C) → then_get (then_get g f) h ≡ then_get g (λ x w. then_get (f x w) h)
-assoc (Fine x w) f h = refl
-assoc (Raises e w) f h = refl
-assoc (Stops es) f h = refl
+pub continuation_assoc : {A B C : Type 0} (g : Got Known A) (f : A → World Known → Got Known B) (h : B → World Known → Got Known C) → then_get (then_get g f) h ≡ then_get g (λ x w. then_get (f x w) h)
+continuation_assoc (Fine x w) f h = refl
+continuation_assoc (Raises e w) f h = refl
+continuation_assoc (Stops es) f h = refl
 
 -- the same follows
 pub then_same : {A B : Type 0} (g : Got Known A) (f h : A → World Known → Got Known B) → ((x : A) (w : World Known) → f x w ≡ h x w) → then_get g f ≡ then_get g h

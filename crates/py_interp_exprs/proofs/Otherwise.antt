@@ -12,8 +12,8 @@ use Rattle.py_tree.specs.declared.expressions.ExprAttributeOf.{ExprAttributeOf}
 use Rattle.py_tree.specs.declared.expressions.ExprStarredOf.{ExprStarredOf}
 use Rattle.py_bytecode.specs.Values.{World, Fine, then_get}
 use Rattle.py_answers.specs.Told.{Known}
-use Rattle.py_interp.specs.declared.around.Around.{Around}
-use Rattle.py_interp.specs.Walks.{walk_expr, walks}
+use Rattle.py_interp.specs.declared.node_context.NodeContext.{NodeContext}
+use Rattle.py_interp.specs.Interpreters.{interpret_expr, interpreters}
 use Rattle.py_interp_exprs.specs.Starred.{is_attribute, is_starred}
 
 otherwise_as_layer : (x : Expr) → expr_tree x ≡ expr_layer expr_tree (out-Expr x)
@@ -38,10 +38,10 @@ pub not_attribute : (x : Expr) → ((e : ExprAttributeOf Expr) → x ≢ expr.At
 not_attribute x h = ap is_attribute (otherwise_as_layer x) ∙ function_layer (out-Expr x) (otherwise_apart expr.Attribute x h)
 
 -- what is called as a function is one value
-plain_callee : (a : Around) (t : tree.Expr) (w : World Known) → is_attribute t ≡ false → (walks a t).callee w ≡ then_get (walk_expr a t w) (λ f w1. Fine (f ∷ []) w1)
+plain_callee : (a : NodeContext) (t : tree.Expr) (w : World Known) → is_attribute t ≡ false → (interpreters a t).callee w ≡ then_get (interpret_expr a t w) (λ f w1. Fine (f ∷ []) w1)
 plain_callee a (tree.Attribute at e attr) w h = absurd cc
 plain_callee a other w h = refl
 
-pub function_callee : (a : Around) (x : Expr) (w : World Known) → ((e : ExprAttributeOf Expr) → x ≢ expr.Attribute e)
-    → (walks a (expr_tree x)).callee w ≡ then_get (walk_expr a (expr_tree x) w) (λ f w1. Fine (f ∷ []) w1)
+pub function_callee : (a : NodeContext) (x : Expr) (w : World Known) → ((e : ExprAttributeOf Expr) → x ≢ expr.Attribute e)
+    → (interpreters a (expr_tree x)).callee w ≡ then_get (interpret_expr a (expr_tree x) w) (λ f w1. Fine (f ∷ []) w1)
 function_callee a x w h = plain_callee a (expr_tree x) w (not_attribute x h)

@@ -8,32 +8,32 @@ use Rattle.py_bytecode.specs.declared.instruction.Instruction.TheVariants as op
 use Rattle.py_meaning.specs.ExprFaults.{as_elements}
 use Rattle.py_emission_parts.specs.Elements.{after_star, before_star, has_starred, stars}
 use Rattle.py_emission_parts.specs.TableParts.{counted_operation, unpack_operation}
-use Rattle.py_interp.specs.declared.around.Around.{Around}
+use Rattle.py_interp.specs.declared.node_context.NodeContext.{NodeContext}
 use Rattle.py_bytecode.specs.Values.{Operation, Value, Operates, World, Got, then_get, ask_for}
 use Rattle.py_answers.specs.Told.{Known}
-use Rattle.py_interp.specs.Doing.{TargetWalk, put_each, some_star}
-use Rattle.py_interp.specs.Walks.{all_walks, keyword_walks, unpack_to, walks}
+use Rattle.py_interp.specs.Doing.{TargetInterpreter, put_each, some_star}
+use Rattle.py_interp.specs.Interpreters.{all_interpreters, keyword_interpreters, unpack_to, interpreters}
 use Rattle.py_interp_exprs.specs.Keywords.{any_unpacked}
 use Rattle.py_interp_exprs.specs.Starred.{any_starred, is_attribute, is_starred}
 use Rattle.py_interp_exprs.proofs.Places.{place_next}
 
 -- the interpreter of an expression knows it
-pub star_walk : (a : Around) (e : tree.Expr) → (walks a e).star ≡ is_starred e
-star_walk a (tree.Starred at e) = refl
-star_walk a other = refl
+pub star_interpreter : (a : NodeContext) (e : tree.Expr) → (interpreters a e).star ≡ is_starred e
+star_interpreter a (tree.Starred at e) = refl
+star_interpreter a other = refl
 
-pub method_walk : (a : Around) (e : tree.Expr) → (walks a e).method ≡ is_attribute e
-method_walk a (tree.Attribute at e attr) = refl
-method_walk a other = refl
+pub method_interpreter : (a : NodeContext) (e : tree.Expr) → (interpreters a e).method ≡ is_attribute e
+method_interpreter a (tree.Attribute at e attr) = refl
+method_interpreter a other = refl
 
-pub some_star_walk : (a : Around) (es : tree.Exprs) → some_star (all_walks a es) ≡ any_starred es
-some_star_walk a tree.no_exprs = refl
-some_star_walk a (tree.more_exprs e es) = ap (λ b. b || some_star (all_walks a es)) (star_walk a e) ∙ ap (λ b. is_starred e || b) (some_star_walk a es)
+pub some_star_interpreter : (a : NodeContext) (es : tree.Exprs) → some_star (all_interpreters a es) ≡ any_starred es
+some_star_interpreter a tree.no_exprs = refl
+some_star_interpreter a (tree.more_exprs e es) = ap (λ b. b || some_star (all_interpreters a es)) (star_interpreter a e) ∙ ap (λ b. is_starred e || b) (some_star_interpreter a es)
 
-pub unpacked_walk : (a : Around) (ks : tree.Keywords) → has_starred (keyword_walks a ks) ≡ any_unpacked ks
-unpacked_walk a tree.no_keywords = refl
-unpacked_walk a (tree.more_keywords None e ks) = refl
-unpacked_walk a (tree.more_keywords (Some name) e ks) = unpacked_walk a ks
+pub unpacked_interpreter : (a : NodeContext) (ks : tree.Keywords) → has_starred (keyword_interpreters a ks) ≡ any_unpacked ks
+unpacked_interpreter a tree.no_keywords = refl
+unpacked_interpreter a (tree.more_keywords None e ks) = refl
+unpacked_interpreter a (tree.more_keywords (Some name) e ks) = unpacked_interpreter a ks
 
 or_so : (a b : Bool) → a ≡ true → (a || b) ≡ true
 or_so true b e = refl
@@ -88,8 +88,8 @@ aside : (es : tree.Exprs) → any_starred es ≡ true → before_star (as_elemen
 aside tree.no_exprs h = absurd cc
 aside (tree.more_exprs e es) h = aside_next e es (aside es) h
 
-pub star_around_star : (xs : List Expr) → any_starred (exprs expr_tree xs) ≡ true → before_star (as_elements (exprs expr_tree xs)) + 1 + after_star (as_elements (exprs expr_tree xs)) ≡ length xs
-star_around_star xs h = aside (exprs expr_tree xs) h ∙ many_starring xs
+pub star_beside_star : (xs : List Expr) → any_starred (exprs expr_tree xs) ≡ true → before_star (as_elements (exprs expr_tree xs)) + 1 + after_star (as_elements (exprs expr_tree xs)) ≡ length xs
+star_beside_star xs h = aside (exprs expr_tree xs) h ∙ many_starring xs
 
 stars_next : (e : tree.Expr) (es : tree.Exprs) → (nat_eq (stars (as_elements es)) 0 ≡ true → any_starred es ≡ false)
     → nat_eq (stars (as_elements (tree.more_exprs e es))) 0 ≡ true → any_starred (tree.more_exprs e es) ≡ false
@@ -117,13 +117,15 @@ unpacking_plain es h =
 unpacking_by : (es : tree.Exprs) (b : Bool) → b ≡ nat_eq (stars (as_elements es)) 0 → any_starred es ≡ true
     → unpack_operation (as_elements es) ≡ counted_operation op.UnpackEx (before_star (as_elements es) + 256 * after_star (as_elements es))
 unpacking_by es true e h = absurd (let f = no_stars es (sym e) in cc)
-unpacking_by es false e h = ap (λ b. if b then counted_operation op.UnpackSequence (length (as_elements es)) else counted_operation op.UnpackEx (before_star (as_elements es) + 256 * after_star (as_elements es))) (sym e)
+unpacking_by es false e h = ap
+    (λ b. if b then counted_operation op.UnpackSequence (length (as_elements es)) else counted_operation op.UnpackEx
+    (before_star (as_elements es) + 256 * after_star (as_elements es))) (sym e)
 
 pub unpacking_starred : (es : tree.Exprs) → any_starred es ≡ true → unpack_operation (as_elements es) ≡ counted_operation op.UnpackEx (before_star (as_elements es) + 256 * after_star (as_elements es))
 unpacking_starred es h = unpacking_by es (nat_eq (stars (as_elements es)) 0) refl h
 
 -- the operation that unpacks a value, by its parts
-pub unpacked_as : (es : tree.Exprs) (ts : List TargetWalk) (v : Value Known) (o : Operation) (vs : List (Value Known)) (n : ℕ) (w : World Known)
+pub unpacked_as : (es : tree.Exprs) (ts : List TargetInterpreter) (v : Value Known) (o : Operation) (vs : List (Value Known)) (n : ℕ) (w : World Known)
     → o ≡ unpack_operation (as_elements es) → vs ≡ v ∷ [] → n ≡ length (as_elements es)
     → unpack_to es ts v w ≡ then_get (ask_for (Operates o vs) (Some n) w) (λ us w1. put_each ts us w1)
 unpacked_as es ts v o vs n w p q r =

@@ -1,4 +1,4 @@
--- A value that may be missing, as it is told.
+-- A value that may be missing, as it is reported.
 use Rattle.std.specs.Prelude.{Option, Some, None}
 use Rattle.py_bytecode.specs.Values.{Value}
 use Rattle.py_answers.specs.declared.trace.StepValue.{StepValue}

@@ -6,8 +6,8 @@ use Rattle.py_answers.specs.Told.{Known}
 use Rattle.py_interp.specs.Doing.{Doing, add_map, close_pairs}
 
 -- a value after others
-abbrev pub get_behind : List (Value Known) → Doing (Value Known) → Doing (List (Value Known))
-get_behind done e w = then_get (e w) (λ x w1. Fine (done ++ x ∷ []) w1)
+abbrev pub get_after : List (Value Known) → Doing (Value Known) → Doing (List (Value Known))
+get_after done e w = then_get (e w) (λ x w1. Fine (done ++ x ∷ []) w1)
 
 -- a value and its name after others
 abbrev pub get_named : List (Value Known) → (name : List ℕ) → Doing (Value Known) → Doing (List (Value Known))

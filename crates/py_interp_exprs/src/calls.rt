@@ -6,35 +6,40 @@ ghost use Rattle.py_tree.specs.View.{call_tree, expr_tree, exprs, keywords as ke
 ghost use Rattle.py_answers.specs.Log.{Gets, world_of};
 ghost use Rattle.py_answers.specs.Told.{value_of, values_of};
 ghost use Rattle.py_interp.specs.Doing.{call_packed, call_placed, does, name_tuple, packed_call, placed_call};
-ghost use Rattle.py_interp.specs.Walks.{all_walks, keyword_walks, walk_expr, walks};
+ghost use Rattle.py_interp.specs.Interpreters.{all_interpreters, keyword_interpreters, interpret_expr, interpreters};
 ghost use Rattle.py_interp_exprs.specs.Keywords.{any_unpacked};
 ghost use Rattle.py_interp_exprs.specs.Starred.{any_starred, is_attribute};
 
-use crate::displays::walk_display;
-use crate::elements::{has_star, walk_all};
-use crate::expressions::walk_expression;
+use crate::displays::interpret_display;
+use crate::elements::{has_star, interpret_all};
+use crate::expressions::interpret_expression;
 use crate::groups::join_maps;
-use crate::keywords::{has_map, names_given, walk_keyword_values, walk_maps};
+use crate::keywords::{has_map, interpret_keyword_values, interpret_maps, names_given};
 use crate::making::append;
 use py_answers::{Halt, Log, Operand, Operation, StepValue};
 use py_base::{List, Text};
 use py_bytecode::Instruction;
-use py_interp::Around;
+use py_interp::NodeContext;
 use py_interp::operands::{one, push, three};
 use py_interp::operations::{counted, does, numbered};
 use py_tree::{Expr, ExprCall, Keyword};
 use std::alloc::Global;
 
-#[cycle(walk)]
-pub(crate) fn walk_call(log: &mut Log<'_>, around: Around, e: &ExprCall) -> Result<StepValue, Halt>
-    ensures { Gets value_of result (world_of log.new) (walk_expr around (call_tree e.now) (world_of log.old)) }
+#[cycle(interpreter)]
+pub(crate) fn interpret_call(
+    log: &mut Log<'_>,
+    node_context: NodeContext,
+    e: &ExprCall,
+) -> Result<StepValue, Halt>
+    ensures { Gets value_of result (world_of log.new)
+        (interpret_expr node_context (call_tree e.now) (world_of log.old)) }
 {
-    let callee = walk_callee(log, around, &e.func)?;
+    let callee = interpret_callee(log, node_context, &e.func)?;
     let method = is_method(&e.func);
     if is_packed(e) {
-        return walk_packed(log, around, method, callee, e);
+        return interpret_packed(log, node_context, method, callee, e);
     }
-    walk_placed(log, around, method, callee, e)
+    interpret_placed(log, node_context, method, callee, e)
 }
 
 #[tactic(auto, using(py_tree::proofs::View::trees))]
@@ -49,24 +54,30 @@ fn is_method(func: &Expr) -> bool
 
 // Whether an argument is starred, or a map is unpacked.
 fn is_packed(e: &ExprCall) -> bool
-    ensures { result ≡ (any_starred (exprs expr_tree e.now.args) || any_unpacked (keyword_trees expr_tree e.now.keywords)) }
+    ensures { result ≡ (any_starred (exprs expr_tree e.now.args) || any_unpacked
+        (keyword_trees expr_tree e.now.keywords)) }
 {
     has_star(e.args.as_slice()) || has_map(e.keywords.as_slice())
 }
 
 // Gets what is called: one value, or the three of a method.
-#[cycle(walk)]
+#[cycle(interpreter)]
 #[tactic(auto, using(py_tree::proofs::View::trees))]
-fn walk_callee(log: &mut Log<'_>, around: Around, func: &Expr) -> Result<Vec<StepValue>, Halt>
-    ensures { Gets (λ v. values_of v.items) result (world_of log.new) ((walks around (expr_tree func.now)).callee (world_of log.old)) }
+fn interpret_callee(
+    log: &mut Log<'_>,
+    node_context: NodeContext,
+    func: &Expr,
+) -> Result<Vec<StepValue>, Halt>
+    ensures { Gets (λ v. values_of v.items) result (world_of log.new)
+        ((interpreters node_context (expr_tree func.now)).callee (world_of log.old)) }
 {
     match func {
         Expr::Attribute(e) => {
-            let value = walk_expression(log, around, &e.value)?;
+            let value = interpret_expression(log, node_context, &e.value)?;
             load_method(log, value, &e.attr)
         }
         _ => {
-            let value = walk_expression(log, around, func)?;
+            let value = interpret_expression(log, node_context, func)?;
             one(log.alloc, value)
         }
     }
@@ -74,7 +85,9 @@ fn walk_callee(log: &mut Log<'_>, around: Around, func: &Expr) -> Result<Vec<Ste
 
 // The three values of a method.
 fn load_method(log: &mut Log<'_>, value: StepValue, name: &Text) -> Result<Vec<StepValue>, Halt>
-    ensures { Gets (λ v. values_of v.items) result (world_of log.new) (ask_for (Operates (named_operation Instruction.LoadMethod name.now) (value_of value ∷ [])) (Some 3) (world_of log.old)) }
+    ensures { Gets (λ v. values_of v.items) result (world_of log.new)
+        (ask_for (Operates (named_operation Instruction.LoadMethod name.now) (value_of value ∷ []))
+        (Some 3) (world_of log.old)) }
 {
     let operands = List::from_vec(one(log.alloc, value)?);
     let operation = Operation {
@@ -99,19 +112,23 @@ fn three_of(alloc: Global, answer: u32) -> Result<Vec<StepValue>, Halt>
 }
 
 // A call with values in their places, and the names of the last where there are keywords.
-#[cycle(walk)]
-fn walk_placed(
+#[cycle(interpreter)]
+fn interpret_placed(
     log: &mut Log<'_>,
-    around: Around,
+    node_context: NodeContext,
     method: bool,
     callee: Vec<StepValue>,
     e: &ExprCall,
 ) -> Result<StepValue, Halt>
-    ensures { Gets value_of result (world_of log.new) (call_placed method (values_of callee.items) (all_walks around (exprs expr_tree e.now.args)) (keyword_walks around (keyword_trees expr_tree e.now.keywords)) (world_of log.old)) }
+    ensures { Gets value_of result (world_of log.new)
+        (call_placed method (values_of callee.items)
+        (all_interpreters node_context (exprs expr_tree e.now.args))
+        (keyword_interpreters node_context (keyword_trees expr_tree e.now.keywords))
+        (world_of log.old)) }
 {
     let keywords = e.keywords.as_slice();
-    let values = walk_all(log, around, e.args.as_slice())?;
-    let values = walk_keyword_values(log, around, values, keywords)?;
+    let values = interpret_all(log, node_context, e.args.as_slice())?;
+    let values = interpret_keyword_values(log, node_context, values, keywords)?;
     call_placed(log, method, callee, values, keywords)
 }
 
@@ -126,7 +143,11 @@ pub fn call_placed(
     values: Vec<StepValue>,
     keywords: &[Keyword],
 ) -> Result<StepValue, Halt>
-    ensures { (around : Around) → let ks = keyword_walks around (keyword_trees expr_tree keywords.now) in Gets value_of result (world_of log.new) (does (counted_operation (placed_call method ks) (length (values_of values.items))) (values_of callee.items ++ (values_of values.items ++ name_tuple ks)) (world_of log.old)) }
+    ensures { (node_context : NodeContext)
+        → let ks = keyword_interpreters node_context
+        (keyword_trees expr_tree keywords.now) in Gets value_of result (world_of log.new)
+        (does (counted_operation (placed_call method ks) (length (values_of values.items)))
+        (values_of callee.items ++ (values_of values.items ++ name_tuple ks)) (world_of log.old)) }
 {
     let names = names_given(log.alloc, keywords)?;
     let operation = counted(placed_call(method, keywords), values.len())?;
@@ -137,7 +158,9 @@ pub fn call_placed(
 }
 
 fn placed_call(method: bool, keywords: &[Keyword]) -> Instruction
-    ensures { (around : Around) → result ≡ placed_call method (keyword_walks around (keyword_trees expr_tree keywords.now)) }
+    ensures { (node_context : NodeContext)
+        → result ≡ placed_call method (keyword_interpreters node_context
+        (keyword_trees expr_tree keywords.now)) }
 {
     match (method, keywords.is_empty()) {
         (false, true) => Instruction::CallFunctionPositional,
@@ -148,25 +171,29 @@ fn placed_call(method: bool, keywords: &[Keyword]) -> Instruction
 }
 
 // A call with a tuple, and the map of the keywords where there are any.
-#[cycle(walk)]
-fn walk_packed(
+#[cycle(interpreter)]
+fn interpret_packed(
     log: &mut Log<'_>,
-    around: Around,
+    node_context: NodeContext,
     method: bool,
     callee: Vec<StepValue>,
     e: &ExprCall,
 ) -> Result<StepValue, Halt>
-    ensures { Gets value_of result (world_of log.new) (call_packed method (values_of callee.items) (all_walks around (exprs expr_tree e.now.args)) (keyword_walks around (keyword_trees expr_tree e.now.keywords)) (world_of log.old)) }
+    ensures { Gets value_of result (world_of log.new)
+        (call_packed method (values_of callee.items)
+        (all_interpreters node_context (exprs expr_tree e.now.args))
+        (keyword_interpreters node_context (keyword_trees expr_tree e.now.keywords))
+        (world_of log.old)) }
 {
     let keywords = e.keywords.as_slice();
-    let tuple = walk_display(
+    let tuple = interpret_display(
         log,
-        around,
+        node_context,
         Instruction::BuildTuple,
         Instruction::BuildTupleUnpack,
         e.args.as_slice(),
     )?;
-    let maps = walk_maps(log, around, keywords)?;
+    let maps = interpret_maps(log, node_context, keywords)?;
     let joined = join_maps(log, maps)?;
     call_packed(log, method, callee, tuple, joined, keywords)
 }
@@ -183,7 +210,11 @@ pub fn call_packed(
     joined: Vec<StepValue>,
     keywords: &[Keyword],
 ) -> Result<StepValue, Halt>
-    ensures { (around : Around) → Gets value_of result (world_of log.new) (does (counted_operation (packed_call method) (any (keyword_walks around (keyword_trees expr_tree keywords.now)))) (values_of callee.items ++ value_of tuple ∷ values_of joined.items) (world_of log.old)) }
+    ensures { (node_context : NodeContext)
+        → Gets value_of result (world_of log.new)
+        (does (counted_operation (packed_call method)
+        (any (keyword_interpreters node_context (keyword_trees expr_tree keywords.now))))
+        (values_of callee.items ++ value_of tuple ∷ values_of joined.items) (world_of log.old)) }
 {
     let operation = numbered(packed_call(method), map_count(keywords));
     let mut operands = callee;
@@ -204,7 +235,8 @@ fn packed_call(method: bool) -> Instruction
 
 // One map where there are keywords.
 fn map_count(keywords: &[Keyword]) -> u32
-    ensures { (around : Around) → result ≡ any (keyword_walks around (keyword_trees expr_tree keywords.now)) }
+    ensures { (node_context : NodeContext)
+        → result ≡ any (keyword_interpreters node_context (keyword_trees expr_tree keywords.now)) }
 {
     if keywords.is_empty() { 0 } else { 1 }
 }

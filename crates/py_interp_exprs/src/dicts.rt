@@ -5,35 +5,42 @@ ghost use Rattle.py_answers.specs.Log.{Gets, world_of};
 ghost use Rattle.py_answers.specs.Told.{value_of, values_of};
 ghost use Rattle.py_emission_parts.specs.Elements.{pairs};
 ghost use Rattle.py_interp.specs.Doing.{get_entries};
-ghost use Rattle.py_interp.specs.Walks.{key_walks, value_walks, walk_expr};
+ghost use Rattle.py_interp.specs.Interpreters.{key_interpreters, value_interpreters, interpret_expr};
 ghost use Rattle.py_interp_exprs.specs.Options.{told_option};
 ghost use Rattle.py_interp_exprs.specs.Parts.{add_spread, get_pair};
 
-use crate::expressions::walk_expression;
+use crate::expressions::interpret_expression;
 use crate::groups::close_pairs;
 use py_answers::{Halt, Log, StepValue};
-use py_interp::Around;
+use py_interp::NodeContext;
 use py_interp::operands::push;
 use py_interp::operations::add_map;
 use py_tree::{Expr, ExprDict};
 
-#[cycle(walk)]
-pub(crate) fn walk_dict(log: &mut Log<'_>, around: Around, e: &ExprDict) -> Result<StepValue, Halt>
-    ensures { Gets value_of result (world_of log.new) (walk_expr around (dict_tree e.now) (world_of log.old)) }
+#[cycle(interpreter)]
+pub(crate) fn interpret_dict(
+    log: &mut Log<'_>,
+    node_context: NodeContext,
+    e: &ExprDict,
+) -> Result<StepValue, Halt>
+    ensures { Gets value_of result (world_of log.new)
+        (interpret_expr node_context (dict_tree e.now) (world_of log.old)) }
 {
-    walk_entries(log, around, e.keys.as_slice(), e.values.as_slice())
+    interpret_entries(log, node_context, e.keys.as_slice(), e.values.as_slice())
 }
 
 // Gets the map of a dict display: that of the first pairs, to which each later run of pairs and each map that is unpacked is
 // added.
-#[cycle(walk)]
-fn walk_entries(
+#[cycle(interpreter)]
+fn interpret_entries(
     log: &mut Log<'_>,
-    around: Around,
+    node_context: NodeContext,
     keys: &[Option<Expr>],
     values: &[Expr],
 ) -> Result<StepValue, Halt>
-    ensures { Gets value_of result (world_of log.new) (get_entries None 0 [] (pairs (key_walks around (opt_exprs expr_tree keys.now)) (value_walks around (exprs expr_tree values.now))) (world_of log.old)) }
+    ensures { Gets value_of result (world_of log.new)
+        (get_entries None 0 [] (pairs (key_interpreters node_context (opt_exprs expr_tree keys.now))
+        (value_interpreters node_context (exprs expr_tree values.now))) (world_of log.old)) }
 {
     let mut map = None;
     let mut count = 0;
@@ -42,11 +49,11 @@ fn walk_entries(
         let key = &keys[i];
         match key {
             Some(key) => {
-                run = walk_pair(log, around, run, key, &values[i])?;
+                run = interpret_pair(log, node_context, run, key, &values[i])?;
                 count += 1;
             }
             None => {
-                let added = walk_spread(log, around, map, count, run, &values[i])?;
+                let added = interpret_spread(log, node_context, map, count, run, &values[i])?;
                 map = Some(added);
                 count = 0;
                 run = Vec::new(log.alloc);
@@ -68,36 +75,40 @@ fn pair_count(keys: &[Option<Expr>], values: &[Expr]) -> usize
 }
 
 // Gets a key and its value after others.
-#[cycle(walk)]
-fn walk_pair(
+#[cycle(interpreter)]
+fn interpret_pair(
     log: &mut Log<'_>,
-    around: Around,
+    node_context: NodeContext,
     mut run: Vec<StepValue>,
     key: &Expr,
     value: &Expr,
 ) -> Result<Vec<StepValue>, Halt>
-    ensures { Gets (λ v. values_of v.items) result (world_of log.new) (get_pair (values_of run.items) (walk_expr around (expr_tree key.now)) (walk_expr around (expr_tree value.now)) (world_of log.old)) }
+    ensures { Gets (λ v. values_of v.items) result (world_of log.new)
+        (get_pair (values_of run.items) (interpret_expr node_context (expr_tree key.now))
+        (interpret_expr node_context (expr_tree value.now)) (world_of log.old)) }
 {
-    let key = walk_expression(log, around, key)?;
-    let value = walk_expression(log, around, value)?;
+    let key = interpret_expression(log, node_context, key)?;
+    let value = interpret_expression(log, node_context, value)?;
     push(&mut run, key)?;
     push(&mut run, value)?;
     Ok(run)
 }
 
 // Adds a run of so many pairs to a map, and then a map that is unpacked.
-#[cycle(walk)]
-fn walk_spread(
+#[cycle(interpreter)]
+fn interpret_spread(
     log: &mut Log<'_>,
-    around: Around,
+    node_context: NodeContext,
     map: Option<StepValue>,
     count: usize,
     run: Vec<StepValue>,
     value: &Expr,
 ) -> Result<StepValue, Halt>
-    ensures { Gets value_of result (world_of log.new) (add_spread (told_option map) count (values_of run.items) (walk_expr around (expr_tree value.now)) (world_of log.old)) }
+    ensures { Gets value_of result (world_of log.new)
+        (add_spread (told_option map) count (values_of run.items)
+        (interpret_expr node_context (expr_tree value.now)) (world_of log.old)) }
 {
     let built = close_pairs(log, map, count, run)?;
-    let added = walk_expression(log, around, value)?;
+    let added = interpret_expression(log, node_context, value)?;
     add_map(log, built, added)
 }

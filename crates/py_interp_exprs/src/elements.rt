@@ -4,14 +4,14 @@ ghost use Rattle.py_tree.specs.View.{expr_tree, exprs};
 ghost use Rattle.py_answers.specs.Log.{Gets, world_of};
 ghost use Rattle.py_answers.specs.Told.{values_of};
 ghost use Rattle.py_interp.specs.Doing.{get_all, get_groups, values_of_all};
-ghost use Rattle.py_interp.specs.Walks.{all_walks, walk_expr};
-ghost use Rattle.py_interp_exprs.specs.Parts.{get_behind};
+ghost use Rattle.py_interp.specs.Interpreters.{all_interpreters, interpret_expr};
+ghost use Rattle.py_interp_exprs.specs.Parts.{get_after};
 ghost use Rattle.py_interp_exprs.specs.Starred.{any_starred, is_starred};
 
-use crate::expressions::walk_expression;
+use crate::expressions::interpret_expression;
 use crate::groups::close_run;
 use py_answers::{Halt, Log, StepValue};
-use py_interp::Around;
+use py_interp::NodeContext;
 use py_interp::operands::push;
 use py_tree::Expr;
 
@@ -42,13 +42,19 @@ pub fn is_star(elt: &Expr) -> bool
 ///
 /// # Errors
 /// What ends the run, or OutOfMemory.
-#[cycle(walk)]
-pub fn walk_all(log: &mut Log<'_>, around: Around, items: &[Expr]) -> Result<Vec<StepValue>, Halt>
-    ensures { Gets (λ v. values_of v.items) result (world_of log.new) (get_all [] (values_of_all (all_walks around (exprs expr_tree items.now))) (world_of log.old)) }
+#[cycle(interpreter)]
+pub fn interpret_all(
+    log: &mut Log<'_>,
+    node_context: NodeContext,
+    items: &[Expr],
+) -> Result<Vec<StepValue>, Halt>
+    ensures { Gets (λ v. values_of v.items) result (world_of log.new)
+        (get_all [] (values_of_all (all_interpreters node_context (exprs expr_tree items.now)))
+        (world_of log.old)) }
 {
     let mut values = Vec::new(log.alloc);
     for item in items {
-        values = walk_behind(log, around, values, item)?;
+        values = interpret_after(log, node_context, values, item)?;
     }
     Ok(values)
 }
@@ -57,38 +63,42 @@ pub fn walk_all(log: &mut Log<'_>, around: Around, items: &[Expr]) -> Result<Vec
 ///
 /// # Errors
 /// What ends the run, or OutOfMemory.
-#[cycle(walk)]
-pub fn walk_behind(
+#[cycle(interpreter)]
+pub fn interpret_after(
     log: &mut Log<'_>,
-    around: Around,
+    node_context: NodeContext,
     mut values: Vec<StepValue>,
     expr: &Expr,
 ) -> Result<Vec<StepValue>, Halt>
-    ensures { Gets (λ v. values_of v.items) result (world_of log.new) (get_behind (values_of values.items) (walk_expr around (expr_tree expr.now)) (world_of log.old)) }
+    ensures { Gets (λ v. values_of v.items) result (world_of log.new)
+        (get_after (values_of values.items) (interpret_expr node_context (expr_tree expr.now))
+        (world_of log.old)) }
 {
-    let value = walk_expression(log, around, expr)?;
+    let value = interpret_expression(log, node_context, expr)?;
     push(&mut values, value)?;
     Ok(values)
 }
 
 /// Gets a tuple of each longest run of plain elements, and each starred value itself.
-#[cycle(walk)]
-pub(crate) fn walk_groups(
+#[cycle(interpreter)]
+pub(crate) fn interpret_groups(
     log: &mut Log<'_>,
-    around: Around,
+    node_context: NodeContext,
     elts: &[Expr],
 ) -> Result<Vec<StepValue>, Halt>
-    ensures { Gets (λ v. values_of v.items) result (world_of log.new) (get_groups [] [] (all_walks around (exprs expr_tree elts.now)) (world_of log.old)) }
+    ensures { Gets (λ v. values_of v.items) result (world_of log.new)
+        (get_groups [] [] (all_interpreters node_context (exprs expr_tree elts.now))
+        (world_of log.old)) }
 {
     let mut groups = Vec::new(log.alloc);
     let mut run = Vec::new(log.alloc);
     for elt in elts {
         if is_star(elt) {
             let closed = close_run(log, groups, run)?;
-            groups = walk_behind(log, around, closed, elt)?;
+            groups = interpret_after(log, node_context, closed, elt)?;
             run = Vec::new(log.alloc);
         } else {
-            run = walk_behind(log, around, run, elt)?;
+            run = interpret_after(log, node_context, run, elt)?;
         }
     }
     close_run(log, groups, run)

@@ -1,21 +1,21 @@
 //! Lambdas, comprehensions and defaults.
 ghost use Rattle.std.specs.Prelude.{◌≡◌, ◌++◌, [], IfErr, IfOk};
-ghost use Rattle.py_emission_parts.specs.Within.{some_flag};
+ghost use Rattle.py_emission_parts.specs.NestedScopes.{some_flag};
 ghost use Rattle.py_tree.specs.View.{args as arg_trees, arguments, expr_tree, generators, lambda_tree};
 ghost use Rattle.py_answers.specs.Log.{Gets, world_of};
 ghost use Rattle.py_answers.specs.Told.{value_of, values_of};
 ghost use Rattle.py_interp.specs.Doing.{call_at_once, default_flags, get_all, get_defaults, get_maps, iterator, make as make_function};
-ghost use Rattle.py_interp.specs.Walks.{default_walks, first_walk, keyword_only_walks, positional_walks, walk_expr};
+ghost use Rattle.py_interp.specs.Interpreters.{default_interpreters, first_interpreter, keyword_only_interpreters, positional_interpreters, interpret_expr};
 
-use crate::elements::walk_behind;
-use crate::expressions::walk_expression;
+use crate::elements::interpret_after;
+use crate::expressions::interpret_expression;
 use crate::groups::{close_map, close_run};
-use crate::keywords::walk_named;
+use crate::keywords::interpret_named;
 use crate::making::{append, make};
 use py_answers::{Halt, Log, StepValue};
 use py_base::Text;
 use py_bytecode::Instruction;
-use py_interp::Around;
+use py_interp::NodeContext;
 use py_interp::constants::none;
 use py_interp::operations::{bare, does_one, does_two, numbered};
 use py_tree::{ArgWithDefault, Arguments, Comprehension, ExprLambda};
@@ -32,7 +32,8 @@ pub struct Defaults {
 impl Defaults {
     /// The flags of those that there are.
     pub fn flags(&self) -> u32
-        ensures { result ≡ default_flags (values_of self.now.positional.items, values_of self.now.keyword.items) }
+        ensures { result ≡ default_flags
+            (values_of self.now.positional.items, values_of self.now.keyword.items) }
     {
         flag_of(self.positional.as_slice(), 8) + flag_of(self.keyword.as_slice(), 4)
     }
@@ -45,22 +46,25 @@ fn flag_of(values: &[StepValue], flag: u32) -> u32
     if values.is_empty() { 0 } else { flag }
 }
 
-#[cycle(walk)]
-pub(crate) fn walk_lambda(
+#[cycle(interpreter)]
+pub(crate) fn interpret_lambda(
     log: &mut Log<'_>,
-    around: Around,
+    node_context: NodeContext,
     e: &ExprLambda,
 ) -> Result<StepValue, Halt>
-    ensures { Gets value_of result (world_of log.new) (walk_expr around (lambda_tree e.now) (world_of log.old)) }
+    ensures { Gets value_of result (world_of log.new)
+        (interpret_expr node_context (lambda_tree e.now) (world_of log.old)) }
 {
-    let defaults = walk_defaults(log, around, &e.args)?;
+    let defaults = interpret_defaults(log, node_context, &e.args)?;
     let name = fixed_name(log.alloc, "<lambda>")?;
     make_of(log, defaults, &name)
 }
 
 // Makes a function of defaults, with this name.
 fn make_of(log: &mut Log<'_>, defaults: Defaults, name: &Text) -> Result<StepValue, Halt>
-    ensures { let p = values_of defaults.positional.items in let q = values_of defaults.keyword.items in Gets value_of result (world_of log.new) (make_function (default_flags (p, q)) (p ++ q) [] name.now (world_of log.old)) }
+    ensures { let p = values_of defaults.positional.items in let q =
+        values_of defaults.keyword.items in Gets value_of result (world_of log.new)
+        (make_function (default_flags (p, q)) (p ++ q) [] name.now (world_of log.old)) }
 {
     let flags = defaults.flags();
     let Defaults {
@@ -75,17 +79,19 @@ fn make_of(log: &mut Log<'_>, defaults: Defaults, name: &Text) -> Result<StepVal
 ///
 /// # Errors
 /// What ends the run, or OutOfMemory.
-#[cycle(walk)]
-pub fn walk_defaults(
+#[cycle(interpreter)]
+pub fn interpret_defaults(
     log: &mut Log<'_>,
-    around: Around,
+    node_context: NodeContext,
     params: &Arguments,
 ) -> Result<Defaults, Halt>
-    ensures { Gets (λ d. (values_of d.positional.items, values_of d.keyword.items)) result (world_of log.new) (get_defaults (default_walks around (arguments expr_tree params.now)) (world_of log.old)) }
+    ensures { Gets (λ d. (values_of d.positional.items, values_of d.keyword.items)) result
+        (world_of log.new) (get_defaults
+        (default_interpreters node_context (arguments expr_tree params.now)) (world_of log.old)) }
 {
-    let values = walk_positionals(log, around, params)?;
+    let values = interpret_positionals(log, node_context, params)?;
     let positional = close_run(log, Vec::new(log.alloc), values)?;
-    let keyword = walk_keyword_only(log, around, params.kwonlyargs.as_slice())?;
+    let keyword = interpret_keyword_only(log, node_context, params.kwonlyargs.as_slice())?;
     Ok(Defaults {
         positional,
         keyword,
@@ -93,51 +99,59 @@ pub fn walk_defaults(
 }
 
 // Gets the defaults of positional parameters: those that are positional only first.
-#[cycle(walk)]
-fn walk_positionals(
+#[cycle(interpreter)]
+fn interpret_positionals(
     log: &mut Log<'_>,
-    around: Around,
+    node_context: NodeContext,
     params: &Arguments,
 ) -> Result<Vec<StepValue>, Halt>
-    ensures { Gets (λ v. values_of v.items) result (world_of log.new) (get_all [] (positional_walks around (arg_trees expr_tree params.now.posonlyargs) ++ positional_walks around (arg_trees expr_tree params.now.args)) (world_of log.old)) }
+    ensures { Gets (λ v. values_of v.items) result (world_of log.new)
+        (get_all [] (positional_interpreters node_context
+        (arg_trees expr_tree params.now.posonlyargs)
+        ++ positional_interpreters node_context (arg_trees expr_tree params.now.args))
+        (world_of log.old)) }
 {
     let values = Vec::new(log.alloc);
-    let values = walk_positional(log, around, values, params.posonlyargs.as_slice())?;
-    walk_positional(log, around, values, params.args.as_slice())
+    let values = interpret_positional(log, node_context, values, params.posonlyargs.as_slice())?;
+    interpret_positional(log, node_context, values, params.args.as_slice())
 }
 
 // Gets the defaults of some parameters after others.
-#[cycle(walk)]
-fn walk_positional(
+#[cycle(interpreter)]
+fn interpret_positional(
     log: &mut Log<'_>,
-    around: Around,
+    node_context: NodeContext,
     mut values: Vec<StepValue>,
     args: &[ArgWithDefault],
 ) -> Result<Vec<StepValue>, Halt>
-    ensures { Gets (λ v. values_of v.items) result (world_of log.new) (get_all (values_of values.items) (positional_walks around (arg_trees expr_tree args.now)) (world_of log.old)) }
+    ensures { Gets (λ v. values_of v.items) result (world_of log.new)
+        (get_all (values_of values.items)
+        (positional_interpreters node_context (arg_trees expr_tree args.now)) (world_of log.old)) }
 {
     for arg in args {
         if let Some(default) = &arg.default {
-            values = walk_behind(log, around, values, default)?;
+            values = interpret_after(log, node_context, values, default)?;
         }
     }
     Ok(values)
 }
 
 // Gets a map of the defaults of keyword-only parameters by their names, where there are any.
-#[cycle(walk)]
-fn walk_keyword_only(
+#[cycle(interpreter)]
+fn interpret_keyword_only(
     log: &mut Log<'_>,
-    around: Around,
+    node_context: NodeContext,
     args: &[ArgWithDefault],
 ) -> Result<Vec<StepValue>, Halt>
-    ensures { Gets (λ v. values_of v.items) result (world_of log.new) (get_maps [] 0 [] (keyword_only_walks around (arg_trees expr_tree args.now)) (world_of log.old)) }
+    ensures { Gets (λ v. values_of v.items) result (world_of log.new)
+        (get_maps [] 0 [] (keyword_only_interpreters node_context (arg_trees expr_tree args.now))
+        (world_of log.old)) }
 {
     let mut count = 0;
     let mut run = Vec::new(log.alloc);
     for arg in args {
         if let Some(default) = &arg.default {
-            run = walk_named(log, around, run, &arg.def.arg, default)?;
+            run = interpret_named(log, node_context, run, &arg.def.arg, default)?;
             count += 1;
         }
     }
@@ -145,17 +159,19 @@ fn walk_keyword_only(
 }
 
 /// Makes the function of a comprehension, and calls it at once with the iterator of its first iterable.
-#[cycle(walk)]
-pub(crate) fn walk_comprehension(
+#[cycle(interpreter)]
+pub(crate) fn interpret_comprehension(
     log: &mut Log<'_>,
-    around: Around,
+    node_context: NodeContext,
     name: &str,
     clauses: &[Comprehension],
 ) -> Result<StepValue, Halt>
-    ensures { Gets value_of result (world_of log.new) (call_at_once name.now (first_walk around (generators expr_tree clauses.now)) (world_of log.old)) }
+    ensures { Gets value_of result (world_of log.new)
+        (call_at_once name.now (first_interpreter node_context (generators expr_tree clauses.now))
+        (world_of log.old)) }
 {
     let function = make_child(log, name)?;
-    let iterator = walk_first_iterator(log, around, clauses)?;
+    let iterator = interpret_first_iterator(log, node_context, clauses)?;
     does_two(
         log,
         numbered(Instruction::CallFunctionPositional, 1),
@@ -169,36 +185,40 @@ pub(crate) fn walk_comprehension(
 /// # Errors
 /// What ends the run, or OutOfMemory.
 pub fn make_child(log: &mut Log<'_>, name: &str) -> Result<StepValue, Halt>
-    ensures { Gets value_of result (world_of log.new) (make_function 0 [] [] name.now (world_of log.old)) }
+    ensures { Gets value_of result (world_of log.new)
+        (make_function 0 [] [] name.now (world_of log.old)) }
 {
     let name = fixed_name(log.alloc, name)?;
     make(log, 0, Vec::new(log.alloc), Vec::new(log.alloc), &name)
 }
 
 // Gets the iterator of the iterable of the first clause.
-#[cycle(walk)]
-fn walk_first_iterator(
+#[cycle(interpreter)]
+fn interpret_first_iterator(
     log: &mut Log<'_>,
-    around: Around,
+    node_context: NodeContext,
     clauses: &[Comprehension],
 ) -> Result<StepValue, Halt>
-    ensures { Gets value_of result (world_of log.new) (iterator (first_walk around (generators expr_tree clauses.now)) (world_of log.old)) }
+    ensures { Gets value_of result (world_of log.new)
+        (iterator (first_interpreter node_context (generators expr_tree clauses.now))
+        (world_of log.old)) }
 {
-    let iterable = walk_first(log, around, clauses)?;
+    let iterable = interpret_first(log, node_context, clauses)?;
     does_one(log, bare(Instruction::GetIter), iterable)
 }
 
 // Gets the iterable of the first clause.
-#[cycle(walk)]
-fn walk_first(
+#[cycle(interpreter)]
+fn interpret_first(
     log: &mut Log<'_>,
-    around: Around,
+    node_context: NodeContext,
     clauses: &[Comprehension],
 ) -> Result<StepValue, Halt>
-    ensures { Gets value_of result (world_of log.new) (first_walk around (generators expr_tree clauses.now) (world_of log.old)) }
+    ensures { Gets value_of result (world_of log.new)
+        (first_interpreter node_context (generators expr_tree clauses.now) (world_of log.old)) }
 {
     match clauses {
-        [clause, ..] => walk_expression(log, around, &clause.iter),
+        [clause, ..] => interpret_expression(log, node_context, &clause.iter),
         [] => Ok(none()),
     }
 }

@@ -19,7 +19,8 @@ pub fn close_run(
     groups: Vec<StepValue>,
     run: Vec<StepValue>,
 ) -> Result<Vec<StepValue>, Halt>
-    ensures { Gets (λ v. values_of v.items) result (world_of log.new) (close_run (values_of groups.items) (values_of run.items) (world_of log.old)) }
+    ensures { Gets (λ v. values_of v.items) result (world_of log.new)
+        (close_run (values_of groups.items) (values_of run.items) (world_of log.old)) }
 {
     if run.is_empty() {
         return Ok(groups);
@@ -40,7 +41,8 @@ pub fn close_map(
     count: usize,
     run: Vec<StepValue>,
 ) -> Result<Vec<StepValue>, Halt>
-    ensures { Gets (λ v. values_of v.items) result (world_of log.new) (close_map (values_of maps.items) count (values_of run.items) (world_of log.old)) }
+    ensures { Gets (λ v. values_of v.items) result (world_of log.new)
+        (close_map (values_of maps.items) count (values_of run.items) (world_of log.old)) }
 {
     if run.is_empty() {
         return Ok(maps);
@@ -61,7 +63,8 @@ pub fn close_pairs(
     count: usize,
     run: Vec<StepValue>,
 ) -> Result<StepValue, Halt>
-    ensures { Gets value_of result (world_of log.new) (close_pairs (told_option map) count (values_of run.items) (world_of log.old)) }
+    ensures { Gets value_of result (world_of log.new)
+        (close_pairs (told_option map) count (values_of run.items) (world_of log.old)) }
 {
     let Some(map) = map else {
         return build_map(log, count, run);
@@ -78,7 +81,8 @@ pub fn close_pairs(
 /// # Errors
 /// What ends the run, or OutOfMemory.
 pub fn join_maps(log: &mut Log<'_>, maps: Vec<StepValue>) -> Result<Vec<StepValue>, Halt>
-    ensures { Gets (λ v. values_of v.items) result (world_of log.new) (join_maps (values_of maps.items) (world_of log.old)) }
+    ensures { Gets (λ v. values_of v.items) result (world_of log.new)
+        (join_maps (values_of maps.items) (world_of log.old)) }
 {
     if maps.len() < 2 {
         return Ok(maps);

@@ -7,17 +7,17 @@ ghost use Rattle.py_bytecode.specs.Objects.{tuple};
 ghost use Rattle.py_answers.specs.Log.{Gets, world_of};
 ghost use Rattle.py_answers.specs.Told.{values_of};
 ghost use Rattle.py_interp.specs.Doing.{get_all, get_maps, name_tuple, values_in};
-ghost use Rattle.py_interp.specs.Walks.{keyword_walks, walk_expr};
+ghost use Rattle.py_interp.specs.Interpreters.{keyword_interpreters, interpret_expr};
 ghost use Rattle.py_interp_exprs.specs.Parts.{get_named};
 ghost use Rattle.py_interp_exprs.specs.Keywords.{any_unpacked, names_of};
 
-use crate::elements::walk_behind;
-use crate::expressions::walk_expression;
+use crate::elements::interpret_after;
+use crate::expressions::interpret_expression;
 use crate::groups::close_map;
 use py_answers::{Halt, Log, StepValue};
 use py_base::{List, Text};
 use py_bytecode::ConstantData;
-use py_interp::Around;
+use py_interp::NodeContext;
 use py_interp::constants::text;
 use py_interp::operands::{one, push};
 use py_tree::{Expr, Keyword};
@@ -39,17 +39,20 @@ pub fn has_map(keywords: &[Keyword]) -> bool
 ///
 /// # Errors
 /// What ends the run, or OutOfMemory.
-#[cycle(walk)]
-pub fn walk_keyword_values(
+#[cycle(interpreter)]
+pub fn interpret_keyword_values(
     log: &mut Log<'_>,
-    around: Around,
+    node_context: NodeContext,
     mut values: Vec<StepValue>,
     keywords: &[Keyword],
 ) -> Result<Vec<StepValue>, Halt>
-    ensures { Gets (λ v. values_of v.items) result (world_of log.new) (get_all (values_of values.items) (values_in (keyword_walks around (keyword_trees expr_tree keywords.now))) (world_of log.old)) }
+    ensures { Gets (λ v. values_of v.items) result (world_of log.new)
+        (get_all (values_of values.items)
+        (values_in (keyword_interpreters node_context (keyword_trees expr_tree keywords.now)))
+        (world_of log.old)) }
 {
     for keyword in keywords {
-        values = walk_behind(log, around, values, &keyword.value)?;
+        values = interpret_after(log, node_context, values, &keyword.value)?;
     }
     Ok(values)
 }
@@ -59,7 +62,9 @@ pub fn walk_keyword_values(
 /// # Errors
 /// OutOfMemory alone.
 pub(crate) fn names_given(alloc: Global, keywords: &[Keyword]) -> Result<Vec<StepValue>, Halt>
-    ensures ok { IfOk result (λ v. (around : Around) → values_of v.items ≡ name_tuple (keyword_walks around (keyword_trees expr_tree keywords.now))) }
+    ensures ok { IfOk result (λ v. (node_context : NodeContext)
+        → values_of v.items ≡ name_tuple
+        (keyword_interpreters node_context (keyword_trees expr_tree keywords.now))) }
     ensures err { IfErr result (λ h. h ≡ Halt.OutOfMemory) }
 {
     if keywords.is_empty() {
@@ -74,7 +79,8 @@ pub(crate) fn names_given(alloc: Global, keywords: &[Keyword]) -> Result<Vec<Ste
 // The tuple of the names of keywords.
 #[tactic(auto, using(py_bytecode::proofs::View::views))]
 fn tuple_of_names(alloc: Global, keywords: &[Keyword]) -> Result<ConstantData, AllocError>
-    ensures { IfOk result (λ c. constant c ≡ tuple (names_of (keyword_trees expr_tree keywords.now))) }
+    ensures { IfOk result (λ c. constant c
+        ≡ tuple (names_of (keyword_trees expr_tree keywords.now))) }
 {
     let mut names = Vec::new(alloc);
     for keyword in keywords {
@@ -99,13 +105,15 @@ fn text_data(alloc: Global, text: &Text) -> Result<ConstantData, AllocError>
 ///
 /// # Errors
 /// What ends the run, or OutOfMemory.
-#[cycle(walk)]
-pub fn walk_maps(
+#[cycle(interpreter)]
+pub fn interpret_maps(
     log: &mut Log<'_>,
-    around: Around,
+    node_context: NodeContext,
     keywords: &[Keyword],
 ) -> Result<Vec<StepValue>, Halt>
-    ensures { Gets (λ v. values_of v.items) result (world_of log.new) (get_maps [] 0 [] (keyword_walks around (keyword_trees expr_tree keywords.now)) (world_of log.old)) }
+    ensures { Gets (λ v. values_of v.items) result (world_of log.new)
+        (get_maps [] 0 [] (keyword_interpreters node_context (keyword_trees expr_tree keywords.now))
+        (world_of log.old)) }
 {
     let mut maps = Vec::new(log.alloc);
     let mut count = 0;
@@ -113,12 +121,12 @@ pub fn walk_maps(
     for keyword in keywords {
         match &keyword.arg {
             Some(name) => {
-                run = walk_named(log, around, run, name, &keyword.value)?;
+                run = interpret_named(log, node_context, run, name, &keyword.value)?;
                 count += 1;
             }
             None => {
                 let closed = close_map(log, maps, count, run)?;
-                maps = walk_behind(log, around, closed, &keyword.value)?;
+                maps = interpret_after(log, node_context, closed, &keyword.value)?;
                 count = 0;
                 run = Vec::new(log.alloc);
             }
@@ -128,17 +136,19 @@ pub fn walk_maps(
 }
 
 /// Gets a value, and puts it with its name after others.
-#[cycle(walk)]
-pub(crate) fn walk_named(
+#[cycle(interpreter)]
+pub(crate) fn interpret_named(
     log: &mut Log<'_>,
-    around: Around,
+    node_context: NodeContext,
     mut run: Vec<StepValue>,
     name: &Text,
     expr: &Expr,
 ) -> Result<Vec<StepValue>, Halt>
-    ensures { Gets (λ v. values_of v.items) result (world_of log.new) (get_named (values_of run.items) name.now (walk_expr around (expr_tree expr.now)) (world_of log.old)) }
+    ensures { Gets (λ v. values_of v.items) result (world_of log.new)
+        (get_named (values_of run.items) name.now (interpret_expr node_context (expr_tree expr.now))
+        (world_of log.old)) }
 {
-    let value = walk_expression(log, around, expr)?;
+    let value = interpret_expression(log, node_context, expr)?;
     push(&mut run, text(log.alloc, name)?)?;
     push(&mut run, value)?;
     Ok(run)

@@ -1,4 +1,4 @@
-//! The walk of expressions, tests and targets over a script of answers.
+//! The interpretation of expressions, tests and targets over a script of answers.
 #![tactic(auto)]
 
 pub mod calls;
@@ -15,7 +15,7 @@ pub mod making;
 mod targets;
 mod texts;
 
-pub use conditions::walk_test;
-pub use expressions::walk_expression;
-pub use functions::{Defaults, walk_defaults};
-pub use targets::walk_target;
+pub use conditions::interpret_test;
+pub use expressions::interpret_expression;
+pub use functions::{Defaults, interpret_defaults};
+pub use targets::interpret_target;

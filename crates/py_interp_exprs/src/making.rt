@@ -16,7 +16,8 @@ use py_interp::operations::{does, numbered};
 /// # Errors
 /// OutOfMemory alone.
 pub fn append(values: &mut Vec<StepValue>, mut others: Vec<StepValue>) -> Result<(), Halt>
-    ensures ok { OnOk result (values_of values.new.items ≡ values_of values.old.items ++ values_of others.items) }
+    ensures ok { OnOk result (values_of values.new.items ≡ values_of values.old.items
+        ++ values_of others.items) }
     ensures err { IfErr result (λ h. h ≡ Halt.OutOfMemory) }
 {
     match values.append(&mut others) {
@@ -36,7 +37,8 @@ pub fn make(
     notes: Vec<StepValue>,
     name: &Text,
 ) -> Result<StepValue, Halt>
-    ensures { Gets value_of result (world_of log.new) (make flags (values_of parts.items) (values_of notes.items) name.now (world_of log.old)) }
+    ensures { Gets value_of result (world_of log.new)
+        (make flags (values_of parts.items) (values_of notes.items) name.now (world_of log.old)) }
 {
     let mut operands = parts;
     append(&mut operands, notes)?;

@@ -18,7 +18,8 @@ use std::alloc::Global;
 /// OutOfMemory alone.
 #[tactic(auto, using(py_bytecode::proofs::View::views))]
 pub(crate) fn whole_text(alloc: Global, parts: &[Expr]) -> Result<Option<StepValue>, Halt>
-    ensures ok { IfOk result (λ v. told_option v ≡ option_map (λ t. values.Constant (object.str t)) (texts_of (exprs expr_tree parts.now))) }
+    ensures ok { IfOk result (λ v. told_option v
+        ≡ option_map (λ t. values.Constant (object.str t)) (texts_of (exprs expr_tree parts.now))) }
     ensures err { IfErr result (λ h. h ≡ Halt.OutOfMemory) }
 {
     match texts_of(alloc, parts) {

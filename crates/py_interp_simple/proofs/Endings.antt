@@ -55,8 +55,8 @@ pub halted_as : {X : Type 0} (how : X → World Known → Ended Known) (r : Resu
 halted_as how r h w whole g e p b = subst (λ q. Ends how q w whole) (sym e) (ending_same how (Err h) w whole g p b)
 
 -- out of memory is free
-pub starved : {X : Type 0} (how : X → World Known → Ended Known) (r : Result X Halt) (h : Halt) (w : World Known) (whole : Ended Known) → r ≡ Err h → h ≡ Halt.OutOfMemory → Ends how r w whole
-starved how r h w whole e f = subst (λ q. Ends how q w whole) (sym (e ∙ ap Err f)) tt
+pub out_of_memory : {X : Type 0} (how : X → World Known → Ended Known) (r : Result X Halt) (h : Halt) (w : World Known) (whole : Ended Known) → r ≡ Err h → h ≡ Halt.OutOfMemory → Ends how r w whole
+out_of_memory how r h w whole e f = subst (λ q. Ends how q w whole) (sym (e ∙ ap Err f)) tt
 
 -- a statement that goes on is followed, another leaves
 pub normal_goes : (f : Flow) (k : World Known → Ended Known) (w : World Known) → is_normal f ≡ true → then_do (flow_of f w) k ≡ k w

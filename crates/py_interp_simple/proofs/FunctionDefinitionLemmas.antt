@@ -6,11 +6,11 @@ use Rattle.py_tree.specs.View.{type_params}
 use Rattle.py_tree.specs.declared.statements.TypeParam.{TypeParam}
 use Rattle.py_bytecode.specs.Values.{Value, World, Got, Fine, Raises, Stops, then_get}
 use Rattle.py_answers.specs.Told.{Known}
-use Rattle.py_interp.specs.declared.around.Around.{Around}
-use Rattle.py_interp.specs.Acting.{call_hidden, document, no_defaults}
+use Rattle.py_interp.specs.declared.node_context.NodeContext.{NodeContext}
+use Rattle.py_interp.specs.Acting.{call_type_param_scope, document, no_defaults}
 use Rattle.py_interp.specs.Doing.{Doing}
 use Rattle.py_interp.specs.Statements.{alias_value, define, define_class}
-use Rattle.py_interp.specs.Walks.{default_walks}
+use Rattle.py_interp.specs.Interpreters.{default_interpreters}
 
 function_definition_itself : {A : Type 0} (g : Got Known A) → g ≡ then_get g (λ x w. Fine x w)
 function_definition_itself (Fine x w) = refl
@@ -27,17 +27,17 @@ pub name_within : (xs name ys : List ℕ) → (xs ++ name) ++ ys ≡ xs ++ (name
 name_within xs name ys = append_assoc xs name ys
 
 -- what has type parameters is made in a type-parameter scope
-module _ (a : Around) (name : List ℕ) (w : World Known) where
-  pub function_hidden : (params : tree.Arguments) (body : tree.Stmts) (returns : tree.OptExpr) (xs : List TypeParam) (b : Bool) → ((b ≡ true) ↔ (xs ≡ []))
-      → b ≡ false → define a name params body returns (type_params xs) w ≡ call_hidden name (default_walks a params) w
-  function_hidden params body returns [] b p q = let t = p.1 refl in absurd cc
-  function_hidden params body returns (x ∷ xs) b p q = refl
+module _ (a : NodeContext) (name : List ℕ) (w : World Known) where
+  pub function_type_param_scope : (params : tree.Arguments) (body : tree.Stmts) (returns : tree.OptExpr) (xs : List TypeParam) (b : Bool) → ((b ≡ true) ↔ (xs ≡ []))
+      → b ≡ false → define a name params body returns (type_params xs) w ≡ call_type_param_scope name (default_interpreters a params) w
+  function_type_param_scope params body returns [] b p q = let t = p.1 refl in absurd cc
+  function_type_param_scope params body returns (x ∷ xs) b p q = refl
 
-  pub class_hidden : (bases : tree.Exprs) (ks : tree.Keywords) (xs : List TypeParam) (b : Bool) → ((b ≡ true) ↔ (xs ≡ [])) → b ≡ false
-      → define_class a name bases ks (type_params xs) w ≡ call_hidden name no_defaults w
-  class_hidden bases ks [] b p q = let t = p.1 refl in absurd cc
-  class_hidden bases ks (x ∷ xs) b p q = refl
+  pub class_type_param_scope : (bases : tree.Exprs) (ks : tree.Keywords) (xs : List TypeParam) (b : Bool) → ((b ≡ true) ↔ (xs ≡ [])) → b ≡ false
+      → define_class a name bases ks (type_params xs) w ≡ call_type_param_scope name no_defaults w
+  class_type_param_scope bases ks [] b p q = let t = p.1 refl in absurd cc
+  class_type_param_scope bases ks (x ∷ xs) b p q = refl
 
-  pub alias_hidden : (value : tree.Expr) (xs : List TypeParam) → nat_eq (length xs) 0 ≡ false → alias_value a name (type_params xs) value w ≡ call_hidden name no_defaults w
-  alias_hidden value [] h = absurd cc
-  alias_hidden value (x ∷ xs) h = refl
+  pub alias_type_param_scope : (value : tree.Expr) (xs : List TypeParam) → nat_eq (length xs) 0 ≡ false → alias_value a name (type_params xs) value w ≡ call_type_param_scope name no_defaults w
+  alias_type_param_scope value [] h = absurd cc
+  alias_type_param_scope value (x ∷ xs) h = refl

@@ -16,7 +16,8 @@ use std::alloc::Global;
 /// OutOfMemory alone.
 pub fn split_doc(alloc: Global, level: u8, body: &[Stmt]) -> Result<(Option<Text>, usize), Halt>
     ensures doc { IfOk result (λ r. r.0 ≡ doc_of level (stmts stmt_tree body.now)) }
-    ensures from { IfOk result (λ r. stmts stmt_tree (drop r.1 body.now) ≡ after_doc (stmts stmt_tree body.now)) }
+    ensures from { IfOk result (λ r. stmts stmt_tree (drop r.1 body.now)
+        ≡ after_doc (stmts stmt_tree body.now)) }
     ensures within { IfOk result (λ r. r.1 ≤ length body.now) }
     ensures err { IfErr result (λ h. h ≡ Halt.OutOfMemory) }
 {

@@ -9,38 +9,43 @@ ghost use Rattle.py_answers.specs.Told.{value_of, values_of};
 ghost use Rattle.py_interp.specs.Acting.{build_class, class_args, class_pair, into, store};
 ghost use Rattle.py_interp.specs.Doing.{call_packed, call_placed, display, does, get_all, get_groups, make, values_of_all};
 ghost use Rattle.py_interp.specs.Statements.{define_class};
-ghost use Rattle.py_interp.specs.Walks.{all_walks, keyword_walks};
+ghost use Rattle.py_interp.specs.Interpreters.{all_interpreters, keyword_interpreters};
 ghost use Rattle.py_interp_exprs.specs.Keywords.{any_unpacked};
 ghost use Rattle.py_interp_exprs.specs.Starred.{any_starred};
 ghost use Rattle.py_interp_simple.specs.Ends.{Ends, flow_of};
 ghost use Rattle.py_interp_simple.specs.Parts.{class_value};
 
-use crate::decorators::{call_decorators, walk_decorators};
+use crate::decorators::{call_decorators, interpret_decorators};
 use crate::flow::Flow;
-use crate::hidden::call_bare;
+use crate::type_param_scopes::call_bare;
 use py_answers::{Halt, Log, StepValue};
 use py_base::Text;
 use py_bytecode::Instruction;
-use py_interp::Around;
+use py_interp::NodeContext;
 use py_interp::constants::text;
 use py_interp::names::store;
 use py_interp::operands::{one, two};
 use py_interp::operations::{bare, build, does};
 use py_interp_exprs::calls::{call_packed, call_placed};
-use py_interp_exprs::elements::{has_star, is_star, walk_behind};
+use py_interp_exprs::elements::{has_star, interpret_after, is_star};
 use py_interp_exprs::functions::make_child;
 use py_interp_exprs::groups::{close_run, join_maps};
-use py_interp_exprs::keywords::{has_map, walk_keyword_values, walk_maps};
+use py_interp_exprs::keywords::{has_map, interpret_keyword_values, interpret_maps};
 use py_tree::{Expr, Keyword, StmtClassDef};
 
 /// Defines a class.
 ///
 /// # Errors
 /// What ends the run, or OutOfMemory.
-pub fn walk_class_def(log: &mut Log<'_>, around: Around, s: &StmtClassDef) -> Result<Flow, Halt>
-    ensures { Ends flow_of result (world_of log.new) (into (class_value around s.now) (store s.now.name) (world_of log.old)) }
+pub fn interpret_class_def(
+    log: &mut Log<'_>,
+    node_context: NodeContext,
+    s: &StmtClassDef,
+) -> Result<Flow, Halt>
+    ensures { Ends flow_of result (world_of log.new)
+        (into (class_value node_context s.now) (store s.now.name) (world_of log.old)) }
 {
-    let class = walk_class(log, around, s)?;
+    let class = interpret_class(log, node_context, s)?;
     store(log, &s.name, class)?;
     Ok(Flow::Normal)
 }
@@ -50,21 +55,29 @@ pub fn walk_class_def(log: &mut Log<'_>, around: Around, s: &StmtClassDef) -> Re
 /// # Errors
 /// What ends the run, or OutOfMemory.
 #[tactic(auto, using(crate::proofs::DecoratorLemmas::decorated))]
-pub fn walk_class(log: &mut Log<'_>, around: Around, s: &StmtClassDef) -> Result<StepValue, Halt>
-    ensures { Gets value_of result (world_of log.new) (class_value around s.now (world_of log.old)) }
+pub fn interpret_class(
+    log: &mut Log<'_>,
+    node_context: NodeContext,
+    s: &StmtClassDef,
+) -> Result<StepValue, Halt>
+    ensures { Gets value_of result (world_of log.new)
+        (class_value node_context s.now (world_of log.old)) }
 {
-    let decorators = walk_decorators(log, around, s.decorator_list.as_slice())?;
-    let class = define(log, around, s)?;
+    let decorators = interpret_decorators(log, node_context, s.decorator_list.as_slice())?;
+    let class = define(log, node_context, s)?;
     call_decorators(log, decorators, class)
 }
 
 // With type parameters a class is built in a type-parameter scope.
-fn define(log: &mut Log<'_>, around: Around, s: &StmtClassDef) -> Result<StepValue, Halt>
-    ensures { Gets value_of result (world_of log.new) (define_class around s.now.name (exprs expr_tree s.now.bases) (keyword_trees expr_tree s.now.keywords) (type_params s.now.type_params) (world_of log.old)) }
+fn define(log: &mut Log<'_>, node_context: NodeContext, s: &StmtClassDef) -> Result<StepValue, Halt>
+    ensures { Gets value_of result (world_of log.new)
+        (define_class node_context s.now.name (exprs expr_tree s.now.bases)
+        (keyword_trees expr_tree s.now.keywords) (type_params s.now.type_params)
+        (world_of log.old)) }
 {
     if s.type_params.is_empty() {
         let keywords = s.keywords.as_slice();
-        return build_class(log, around, &s.name, s.bases.as_slice(), keywords);
+        return build_class(log, node_context, &s.name, s.bases.as_slice(), keywords);
     }
     call_bare(log, &s.name)
 }
@@ -72,30 +85,35 @@ fn define(log: &mut Log<'_>, around: Around, s: &StmtClassDef) -> Result<StepVal
 // A class is what its function, its name, its bases and its keywords build.
 fn build_class(
     log: &mut Log<'_>,
-    around: Around,
+    node_context: NodeContext,
     name: &Text,
     bases: &[Expr],
     keywords: &[Keyword],
 ) -> Result<StepValue, Halt>
-    ensures { Gets value_of result (world_of log.new) (build_class name.now (all_walks around (exprs expr_tree bases.now)) (keyword_walks around (keyword_trees expr_tree keywords.now)) (world_of log.old)) }
+    ensures { Gets value_of result (world_of log.new)
+        (build_class name.now (all_interpreters node_context (exprs expr_tree bases.now))
+        (keyword_interpreters node_context (keyword_trees expr_tree keywords.now))
+        (world_of log.old)) }
 {
     let builder = load_builder(log)?;
     if is_packed(bases, keywords) {
-        return build_packed(log, around, builder, name, bases, keywords);
+        return build_packed(log, node_context, builder, name, bases, keywords);
     }
-    build_placed(log, around, builder, name, bases, keywords)
+    build_placed(log, node_context, builder, name, bases, keywords)
 }
 
 // Loads what builds classes.
 fn load_builder(log: &mut Log<'_>) -> Result<StepValue, Halt>
-    ensures { Gets value_of result (world_of log.new) (does (operation op.LoadBuildClass Bare) [] (world_of log.old)) }
+    ensures { Gets value_of result (world_of log.new)
+        (does (operation op.LoadBuildClass Bare) [] (world_of log.old)) }
 {
     does(log, bare(Instruction::LoadBuildClass), Vec::new(log.alloc))
 }
 
 // Whether a base is starred, or a map is unpacked.
 fn is_packed(bases: &[Expr], keywords: &[Keyword]) -> bool
-    ensures { result ≡ (any_starred (exprs expr_tree bases.now) || any_unpacked (keyword_trees expr_tree keywords.now)) }
+    ensures { result ≡ (any_starred (exprs expr_tree bases.now) || any_unpacked
+        (keyword_trees expr_tree keywords.now)) }
 {
     has_star(bases) || has_map(keywords)
 }
@@ -103,37 +121,45 @@ fn is_packed(bases: &[Expr], keywords: &[Keyword]) -> bool
 // With values in their places, and the names of the last where there are keywords.
 fn build_placed(
     log: &mut Log<'_>,
-    around: Around,
+    node_context: NodeContext,
     builder: StepValue,
     name: &Text,
     bases: &[Expr],
     keywords: &[Keyword],
 ) -> Result<StepValue, Halt>
-    ensures { Gets value_of result (world_of log.new) (call_placed false (value_of builder ∷ []) (class_args false name.now (all_walks around (exprs expr_tree bases.now))) (keyword_walks around (keyword_trees expr_tree keywords.now)) (world_of log.old)) }
+    ensures { Gets value_of result (world_of log.new)
+        (call_placed false (value_of builder ∷ [])
+        (class_args false name.now (all_interpreters node_context (exprs expr_tree bases.now)))
+        (keyword_interpreters node_context (keyword_trees expr_tree keywords.now))
+        (world_of log.old)) }
 {
-    let values = walk_placed(log, around, name, bases)?;
-    let values = walk_keyword_values(log, around, values, keywords)?;
+    let values = interpret_placed(log, node_context, name, bases)?;
+    let values = interpret_keyword_values(log, node_context, values, keywords)?;
     let callee = one(log.alloc, builder)?;
     call_placed(log, false, callee, values, keywords)
 }
 
 // The function of a class, its name, and the values of its bases.
 #[tactic(auto, using(crate::proofs::ClassCalls::parts_first))]
-fn walk_placed(
+fn interpret_placed(
     log: &mut Log<'_>,
-    around: Around,
+    node_context: NodeContext,
     name: &Text,
     bases: &[Expr],
 ) -> Result<Vec<StepValue>, Halt>
-    ensures { Gets (λ v. values_of v.items) result (world_of log.new) (get_all [] (values_of_all (class_args false name.now (all_walks around (exprs expr_tree bases.now)))) (world_of log.old)) }
+    ensures { Gets (λ v. values_of v.items) result (world_of log.new)
+        (get_all [] (values_of_all (class_args false name.now
+        (all_interpreters node_context (exprs expr_tree bases.now)))) (world_of log.old)) }
 {
     let values = class_parts(log, name)?;
-    walk_bases(log, around, values, bases)
+    interpret_bases(log, node_context, values, bases)
 }
 
 // The function of a class and its name.
 fn class_parts(log: &mut Log<'_>, name: &Text) -> Result<Vec<StepValue>, Halt>
-    ensures { Gets (λ v. values_of v.items) result (world_of log.new) (then_get (make 0 [] [] name.now (world_of log.old)) (λ f w1. Fine (f ∷ Constant (object.str name.now) ∷ []) w1)) }
+    ensures { Gets (λ v. values_of v.items) result (world_of log.new)
+        (then_get (make 0 [] [] name.now (world_of log.old))
+        (λ f w1. Fine (f ∷ Constant (object.str name.now) ∷ []) w1)) }
 {
     let function = make_child(log, name.as_str())?;
     let name = text(log.alloc, name)?;
@@ -141,16 +167,19 @@ fn class_parts(log: &mut Log<'_>, name: &Text) -> Result<Vec<StepValue>, Halt>
 }
 
 // Gets the values of bases after others.
-fn walk_bases(
+fn interpret_bases(
     log: &mut Log<'_>,
-    around: Around,
+    node_context: NodeContext,
     mut values: Vec<StepValue>,
     bases: &[Expr],
 ) -> Result<Vec<StepValue>, Halt>
-    ensures { Gets (λ v. values_of v.items) result (world_of log.new) (get_all (values_of values.items) (values_of_all (all_walks around (exprs expr_tree bases.now))) (world_of log.old)) }
+    ensures { Gets (λ v. values_of v.items) result (world_of log.new)
+        (get_all (values_of values.items)
+        (values_of_all (all_interpreters node_context (exprs expr_tree bases.now)))
+        (world_of log.old)) }
 {
     for base in bases {
-        values = walk_behind(log, around, values, base)?;
+        values = interpret_after(log, node_context, values, base)?;
     }
     Ok(values)
 }
@@ -158,50 +187,60 @@ fn walk_bases(
 // With a tuple, and the map of the keywords where there are any.
 fn build_packed(
     log: &mut Log<'_>,
-    around: Around,
+    node_context: NodeContext,
     builder: StepValue,
     name: &Text,
     bases: &[Expr],
     keywords: &[Keyword],
 ) -> Result<StepValue, Halt>
-    ensures { Gets value_of result (world_of log.new) (call_packed false (value_of builder ∷ []) (class_args (any_starred (exprs expr_tree bases.now)) name.now (all_walks around (exprs expr_tree bases.now))) (keyword_walks around (keyword_trees expr_tree keywords.now)) (world_of log.old)) }
+    ensures { Gets value_of result (world_of log.new)
+        (call_packed false (value_of builder ∷ [])
+        (class_args (any_starred (exprs expr_tree bases.now)) name.now
+        (all_interpreters node_context (exprs expr_tree bases.now)))
+        (keyword_interpreters node_context (keyword_trees expr_tree keywords.now))
+        (world_of log.old)) }
 {
-    let tuple = walk_args(log, around, name, bases)?;
-    let maps = walk_maps(log, around, keywords)?;
+    let tuple = interpret_args(log, node_context, name, bases)?;
+    let maps = interpret_maps(log, node_context, keywords)?;
     let joined = join_maps(log, maps)?;
     let callee = one(log.alloc, builder)?;
     call_packed(log, false, callee, tuple, joined, keywords)
 }
 
 // The tuple of the function of a class, its name and its bases.
-fn walk_args(
+fn interpret_args(
     log: &mut Log<'_>,
-    around: Around,
+    node_context: NodeContext,
     name: &Text,
     bases: &[Expr],
 ) -> Result<StepValue, Halt>
-    ensures { Gets value_of result (world_of log.new) (display op.BuildTuple op.BuildTupleUnpack (class_args (any_starred (exprs expr_tree bases.now)) name.now (all_walks around (exprs expr_tree bases.now))) (world_of log.old)) }
+    ensures { Gets value_of result (world_of log.new)
+        (display op.BuildTuple op.BuildTupleUnpack
+        (class_args (any_starred (exprs expr_tree bases.now)) name.now
+        (all_interpreters node_context (exprs expr_tree bases.now))) (world_of log.old)) }
 {
     if has_star(bases) {
-        let groups = walk_groups(log, around, name, bases)?;
+        let groups = interpret_groups(log, node_context, name, bases)?;
         return build(log, Instruction::BuildTupleUnpack, groups);
     }
-    let values = walk_placed(log, around, name, bases)?;
+    let values = interpret_placed(log, node_context, name, bases)?;
     build(log, Instruction::BuildTuple, values)
 }
 
 // A tuple of the function and the name of a class, and after it the groups of its bases.
-fn walk_groups(
+fn interpret_groups(
     log: &mut Log<'_>,
-    around: Around,
+    node_context: NodeContext,
     name: &Text,
     bases: &[Expr],
 ) -> Result<Vec<StepValue>, Halt>
-    ensures { Gets (λ v. values_of v.items) result (world_of log.new) (get_groups [] [] (class_args true name.now (all_walks around (exprs expr_tree bases.now))) (world_of log.old)) }
+    ensures { Gets (λ v. values_of v.items) result (world_of log.new)
+        (get_groups [] [] (class_args true name.now
+        (all_interpreters node_context (exprs expr_tree bases.now))) (world_of log.old)) }
 {
     let pair = class_pair(log, name)?;
     let groups = one(log.alloc, pair)?;
-    group_bases(log, around, groups, bases)
+    group_bases(log, node_context, groups, bases)
 }
 
 fn class_pair(log: &mut Log<'_>, name: &Text) -> Result<StepValue, Halt>
@@ -211,23 +250,25 @@ fn class_pair(log: &mut Log<'_>, name: &Text) -> Result<StepValue, Halt>
     build(log, Instruction::BuildTuple, parts)
 }
 
-// Behind groups a tuple of each longest run of plain bases, and each starred value itself.
+// After groups a tuple of each longest run of plain bases, and each starred value itself.
 fn group_bases(
     log: &mut Log<'_>,
-    around: Around,
+    node_context: NodeContext,
     mut groups: Vec<StepValue>,
     bases: &[Expr],
 ) -> Result<Vec<StepValue>, Halt>
-    ensures { Gets (λ v. values_of v.items) result (world_of log.new) (get_groups (values_of groups.items) [] (all_walks around (exprs expr_tree bases.now)) (world_of log.old)) }
+    ensures { Gets (λ v. values_of v.items) result (world_of log.new)
+        (get_groups (values_of groups.items) []
+        (all_interpreters node_context (exprs expr_tree bases.now)) (world_of log.old)) }
 {
     let mut run = Vec::new(log.alloc);
     for base in bases {
         if is_star(base) {
             let closed = close_run(log, groups, run)?;
-            groups = walk_behind(log, around, closed, base)?;
+            groups = interpret_after(log, node_context, closed, base)?;
             run = Vec::new(log.alloc);
         } else {
-            run = walk_behind(log, around, run, base)?;
+            run = interpret_after(log, node_context, run, base)?;
         }
     }
     close_run(log, groups, run)

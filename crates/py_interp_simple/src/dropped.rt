@@ -6,14 +6,14 @@ ghost use Rattle.py_answers.specs.Log.{Gets, world_of};
 ghost use Rattle.py_answers.specs.Told.{value_of};
 ghost use Rattle.py_interp.specs.Acting.{into};
 ghost use Rattle.py_interp.specs.Doing.{drop_it, shorts};
-ghost use Rattle.py_interp.specs.Walks.{all_walks, walk_expr};
+ghost use Rattle.py_interp.specs.Interpreters.{all_interpreters, interpret_expr};
 ghost use Rattle.py_interp_exprs.specs.Parts.{get_truth};
 ghost use Rattle.py_interp_simple.specs.Ends.{Ends, goes_on};
 
 use py_answers::{Halt, Log, StepValue};
-use py_interp::Around;
+use py_interp::NodeContext;
 use py_interp::operations::truth;
-use py_interp_exprs::{walk_expression, walk_test};
+use py_interp_exprs::{interpret_expression, interpret_test};
 use py_tree::{BoolOp, Expr, ExprIfExp};
 
 /// Does what an expression does, and drops its value.
@@ -22,33 +22,49 @@ use py_tree::{BoolOp, Expr, ExprIfExp};
 /// What ends the run, or OutOfMemory.
 #[cycle(dropped)]
 #[tactic(auto, using(py_tree::proofs::View::trees))]
-pub(crate) fn walk_dropped(log: &mut Log<'_>, around: Around, expr: &Expr) -> Result<(), Halt>
-    ensures { Ends goes_on result (world_of log.new) (into (walk_expr around (expr_tree expr.now)) drop_it (world_of log.old)) }
+pub(crate) fn interpret_dropped(
+    log: &mut Log<'_>,
+    node_context: NodeContext,
+    expr: &Expr,
+) -> Result<(), Halt>
+    ensures { Ends goes_on result (world_of log.new)
+        (into (interpret_expr node_context (expr_tree expr.now)) drop_it (world_of log.old)) }
 {
     match expr {
         Expr::Constant(_) => Ok(()),
-        Expr::IfExp(e) => walk_dropped_branch(log, around, e),
-        Expr::BoolOp(e) => walk_dropped_shorts(log, around, deciding(e.op), e.values.as_slice()),
-        _ => walk_made(log, around, expr),
+        Expr::IfExp(e) => interpret_dropped_branch(log, node_context, e),
+        Expr::BoolOp(e) => interpret_dropped_shorts(
+            log,
+            node_context,
+            deciding(e.op),
+            e.values.as_slice(),
+        ),
+        _ => interpret_made(log, node_context, expr),
     }
 }
 
 // Makes a value, and drops it.
-fn walk_made(log: &mut Log<'_>, around: Around, expr: &Expr) -> Result<(), Halt>
-    ensures { Ends goes_on result (world_of log.new) (into (walk_expr around (expr_tree expr.now)) drop_it (world_of log.old)) }
+fn interpret_made(log: &mut Log<'_>, node_context: NodeContext, expr: &Expr) -> Result<(), Halt>
+    ensures { Ends goes_on result (world_of log.new)
+        (into (interpret_expr node_context (expr_tree expr.now)) drop_it (world_of log.old)) }
 {
-    let _value = walk_expression(log, around, expr)?;
+    let _value = interpret_expression(log, node_context, expr)?;
     Ok(())
 }
 
 #[cycle(dropped)]
-fn walk_dropped_branch(log: &mut Log<'_>, around: Around, e: &ExprIfExp) -> Result<(), Halt>
-    ensures { Ends goes_on result (world_of log.new) (into (walk_expr around (if_exp_tree e.now)) drop_it (world_of log.old)) }
+fn interpret_dropped_branch(
+    log: &mut Log<'_>,
+    node_context: NodeContext,
+    e: &ExprIfExp,
+) -> Result<(), Halt>
+    ensures { Ends goes_on result (world_of log.new)
+        (into (interpret_expr node_context (if_exp_tree e.now)) drop_it (world_of log.old)) }
 {
-    if walk_test(log, around, &e.test)? {
-        walk_dropped(log, around, &e.body)
+    if interpret_test(log, node_context, &e.test)? {
+        interpret_dropped(log, node_context, &e.body)
     } else {
-        walk_dropped(log, around, &e.orelse)
+        interpret_dropped(log, node_context, &e.orelse)
     }
 }
 
@@ -64,32 +80,39 @@ fn deciding(op: BoolOp) -> bool
 
 // Each value but the last is asked for its truth, and the first of this truth decides.
 #[cycle(dropped)]
-fn walk_dropped_shorts(
+fn interpret_dropped_shorts(
     log: &mut Log<'_>,
-    around: Around,
+    node_context: NodeContext,
     decides: bool,
     values: &[Expr],
 ) -> Result<(), Halt>
-    ensures { Ends goes_on result (world_of log.new) (into (shorts decides (all_walks around (exprs expr_tree values.now))) drop_it (world_of log.old)) }
+    ensures { Ends goes_on result (world_of log.new)
+        (into (shorts decides (all_interpreters node_context (exprs expr_tree values.now))) drop_it
+        (world_of log.old)) }
 {
     let count = values.len();
     if count == 0 {
         return Ok(());
     }
     for i in 0..count - 1 {
-        let asked = walk_asked(log, around, &values[i])?;
+        let asked = interpret_asked(log, node_context, &values[i])?;
         if asked.1 == decides {
             return Ok(());
         }
     }
-    walk_dropped(log, around, &values[count - 1])
+    interpret_dropped(log, node_context, &values[count - 1])
 }
 
 // Gets a value, and asks for its truth.
-fn walk_asked(log: &mut Log<'_>, around: Around, expr: &Expr) -> Result<(StepValue, bool), Halt>
-    ensures { Gets (λ a. (value_of a.0, a.1)) result (world_of log.new) (get_truth (walk_expr around (expr_tree expr.now)) (world_of log.old)) }
+fn interpret_asked(
+    log: &mut Log<'_>,
+    node_context: NodeContext,
+    expr: &Expr,
+) -> Result<(StepValue, bool), Halt>
+    ensures { Gets (λ a. (value_of a.0, a.1)) result (world_of log.new)
+        (get_truth (interpret_expr node_context (expr_tree expr.now)) (world_of log.old)) }
 {
-    let value = walk_expression(log, around, expr)?;
+    let value = interpret_expression(log, node_context, expr)?;
     let truth = truth(log, &value)?;
     Ok((value, truth))
 }

@@ -22,7 +22,7 @@ use py_interp::operands::{copy_value, one};
 use py_interp::operations::{bare, does_none, does_one, does_two};
 use py_interp_exprs::functions::fixed_name;
 use py_node_values::paths::{
-    asked_names, behind_dot, first_segment, has_star, name_taken, single_name,
+    after_dot, asked_names, first_segment, has_star, name_taken, single_name,
 };
 use py_tree::{Alias, StmtImportFrom};
 use std::alloc::Global;
@@ -31,7 +31,7 @@ use std::alloc::Global;
 ///
 /// # Errors
 /// What ends the run, or OutOfMemory.
-pub fn walk_import(log: &mut Log<'_>, names: &[Alias]) -> Result<Flow, Halt>
+pub fn interpret_import(log: &mut Log<'_>, names: &[Alias]) -> Result<Flow, Halt>
     ensures { Ends flow_of result (world_of log.new) (import_all names.now (world_of log.old)) }
 {
     import_all(log, names)?;
@@ -49,7 +49,9 @@ fn import_all(log: &mut Log<'_>, names: &[Alias]) -> Result<(), Halt>
 
 // Imports a module, and stores it: itself where it has a name of its own, else its outermost package.
 fn import_alias(log: &mut Log<'_>, alias: &Alias) -> Result<(), Halt>
-    ensures { Ends goes_on result (world_of log.new) (into (get_module alias.now.name alias.now.asname) (store (import_name alias.now)) (world_of log.old)) }
+    ensures { Ends goes_on result (world_of log.new)
+        (into (get_module alias.now.name alias.now.asname) (store (import_name alias.now))
+        (world_of log.old)) }
 {
     match &alias.asname {
         Some(name) => import_renamed(log, &alias.name, name),
@@ -58,7 +60,8 @@ fn import_alias(log: &mut Log<'_>, alias: &Alias) -> Result<(), Halt>
 }
 
 fn import_package(log: &mut Log<'_>, path: &Text) -> Result<(), Halt>
-    ensures { Ends goes_on result (world_of log.new) (into (get_module path.now None) (store (package_name path.now)) (world_of log.old)) }
+    ensures { Ends goes_on result (world_of log.new)
+        (into (get_module path.now None) (store (package_name path.now)) (world_of log.old)) }
 {
     let module = import_whole(log, path)?;
     let name = fixed_name(log.alloc, first_segment(path.as_str()))?;
@@ -67,7 +70,8 @@ fn import_package(log: &mut Log<'_>, path: &Text) -> Result<(), Halt>
 }
 
 fn import_renamed(log: &mut Log<'_>, path: &Text, name: &Text) -> Result<(), Halt>
-    ensures { Ends goes_on result (world_of log.new) (into (get_module path.now (Some name.now)) (store name.now) (world_of log.old)) }
+    ensures { Ends goes_on result (world_of log.new)
+        (into (get_module path.now (Some name.now)) (store name.now) (world_of log.old)) }
 {
     let package = import_whole(log, path)?;
     let module = load_segments(log, path.as_str(), package)?;
@@ -78,26 +82,29 @@ fn import_renamed(log: &mut Log<'_>, path: &Text, name: &Text) -> Result<(), Hal
 // Imports a module by its path, which is asked for no names.
 #[tactic(auto, using(py_bytecode::proofs::View::views))]
 fn import_whole(log: &mut Log<'_>, path: &Text) -> Result<StepValue, Halt>
-    ensures { Gets value_of result (world_of log.new) (import_value (Some path.now) 0 object.none (world_of log.old)) }
+    ensures { Gets value_of result (world_of log.new)
+        (import_value (Some path.now) 0 object.none (world_of log.old)) }
 {
     import_path(log, path, 0, ConstantData::None)
 }
 
 // Loads each further segment of a path, as an attribute of what stands before it.
 fn load_segments(log: &mut Log<'_>, path: &str, outermost: StepValue) -> Result<StepValue, Halt>
-    ensures { Gets value_of result (world_of log.new) (get_attributes (further_segments path.now) (value_of outermost) (world_of log.old)) }
+    ensures { Gets value_of result (world_of log.new)
+        (get_attributes (further_segments path.now) (value_of outermost) (world_of log.old)) }
 {
     let mut left = path;
     let mut object = outermost;
-    while let Some(behind) = behind_dot(left) {
-        object = load_segment(log, first_segment(behind), object)?;
-        left = behind;
+    while let Some(after) = after_dot(left) {
+        object = load_segment(log, first_segment(after), object)?;
+        left = after;
     }
     Ok(object)
 }
 
 fn load_segment(log: &mut Log<'_>, segment: &str, object: StepValue) -> Result<StepValue, Halt>
-    ensures { Gets value_of result (world_of log.new) (does (named_operation op.LoadAttr segment.now) (value_of object ∷ []) (world_of log.old)) }
+    ensures { Gets value_of result (world_of log.new)
+        (does (named_operation op.LoadAttr segment.now) (value_of object ∷ []) (world_of log.old)) }
 {
     let name = fixed_name(log.alloc, segment)?;
     let operation = Operation {
@@ -114,7 +121,8 @@ fn import_path(
     level: u32,
     names: ConstantData,
 ) -> Result<StepValue, Halt>
-    ensures { Gets value_of result (world_of log.new) (import_value (Some path.now) level (constant names) (world_of log.old)) }
+    ensures { Gets value_of result (world_of log.new)
+        (import_value (Some path.now) level (constant names) (world_of log.old)) }
 {
     let operation = Operation {
         op: Instruction::ImportName,
@@ -125,7 +133,8 @@ fn import_path(
 
 // Imports the package so many packages further out, which is asked for these names.
 fn import_nameless(log: &mut Log<'_>, level: u32, names: ConstantData) -> Result<StepValue, Halt>
-    ensures { Gets value_of result (world_of log.new) (import_value None level (constant names) (world_of log.old)) }
+    ensures { Gets value_of result (world_of log.new)
+        (import_value None level (constant names) (world_of log.old)) }
 {
     does_two(
         log,
@@ -141,7 +150,8 @@ fn import_module(
     level: u32,
     names: ConstantData,
 ) -> Result<StepValue, Halt>
-    ensures { Gets value_of result (world_of log.new) (import_value path.now level (constant names) (world_of log.old)) }
+    ensures { Gets value_of result (world_of log.new)
+        (import_value path.now level (constant names) (world_of log.old)) }
 {
     match path {
         Some(path) => import_path(log, path, level, names),
@@ -162,8 +172,9 @@ fn number(level: u32) -> StepValue
 ///
 /// # Errors
 /// What ends the run, or OutOfMemory.
-pub fn walk_import_from(log: &mut Log<'_>, s: &StmtImportFrom) -> Result<Flow, Halt>
-    ensures { Ends flow_of result (world_of log.new) (import_from s.now.«module» s.now.names s.now.level (world_of log.old)) }
+pub fn interpret_import_from(log: &mut Log<'_>, s: &StmtImportFrom) -> Result<Flow, Halt>
+    ensures { Ends flow_of result (world_of log.new)
+        (import_from s.now.«module» s.now.names s.now.level (world_of log.old)) }
 {
     import_names(log, s)?;
     Ok(Flow::Normal)
@@ -174,7 +185,8 @@ pub fn walk_import_from(log: &mut Log<'_>, s: &StmtImportFrom) -> Result<Flow, H
 /// # Errors
 /// What ends the run, or OutOfMemory.
 pub fn import_names(log: &mut Log<'_>, s: &StmtImportFrom) -> Result<(), Halt>
-    ensures { Ends goes_on result (world_of log.new) (import_from s.now.«module» s.now.names s.now.level (world_of log.old)) }
+    ensures { Ends goes_on result (world_of log.new)
+        (import_from s.now.«module» s.now.names s.now.level (world_of log.old)) }
 {
     if has_star(s.names.as_slice()) {
         return import_star(log, s);
@@ -184,7 +196,10 @@ pub fn import_names(log: &mut Log<'_>, s: &StmtImportFrom) -> Result<(), Halt>
 
 // Imports all names of a module.
 fn import_star(log: &mut Log<'_>, s: &StmtImportFrom) -> Result<(), Halt>
-    ensures { Ends goes_on result (world_of log.new) (into (import_value s.now.«module» s.now.level asked_all) (λ m w1. for_none (Operates (operation op.ImportStar Bare) (m ∷ [])) false w1) (world_of log.old)) }
+    ensures { Ends goes_on result (world_of log.new)
+        (into (import_value s.now.«module» s.now.level asked_all)
+        (λ m w1. for_none (Operates (operation op.ImportStar Bare) (m ∷ [])) false w1)
+        (world_of log.old)) }
 {
     let names = all_asked(log.alloc)?;
     let module = import_module(log, &s.module, s.level, names)?;
@@ -195,7 +210,9 @@ fn import_star(log: &mut Log<'_>, s: &StmtImportFrom) -> Result<(), Halt>
 
 // Imports some names of a module, and stores each.
 fn import_some(log: &mut Log<'_>, s: &StmtImportFrom) -> Result<(), Halt>
-    ensures { Ends goes_on result (world_of log.new) (into (import_value s.now.«module» s.now.level (asked_tuple s.now.names)) (take_each s.now.names) (world_of log.old)) }
+    ensures { Ends goes_on result (world_of log.new)
+        (into (import_value s.now.«module» s.now.level (asked_tuple s.now.names))
+        (take_each s.now.names) (world_of log.old)) }
 {
     let names = some_asked(log.alloc, s.names.as_slice())?;
     let module = import_module(log, &s.module, s.level, names)?;
@@ -205,7 +222,8 @@ fn import_some(log: &mut Log<'_>, s: &StmtImportFrom) -> Result<(), Halt>
 
 // Takes names from a module, one after the other.
 fn take_each(log: &mut Log<'_>, names: &[Alias], source: &StepValue) -> Result<(), Halt>
-    ensures { Gets (λ u. u) result (world_of log.new) (take_each names.now (value_of source.now) (world_of log.old)) }
+    ensures { Gets (λ u. u) result (world_of log.new)
+        (take_each names.now (value_of source.now) (world_of log.old)) }
 {
     for alias in names {
         take(log, alias, source)?;
@@ -214,7 +232,9 @@ fn take_each(log: &mut Log<'_>, names: &[Alias], source: &StepValue) -> Result<(
 }
 
 fn take(log: &mut Log<'_>, alias: &Alias, source: &StepValue) -> Result<(), Halt>
-    ensures { Gets (λ u. u) result (world_of log.new) (then_get (does (named_operation op.ImportFrom alias.now.name) (value_of source.now ∷ []) (world_of log.old)) (λ x w1. store (taken_name alias.now) x w1)) }
+    ensures { Gets (λ u. u) result (world_of log.new)
+        (then_get (does (named_operation op.ImportFrom alias.now.name) (value_of source.now ∷ [])
+        (world_of log.old)) (λ x w1. store (taken_name alias.now) x w1)) }
 {
     let copied = copy_value(log.alloc, source)?;
     let operation = Operation {

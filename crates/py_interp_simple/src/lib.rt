@@ -1,4 +1,4 @@
-//! The walk of statements that have no statements of their own to walk, over a script of answers.
+//! The interpretation of statements that have no statements of their own to walk, over a script of answers.
 #![tactic(auto)]
 
 mod aliases;
@@ -10,17 +10,19 @@ mod deletes;
 mod dropped;
 mod flow;
 mod functions;
-mod hidden;
 mod imports;
 mod notes;
 mod raises;
+mod type_param_scopes;
 
-pub use aliases::walk_type_alias;
-pub use assignments::{walk_ann_assign, walk_assign, walk_aug_assign, walk_expr_statement};
+pub use aliases::interpret_type_alias;
+pub use assignments::{
+    interpret_ann_assign, interpret_assign, interpret_aug_assign, interpret_expr_statement,
+};
 pub use bodies::split_doc;
-pub use classes::{walk_class, walk_class_def};
-pub use deletes::walk_delete;
+pub use classes::{interpret_class, interpret_class_def};
+pub use deletes::interpret_delete;
 pub use flow::Flow;
-pub use functions::{walk_function, walk_function_def};
-pub use imports::{import_names, walk_import, walk_import_from};
-pub use raises::{walk_assert, walk_raise, walk_return};
+pub use functions::{interpret_function, interpret_function_def};
+pub use imports::{import_names, interpret_import, interpret_import_from};
+pub use raises::{interpret_assert, interpret_raise, interpret_return};

@@ -6,19 +6,19 @@ ghost use Rattle.py_bytecode.specs.Values.{World};
 ghost use Rattle.py_answers.specs.Log.{Gets, world_of};
 ghost use Rattle.py_answers.specs.Told.{Known, value_of, values_of};
 ghost use Rattle.py_interp.specs.Doing.{close_map, get_maps};
-ghost use Rattle.py_interp.specs.Statements.{arg_note, arg_notes, note_walk, note_walks, opt_arg_note, opt_note, param_notes, text_value};
+ghost use Rattle.py_interp.specs.Statements.{arg_note, arg_notes, note_interpreter, note_interpreters, opt_arg_note, opt_note, param_notes, text_value};
 ghost use Rattle.py_interp_simple.specs.Parts.{get_notes};
 
 use py_annotation_text::{TextError, annotation_text};
 use py_answers::{Halt, Log, StepValue};
 use py_base::Text;
 use py_bytecode::ConstantData;
-use py_interp::Around;
+use py_interp::NodeContext;
 use py_interp::constants::{none, text};
 use py_interp::operands::push;
 use py_interp_exprs::functions::fixed_name;
 use py_interp_exprs::groups::close_map;
-use py_interp_exprs::walk_expression;
+use py_interp_exprs::interpret_expression;
 use py_tree::{Arg, ArgWithDefault, Arguments, Expr};
 use std::alloc::Global;
 
@@ -26,19 +26,25 @@ use std::alloc::Global;
 ///
 /// # Errors
 /// What ends the run, or OutOfMemory.
-pub(crate) fn walk_note(log: &mut Log<'_>, around: Around, note: &Expr) -> Result<StepValue, Halt>
-    ensures { Gets value_of result (world_of log.new) (note_walk around (expr_tree note.now) (world_of log.old)) }
+pub(crate) fn interpret_note(
+    log: &mut Log<'_>,
+    node_context: NodeContext,
+    note: &Expr,
+) -> Result<StepValue, Halt>
+    ensures { Gets value_of result (world_of log.new)
+        (note_interpreter node_context (expr_tree note.now) (world_of log.old)) }
 {
-    if around.postponed {
+    if node_context.postponed {
         return note_text(log.alloc, note);
     }
-    walk_expression(log, around, note)
+    interpret_expression(log, node_context, note)
 }
 
 // The text of an annotation. One that has none is not compiled.
 #[tactic(auto, using(py_bytecode::proofs::View::views))]
 fn note_text(alloc: Global, note: &Expr) -> Result<StepValue, Halt>
-    ensures { (w : World Known) → Gets value_of result w (text_value (annotation (expr_tree note.now)) w) }
+    ensures { (w : World Known) → Gets value_of result w
+        (text_value (annotation (expr_tree note.now)) w) }
 {
     match annotation_text(alloc, note) {
         Ok(text) => {
@@ -54,22 +60,25 @@ fn note_text(alloc: Global, note: &Expr) -> Result<StepValue, Halt>
 ///
 /// # Errors
 /// What ends the run, or OutOfMemory.
-pub(crate) fn walk_notes(
+pub(crate) fn interpret_notes(
     log: &mut Log<'_>,
-    around: Around,
+    node_context: NodeContext,
     params: &Arguments,
     returns: &Option<Box<Expr>>,
 ) -> Result<Vec<StepValue>, Halt>
-    ensures { Gets (λ v. values_of v.items) result (world_of log.new) (get_maps [] 0 [] (note_walks around (arguments expr_tree params.now) (opt_box expr_tree returns.now)) (world_of log.old)) }
+    ensures { Gets (λ v. values_of v.items) result (world_of log.new)
+        (get_maps [] 0 [] (note_interpreters node_context (arguments expr_tree params.now)
+        (opt_box expr_tree returns.now)) (world_of log.old)) }
 {
-    let notes = get_notes(log, around, params, returns)?;
+    let notes = get_notes(log, node_context, params, returns)?;
     map_of(log, notes)
 }
 
 // The map of names and values, which take turns; none where there are none.
 #[tactic(auto, using(py_interp::proofs::Lengths::lengths))]
 fn map_of(log: &mut Log<'_>, notes: Vec<StepValue>) -> Result<Vec<StepValue>, Halt>
-    ensures { let run = values_of notes.items in Gets (λ v. values_of v.items) result (world_of log.new) (close_map [] (length run / 2) run (world_of log.old)) }
+    ensures { let run = values_of notes.items in Gets (λ v. values_of v.items) result
+        (world_of log.new) (close_map [] (length run / 2) run (world_of log.old)) }
 {
     let count = notes.len() / 2;
     close_map(log, Vec::new(log.alloc), count, notes)
@@ -79,87 +88,99 @@ fn map_of(log: &mut Log<'_>, notes: Vec<StepValue>) -> Result<Vec<StepValue>, Ha
 #[tactic(auto, using(crate::proofs::AnnotationLemmas::notes_joined))]
 fn get_notes(
     log: &mut Log<'_>,
-    around: Around,
+    node_context: NodeContext,
     params: &Arguments,
     returns: &Option<Box<Expr>>,
 ) -> Result<Vec<StepValue>, Halt>
-    ensures { Gets (λ v. values_of v.items) result (world_of log.new) (get_notes [] (note_walks around (arguments expr_tree params.now) (opt_box expr_tree returns.now)) (world_of log.old)) }
+    ensures { Gets (λ v. values_of v.items) result (world_of log.new)
+        (get_notes [] (note_interpreters node_context (arguments expr_tree params.now)
+        (opt_box expr_tree returns.now)) (world_of log.old)) }
 {
     let name = fixed_name(log.alloc, "return")?;
-    let notes = walk_opt_note(log, around, Vec::new(log.alloc), &name, returns)?;
-    walk_param_notes(log, around, notes, params)
+    let notes = interpret_opt_note(log, node_context, Vec::new(log.alloc), &name, returns)?;
+    interpret_param_notes(log, node_context, notes, params)
 }
 
 // The names and values of the annotations of parameters, after others.
 #[tactic(auto, using(crate::proofs::AnnotationLemmas::params_joined))]
-fn walk_param_notes(
+fn interpret_param_notes(
     log: &mut Log<'_>,
-    around: Around,
+    node_context: NodeContext,
     notes: Vec<StepValue>,
     params: &Arguments,
 ) -> Result<Vec<StepValue>, Halt>
-    ensures { Gets (λ v. values_of v.items) result (world_of log.new) (get_notes (values_of notes.items) (param_notes around (arguments expr_tree params.now)) (world_of log.old)) }
+    ensures { Gets (λ v. values_of v.items) result (world_of log.new)
+        (get_notes (values_of notes.items)
+        (param_notes node_context (arguments expr_tree params.now)) (world_of log.old)) }
 {
-    let notes = walk_arg_notes(log, around, notes, params.posonlyargs.as_slice())?;
-    let notes = walk_arg_notes(log, around, notes, params.args.as_slice())?;
-    let notes = walk_arg_notes(log, around, notes, params.kwonlyargs.as_slice())?;
-    let notes = walk_opt_arg_note(log, around, notes, &params.vararg)?;
-    walk_opt_arg_note(log, around, notes, &params.kwarg)
+    let notes = interpret_arg_notes(log, node_context, notes, params.posonlyargs.as_slice())?;
+    let notes = interpret_arg_notes(log, node_context, notes, params.args.as_slice())?;
+    let notes = interpret_arg_notes(log, node_context, notes, params.kwonlyargs.as_slice())?;
+    let notes = interpret_opt_arg_note(log, node_context, notes, &params.vararg)?;
+    interpret_opt_arg_note(log, node_context, notes, &params.kwarg)
 }
 
-fn walk_arg_notes(
+fn interpret_arg_notes(
     log: &mut Log<'_>,
-    around: Around,
+    node_context: NodeContext,
     mut notes: Vec<StepValue>,
     args: &[ArgWithDefault],
 ) -> Result<Vec<StepValue>, Halt>
-    ensures { Gets (λ v. values_of v.items) result (world_of log.new) (get_notes (values_of notes.items) (arg_notes around (arg_trees expr_tree args.now)) (world_of log.old)) }
+    ensures { Gets (λ v. values_of v.items) result (world_of log.new)
+        (get_notes (values_of notes.items) (arg_notes node_context (arg_trees expr_tree args.now))
+        (world_of log.old)) }
 {
     for arg in args {
-        notes = walk_arg_note(log, around, notes, &arg.def)?;
+        notes = interpret_arg_note(log, node_context, notes, &arg.def)?;
     }
     Ok(notes)
 }
 
-fn walk_arg_note(
+fn interpret_arg_note(
     log: &mut Log<'_>,
-    around: Around,
+    node_context: NodeContext,
     notes: Vec<StepValue>,
     arg: &Arg,
 ) -> Result<Vec<StepValue>, Halt>
-    ensures { Gets (λ v. values_of v.items) result (world_of log.new) (get_notes (values_of notes.items) (arg_note around (arg_tree expr_tree arg.now)) (world_of log.old)) }
+    ensures { Gets (λ v. values_of v.items) result (world_of log.new)
+        (get_notes (values_of notes.items) (arg_note node_context (arg_tree expr_tree arg.now))
+        (world_of log.old)) }
 {
-    walk_opt_note(log, around, notes, &arg.arg, &arg.annotation)
+    interpret_opt_note(log, node_context, notes, &arg.arg, &arg.annotation)
 }
 
-fn walk_opt_arg_note(
+fn interpret_opt_arg_note(
     log: &mut Log<'_>,
-    around: Around,
+    node_context: NodeContext,
     notes: Vec<StepValue>,
     arg: &Option<Box<Arg>>,
 ) -> Result<Vec<StepValue>, Halt>
-    ensures { Gets (λ v. values_of v.items) result (world_of log.new) (get_notes (values_of notes.items) (opt_arg_note around (opt_arg expr_tree arg.now)) (world_of log.old)) }
+    ensures { Gets (λ v. values_of v.items) result (world_of log.new)
+        (get_notes (values_of notes.items) (opt_arg_note node_context (opt_arg expr_tree arg.now))
+        (world_of log.old)) }
 {
     match arg {
-        Some(arg) => walk_arg_note(log, around, notes, arg),
+        Some(arg) => interpret_arg_note(log, node_context, notes, arg),
         None => Ok(notes),
     }
 }
 
 // The name and the value of an annotation after others, where there is one.
-fn walk_opt_note(
+fn interpret_opt_note(
     log: &mut Log<'_>,
-    around: Around,
+    node_context: NodeContext,
     mut notes: Vec<StepValue>,
     name: &Text,
     note: &Option<Box<Expr>>,
 ) -> Result<Vec<StepValue>, Halt>
-    ensures { Gets (λ v. values_of v.items) result (world_of log.new) (get_notes (values_of notes.items) (opt_note around name.now (opt_box expr_tree note.now)) (world_of log.old)) }
+    ensures { Gets (λ v. values_of v.items) result (world_of log.new)
+        (get_notes (values_of notes.items)
+        (opt_note node_context name.now (opt_box expr_tree note.now)) (world_of log.old)) }
 {
     let Some(note) = note else {
         return Ok(notes);
     };
-    let value = walk_note(log, around, note)?;
+    let value = interpret_note(log, node_context, note)?;
     push(&mut notes, text(log.alloc, name)?)?;
     push(&mut notes, value)?;
     Ok(notes)

@@ -15,10 +15,10 @@ use Rattle.py_tree.specs.declared.statements.StmtFunctionDefOf.{StmtFunctionDefO
 use Rattle.py_control.specs.Form.{returns}
 use Rattle.py_bytecode.specs.Values.{World, Ended, Normal, Leaves, Halts, then_do}
 use Rattle.py_answers.specs.Told.{Known}
-use Rattle.py_interp.specs.declared.around.Around.{Around}
+use Rattle.py_interp.specs.declared.node_context.NodeContext.{NodeContext}
 use Rattle.py_interp.specs.Acting.{Acting}
 use Rattle.py_interp.specs.Doing.{none}
-use Rattle.py_interp.specs.Statements.{block_walk, last_walk, stmt_walk, stmts_walk}
+use Rattle.py_interp.specs.Statements.{block_interpreter, last_interpreter, stmt_interpreter, stmts_interpreter}
 
 do_assoc : (g : Ended Known) (f k : Acting) → then_do (then_do g f) k ≡ then_do g (λ w. then_do (f w) k)
 do_assoc (Normal w) f k = refl
@@ -29,29 +29,32 @@ do_same : (g : Ended Known) (f k : Acting) → ((w : World Known) → f w ≡ k 
 do_same g f k e = λ j. then_do g (λ w. e w j)
 
 -- a statement before others
-last_one_more : (a : Around) (s : tree.Stmt) (t : Stmt) (ts : List Stmt) (w : World Known)
-    → block_walk a (tree.more_stmts s (stmts stmt_tree (t ∷ ts))) w ≡ then_do (stmt_walk a s None w) (block_walk a (stmts stmt_tree (t ∷ ts)))
+last_one_more : (a : NodeContext) (s : tree.Stmt) (t : Stmt) (ts : List Stmt) (w : World Known)
+    → block_interpreter a (tree.more_stmts s (stmts stmt_tree (t ∷ ts))) w ≡ then_do (stmt_interpreter a s None w) (block_interpreter a (stmts stmt_tree (t ∷ ts)))
 last_one_more a s t ts w = refl
 
-behind : (a : Around) (before : List Stmt) (last : Stmt) (w : World Known)
-    → block_walk a (stmts stmt_tree (before ++ last ∷ [])) w ≡ then_do (stmts_walk a (stmts stmt_tree before) None w) (last_walk a (stmt_tree last))
-behind a [] last w = refl
-behind a (s ∷ []) last w =
-    do_same (stmt_walk a (stmt_tree s) None w) (block_walk a (stmts stmt_tree (last ∷ []))) (λ w1. then_do (stmts_walk a tree.no_stmts None w1) (last_walk a (stmt_tree last))) (λ w1. refl)
-    ∙ sym (do_assoc (stmt_walk a (stmt_tree s) None w) (stmts_walk a tree.no_stmts None) (last_walk a (stmt_tree last)))
-behind a (s ∷ t ∷ ss) last w =
-    do_same (stmt_walk a (stmt_tree s) None w) (block_walk a (stmts stmt_tree ((t ∷ ss) ++ last ∷ []))) (λ w1. then_do (stmts_walk a (stmts stmt_tree (t ∷ ss)) None w1) (last_walk a (stmt_tree last))) (λ w1. behind a (t ∷ ss) last w1)
-    ∙ sym (do_assoc (stmt_walk a (stmt_tree s) None w) (stmts_walk a (stmts stmt_tree (t ∷ ss)) None) (last_walk a (stmt_tree last)))
+after : (a : NodeContext) (before : List Stmt) (last : Stmt) (w : World Known)
+    → block_interpreter a (stmts stmt_tree (before ++ last ∷ [])) w ≡ then_do (stmts_interpreter a (stmts stmt_tree before) None w) (last_interpreter a (stmt_tree last))
+after a [] last w = refl
+after a (s ∷ []) last w =
+    do_same (stmt_interpreter a (stmt_tree s) None w) (block_interpreter a (stmts stmt_tree (last ∷ [])))
+    (λ w1. then_do (stmts_interpreter a tree.no_stmts None w1) (last_interpreter a (stmt_tree last))) (λ w1. refl)
+    ∙ sym (do_assoc (stmt_interpreter a (stmt_tree s) None w) (stmts_interpreter a tree.no_stmts None) (last_interpreter a (stmt_tree last)))
+after a (s ∷ t ∷ ss) last w =
+    do_same (stmt_interpreter a (stmt_tree s) None w) (block_interpreter a (stmts stmt_tree ((t ∷ ss) ++ last ∷ [])))
+    (λ w1. then_do (stmts_interpreter a (stmts stmt_tree (t ∷ ss)) None w1) (last_interpreter a (stmt_tree last)))
+    (λ w1. after a (t ∷ ss) last w1)
+    ∙ sym (do_assoc (stmt_interpreter a (stmt_tree s) None w) (stmts_interpreter a (stmts stmt_tree (t ∷ ss)) None) (last_interpreter a (stmt_tree last)))
 
-pub last_behind : (a : Around) (xs before : List Stmt) (last : Stmt) (w : World Known) → xs ≡ before ++ last ∷ []
-    → block_walk a (stmts stmt_tree xs) w ≡ then_do (stmts_walk a (stmts stmt_tree before) None w) (last_walk a (stmt_tree last))
-last_behind a xs before last w e = ap (λ ys. block_walk a (stmts stmt_tree ys) w) e ∙ behind a before last w
+pub last_after : (a : NodeContext) (xs before : List Stmt) (last : Stmt) (w : World Known) → xs ≡ before ++ last ∷ []
+    → block_interpreter a (stmts stmt_tree xs) w ≡ then_do (stmts_interpreter a (stmts stmt_tree before) None w) (last_interpreter a (stmt_tree last))
+last_after a xs before last w e = ap (λ ys. block_interpreter a (stmts stmt_tree ys) w) e ∙ after a before last w
 
 -- ---- a last statement that has no value
 
-other_layer : (a : Around) (y : Stmt-F Stmt) → ((s : StmtFunctionDefOf Stmt) → roll-Stmt y ≢ stmt.FunctionDef s)
+other_layer : (a : NodeContext) (y : Stmt-F Stmt) → ((s : StmtFunctionDefOf Stmt) → roll-Stmt y ≢ stmt.FunctionDef s)
     → ((s : StmtClassDefOf Stmt) → roll-Stmt y ≢ stmt.ClassDef s) → ((s : StmtExprOf Expr) → roll-Stmt y ≢ stmt.Expr s) →
-    (w : World Known) → last_walk a (stmt_layer stmt_tree y) w ≡ then_do (stmt_walk a (stmt_layer stmt_tree y) None w) (λ w1. returns none w1)
+    (w : World Known) → last_interpreter a (stmt_layer stmt_tree y) w ≡ then_do (stmt_interpreter a (stmt_layer stmt_tree y) None w) (λ w1. returns none w1)
 other_layer a (kind.FunctionDef s) f g h w = absurd (f s (rolls-FunctionDef s))
 other_layer a (kind.ClassDef s) f g h w = absurd (g s (rolls-ClassDef s))
 other_layer a (kind.Expr s) f g h w = absurd (h s (rolls-Expr s))
@@ -64,8 +67,9 @@ last_as_layer x = ap stmt_tree (sym (roll-out-Stmt x)) ∙ stmt_roll (out-Stmt x
 interp_stmts_last_apart : {A : Type 0} (kind : A → Stmt) (x : Stmt) → ((e : A) → x ≢ kind e) → (e : A) → roll-Stmt (out-Stmt x) ≢ kind e
 interp_stmts_last_apart kind x h e q = h e (sym (roll-out-Stmt x) ∙ q)
 
-pub other_last : (a : Around) (x : Stmt) → ((s : StmtFunctionDefOf Stmt) → x ≢ stmt.FunctionDef s) → ((s : StmtClassDefOf Stmt) → x ≢ stmt.ClassDef s) → ((s : StmtExprOf Expr) → x ≢ stmt.Expr s) →
-    (w : World Known) → last_walk a (stmt_tree x) w ≡ then_do (stmt_walk a (stmt_tree x) None w) (λ w1. returns none w1)
+pub other_last : (a : NodeContext) (x : Stmt) → ((s : StmtFunctionDefOf Stmt) → x ≢ stmt.FunctionDef s)
+    → ((s : StmtClassDefOf Stmt) → x ≢ stmt.ClassDef s) → ((s : StmtExprOf Expr) → x ≢ stmt.Expr s) →
+    (w : World Known) → last_interpreter a (stmt_tree x) w ≡ then_do (stmt_interpreter a (stmt_tree x) None w) (λ w1. returns none w1)
 other_last a x f g h w =
-    subst (λ (t : tree.Stmt). last_walk a t w ≡ then_do (stmt_walk a t None w) (λ w1. returns none w1)) (sym (last_as_layer x))
+    subst (λ (t : tree.Stmt). last_interpreter a t w ≡ then_do (stmt_interpreter a t None w) (λ w1. returns none w1)) (sym (last_as_layer x))
     (other_layer a (out-Stmt x) (interp_stmts_last_apart stmt.FunctionDef x f) (interp_stmts_last_apart stmt.ClassDef x g) (interp_stmts_last_apart stmt.Expr x h) w)

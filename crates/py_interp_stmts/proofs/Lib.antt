@@ -1,6 +1,6 @@
 pub mod Places
 pub mod LoopTurnLemmas
-pub mod Behind
+pub mod FollowingLemmas
 pub mod WithItemLemmas
 pub mod FutureImportLemmas
 pub mod PromptLemmas

@@ -8,19 +8,21 @@ use Rattle.py_answers.specs.Told.{Known}
 use Rattle.py_tree.specs.View.{expr_tree, opt_box, with_items}
 use Rattle.py_tree.specs.declared.expressions.Expr.{Expr}
 use Rattle.py_tree.specs.declared.statements.WithItemOf.{WithItemOf}
-use Rattle.py_interp.specs.declared.around.Around.{Around}
+use Rattle.py_interp.specs.declared.node_context.NodeContext.{NodeContext}
 use Rattle.py_interp.specs.Acting.{Acting}
 use Rattle.py_interp.specs.Doing.{Doing}
-use Rattle.py_interp.specs.Statements.{item_walk, with_walk}
-use Rattle.py_interp.specs.Walks.{walk_expr}
+use Rattle.py_interp.specs.Statements.{item_interpreter, with_interpreter}
+use Rattle.py_interp.specs.Interpreters.{interpret_expr}
 use Rattle.py_interp_exprs.proofs.ContinuationLemmas.{ContinuationEnds as Stopping}
 use Rattle.py_interp_exprs.proofs.Places.{place_next}
 use Rattle.py_interp_stmts.specs.Leaving.{Enters, exit_end, left_all}
 
 -- the item at a place, and those after it
-pub with_item_items_at : (a : Around) (xs : List (WithItemOf Expr)) (i : ℕ) (d x : WithItemOf Expr) (body : Acting) (w : World Known) → x ≡ get_or xs i d → i < length xs →
-    with_walk a (with_items (drop i xs)) body w ≡ with_run (walk_expr a (expr_tree x.context_expr.value)) (assign_then (item_walk a (opt_box expr_tree x.optional_vars)) (with_walk a (with_items (drop (i + 1) xs)) body)) w
-with_item_items_at a xs i d x body w is lt = ap (λ ys. with_walk a (with_items ys) body w) (place_next xs i d x is lt)
+pub with_item_items_at : (a : NodeContext) (xs : List (WithItemOf Expr)) (i : ℕ) (d x : WithItemOf Expr) (body : Acting) (w : World Known) → x ≡ get_or xs i d → i < length xs →
+    with_interpreter a (with_items (drop i xs)) body w
+    ≡ with_run (interpret_expr a (expr_tree x.context_expr.value))
+    (assign_then (item_interpreter a (opt_box expr_tree x.optional_vars)) (with_interpreter a (with_items (drop (i + 1) xs)) body)) w
+with_item_items_at a xs i d x body w is lt = ap (λ ys. with_interpreter a (with_items ys) body w) (place_next xs i d x is lt)
 
 -- one more is left first
 pub left_more : (xs : List ℕ) (n : ℕ) (end : Ended Known) → left_all (xs ++ n ∷ []) end ≡ left_all xs (exit_end (Given n 0) end)
@@ -33,19 +35,19 @@ left_halts [] es = refl
 left_halts (x ∷ xs) es = ap (exit_end (Given x 0)) (left_halts xs es)
 
 -- what is done with what an item gets, and with what entering it gives
-abbrev pub entered : (body : Value Known → Acting) → (Value Known × Value Known) → Acting
-entered body xu w = exit_end xu.0 (body xu.1 w)
+abbrev pub entered_item : (body : Value Known → Acting) → (Value Known × Value Known) → Acting
+entered_item body xu w = exit_end xu.0 (body xu.1 w)
 
-abbrev pub managed : (body : Value Known → Acting) → Value Known → Acting
-managed body v w = use_it (for_two (Operates enter_with (v ∷ [])) w) (entered body)
+abbrev pub managed_item : (body : Value Known → Acting) → Value Known → Acting
+managed_item body v w = use_it (for_two (Operates enter_with (v ∷ [])) w) (entered_item body)
 
 -- an item has got its manager, and is entered
-pub with_got : (item : Doing (Value Known)) (body : Value Known → Acting) (w w1 : World Known) (v : Value Known) → item w ≡ Fine v w1 → with_run item body w ≡ managed body v w1
-with_got item body w w1 v e = ap (λ g. use_it g (managed body)) e
+pub with_got : (item : Doing (Value Known)) (body : Value Known → Acting) (w w1 : World Known) (v : Value Known) → item w ≡ Fine v w1 → with_run item body w ≡ managed_item body v w1
+with_got item body w w1 v e = ap (λ g. use_it g (managed_item body)) e
 
 pub with_entered : (item : Doing (Value Known)) (body : Value Known → Acting) (w w1 w2 : World Known) (v : Value Known) (xu : Value Known × Value Known)
     → item w ≡ Fine v w1 → for_two (Operates enter_with (v ∷ [])) w1 ≡ Fine xu w2 → with_run item body w ≡ exit_end xu.0 (body xu.1 w2)
-with_entered item body w w1 w2 v xu e f = with_got item body w w1 v e ∙ ap (λ g. use_it g (entered body)) f
+with_entered item body w w1 w2 v xu e f = with_got item body w w1 v e ∙ ap (λ g. use_it g (entered_item body)) f
 
 -- a part ends by getting something
 pub enters_last : (r : Result (Unit {0}) Halt) (w : World Known) (xs : List ℕ) (whole : Acting → Ended Known) (g : Got Known (Unit {0})) → Gets (λ u. u) r w g
@@ -67,12 +69,12 @@ pub enters_halted : {A : Type 0} (r : Result (Unit {0}) Halt) (h : Halt) (w : Wo
 enters_halted r h w xs whole g k e p b = subst (λ q. Enters q w xs whole) (sym e) (enters_halts h w xs whole g k p b)
 
 -- the same where others stand after the part
-halts_behind : (h : Halt) (w : World Known) (xs : List ℕ) (whole other : Acting → Ended Known) (f : Acting → Acting)
+halts_after : (h : Halt) (w : World Known) (xs : List ℕ) (whole other : Acting → Ended Known) (f : Acting → Acting)
     → ((body : Acting) → whole body ≡ other (f body)) → Enters (Err h) w xs other → Enters (Err h) w xs whole
-halts_behind (Halt.Raised n) w xs whole other f e b = λ body. e body ∙ b (f body)
-halts_behind Halt.Stopped w xs whole other f e b = λ body. e body ∙ b (f body)
-halts_behind Halt.OutOfMemory w xs whole other f e b = tt
+halts_after (Halt.Raised n) w xs whole other f e b = λ body. e body ∙ b (f body)
+halts_after Halt.Stopped w xs whole other f e b = λ body. e body ∙ b (f body)
+halts_after Halt.OutOfMemory w xs whole other f e b = tt
 
-pub halted_behind : (r : Result (Unit {0}) Halt) (h : Halt) (w : World Known) (xs : List ℕ) (whole other : Acting → Ended Known) (f : Acting → Acting)
+pub halted_after : (r : Result (Unit {0}) Halt) (h : Halt) (w : World Known) (xs : List ℕ) (whole other : Acting → Ended Known) (f : Acting → Acting)
     → r ≡ Err h → ((body : Acting) → whole body ≡ other (f body)) → Enters (Err h) w xs other → Enters r w xs whole
-halted_behind r h w xs whole other f e p b = subst (λ q. Enters q w xs whole) (sym e) (halts_behind h w xs whole other f p b)
+halted_after r h w xs whole other f e p b = subst (λ q. Enters q w xs whole) (sym e) (halts_after h w xs whole other f p b)

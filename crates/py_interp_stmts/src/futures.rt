@@ -7,66 +7,75 @@ ghost use Rattle.py_tree.specs.declared.statements.Stmt.{Stmt as Stmt1};
 ghost use Rattle.py_bytecode.specs.Values.{World};
 ghost use Rattle.py_answers.specs.Log.{world_of};
 ghost use Rattle.py_answers.specs.Told.{Known};
-ghost use Rattle.py_interp.specs.declared.around.Around.{Around as Around1};
+ghost use Rattle.py_interp.specs.declared.node_context.NodeContext.{NodeContext as NodeContext1};
 ghost use Rattle.py_interp.specs.Acting.{Acting};
-ghost use Rattle.py_interp.specs.Statements.{after_future, behind_futures};
+ghost use Rattle.py_interp.specs.Statements.{after_future, after_futures};
 ghost use Rattle.py_interp_simple.specs.Ends.{Ends};
 ghost use Rattle.py_interp_stmts.specs.Opened.{future, opened_rest};
 
 use py_answers::{Halt, Log};
-use py_interp::Around;
+use py_interp::NodeContext;
 use py_interp_simple::import_names;
 use py_name_uses::names::{is_future, names_annotations};
 use py_tree::{Stmt, StmtImportFrom};
 
-/// What stands around the statements after future imports, and how many stand before them.
+/// The context of the statements after future imports, and how many stand before them.
 #[derive(Clone, Copy)]
 pub struct Opening {
-    pub around: Around,
+    pub node_context: NodeContext,
     pub count: usize,
 }
 
-/// Walks the future imports that stand before all other statements.
+/// Interprets the future imports that stand before all other statements.
 ///
 /// # Errors
 /// What ends the run, or OutOfMemory.
-pub(crate) fn walk_futures(
+pub(crate) fn interpret_futures(
     log: &mut Log<'_>,
-    around: Around,
+    node_context: NodeContext,
     body: &[Stmt],
 ) -> Result<Opening, Halt>
-    ensures opens { (follow : Around1 → tree.Stmts → Acting) → Ends (opened_rest follow body.now) result (world_of log.new) (behind_futures follow around (stmts stmt_tree body.now) (world_of log.old)) }
+    ensures opens { (follow : NodeContext1 → tree.Stmts → Acting)
+        → Ends (opened_rest follow body.now) result (world_of log.new)
+        (after_futures follow node_context (stmts stmt_tree body.now) (world_of log.old)) }
     ensures within { IfOk result (λ o. o.count ≤ length body.now) }
 {
-    let mut around = around;
+    let mut node_context = node_context;
     let mut count = 0;
     while let Some(s) = future_at(body, count) {
         import_names(log, s)?;
-        around = after_future(around, s);
+        node_context = after_future(node_context, s);
         count += 1;
     }
-    Ok(Opening { around, count })
+    Ok(Opening {
+        node_context,
+        count,
+    })
 }
 
-/// What stands around the statements after a future import.
-pub(crate) fn after_future(around: Around, s: &StmtImportFrom) -> Around
-    ensures { result ≡ after_future (future s.now) around }
+/// The context of the statements after a future import.
+pub(crate) fn after_future(node_context: NodeContext, s: &StmtImportFrom) -> NodeContext
+    ensures { result ≡ after_future (future s.now) node_context }
 {
     if names_annotations(s.names.as_slice()) {
-        return Around {
-            level: around.level,
+        return NodeContext {
+            level: node_context.level,
             postponed: true,
         };
     }
-    around
+    node_context
 }
 
 // The future import at a place.
 fn future_at(body: &[Stmt], place: usize) -> Option<&StmtImportFrom>
     requires { place ≤ length body.now }
-    ensures none { IfNone result ((follow : Around1 → tree.Stmts → Acting) (around : Around1) (w : World Known) → behind_futures follow around (stmts stmt_tree (drop place body.now)) w ≡ follow around (stmts stmt_tree (drop place body.now)) w) }
+    ensures none { IfNone result ((follow : NodeContext1 → tree.Stmts → Acting)
+        (node_context : NodeContext1) (w : World Known)
+        → after_futures follow node_context (stmts stmt_tree (drop place body.now)) w
+        ≡ follow node_context (stmts stmt_tree (drop place body.now)) w) }
     ensures within { IfSome result (λ s. place < length body.now) }
-    ensures is { IfSome result (λ s. (d : Stmt1) → future_of (stmt_tree (get_or body.now place d)) ≡ Some (future s.now)) }
+    ensures is { IfSome result (λ s. (d : Stmt1)
+        → future_of (stmt_tree (get_or body.now place d)) ≡ Some (future s.now)) }
 {
     if place == body.len() {
         return None;

@@ -1,4 +1,4 @@
-//! The walk of statements, bodies and whole trees over a script of answers.
+//! The interpretation of statements, bodies and whole trees over a script of answers.
 #![tactic(auto)]
 
 mod blocks;
@@ -12,6 +12,6 @@ mod trees;
 mod tries;
 mod withs;
 
-pub use statements::{walk_statement, walk_statements};
-pub use trees::{run_tree, walk_tree};
-pub use tries::walk_handlers;
+pub use statements::{interpret_statement, interpret_statements};
+pub use trees::{interpret_tree, run_tree};
+pub use tries::interpret_handlers;

@@ -5,37 +5,38 @@ ghost use Rattle.py_bytecode.specs.Values.{Given, next_of};
 ghost use Rattle.py_control.specs.Form.{assign_then, rounds};
 ghost use Rattle.py_answers.specs.Log.{Gets, next_given, world_of};
 ghost use Rattle.py_answers.specs.Told.{value_of};
-ghost use Rattle.py_interp.specs.Statements.{stmt_walk, stmts_walk};
-ghost use Rattle.py_interp.specs.Walks.{walk_target};
+ghost use Rattle.py_interp.specs.Statements.{stmt_interpreter, stmts_interpreter};
+ghost use Rattle.py_interp.specs.Interpreters.{interpret_target};
 ghost use Rattle.py_interp_simple.specs.Ends.{Ends, flow_of, slot_of};
 
-use crate::statements::walk_statements;
+use crate::statements::interpret_statements;
 use py_answers::{Halt, Log, StepValue};
 use py_bytecode::Instruction;
-use py_interp::Around;
+use py_interp::NodeContext;
 use py_interp::operands::copy_value;
 use py_interp::operations::{bare, does_one};
-use py_interp_exprs::{walk_expression, walk_target, walk_test};
+use py_interp_exprs::{interpret_expression, interpret_target, interpret_test};
 use py_interp_simple::Flow;
 use py_tree::{StmtFor, StmtWhile};
 
-/// Walks a body while a test holds, and then an else part.
-#[cycle(walk)]
-pub(crate) fn walk_while(
+/// Interprets a body while a test holds, and then an else part.
+#[cycle(interpreter)]
+pub(crate) fn interpret_while(
     log: &mut Log<'_>,
-    around: Around,
+    node_context: NodeContext,
     s: &StmtWhile,
     slot: Option<u32>,
 ) -> Result<Flow, Halt>
-    ensures { Ends flow_of result (world_of log.new) (stmt_walk around (while_tree s.now) (slot_of slot) (world_of log.old)) }
+    ensures { Ends flow_of result (world_of log.new)
+        (stmt_interpreter node_context (while_tree s.now) (slot_of slot) (world_of log.old)) }
 {
     let mut left = log.answers.len() + 1;
     while left > 0 {
         left -= 1;
-        if !walk_test(log, around, &s.test)? {
-            return walk_statements(log, around, s.orelse.as_slice(), slot);
+        if !interpret_test(log, node_context, &s.test)? {
+            return interpret_statements(log, node_context, s.orelse.as_slice(), slot);
         }
-        let flow = walk_statements(log, around, s.body.as_slice(), slot)?;
+        let flow = interpret_statements(log, node_context, s.body.as_slice(), slot)?;
         if !flow.goes_again() {
             return Ok(flow.after_loop());
         }
@@ -43,39 +44,45 @@ pub(crate) fn walk_while(
     Err(Halt::Stopped)
 }
 
-/// Walks a body for each value of an iterator, and then an else part.
-#[cycle(walk)]
-pub(crate) fn walk_for(
+/// Interprets a body for each value of an iterator, and then an else part.
+#[cycle(interpreter)]
+pub(crate) fn interpret_for(
     log: &mut Log<'_>,
-    around: Around,
+    node_context: NodeContext,
     s: &StmtFor,
     slot: Option<u32>,
 ) -> Result<Flow, Halt>
-    ensures { Ends flow_of result (world_of log.new) (stmt_walk around (for_tree s.now) (slot_of slot) (world_of log.old)) }
+    ensures { Ends flow_of result (world_of log.new)
+        (stmt_interpreter node_context (for_tree s.now) (slot_of slot) (world_of log.old)) }
 {
-    let value = walk_expression(log, around, &s.iter)?;
+    let value = interpret_expression(log, node_context, &s.iter)?;
     let iterator = does_one(log, bare(Instruction::GetIter), value)?;
-    walk_rounds(log, around, s, &iterator, slot)
+    interpret_rounds(log, node_context, s, &iterator, slot)
 }
 
-// Asks an iterator for one value after the other, and walks a body for each; and then an else part.
-#[cycle(walk)]
-fn walk_rounds(
+// Asks an iterator for one value after the other, and interprets a body for each; and then an else part.
+#[cycle(interpreter)]
+fn interpret_rounds(
     log: &mut Log<'_>,
-    around: Around,
+    node_context: NodeContext,
     s: &StmtFor,
     iterator: &StepValue,
     slot: Option<u32>,
 ) -> Result<Flow, Halt>
-    ensures { Ends flow_of result (world_of log.new) (rounds (suc (length (world_of log.old).answers)) (value_of iterator.now) (assign_then (walk_target around (expr_tree s.now.target.value)) (stmts_walk around (stmts stmt_tree s.now.body) (slot_of slot))) (stmts_walk around (stmts stmt_tree s.now.orelse) (slot_of slot)) (world_of log.old)) }
+    ensures { Ends flow_of result (world_of log.new)
+        (rounds (suc (length (world_of log.old).answers)) (value_of iterator.now)
+        (assign_then (interpret_target node_context (expr_tree s.now.target.value))
+        (stmts_interpreter node_context (stmts stmt_tree s.now.body) (slot_of slot)))
+        (stmts_interpreter node_context (stmts stmt_tree s.now.orelse) (slot_of slot))
+        (world_of log.old)) }
 {
     let mut left = log.answers.len() + 1;
     while left > 0 {
         left -= 1;
         let Some(answer) = next(log, iterator)? else {
-            return walk_statements(log, around, s.orelse.as_slice(), slot);
+            return interpret_statements(log, node_context, s.orelse.as_slice(), slot);
         };
-        let flow = walk_round(log, around, s, answer, slot)?;
+        let flow = interpret_round(log, node_context, s, answer, slot)?;
         if !flow.goes_again() {
             return Ok(flow.after_loop());
         }
@@ -85,24 +92,28 @@ fn walk_rounds(
 
 // The next value of an iterator, by the number of its answer.
 fn next(log: &mut Log<'_>, iterator: &StepValue) -> Result<Option<u32>, Halt>
-    ensures { Gets next_given result (world_of log.new) (next_of (value_of iterator.now) (world_of log.old)) }
+    ensures { Gets next_given result (world_of log.new)
+        (next_of (value_of iterator.now) (world_of log.old)) }
 {
     let copied = copy_value(log.alloc, iterator)?;
     log.next(copied)
 }
 
 // A turn: the value is given to the target, and the body is walked.
-#[cycle(walk)]
-fn walk_round(
+#[cycle(interpreter)]
+fn interpret_round(
     log: &mut Log<'_>,
-    around: Around,
+    node_context: NodeContext,
     s: &StmtFor,
     answer: u32,
     slot: Option<u32>,
 ) -> Result<Flow, Halt>
-    ensures { Ends flow_of result (world_of log.new) (assign_then (walk_target around (expr_tree s.now.target.value)) (stmts_walk around (stmts stmt_tree s.now.body) (slot_of slot)) (Given answer 0) (world_of log.old)) }
+    ensures { Ends flow_of result (world_of log.new)
+        (assign_then (interpret_target node_context (expr_tree s.now.target.value))
+        (stmts_interpreter node_context (stmts stmt_tree s.now.body) (slot_of slot))
+        (Given answer 0) (world_of log.old)) }
 {
     let value = StepValue::Given { answer, index: 0 };
-    walk_target(log, around, &s.target, value)?;
-    walk_statements(log, around, s.body.as_slice(), slot)
+    interpret_target(log, node_context, &s.target, value)?;
+    interpret_statements(log, node_context, s.body.as_slice(), slot)
 }

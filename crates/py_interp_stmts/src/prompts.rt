@@ -7,44 +7,49 @@ ghost use Rattle.py_answers.specs.Log.{Gets, world_of};
 ghost use Rattle.py_answers.specs.Told.{value_of};
 ghost use Rattle.py_bytecode.specs.Values.{then_do};
 ghost use Rattle.py_interp.specs.Acting.{Acting};
-ghost use Rattle.py_interp.specs.Statements.{print, printed_then, prompt_walk};
-ghost use Rattle.py_interp.specs.Walks.{walk_expr};
+ghost use Rattle.py_interp.specs.Statements.{print, printed_then, prompt_interpreter};
+ghost use Rattle.py_interp.specs.Interpreters.{interpret_expr};
 ghost use Rattle.py_interp_simple.specs.Ends.{Ends, flow_of};
 ghost use Rattle.py_interp_stmts.specs.Prompted.{followed_end, prompt_rest, value_in};
 
 use crate::futures::{after_future, as_future};
-use crate::statements::walk_statement;
+use crate::statements::interpret_statement;
 use py_answers::{Halt, Log, StepValue};
 use py_bytecode::Instruction;
-use py_interp::Around;
+use py_interp::NodeContext;
 use py_interp::constants::none;
 use py_interp::operands::{copy_value, one};
 use py_interp::operations::{bare, does_none};
-use py_interp_exprs::walk_expression;
+use py_interp_exprs::interpret_expression;
 use py_interp_simple::{Flow, import_names};
 use py_tree::{Expr, Stmt};
 
-/// What stands around the next statement, and whether future imports may still stand there.
+/// The context of the next statement, and whether future imports may still stand there.
 #[derive(Clone, Copy)]
 pub struct Prompt {
-    pub around: Around,
+    pub node_context: NodeContext,
     pub opening: bool,
 }
 
-/// Walks statements at a prompt. The value of the last is returned, where it is an expression.
+/// Interprets statements at a prompt. The value of the last is returned, where it is an expression.
 ///
 /// # Errors
 /// What ends the run, or OutOfMemory.
-pub(crate) fn walk_prompt(log: &mut Log<'_>, around: Around, body: &[Stmt]) -> Result<Flow, Halt>
-    ensures { Ends flow_of result (world_of log.new) (prompt_walk around (stmts stmt_tree body.now) (world_of log.old)) }
+pub(crate) fn interpret_prompt(
+    log: &mut Log<'_>,
+    node_context: NodeContext,
+    body: &[Stmt],
+) -> Result<Flow, Halt>
+    ensures { Ends flow_of result (world_of log.new)
+        (prompt_interpreter node_context (stmts stmt_tree body.now) (world_of log.old)) }
 {
     let mut prompt = Prompt {
-        around,
+        node_context,
         opening: true,
     };
     let mut left = body;
     while let Some((statement, rest)) = left.split_first() {
-        let flow = walk_entered(log, &mut prompt, statement, rest.is_empty())?;
+        let flow = interpret_entered(log, &mut prompt, statement, rest.is_empty())?;
         if !flow.is_normal() {
             return Ok(flow);
         }
@@ -53,27 +58,30 @@ pub(crate) fn walk_prompt(log: &mut Log<'_>, around: Around, body: &[Stmt]) -> R
     Ok(Flow::Return(none()))
 }
 
-// Walks a statement at a prompt, which may be the last.
-fn walk_entered(
+// Interprets a statement at a prompt, which may be the last.
+fn interpret_entered(
     log: &mut Log<'_>,
     prompt: &mut Prompt,
     statement: &Stmt,
     last: bool,
 ) -> Result<Flow, Halt>
-    ensures { (ss : tree.Stmts) → no_statement ss ≡ last → Ends (followed_end prompt.new ss) result (world_of log.new) (prompt_rest prompt.old.opening prompt.old.around (tree.more_stmts (stmt_tree statement.now) ss) (world_of log.old)) }
+    ensures { (ss : tree.Stmts) → no_statement ss ≡ last
+        → Ends (followed_end prompt.new ss) result (world_of log.new)
+        (prompt_rest prompt.old.opening prompt.old.node_context
+        (tree.more_stmts (stmt_tree statement.now) ss) (world_of log.old)) }
 {
     if let Some(value) = value_in(statement) {
-        return walk_printed(log, prompt.around, value, last);
+        return interpret_printed(log, prompt.node_context, value, last);
     }
     if prompt.opening {
         if let Some(s) = as_future(statement) {
             import_names(log, s)?;
-            prompt.around = after_future(prompt.around, s);
+            prompt.node_context = after_future(prompt.node_context, s);
             return Ok(Flow::Normal);
         }
     }
     prompt.opening = false;
-    walk_statement(log, prompt.around, statement, None)
+    interpret_statement(log, prompt.node_context, statement, None)
 }
 
 // The value of a statement that is nothing else.
@@ -89,10 +97,17 @@ fn value_in(statement: &Stmt) -> Option<&Expr>
 }
 
 // Prints a value, and returns the last.
-fn walk_printed(log: &mut Log<'_>, around: Around, value: &Expr, last: bool) -> Result<Flow, Halt>
-    ensures { (rest : Acting) → Ends (λ f w. then_do (flow_of f w) rest) result (world_of log.new) (printed_then last (walk_expr around (expr_tree value.now)) rest (world_of log.old)) }
+fn interpret_printed(
+    log: &mut Log<'_>,
+    node_context: NodeContext,
+    value: &Expr,
+    last: bool,
+) -> Result<Flow, Halt>
+    ensures { (rest : Acting) → Ends (λ f w. then_do (flow_of f w) rest) result (world_of log.new)
+        (printed_then last (interpret_expr node_context (expr_tree value.now)) rest
+        (world_of log.old)) }
 {
-    let value = walk_expression(log, around, value)?;
+    let value = interpret_expression(log, node_context, value)?;
     if !last {
         print(log, value)?;
         return Ok(Flow::Normal);

@@ -1,38 +1,41 @@
 //! Statements.
 ghost use Rattle.py_tree.specs.View.{if_tree, stmt_tree, stmts};
 ghost use Rattle.py_answers.specs.Log.{world_of};
-ghost use Rattle.py_interp.specs.Statements.{stmt_walk, stmts_walk};
+ghost use Rattle.py_interp.specs.Statements.{stmt_interpreter, stmts_interpreter};
 ghost use Rattle.py_interp_simple.specs.Ends.{Ends, flow_of, slot_of};
 
-use crate::loops::{walk_for, walk_while};
-use crate::tries::walk_try;
-use crate::withs::walk_with;
+use crate::loops::{interpret_for, interpret_while};
+use crate::tries::interpret_try;
+use crate::withs::interpret_with;
 use py_answers::{Halt, Log};
-use py_interp::Around;
-use py_interp_exprs::walk_test;
+use py_interp::NodeContext;
+use py_interp_exprs::interpret_test;
 use py_interp_simple::{
-    Flow, walk_ann_assign, walk_assert, walk_assign, walk_aug_assign, walk_class_def, walk_delete,
-    walk_expr_statement, walk_function_def, walk_import, walk_import_from, walk_raise, walk_return,
-    walk_type_alias,
+    Flow, interpret_ann_assign, interpret_assert, interpret_assign, interpret_aug_assign,
+    interpret_class_def, interpret_delete, interpret_expr_statement, interpret_function_def,
+    interpret_import, interpret_import_from, interpret_raise, interpret_return,
+    interpret_type_alias,
 };
 use py_tree::{Stmt, StmtIf};
 
-/// Walks statements one after the other, while the exception is handled that the answer of this number raised, where there
+/// Interprets statements one after the other, while the exception is handled that the answer of this number raised, where there
 /// is one.
 ///
 /// # Errors
 /// What ends the run, or OutOfMemory.
-#[cycle(walk)]
-pub fn walk_statements(
+#[cycle(interpreter)]
+pub fn interpret_statements(
     log: &mut Log<'_>,
-    around: Around,
+    node_context: NodeContext,
     body: &[Stmt],
     slot: Option<u32>,
 ) -> Result<Flow, Halt>
-    ensures { Ends flow_of result (world_of log.new) (stmts_walk around (stmts stmt_tree body.now) (slot_of slot) (world_of log.old)) }
+    ensures { Ends flow_of result (world_of log.new)
+        (stmts_interpreter node_context (stmts stmt_tree body.now) (slot_of slot)
+        (world_of log.old)) }
 {
     for statement in body {
-        let flow = walk_statement(log, around, statement, slot)?;
+        let flow = interpret_statement(log, node_context, statement, slot)?;
         if !flow.is_normal() {
             return Ok(flow);
         }
@@ -40,39 +43,41 @@ pub fn walk_statements(
     Ok(Flow::Normal)
 }
 
-/// Walks a statement. One that is not compiled does nothing.
+/// Interprets a statement. One that is not compiled does nothing.
 ///
 /// # Errors
 /// What ends the run, or OutOfMemory.
-#[cycle(walk)]
+#[cycle(interpreter)]
 #[tactic(auto, using(py_tree::proofs::View::trees))]
-pub fn walk_statement(
+pub fn interpret_statement(
     log: &mut Log<'_>,
-    around: Around,
+    node_context: NodeContext,
     statement: &Stmt,
     slot: Option<u32>,
 ) -> Result<Flow, Halt>
-    ensures { Ends flow_of result (world_of log.new) (stmt_walk around (stmt_tree statement.now) (slot_of slot) (world_of log.old)) }
+    ensures { Ends flow_of result (world_of log.new)
+        (stmt_interpreter node_context (stmt_tree statement.now) (slot_of slot)
+        (world_of log.old)) }
 {
     match statement {
-        Stmt::FunctionDef(s) => walk_function_def(log, around, s),
-        Stmt::ClassDef(s) => walk_class_def(log, around, s),
-        Stmt::Return(s) => walk_return(log, around, &s.value),
-        Stmt::Delete(s) => walk_delete(log, around, s.targets.as_slice()),
-        Stmt::Assign(s) => walk_assign(log, around, s),
-        Stmt::TypeAlias(s) => walk_type_alias(log, around, s),
-        Stmt::AugAssign(s) => walk_aug_assign(log, around, s),
-        Stmt::AnnAssign(s) => walk_ann_assign(log, around, s),
-        Stmt::For(s) => walk_for(log, around, s, slot),
-        Stmt::While(s) => walk_while(log, around, s, slot),
-        Stmt::If(s) => walk_if(log, around, s, slot),
-        Stmt::With(s) => walk_with(log, around, s, slot),
-        Stmt::Raise(s) => walk_raise(log, around, s, slot),
-        Stmt::Try(s) => walk_try(log, around, s, slot),
-        Stmt::Assert(s) => walk_assert(log, around, s),
-        Stmt::Import(s) => walk_import(log, s.names.as_slice()),
-        Stmt::ImportFrom(s) => walk_import_from(log, s),
-        Stmt::Expr(s) => walk_expr_statement(log, around, &s.value),
+        Stmt::FunctionDef(s) => interpret_function_def(log, node_context, s),
+        Stmt::ClassDef(s) => interpret_class_def(log, node_context, s),
+        Stmt::Return(s) => interpret_return(log, node_context, &s.value),
+        Stmt::Delete(s) => interpret_delete(log, node_context, s.targets.as_slice()),
+        Stmt::Assign(s) => interpret_assign(log, node_context, s),
+        Stmt::TypeAlias(s) => interpret_type_alias(log, node_context, s),
+        Stmt::AugAssign(s) => interpret_aug_assign(log, node_context, s),
+        Stmt::AnnAssign(s) => interpret_ann_assign(log, node_context, s),
+        Stmt::For(s) => interpret_for(log, node_context, s, slot),
+        Stmt::While(s) => interpret_while(log, node_context, s, slot),
+        Stmt::If(s) => interpret_if(log, node_context, s, slot),
+        Stmt::With(s) => interpret_with(log, node_context, s, slot),
+        Stmt::Raise(s) => interpret_raise(log, node_context, s, slot),
+        Stmt::Try(s) => interpret_try(log, node_context, s, slot),
+        Stmt::Assert(s) => interpret_assert(log, node_context, s),
+        Stmt::Import(s) => interpret_import(log, s.names.as_slice()),
+        Stmt::ImportFrom(s) => interpret_import_from(log, s),
+        Stmt::Expr(s) => interpret_expr_statement(log, node_context, &s.value),
         Stmt::Break(_) => Ok(Flow::Break),
         Stmt::Continue(_) => Ok(Flow::Continue),
         Stmt::Global(_)
@@ -86,13 +91,19 @@ pub fn walk_statement(
     }
 }
 
-#[cycle(walk)]
-fn walk_if(log: &mut Log<'_>, around: Around, s: &StmtIf, slot: Option<u32>) -> Result<Flow, Halt>
-    ensures { Ends flow_of result (world_of log.new) (stmt_walk around (if_tree s.now) (slot_of slot) (world_of log.old)) }
+#[cycle(interpreter)]
+fn interpret_if(
+    log: &mut Log<'_>,
+    node_context: NodeContext,
+    s: &StmtIf,
+    slot: Option<u32>,
+) -> Result<Flow, Halt>
+    ensures { Ends flow_of result (world_of log.new)
+        (stmt_interpreter node_context (if_tree s.now) (slot_of slot) (world_of log.old)) }
 {
-    if walk_test(log, around, &s.test)? {
-        walk_statements(log, around, s.body.as_slice(), slot)
+    if interpret_test(log, node_context, &s.test)? {
+        interpret_statements(log, node_context, s.body.as_slice(), slot)
     } else {
-        walk_statements(log, around, s.orelse.as_slice(), slot)
+        interpret_statements(log, node_context, s.orelse.as_slice(), slot)
     }
 }

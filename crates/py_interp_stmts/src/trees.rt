@@ -6,20 +6,20 @@ ghost use Rattle.py_tree.specs.View.{mod_tree, stmt_tree, stmts};
 ghost use Rattle.py_answers.specs.Log.{world_of};
 ghost use Rattle.py_answers.specs.Scripts.{answers_of};
 ghost use Rattle.py_answers.specs.Told.{Known, all_told, outcome_of, trace_of};
-ghost use Rattle.py_interp.specs.Statements.{interactive_walk, mod_walk, tree_run};
+ghost use Rattle.py_interp.specs.Statements.{interactive_interpreter, mod_interpreter, tree_run};
 ghost use Rattle.py_interp_simple.specs.Ends.{Ends, flow_of};
 
-use crate::blocks::{return_expression, walk_opened_block};
-use crate::files::walk_file;
-use crate::prompts::walk_prompt;
+use crate::blocks::{interpret_opened_block, return_expression};
+use crate::files::interpret_file;
+use crate::prompts::interpret_prompt;
 use py_answers::{Halt, Log, Outcome, Script, StepValue, Trace};
-use py_interp::Around;
+use py_interp::NodeContext;
 use py_interp::constants::none;
 use py_interp_simple::Flow;
 use py_tree::{Mod, Mode, Stmt};
 use std::alloc::{AllocError, Global};
 
-/// Runs a tree in a mode, at a level of optimization, over a script, and tells the run as `tree_run` of py_interp has it.
+/// Runs a tree in a mode, at a level of optimization, over a script, and reports the run as `tree_run` of py_interp has it.
 ///
 /// # Errors
 /// There is no memory for the run.
@@ -30,18 +30,20 @@ pub fn run_tree(
     level: u8,
     script: &Script,
 ) -> Result<Trace, AllocError>
-    ensures trace { IfOk result (λ t. trace_of t ≡ tree_run (mod_tree tree.now) mode level (answers_of script.now.answers)) }
+    ensures trace { IfOk result (λ t. trace_of t
+        ≡ tree_run (mod_tree tree.now) mode level (answers_of script.now.answers)) }
     ensures told { IfOk result (λ t. all_told t.events ≡ true) }
 {
     let mut log = Log::new(alloc, script);
-    let ended = walk_tree(&mut log, tree, mode, level);
+    let ended = interpret_tree(&mut log, tree, mode, level);
     let outcome = outcome_of(ended)?;
     Ok(log.told(outcome))
 }
 
-// How a run is told that ends so.
+// How a run is reported that ends so.
 fn outcome_of(ended: Result<Flow, Halt>) -> Result<Outcome, AllocError>
-    ensures { IfOk result (λ o. (w : World Known) (end : Ended Known) → Ends flow_of ended w end → ended_so end ≡ ran w.events (outcome_of o)) }
+    ensures { IfOk result (λ o. (w : World Known) (end : Ended Known) → Ends flow_of ended w end
+        → ended_so end ≡ ran w.events (outcome_of o)) }
 {
     match ended {
         Ok(Flow::Normal) => Ok(Outcome::Returned(none())),
@@ -54,37 +56,40 @@ fn outcome_of(ended: Result<Flow, Halt>) -> Result<Outcome, AllocError>
     }
 }
 
-/// Walks a tree in a mode, at a level of optimization.
+/// Interprets a tree in a mode, at a level of optimization.
 ///
 /// # Errors
 /// What ends the run, or OutOfMemory.
-pub fn walk_tree(log: &mut Log<'_>, tree: &Mod, mode: Mode, level: u8) -> Result<Flow, Halt>
-    ensures { Ends flow_of result (world_of log.new) (mod_walk mode (record { level = level; postponed = false }) (mod_tree tree.now) (world_of log.old)) }
+pub fn interpret_tree(log: &mut Log<'_>, tree: &Mod, mode: Mode, level: u8) -> Result<Flow, Halt>
+    ensures { Ends flow_of result (world_of log.new)
+        (mod_interpreter mode (record { level = level; postponed = false }) (mod_tree tree.now)
+        (world_of log.old)) }
 {
-    let around = Around {
+    let node_context = NodeContext {
         level,
         postponed: false,
     };
     match tree {
-        Mod::Module(m) => walk_file(log, around, m.body.as_slice()),
-        Mod::Interactive(m) => walk_interactive(log, around, mode, m.body.as_slice()),
-        Mod::Expression(m) => return_expression(log, around, &m.body),
+        Mod::Module(m) => interpret_file(log, node_context, m.body.as_slice()),
+        Mod::Interactive(m) => interpret_interactive(log, node_context, mode, m.body.as_slice()),
+        Mod::Expression(m) => return_expression(log, node_context, &m.body),
         Mod::FunctionType(_) => Ok(Flow::Return(none())),
     }
 }
 
-fn walk_interactive(
+fn interpret_interactive(
     log: &mut Log<'_>,
-    around: Around,
+    node_context: NodeContext,
     mode: Mode,
     body: &[Stmt],
 ) -> Result<Flow, Halt>
-    ensures { Ends flow_of result (world_of log.new) (interactive_walk mode around (stmts stmt_tree body.now) (world_of log.old)) }
+    ensures { Ends flow_of result (world_of log.new)
+        (interactive_interpreter mode node_context (stmts stmt_tree body.now) (world_of log.old)) }
 {
     match mode {
-        Mode::Single => walk_prompt(log, around, body),
-        Mode::Exec => walk_opened_block(log, around, body),
-        Mode::Eval => walk_opened_block(log, around, body),
-        Mode::BlockExpr => walk_opened_block(log, around, body),
+        Mode::Single => interpret_prompt(log, node_context, body),
+        Mode::Exec => interpret_opened_block(log, node_context, body),
+        Mode::Eval => interpret_opened_block(log, node_context, body),
+        Mode::BlockExpr => interpret_opened_block(log, node_context, body),
     }
 }

@@ -5,37 +5,38 @@ ghost use Rattle.py_bytecode.specs.Values.{Ended, Given, Operates, enter_with, f
 ghost use Rattle.py_control.specs.Form.{assign_then, with_run};
 ghost use Rattle.py_answers.specs.Log.{Gets, world_of};
 ghost use Rattle.py_answers.specs.Told.{Known, value_of};
-ghost use Rattle.py_interp.specs.Statements.{item_walk, stmt_walk, with_walk};
-ghost use Rattle.py_interp.specs.Walks.{walk_expr};
+ghost use Rattle.py_interp.specs.Statements.{item_interpreter, stmt_interpreter, with_interpreter};
+ghost use Rattle.py_interp.specs.Interpreters.{interpret_expr};
 ghost use Rattle.py_interp_simple.specs.Ends.{Ends, flow_of, slot_of};
 ghost use Rattle.py_interp_stmts.specs.Leaving.{Enters, exit_truth, exit_end, left_all};
 
-use crate::statements::walk_statements;
+use crate::statements::interpret_statements;
 use py_answers::{Halt, Log, StepValue};
 use py_base::List;
 use py_bytecode::Instruction;
-use py_interp::Around;
+use py_interp::NodeContext;
 use py_interp::constants::none;
 use py_interp::operands::one;
 use py_interp::operations::{bare, does_two};
-use py_interp_exprs::{walk_expression, walk_target};
+use py_interp_exprs::{interpret_expression, interpret_target};
 use py_interp_simple::Flow;
 use py_tree::{Expr, StmtWith, WithItem};
 
-/// Enters items, walks a body, and leaves the items, the last one first.
-#[cycle(walk)]
-pub(crate) fn walk_with(
+/// Enters items, interprets a body, and leaves the items, the last one first.
+#[cycle(interpreter)]
+pub(crate) fn interpret_with(
     log: &mut Log<'_>,
-    around: Around,
+    node_context: NodeContext,
     s: &StmtWith,
     slot: Option<u32>,
 ) -> Result<Flow, Halt>
-    ensures { Ends flow_of result (world_of log.new) (stmt_walk around (with_tree s.now) (slot_of slot) (world_of log.old)) }
+    ensures { Ends flow_of result (world_of log.new)
+        (stmt_interpreter node_context (with_tree s.now) (slot_of slot) (world_of log.old)) }
 {
     let mut exits = Vec::new(log.alloc);
-    match enter_items(log, around, s.items.as_slice(), &mut exits) {
+    match enter_items(log, node_context, s.items.as_slice(), &mut exits) {
         Ok(()) => {
-            let ended = walk_statements(log, around, s.body.as_slice(), slot);
+            let ended = interpret_statements(log, node_context, s.body.as_slice(), slot);
             leave_all(log, exits, ended)
         }
         Err(Halt::Raised(exception)) => leave_all(log, exits, Err(Halt::Raised(exception))),
@@ -47,14 +48,16 @@ pub(crate) fn walk_with(
 // Enters items, and puts the numbers of the answers that have their exits after others, as far as it comes.
 fn enter_items(
     log: &mut Log<'_>,
-    around: Around,
+    node_context: NodeContext,
     items: &[WithItem],
     exits: &mut Vec<u32>,
 ) -> Result<(), Halt>
-    ensures { Enters result (world_of log.new) exits.new.items (λ body. left_all exits.old.items (with_walk around (with_items items.now) body (world_of log.old))) }
+    ensures { Enters result (world_of log.new) exits.new.items
+        (λ body. left_all exits.old.items
+        (with_interpreter node_context (with_items items.now) body (world_of log.old))) }
 {
     for item in items {
-        enter_item(log, around, item, exits)?;
+        enter_item(log, node_context, item, exits)?;
     }
     Ok(())
 }
@@ -62,21 +65,26 @@ fn enter_items(
 // Enters an item, and gives what was entered to the target, where there is one.
 fn enter_item(
     log: &mut Log<'_>,
-    around: Around,
+    node_context: NodeContext,
     item: &WithItem,
     exits: &mut Vec<u32>,
 ) -> Result<(), Halt>
-    ensures { Enters result (world_of log.new) exits.new.items (λ body. left_all exits.old.items (with_run (walk_expr around (expr_tree item.now.context_expr.value)) (assign_then (item_walk around (opt_box expr_tree item.now.optional_vars)) body) (world_of log.old))) }
+    ensures { Enters result (world_of log.new) exits.new.items
+        (λ body. left_all exits.old.items
+        (with_run (interpret_expr node_context (expr_tree item.now.context_expr.value))
+        (assign_then (item_interpreter node_context (opt_box expr_tree item.now.optional_vars))
+        body) (world_of log.old))) }
 {
-    let manager = walk_expression(log, around, &item.context_expr)?;
+    let manager = interpret_expression(log, node_context, &item.context_expr)?;
     let answer = enter(log, manager)?;
     push_exit(exits, answer)?;
-    put_entered(log, around, &item.optional_vars, answer)
+    put_entered(log, node_context, &item.optional_vars, answer)
 }
 
 // Enters: gives the number of the answer whose first value is the exit, and whose second is entered.
 fn enter(log: &mut Log<'_>, manager: StepValue) -> Result<u32, Halt>
-    ensures { Gets (λ n. (Given n 0, Given n 1)) result (world_of log.new) (for_two (Operates enter_with (value_of manager ∷ [])) (world_of log.old)) }
+    ensures { Gets (λ n. (Given n 0, Given n 1)) result (world_of log.new)
+        (for_two (Operates enter_with (value_of manager ∷ [])) (world_of log.old)) }
 {
     let operands = one(log.alloc, manager)?;
     log.operate(
@@ -98,21 +106,29 @@ fn push_exit(exits: &mut Vec<u32>, exit: u32) -> Result<(), Halt>
 
 fn put_entered(
     log: &mut Log<'_>,
-    around: Around,
+    node_context: NodeContext,
     target: &Option<Box<Expr>>,
     answer: u32,
 ) -> Result<(), Halt>
-    ensures { Gets (λ u. u) result (world_of log.new) (item_walk around (opt_box expr_tree target.now) (Given answer 1) (world_of log.old)) }
+    ensures { Gets (λ u. u) result (world_of log.new)
+        (item_interpreter node_context (opt_box expr_tree target.now) (Given answer 1)
+        (world_of log.old)) }
 {
     match target {
-        Some(target) => walk_target(log, around, target, StepValue::Given { answer, index: 1 }),
+        Some(target) => interpret_target(
+            log,
+            node_context,
+            target,
+            StepValue::Given { answer, index: 1 },
+        ),
         None => Ok(()),
     }
 }
 
 // Leaves what was entered, the last one first.
 fn leave_all(log: &mut Log<'_>, exits: Vec<u32>, ended: Result<Flow, Halt>) -> Result<Flow, Halt>
-    ensures { (end : Ended Known) → Ends flow_of ended (world_of log.old) end → Ends flow_of result (world_of log.new) (left_all exits.items end) }
+    ensures { (end : Ended Known) → Ends flow_of ended (world_of log.old) end
+        → Ends flow_of result (world_of log.new) (left_all exits.items end) }
 {
     let mut exits = exits;
     let mut ended = ended;
@@ -124,7 +140,8 @@ fn leave_all(log: &mut Log<'_>, exits: Vec<u32>, ended: Result<Flow, Halt>) -> R
 
 // Leaves what the answer of this number gave, on the way out that is in hand. An exception ends there where the exit says so.
 fn leave(log: &mut Log<'_>, exit: u32, ended: Result<Flow, Halt>) -> Result<Flow, Halt>
-    ensures { (end : Ended Known) → Ends flow_of ended (world_of log.old) end → Ends flow_of result (world_of log.new) (exit_end (Given exit 0) end) }
+    ensures { (end : Ended Known) → Ends flow_of ended (world_of log.old) end
+        → Ends flow_of result (world_of log.new) (exit_end (Given exit 0) end) }
 {
     match ended {
         Ok(flow) => {
@@ -138,7 +155,8 @@ fn leave(log: &mut Log<'_>, exit: u32, ended: Result<Flow, Halt>) -> Result<Flow
 }
 
 fn leave_raised(log: &mut Log<'_>, exit: u32, answer: u32) -> Result<Flow, Halt>
-    ensures { Ends flow_of result (world_of log.new) (exit_end (Given exit 0) (throws (Given answer 0) (world_of log.old))) }
+    ensures { Ends flow_of result (world_of log.new)
+        (exit_end (Given exit 0) (throws (Given answer 0) (world_of log.old))) }
 {
     let exception = StepValue::Given { answer, index: 0 };
     if exit_with(log, exit, exception)? {
@@ -149,7 +167,8 @@ fn leave_raised(log: &mut Log<'_>, exit: u32, answer: u32) -> Result<Flow, Halt>
 
 // Calls the exit with an exception or None, and asks for the truth of its answer.
 fn exit_with(log: &mut Log<'_>, exit: u32, exception: StepValue) -> Result<bool, Halt>
-    ensures { Gets (λ b. b) result (world_of log.new) (exit_truth (Given exit 0) (value_of exception) (world_of log.old)) }
+    ensures { Gets (λ b. b) result (world_of log.new)
+        (exit_truth (Given exit 0) (value_of exception) (world_of log.old)) }
 {
     let exit = StepValue::Given {
         answer: exit,

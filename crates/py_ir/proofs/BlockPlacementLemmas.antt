@@ -1,5 +1,7 @@
 -- A new block, and a block that is placed after the current one.
-use Rattle.std.proofs.Common.{◌≡◌, ◌≢◌, ℕ, zero, suc, ◌+◌, ◌-◌, ◌<◌, ◌≤◌, List, [], ◌∷◌, ◌++◌, length, take, drop, set, map, get_or, Bool, true, false, Some, None, refl, sym, inl, inr, ap, ◌∙◌, subst, arith, length-set, get_or-set_same, get_or-set_other}
+use Rattle.std.proofs.Common.{◌≡◌, ◌≢◌, ℕ, zero, suc, ◌+◌, ◌-◌, ◌<◌, ◌≤◌, List, [], ◌∷◌, ◌++◌, length, take, drop, set, map, get_or, Bool}
+use Rattle.std.proofs.Common.{true, false, Some, None, refl, sym, inl, inr, ap, ◌∙◌, subst, arith, length-set, get_or-set_same}
+use Rattle.std.proofs.Common.{get_or-set_other}
 use Rattle.std.specs.Prelude.{nat_eq, if◌then◌else◌}
 use Rattle.std.specs.List.{Contains}
 use Rattle.std.proofs.lemmas.Bool.{cases_lt, cases_eq}
@@ -60,9 +62,11 @@ module _ (xs : List InstructionInfo) (ss : List Span) (c : ℕ) (h : Follows xs 
 
     block_placement_same : (b : ℕ) → blk bs b ≡ blk ds b
     block_placement_same b = elim (cases_lt b (length ss)) [
-      | inl l ↦ blk_is xs ss b unplaced_span l ∙ ap (λ s. plain (block_of xs s)) (sym (old b unplaced_span l)) ∙ sym (blk_is xs block_placement_more b unplaced_span (let n = length_push ss unplaced_span in omega (arith, n, l)))
+      | inl l ↦ blk_is xs ss b unplaced_span l ∙ ap (λ s. plain (block_of xs s)) (sym (old b unplaced_span l))
+          ∙ sym (blk_is xs block_placement_more b unplaced_span (let n = length_push ss unplaced_span in omega (arith, n, l)))
       | inr l ↦ blk_past bs b (let a = length-blks xs ss in omega (arith, a, l)) ∙ elim (cases_eq b (length ss)) [
-        | inl q ↦ sym (blk_is xs block_placement_more b unplaced_span (let n = length_push ss unplaced_span in omega (arith, n, q)) ∙ ap (λ s. plain (block_of xs s)) (get_or_push ss unplaced_span unplaced_span b (sym q)))
+        | inl q ↦ sym (blk_is xs block_placement_more b unplaced_span (let n = length_push ss unplaced_span in omega (arith, n, q))
+            ∙ ap (λ s. plain (block_of xs s)) (get_or_push ss unplaced_span unplaced_span b (sym q)))
         | inr n ↦ sym (blk_past ds b (let a = length-blks xs block_placement_more in let m = length_push ss unplaced_span in omega (arith, a, m, l, n)))
       ]
     ]
@@ -77,8 +81,14 @@ module _ (xs : List InstructionInfo) (ss : List Span) (c : ℕ) (h : Follows xs 
         path = path_kept bs ds h.before c h.is_chain.path block_placement_longer (λ b n. block_placement_same b);
         ends = ap (λ (b : Blk). b.next) (sym (block_placement_same (get_or block_placement_all (length block_placement_all - 1) 0))) ∙ h.is_chain.ends;
       };
-      starts_at = starts_kept bs ds h.before c h.is_chain.path block_placement_longer (λ b n. block_placement_same b) 0 (map block_placement_first_of ss) (map block_placement_first_of block_placement_more) (length-map block_placement_more block_placement_first_of ∙ sym (length-blks xs block_placement_more)) (λ b l. ap (λ ns. get_or ns b 0) firsts ∙ get_or_append_left (map block_placement_first_of ss) (0 ∷ []) 0 b (let a = length-blks xs ss in let m = length-map ss block_placement_first_of in omega (arith, a, l, m))) h.starts_at;
-      list = h.list ∙ flat_last 0 bs h.before c ∙ ap (λ l. l ++ (blk bs c).items) (sym (flat_kept bs ds h.before c h.is_chain.path block_placement_longer (λ b n. block_placement_same b) 0)) ∙ ap (λ (b : Blk). flat 0 ds h.before ++ b.items) (block_placement_same c) ∙ sym (flat_last 0 ds h.before c);
+      starts_at = starts_kept bs ds h.before c h.is_chain.path block_placement_longer (λ b n. block_placement_same b) 0
+          (map block_placement_first_of ss) (map block_placement_first_of block_placement_more)
+          (length-map block_placement_more block_placement_first_of ∙ sym (length-blks xs block_placement_more))
+          (λ b l. ap (λ ns. get_or ns b 0) firsts ∙ get_or_append_left (map block_placement_first_of ss) (0 ∷ []) 0 b
+          (let a = length-blks xs ss in let m = length-map ss block_placement_first_of in omega (arith, a, l, m))) h.starts_at;
+      list = h.list ∙ flat_last 0 bs h.before c ∙ ap (λ l. l ++ (blk bs c).items)
+          (sym (flat_kept bs ds h.before c h.is_chain.path block_placement_longer (λ b n. block_placement_same b) 0))
+          ∙ ap (λ (b : Blk). flat 0 ds h.before ++ b.items) (block_placement_same c) ∙ sym (flat_last 0 ds h.before c);
       outside = λ b d l n. elim (cases_lt b (length ss)) [
         | inl a ↦ old b d a ∙ h.outside b d a n
         | inr a ↦ get_or_push ss unplaced_span d b (let m = length_push ss unplaced_span in omega (arith, m, l, a))
@@ -102,11 +112,15 @@ module _ (xs : List InstructionInfo) (ss : List Span) (c : ℕ) (h : Follows xs 
             let f : (blk bs (get_or block_placement_all k 0)).next ≡ Some (get_or block_placement_all (k + 1) 0) = h.is_chain.path.follows k (omega (arith, len, a)) in
             let g : (blk bs n).next ≡ None = ap (λ (b : Blk). b.next) (blk_is xs ss n unplaced_span lt ∙ ap plain (sym (block_is xs ss n unplaced_span empty_block lt))) ∙ ap block_number e in
             let z : None ≡ Some (get_or block_placement_all (k + 1) 0) = sym g ∙ ap (λ b. (blk bs b).next) (sym is) ∙ f in cc)
-        | inr a ↦ (let l = r.1 in let q : k ≡ length h.before = omega (arith, len, a, l) in absurd (other (sym is ∙ ap (λ j. get_or block_placement_all j 0) q ∙ get_or_push h.before c 0 (length h.before) refl)))
+        | inr a ↦ (let l = r.1 in let q : k ≡ length h.before =
+            omega (arith, len, a, l) in absurd
+            (other (sym is ∙ ap (λ j. get_or block_placement_all j 0) q ∙ get_or_push h.before c 0 (length h.before) refl)))
       ]
 
   -- a block that is placed
-  module _ (i : BlockIdx) (led last : Span) (el : led ≡ led_to (get_or ss c led) i) (ef : last ≡ record { first = length xs; after = length xs; next = record { 0 = 0xffff_ffff } }) (lt : i.0 < length ss) (other : i.0 ≢ c) (e : (get_or (blocks_of xs ss) i.0 empty_block).next.0 ≡ 0xffff_ffff) where
+  module _ (i : BlockIdx) (led last : Span) (el : led ≡ led_to (get_or ss c led) i)
+      (ef : last ≡ record { first = length xs; after = length xs; next = record { 0 = 0xffff_ffff } }) (lt : i.0 < length ss)
+      (other : i.0 ≢ c) (e : (get_or (blocks_of xs ss) i.0 empty_block).next.0 ≡ 0xffff_ffff) where
     abbrev mid : List Span
     mid = set ss c led
 
@@ -162,7 +176,8 @@ module _ (xs : List InstructionInfo) (ss : List Span) (c : ℕ) (h : Follows xs 
     c_now = blk_is xs ts c led (let m = span_made xs ss c h in omega (arith, m, block_placement_long)) ∙ ap plain (block_placement_here led)
 
     c_items : (blk es c).items ≡ (blk bs c).items
-    c_items = ap (λ (b : Blk). b.items) c_now ∙ ap (λ (b : Block). b.instructions) (block_is xs ss c led empty_block (span_made xs ss c h)) ∙ sym (ap (λ (b : Blk). b.items) (blk_is xs ss c led (span_made xs ss c h)))
+    c_items = ap (λ (b : Blk). b.items) c_now ∙ ap (λ (b : Block). b.instructions) (block_is xs ss c led empty_block (span_made xs ss c h))
+        ∙ sym (ap (λ (b : Blk). b.items) (blk_is xs ss c led (span_made xs ss c h)))
 
     i_now : blk es i.0 ≡ record { items = []; next = None }
     i_now = blk_is xs ts i.0 led (omega (arith, block_placement_long, lt)) ∙ ap (λ s. plain (block_of xs s)) (at_i led) ∙ ap plain empty_last
@@ -178,13 +193,19 @@ module _ (xs : List InstructionInfo) (ss : List Span) (c : ℕ) (h : Follows xs 
         numbered false q = refl
 
     whole_flat : flat 0 es block_placement_all ≡ xs
-    whole_flat = flat_last 0 es h.before c ∙ ap (λ l. l ++ (blk es c).items) (flat_kept bs es h.before c h.is_chain.path as_long same_blk 0) ∙ ap (λ l. flat 0 bs h.before ++ l) c_items ∙ sym (flat_last 0 bs h.before c) ∙ sym h.list
+    whole_flat = flat_last 0 es h.before c ∙ ap (λ l. l ++ (blk es c).items) (flat_kept bs es h.before c h.is_chain.path as_long same_blk 0)
+        ∙ ap (λ l. flat 0 bs h.before ++ l) c_items ∙ sym (flat_last 0 bs h.before c) ∙ sym h.list
 
     abbrev block_placement_starts : List ℕ
     block_placement_starts = map block_placement_first_of ss
 
     firsts_now : map block_placement_first_of ts ≡ set block_placement_starts i.0 (length xs)
-    firsts_now = map-set block_placement_first_of mid i.0 last ∙ ap (λ n. set (map block_placement_first_of mid) i.0 n) (ap block_placement_first_of ef) ∙ ap (λ ns. set ns i.0 (length xs)) (map-set block_placement_first_of ss c led ∙ ap (λ n. set block_placement_starts c n) (ap block_placement_first_of el ∙ sym (get_or-map block_placement_first_of ss c led 0 (span_made xs ss c h))) ∙ set-get_or block_placement_starts c 0)
+    firsts_now = map-set block_placement_first_of mid i.0 last
+        ∙ ap (λ n. set (map block_placement_first_of mid) i.0 n) (ap block_placement_first_of ef)
+        ∙ ap (λ ns. set ns i.0 (length xs))
+        (map-set block_placement_first_of ss c led ∙ ap (λ n. set block_placement_starts c n)
+        (ap block_placement_first_of el ∙ sym (get_or-map block_placement_first_of ss c led 0 (span_made xs ss c h)))
+        ∙ set-get_or block_placement_starts c 0)
 
     not_i : (k : ℕ) → k < length block_placement_all → get_or block_placement_all k 0 ≢ i.0
     not_i k l = λ q. block_placement_out (k, l, get_or_default block_placement_all k i.0 0 l ∙ q)
@@ -216,20 +237,30 @@ module _ (xs : List InstructionInfo) (ss : List Span) (c : ℕ) (h : Follows xs 
     place_follows = record {
       before = block_placement_all;
       is_chain = record {
-        path = path_push es h.before c i.0 (path_kept bs es h.before c h.is_chain.path as_long same_blk) block_placement_leads (let a = length-blks xs ts in omega (arith, a, block_placement_long, lt)) not_i;
+        path = path_push es h.before c i.0 (path_kept bs es h.before c h.is_chain.path as_long same_blk) block_placement_leads
+            (let a = length-blks xs ts in omega (arith, a, block_placement_long, lt)) not_i;
         ends = ap (λ n. (blk es n).next) (last_push block_placement_all i.0) ∙ ap (λ (b : Blk). b.next) i_now;
       };
       starts_at = record { long = length-map ts block_placement_first_of ∙ sym (length-blks xs ts); each = starts_each };
       list = sym (flat_last 0 es block_placement_all i.0 ∙ ap (λ (b : Blk). flat 0 es block_placement_all ++ b.items) i_now ∙ append-nil (flat 0 es block_placement_all) ∙ whole_flat);
-      outside = λ b d l n. at_rest b d (λ q. n (subst (Contains block_placement_new) (sym q) (Contains-append_left block_placement_all (i.0 ∷ []) c c_in))) (λ q. n (subst (Contains block_placement_new) (sym q) (Contains-push block_placement_all i.0))) ∙ h.outside b d (omega (arith, block_placement_long, l)) (λ m. n (Contains-append_left block_placement_all (i.0 ∷ []) b m));
-      ordered = All-set (λ s. s.first ≤ s.after) mid i.0 last (let p = ap block_placement_first_of ef in let q = ap (λ (s : Span). s.after) ef in omega (arith, p, q)) (All-set (λ s. s.first ≤ s.after) ss c led (let p = ap block_placement_first_of el in let q = ap (λ (s : Span). s.after) el in let o = h.ordered c led (span_made xs ss c h) in omega (arith, p, q, o)) h.ordered);
+      outside = λ b d l n. at_rest b d
+          (λ q. n (subst (Contains block_placement_new) (sym q) (Contains-append_left block_placement_all (i.0 ∷ []) c c_in)))
+          (λ q. n (subst (Contains block_placement_new) (sym q) (Contains-push block_placement_all i.0)))
+          ∙ h.outside b d (omega (arith, block_placement_long, l)) (λ m. n (Contains-append_left block_placement_all (i.0 ∷ []) b m));
+      ordered = All-set (λ s. s.first ≤ s.after) mid i.0 last
+          (let p = ap block_placement_first_of ef in let q = ap (λ (s : Span). s.after) ef in omega (arith, p, q))
+          (All-set (λ s. s.first ≤ s.after) ss c led
+          (let p = ap block_placement_first_of el in let q = ap (λ (s : Span). s.after) el in let o =
+          h.ordered c led (span_made xs ss c h) in omega (arith, p, q, o)) h.ordered);
       early = λ b d l n. let p = ap block_placement_first_of (at_i d ∙ ef) in let w = after_low b d (omega (arith, block_placement_long, l)) n in omega (arith, p, w);
       few = (let f = h.few in omega (arith, f, block_placement_long));
       full = λ d. ap (λ (s : Span). s.after) (at_i d ∙ ef);
     }
 
 -- as the call leaves it
-module _ (xs : List InstructionInfo) (ss : List Span) (cur i : BlockIdx) (s t : Span) (n : ℕ) (h : Follows xs ss cur.0) (es : s ≡ get_or ss cur.0 s) (et : t ≡ get_or (set ss cur.0 (led_to s i)) i.0 t) (en : n ≡ length xs) (o : IsOutside (block_list_of xs ss cur) i.0) where
+module _ (xs : List InstructionInfo) (ss : List Span) (cur i : BlockIdx) (s t : Span) (n : ℕ) (h : Follows xs ss cur.0)
+    (es : s ≡ get_or ss cur.0 s) (et : t ≡ get_or (set ss cur.0 (led_to s i)) i.0 t) (en : n ≡ length xs)
+    (o : IsOutside (block_list_of xs ss cur) i.0) where
   abbrev led : Span
   led = led_to s i
 

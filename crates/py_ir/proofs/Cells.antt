@@ -1,5 +1,6 @@
 -- The places of cells that are parameters.
-use Rattle.std.proofs.Common.{◌≡◌, ℕ, ◌+◌, ◌<◌, ◌≤◌, ℤ, List, [], ◌∷◌, ◌++◌, length, take, get_or, All, Bool, true, false, Option, Some, None, is_some, if◌then◌else◌, ◌≢◌, refl, sym, ap, ◌∙◌, inl, inr, arith}
+use Rattle.std.proofs.Common.{◌≡◌, ℕ, ◌+◌, ◌<◌, ◌≤◌, ℤ, List, [], ◌∷◌, ◌++◌, length, take, get_or, All, Bool, true, false, Option, Some}
+use Rattle.std.proofs.Common.{None, is_some, if◌then◌else◌, ◌≢◌, refl, sym, ap, ◌∙◌, inl, inr, arith}
 use Rattle.std.proofs.lemmas.Bool.{cases_lt}
 use Rattle.std.proofs.lemmas.List.{get_or_default, map_more}
 use Rattle.std.proofs.lemmas.List.Folds.{list_any_none, list_any-from_Any}
@@ -21,7 +22,9 @@ pub places_step : (count : ℕ) (vs cells : List (List ℕ)) (i : ℕ) (cell : L
     → old ≡ cell_places count vs (take i cells) → i < length cells → cell ≡ get_or cells i cell → found ≡ parameter_of count vs cell → place ≡ cell_place found
     → new ≡ old ++ place ∷ [] → new ≡ cell_places count vs (take (i + 1) cells)
 places_step count vs cells i cell old new found place inv l at f p n =
-    n ∙ ap (λ (zs : List ℤ). zs ++ place ∷ []) inv ∙ ap (λ (z : ℤ). cell_places count vs (take i cells) ++ z ∷ []) (p ∙ ap cell_place f ∙ ap (λ c. cell_place (parameter_of count vs c)) (at ∙ get_or_default cells i cell [] l)) ∙ sym (map_more (λ c. cell_place (parameter_of count vs c)) cells i [] l)
+    n ∙ ap (λ (zs : List ℤ). zs ++ place ∷ []) inv ∙ ap (λ (z : ℤ). cell_places count vs (take i cells) ++ z ∷ [])
+    (p ∙ ap cell_place f ∙ ap (λ c. cell_place (parameter_of count vs c)) (at ∙ get_or_default cells i cell [] l))
+    ∙ sym (map_more (λ c. cell_place (parameter_of count vs c)) cells i [] l)
 
 some_true : {A : Type 0} (o : Option A) → o ≢ None → is_some o ≡ true
 some_true None n = absurd (n refl)

@@ -1,5 +1,6 @@
 -- Following the chain.
-use Rattle.std.proofs.Common.{◌≡◌, ◌≢◌, ℕ, ◌+◌, ◌-◌, ◌<◌, ◌≤◌, ◌⊎◌, List, [], ◌∷◌, ◌++◌, length, set, get_or, map, Bool, true, false, Some, None, refl, sym, inl, inr, ap, ◌∙◌, subst, arith, length-set, get_or-set_same, get_or-set_other}
+use Rattle.std.proofs.Common.{◌≡◌, ◌≢◌, ℕ, ◌+◌, ◌-◌, ◌<◌, ◌≤◌, ◌⊎◌, List, [], ◌∷◌, ◌++◌, length, set, get_or, map, Bool, true, false, Some}
+use Rattle.std.proofs.Common.{None, refl, sym, inl, inr, ap, ◌∙◌, subst, arith, length-set, get_or-set_same, get_or-set_other}
 use Rattle.std.specs.Prelude.{slice_get, not, cond}
 use Rattle.std.specs.List.{Contains, count_by}
 use Rattle.std.proofs.lemmas.Bool.{cases_lt, cases_eq}
@@ -90,7 +91,10 @@ module _ (bs : List Blk) (cs : List ℕ) (block : ℕ) (met : List Bool) (h : Fo
   all_met : (k : ℕ) → k < length (cs ++ block ∷ []) → get_or (set met block true) (get_or (cs ++ block ∷ []) k 0) false ≡ true
   all_met k l = elim (cases_lt k (length cs)) [
     | inl a ↦ ap (λ c. get_or (set met block true) c false) (get_or_append_left cs (block ∷ []) 0 k a) ∙ met_now (get_or cs k 0) (h.there_met k a)
-    | inr a ↦ (let long = length_push cs block in let q : k ≡ length cs = omega (arith, long) in ap (λ j. get_or (set met block true) (get_or (cs ++ block ∷ []) j 0) false) q ∙ ap (λ c. get_or (set met block true) c false) (get_or_push cs block 0 (length cs) refl) ∙ get_or-set_same met block true false within_met)
+    | inr a ↦ (let long = length_push cs block in let q : k ≡ length cs =
+        omega (arith, long) in ap (λ j. get_or (set met block true) (get_or (cs ++ block ∷ []) j 0) false) q
+        ∙ ap (λ c. get_or (set met block true) c false) (get_or_push cs block 0 (length cs) refl)
+        ∙ get_or-set_same met block true false within_met)
   ]
 
   now_there : (c : ℕ) → get_or (set met block true) c false ≡ true → Contains (cs ++ block ∷ []) c

@@ -1,5 +1,6 @@
 -- Blocks are placed along the chain, each with its instructions.
-use Rattle.std.proofs.Common.{◌≡◌, ◌≢◌, ℕ, zero, suc, ◌+◌, ◌-◌, ◌<◌, List, length, set, get_or, map, Bool, true, false, Some, None, refl, sym, inl, inr, ap, ◌∙◌, subst, arith, length-set, get_or-set_same, get_or-set_other}
+use Rattle.std.proofs.Common.{◌≡◌, ◌≢◌, ℕ, zero, suc, ◌+◌, ◌-◌, ◌<◌, List, length, set, get_or, map, Bool, true, false, Some, None, refl}
+use Rattle.std.proofs.Common.{sym, inl, inr, ap, ◌∙◌, subst, arith, length-set, get_or-set_same, get_or-set_other}
 use Rattle.std.specs.Prelude.{nat_eq, if◌then◌else◌}
 use Rattle.std.proofs.lemmas.Bool.{cases_lt}
 use Rattle.std.proofs.lemmas.Bool.Decides.{nat_tests}
@@ -12,7 +13,7 @@ use Rattle.py_ir.specs.BlockList.{BlockList, IsChainOf, IsOutside, block_at, blo
 use Rattle.py_ir.proofs.ChainOrderLemmas.{blk_plain}
 
 -- the blocks up to a place of the chain are placed
-pub record Placed (given : List Block) (cs : List ℕ) (k : ℕ) (v : BlockList) : Type 0 where
+pub record ChainPlaced (given : List Block) (cs : List ℕ) (k : ℕ) (v : BlockList) : Type 0 where
   pub long : length v.blocks ≡ length given
   pub current : v.current.0 ≡ get_or cs (k - 1) 0
   pub inside : (j : ℕ) → j + 1 < k → block_at v (get_or cs j 0) ≡ get_or given (get_or cs j 0) empty_block
@@ -57,16 +58,20 @@ module _ (given : List Block) (cs : List ℕ) (chain : IsChain (map plain given)
   -- the next of a block is the one after it in the chain
   led_back : (k : ℕ) → k + 1 < length cs → leading_to (get_or given (get_or cs k 0) empty_block) (block_idx (get_or cs (k + 1) 0)) ≡ get_or given (get_or cs k 0) empty_block
   led_back k l =
-      let e : (get_or given (get_or cs k 0) empty_block).next.0 ≡ get_or cs (k + 1) 0 = chained_number_of (get_or given (get_or cs k 0) empty_block).next.0 (get_or cs (k + 1) 0) (sym (next_of k (omega arith)) ∙ chain.path.follows k l) in
+      let e : (get_or given (get_or cs k 0) empty_block).next.0 ≡ get_or cs (k + 1) 0 =
+      chained_number_of (get_or given (get_or cs k 0) empty_block).next.0 (get_or cs (k + 1) 0)
+      (sym (next_of k (omega arith)) ∙ chain.path.follows k l) in
       ap (λ n. leading_to (get_or given (get_or cs k 0) empty_block) (block_idx n)) (sym e)
 
   last_back : (k : ℕ) → k + 1 ≡ length cs → leading_to (get_or given (get_or cs k 0) empty_block) (block_idx 0xffff_ffff) ≡ get_or given (get_or cs k 0) empty_block
   last_back k l =
       let q : length cs - 1 ≡ k = omega arith in
-      let e : (get_or given (get_or cs k 0) empty_block).next.0 ≡ 0xffff_ffff = no_number (get_or given (get_or cs k 0) empty_block).next.0 (sym (next_of k (omega arith)) ∙ subst (λ j. (blk (map plain given) (get_or cs j 0)).next ≡ None) q chain.ends) in
+      let e : (get_or given (get_or cs k 0) empty_block).next.0 ≡ 0xffff_ffff =
+      no_number (get_or given (get_or cs k 0) empty_block).next.0
+      (sym (next_of k (omega arith)) ∙ subst (λ j. (blk (map plain given) (get_or cs j 0)).next ≡ None) q chain.ends) in
       ap (λ n. leading_to (get_or given (get_or cs k 0) empty_block) (block_idx n)) (sym e)
 
-  pub none_placed : Placed given cs 0 (empty_blocks (length given))
+  pub none_placed : ChainPlaced given cs 0 (empty_blocks (length given))
   none_placed = record {
     long = length-replicate (length given) empty_block;
     current = sym (get_or_from_slice_get cs 0 0 0 chain.path.first);
@@ -75,7 +80,7 @@ module _ (given : List Block) (cs : List ℕ) (chain : IsChain (map plain given)
     outside = λ b l n. get_or-replicate (length given) b empty_block empty_block l;
   }
 
-  module _ (k : ℕ) (v : BlockList) (h : Placed given cs k v) (l : k < length cs) where
+  module _ (k : ℕ) (v : BlockList) (h : ChainPlaced given cs k v) (l : k < length cs) where
     pub chained_out : 0 < k → IsOutside v (get_or cs k 0)
     chained_out some = record {
       made = (let i = in_given k l in let n = h.long in omega (arith, i, n));
@@ -83,7 +88,7 @@ module _ (given : List Block) (cs : List ℕ) (chain : IsChain (map plain given)
       no_next = ap (λ (b : Block). b.next) (h.outside (get_or cs k 0) (in_given k l) (λ j m. chained_apart j k m l));
     }
 
-  is_led : (k : ℕ) (v : BlockList) → Placed given cs k v → k < length cs → Led given cs k (with_chain_block v k (block_idx (get_or cs k 0)))
+  is_led : (k : ℕ) (v : BlockList) → ChainPlaced given cs k v → k < length cs → Led given cs k (with_chain_block v k (block_idx (get_or cs k 0)))
   is_led zero v h l = record {
     long = h.long;
     current = h.current;
@@ -96,9 +101,13 @@ module _ (given : List Block) (cs : List ℕ) (chain : IsChain (map plain given)
     current = refl;
     inside = λ j a. elim (cases_lt j m) [
       | inl b ↦ get_or-set_other v.blocks v.current.0 (get_or cs j 0) (joined_to v (get_or cs (suc m) 0)) empty_block (λ e. chained_apart j m b (omega arith) (e ∙ cur)) ∙ h.inside j (omega arith)
-      | inr b ↦ (let q : m ≡ j = omega arith in subst (λ i. get_or (set v.blocks v.current.0 (joined_to v (get_or cs (suc m) 0))) (get_or cs i 0) empty_block ≡ get_or given (get_or cs i 0) empty_block) q at_m)
+      | inr b ↦ (let q : m ≡ j = omega arith in subst
+          (λ i. get_or (set v.blocks v.current.0 (joined_to v (get_or cs (suc m) 0))) (get_or cs i 0) empty_block
+          ≡ get_or given (get_or cs i 0) empty_block) q at_m)
     ];
-    here = get_or-set_other v.blocks v.current.0 (get_or cs (suc m) 0) (joined_to v (get_or cs (suc m) 0)) empty_block (λ e. chained_apart m (suc m) (omega arith) l (sym (e ∙ cur))) ∙ h.outside (get_or cs (suc m) 0) (in_given (suc m) l) (λ j o. chained_apart j (suc m) o l);
+    here = get_or-set_other v.blocks v.current.0 (get_or cs (suc m) 0) (joined_to v (get_or cs (suc m) 0)) empty_block
+        (λ e. chained_apart m (suc m) (omega arith) l (sym (e ∙ cur)))
+        ∙ h.outside (get_or cs (suc m) 0) (in_given (suc m) l) (λ j o. chained_apart j (suc m) o l);
     outside = λ b a n. get_or-set_other v.blocks v.current.0 b (joined_to v (get_or cs (suc m) 0)) empty_block (λ e. n m (omega arith) (sym (e ∙ cur))) ∙ h.outside b a (λ j o. n j (omega arith));
   }
     where
@@ -117,17 +126,18 @@ module _ (given : List Block) (cs : List ℕ) (chain : IsChain (map plain given)
       at_m : get_or (set v.blocks v.current.0 (joined_to v (get_or cs (suc m) 0))) (get_or cs m 0) empty_block ≡ get_or given (get_or cs m 0) empty_block
       at_m =
           ap (λ b. get_or (set v.blocks v.current.0 (joined_to v (get_or cs (suc m) 0))) b empty_block) (sym cur)
-          ∙ get_or-set_same v.blocks v.current.0 (joined_to v (get_or cs (suc m) 0)) empty_block (let i = in_given m (omega arith) in let n = h.long in let c : v.current.0 ≡ get_or cs m 0 = cur in omega (arith, i, n, c))
+          ∙ get_or-set_same v.blocks v.current.0 (joined_to v (get_or cs (suc m) 0)) empty_block
+          (let i = in_given m (omega arith) in let n = h.long in let c : v.current.0 ≡ get_or cs m 0 = cur in omega (arith, i, n, c))
           ∙ ap (λ b. leading_to (get_or v.blocks b empty_block) (block_idx (get_or cs (suc m) 0))) cur
           ∙ ap (λ b. leading_to b (block_idx (get_or cs (suc m) 0))) was_last
           ∙ subst (λ j. leading_to (get_or given (get_or cs m 0) empty_block) (block_idx (get_or cs j 0)) ≡ get_or given (get_or cs m 0) empty_block) one_more (led_back m (omega arith))
 
-  pub placed_more : (k : ℕ) (v : BlockList) → Placed given cs k v → k < length cs → (xs : List InstructionInfo)
+  pub placed_more : (k : ℕ) (v : BlockList) → ChainPlaced given cs k v → k < length cs → (xs : List InstructionInfo)
       → xs ≡ (get_or given (get_or cs k 0) empty_block).instructions
-      → Placed given cs (k + 1) (with_appended (with_chain_block v k (block_idx (get_or cs k 0))) xs)
+      → ChainPlaced given cs (k + 1) (with_appended (with_chain_block v k (block_idx (get_or cs k 0))) xs)
   placed_more k v h l xs ex = grown (with_chain_block v k (block_idx (get_or cs k 0))) (is_led k v h l)
     where
-      grown : (w : BlockList) → Led given cs k w → Placed given cs (k + 1) (with_appended w xs)
+      grown : (w : BlockList) → Led given cs k w → ChainPlaced given cs (k + 1) (with_appended w xs)
       grown w g = record {
         long = length-set w.blocks w.current.0 (with_items (get_or w.blocks w.current.0 empty_block) xs) ∙ g.long;
         current = g.current ∙ ap (λ j. get_or cs j 0) k_is;
@@ -145,12 +155,13 @@ module _ (given : List Block) (cs : List ℕ) (chain : IsChain (map plain given)
           at_k : block_at (with_appended w xs) (get_or cs k 0) ≡ leading_to (get_or given (get_or cs k 0) empty_block) (block_idx 0xffff_ffff)
           at_k =
               ap (λ b. block_at (with_appended w xs) b) (sym g.current)
-              ∙ get_or-set_same w.blocks w.current.0 (with_items (get_or w.blocks w.current.0 empty_block) xs) empty_block (let i = in_given k l in let n = g.long in let c = g.current in omega (arith, i, n, c))
+              ∙ get_or-set_same w.blocks w.current.0 (with_items (get_or w.blocks w.current.0 empty_block) xs) empty_block
+              (let i = in_given k l in let n = g.long in let c = g.current in omega (arith, i, n, c))
               ∙ ap (λ b. with_items (get_or w.blocks b empty_block) xs) g.current
               ∙ ap (λ b. with_items b xs) g.here
               ∙ ap (λ (ys : List InstructionInfo). record { instructions = ys; next = block_idx 0xffff_ffff }) ex
 
-  pub all_placed : (v : BlockList) → Placed given cs (length cs) v → IsChainOf given v
+  pub all_placed : (v : BlockList) → ChainPlaced given cs (length cs) v → IsChainOf given v
   all_placed v h = record {
     chain = cs;
     is_chain = chain;

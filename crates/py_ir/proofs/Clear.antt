@@ -64,7 +64,8 @@ module _ (t : Tables) (level : ℕ) (bs : List Blk) (cs starts : List ℕ) (chai
         let w = slice_get_within (body level (blk bs (get_or cs k 0)).items) r.index x ex in
         let ei : slice_get clear_items (clear_at_start (get_or cs k 0) + r.index) ≡ Some x = in_items t level bs cs starts chain short at k r.index m.1 w ∙ ex in
         let g : get_or clear_items (clear_at_start (get_or cs k 0) + r.index) x ≡ x = get_or_from_slice_get clear_items (clear_at_start (get_or cs k 0) + r.index) x x ei in
-        n (clear_at_start (get_or cs k 0) + r.index) x (slice_get_within clear_items (clear_at_start (get_or cs k 0) + r.index) x ei) (subst (λ z. Fails c inside l z) (sym g) (fails_of c x (subst (λ z. Condition c l z x) same r.holds)))
+        n (clear_at_start (get_or cs k 0) + r.index) x (slice_get_within clear_items (clear_at_start (get_or cs k 0) + r.index) x ei)
+        (subst (λ z. Fails c inside l z) (sym g) (fails_of c x (subst (λ z. Condition c l z x) same r.holds)))
 
     -- a located place lies in its block
     pub located_in : (place b i : ℕ) → place < length clear_items → IsLocated cs starts place b i
@@ -72,7 +73,9 @@ module _ (t : Tables) (level : ℕ) (bs : List Blk) (cs starts : List ℕ) (chai
     located_in place b i lt r =
         let k : ℕ = r.at in
         let within : i < length (body level (blk bs (get_or cs k 0)).items) = elim (cases_lt (k + 1) (length cs)) [
-          | inl m ↦ (let a = r.after (k + 1) (omega arith) m in let e = at.each (k + 1) m in let f = after_block t level bs cs starts chain short at k r.within in let h = r.here in let q = ap clear_at_start r.block in omega (arith, a, e, f, h, q))
+          | inl m ↦ (let a = r.after (k + 1) (omega arith) m in let e = at.each (k + 1) m in let f =
+              after_block t level bs cs starts chain short at k r.within in let h = r.here in let q =
+              ap clear_at_start r.block in omega (arith, a, e, f, h, q))
           | inr m ↦ (let w = r.within in let f = total t level bs cs starts chain short at k (omega (arith, w, m)) in let h = r.here in let q = ap clear_at_start r.block in omega (arith, f, h, lt, q))
         ] in
         (k, r.within, r.block, subst (λ z. i < length (body level (blk bs z).items)) r.block within, r.here)

@@ -38,7 +38,8 @@ tables_same info code s =
     ∙ ap (λ cs. code_table_made (map constant info.constants) info.name_cache info.varname_cache cs code.freevars) s.cellvars
     ∙ ap (λ fs. code_table_made (map constant info.constants) info.name_cache info.varname_cache info.cellvar_cache fs) s.freevars
 
-module _ (level : ℕ) (info : CodeInfo) (code : CodeObject) (s : IsGiven info code) (l : IsLaid (tables_of info) level (map plain info.blocks) code.instructions code.locations code.max_stackdepth) where
+module _ (level : ℕ) (info : CodeInfo) (code : CodeObject) (s : IsGiven info code)
+    (l : IsLaid (tables_of info) level (map plain info.blocks) code.instructions code.locations code.max_stackdepth) where
   laid : IsLaid (tables (plain_object code)) level (map plain info.blocks) code.instructions code.locations code.max_stackdepth
   laid = subst (λ (t : Tables). IsLaid t level (map plain info.blocks) code.instructions code.locations code.max_stackdepth) (sym (tables_same info code s)) l
 
@@ -48,7 +49,9 @@ module _ (level : ℕ) (info : CodeInfo) (code : CodeObject) (s : IsGiven info c
 
   runs_plain : (answers : List Answer) → machine (plain_object code) answers ≡ runs_of info (length code.instructions) answers
   unfolding plain_object
-  runs_plain answers = ap (λ (t : Tables). limited_machine (fetch_unit t code.instructions) code.max_stackdepth (fuel (length code.instructions) answers) 0 (start answers)) (tables_same info code s) ∙ l.runs (fuel (length code.instructions) answers) (start answers)
+  runs_plain answers = ap (λ (t : Tables). limited_machine (fetch_unit t code.instructions) code.max_stackdepth
+      (fuel (length code.instructions) answers) 0 (start answers)) (tables_same info code s)
+      ∙ l.runs (fuel (length code.instructions) answers) (start answers)
 
   runs_same : (answers : List Answer) → machine (object code) answers ≡ runs_of info (length code.instructions) answers
   unfolding plain_object

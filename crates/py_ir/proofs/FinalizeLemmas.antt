@@ -25,8 +25,13 @@ use Rattle.py_ir.proofs.FlatBlockLemmas.{check_refused, is_code, long_refused, l
 -- tables of these lengths
 pub some_tables : (l : TableLens) → (t : Tables) × (lens_of t ≡ l)
 some_tables l =
-    let t : Tables = record { constants = replicate l.constants none; names = replicate l.names []; varnames = replicate l.varnames []; cells = replicate l.cells [] } in
-    (t, ap (λ n. lens n (length t.names) (length t.varnames) (length t.cells)) (length-replicate l.constants none) ∙ ap (λ n. lens l.constants n (length t.varnames) (length t.cells)) (length-replicate l.names nothing) ∙ ap (λ n. lens l.constants l.names n (length t.cells)) (length-replicate l.varnames nothing) ∙ ap (λ n. lens l.constants l.names l.varnames n) (length-replicate l.cells nothing))
+    let t : Tables = record { constants = replicate l.constants none; names = replicate l.names []; varnames = replicate l.varnames []; cells = replicate l.cells [] } in (
+      t,
+      ap (λ n. lens n (length t.names) (length t.varnames) (length t.cells)) (length-replicate l.constants none)
+          ∙ ap (λ n. lens l.constants n (length t.varnames) (length t.cells)) (length-replicate l.names nothing)
+          ∙ ap (λ n. lens l.constants l.names n (length t.cells)) (length-replicate l.varnames nothing)
+          ∙ ap (λ n. lens l.constants l.names l.varnames n) (length-replicate l.cells nothing),
+    )
   where
     lens : ℕ → ℕ → ℕ → ℕ → TableLens
     lens a b c d = record { constants = a; names = b; varnames = c; cells = d }
@@ -42,12 +47,17 @@ if_ok_five (Err x) P1 P2 P3 P4 P5 Q a b c d e f = tt
 pub list_within : (starts : List ℕ) (xs : List InstructionInfo) {ys : List InstructionInfo} → xs ≡ ys → All (λ s. s ≤ length xs) starts → All (λ s. s ≤ length ys) starts
 list_within starts xs e h = subst (λ (zs : List InstructionInfo). All (λ s. s ≤ length zs) starts) e h
 
-module _ (lens1 : TableLens) (level : ℕ) (bs : List Blk) (cs starts : List ℕ) (chain : IsChain bs cs) (short : length cs ≤ length bs) (at : StartsAt level bs cs starts) (inside inside1 : List Bool) (ei : inside1 ≡ inside) (ins : (c : ℕ) → get_or inside c false ≡ true → Contains cs c) (mk : (k : ℕ) → k < length cs → get_or inside (get_or cs k 0) false ≡ true) (long : length inside ≡ length bs) (list : List InstructionInfo) (ex : list ≡ flat level bs cs) where
+module _ (lens1 : TableLens) (level : ℕ) (bs : List Blk) (cs starts : List ℕ) (chain : IsChain bs cs) (short : length cs ≤ length bs)
+    (at : StartsAt level bs cs starts) (inside inside1 : List Bool) (ei : inside1 ≡ inside)
+    (ins : (c : ℕ) → get_or inside c false ≡ true → Contains cs c)
+    (mk : (k : ℕ) → k < length cs → get_or inside (get_or cs k 0) false ≡ true) (long : length inside ≡ length bs)
+    (list : List InstructionInfo) (ex : list ≡ flat level bs cs) where
   abbrev finalize_items : List InstructionInfo
   finalize_items = flat level bs cs
 
   fails_to : (t : Tables) → lens_of t ≡ lens1 → (c : Check) (place : ℕ) → FailsAt c inside1 lens1 list place → FailsAt c inside (lens_of t) finalize_items place
-  fails_to t el c place f = subst (λ i. FailsAt c i (lens_of t) finalize_items place) ei (subst (λ l. FailsAt c inside1 l finalize_items place) (sym el) (subst (λ xs. FailsAt c inside1 lens1 xs place) ex f))
+  fails_to t el c place f = subst (λ i. FailsAt c i (lens_of t) finalize_items place) ei
+      (subst (λ l. FailsAt c inside1 l finalize_items place) (sym el) (subst (λ xs. FailsAt c inside1 lens1 xs place) ex f))
 
   nowhere_to : (t : Tables) → lens_of t ≡ lens1 → (c : Check) → NowhereFails c inside1 lens1 list → NowhereFails c inside (lens_of t) finalize_items
   nowhere_to t el c f = subst (λ i. NowhereFails c i (lens_of t) finalize_items) ei (subst (λ l. NowhereFails c inside1 l finalize_items) (sym el) (subst (λ xs. NowhereFails c inside1 lens1 xs) ex f))
@@ -75,9 +85,12 @@ module _ (lens1 : TableLens) (level : ℕ) (bs : List Blk) (cs starts : List ℕ
         finalize_fits t el = subst (λ l. ¬ TooLong l) (sym el) fits1
 
         pub list_answer : (e : FinalizeError) → ListRefused cs starts2 list2 e → (t : Tables) → lens_of t ≡ lens1 → Refused t level bs e
-        list_answer e h t el = list_refused t level bs cs starts chain short at inside ins mk long (finalize_fine t el) (finalize_fits t el) e (subst (λ s. ListRefused cs s finalize_items e) es (subst (λ xs. ListRefused cs starts2 xs e) ex2 h))
+        list_answer e h t el = list_refused t level bs cs starts chain short at inside ins mk long (finalize_fine t el)
+            (finalize_fits t el) e (subst (λ s. ListRefused cs s finalize_items e) es (subst (λ xs. ListRefused cs starts2 xs e) ex2 h))
 
-        module _ (d : ℕ) (low : d < 2 ^ 32) (code : IsCode starts2 list2) (range : InRange list2) (ok : Sound (look_at starts2 list2) 0 (d + 1)) (dep : IsDepth (look_at starts2 list2) 0 d) (units : List CodeUnit) (locations : List SourceLocation) (done : IsAssembled starts2 list2 units locations) where
+        module _ (d : ℕ) (low : d < 2 ^ 32) (code : IsCode starts2 list2) (range : InRange list2)
+            (ok : Sound (look_at starts2 list2) 0 (d + 1)) (dep : IsDepth (look_at starts2 list2) 0 d) (units : List CodeUnit)
+            (locations : List SourceLocation) (done : IsAssembled starts2 list2 units locations) where
           code1 : IsCode starts finalize_items
           code1 = subst (λ s. IsCode s finalize_items) es (subst (IsCode starts2) ex2 code)
 
@@ -97,4 +110,7 @@ module _ (lens1 : TableLens) (level : ℕ) (bs : List Blk) (cs starts : List ℕ
           laid_answer t el = is_laid t level bs cs starts chain short at inside ins mk long (finalize_fine t el) d low code1 range1 ok1 dep1 units locations done1
 
           pub clear_answer : ¬ widths.TooManyUnits (needs_of starts2 list2) → (t : Tables) → lens_of t ≡ lens1 → NoneBefore 10 t level bs
-          clear_answer few t el = all_clear t level bs cs starts chain short at inside ins mk long (finalize_fine t el) (finalize_fits t el) d low ok1 (subst (λ s. ¬ widths.TooManyUnits (needs_of s finalize_items)) es (subst (λ xs. ¬ widths.TooManyUnits (needs_of starts2 xs)) ex2 few))
+          clear_answer few t el = all_clear t level bs cs starts chain short at inside ins mk long (finalize_fine t el)
+              (finalize_fits t el) d low ok1
+              (subst (λ s. ¬ widths.TooManyUnits (needs_of s finalize_items)) es
+              (subst (λ xs. ¬ widths.TooManyUnits (needs_of starts2 xs)) ex2 few))

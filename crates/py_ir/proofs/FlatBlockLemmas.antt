@@ -99,7 +99,9 @@ holds_check t level bs Check.TargetOnOther b i h = h
 holds_check t level bs Check.PrefixGiven b i h = h
 holds_check t level bs Check.OperandOutside b i h = h
 
-module _ (t : Tables) (level : ℕ) (bs : List Blk) (cs starts : List ℕ) (chain : IsChain bs cs) (short : length cs ≤ length bs) (at : StartsAt level bs cs starts) (inside : List Bool) (ins : (c : ℕ) → get_or inside c false ≡ true → Contains cs c) (mk : (k : ℕ) → k < length cs → get_or inside (get_or cs k 0) false ≡ true) (long : length inside ≡ length bs) where
+module _ (t : Tables) (level : ℕ) (bs : List Blk) (cs starts : List ℕ) (chain : IsChain bs cs) (short : length cs ≤ length bs)
+    (at : StartsAt level bs cs starts) (inside : List Bool) (ins : (c : ℕ) → get_or inside c false ≡ true → Contains cs c)
+    (mk : (k : ℕ) → k < length cs → get_or inside (get_or cs k 0) false ≡ true) (long : length inside ≡ length bs) where
   abbrev flat_block_items : List InstructionInfo
   flat_block_items = flat level bs cs
 
@@ -110,7 +112,9 @@ module _ (t : Tables) (level : ℕ) (bs : List Blk) (cs starts : List ℕ) (chai
   pub check_refused : (c : Check) (place : ℕ) (e : FinalizeError) → NamesCheck cs starts c place e → FailsAt c inside lens flat_block_items place
       → ((d : Check) → rank d < rank c → NowhereFails d inside lens flat_block_items) → Refused t level bs e
   check_refused c place e nm f earlier =
-      let held : Holds t level bs (check_error c nm.block nm.index) = holds_check t level bs c nm.block nm.index (item_is t level bs cs starts chain short at inside ins mk lens c place nm.block nm.index f nm.located) in
+      let held : Holds t level bs (check_error c nm.block nm.index) =
+      holds_check t level bs c nm.block nm.index
+      (item_is t level bs cs starts chain short at inside ins mk lens c place nm.block nm.index f nm.located) in
       let o : order (check_error c nm.block nm.index) ≡ 2 + rank c = order_check c nm.block nm.index in
       let low = rank_low c in
       let none : NoneBefore (2 + rank c) t level bs = none_before (2 + rank c) t level bs (record {
@@ -142,7 +146,11 @@ module _ (t : Tables) (level : ℕ) (bs : List Blk) (cs starts : List ℕ) (chai
         linked : (k : ℕ) (d : InstructionInfo) → k < length flat_block_items → IsLinked (length starts) (get_or flat_block_items k d)
         linked k d l = record {
           whole = not_true_is_false (is_prefix (get_or flat_block_items k d).instr) (λ p. fine Check.PrefixGiven k d l p);
-          target = λ j. elim (flat_block_within (get_or flat_block_items k d).target.0) [ inl h ↦ (let s = at.long in omega (arith, h, long, s)) | inr f ↦ absurd (let q : true ≡ false = sym (flat_block_target_inside k d l j).1 ∙ f in cc) ];
+          target = λ j. elim (flat_block_within (get_or flat_block_items k d).target.0) [
+            | inl h ↦ (let s = at.long in omega (arith, h, long, s))
+            | inr f ↦ absurd
+                (let q : true ≡ false = sym (flat_block_target_inside k d l j).1 ∙ f in cc)
+          ];
         }
 
     pub flat_block_decodes : Decodes t starts flat_block_items
@@ -188,21 +196,24 @@ module _ (t : Tables) (level : ℕ) (bs : List Blk) (cs starts : List ℕ) (chai
             ap Jump (subst (λ c. get_or starts1 c 0 ≡ get_or starts c 0) l.1.2 q)
         go false h = refl
 
-    narrow : (cs1 starts1 : List ℕ) → IsChain bs cs1 → StartsAt level bs cs1 starts1 → widths.TooManyUnits (needs_of starts1 (flat level bs cs1))
+    flat_block_narrow : (cs1 starts1 : List ℕ) → IsChain bs cs1 → StartsAt level bs cs1 starts1 → widths.TooManyUnits (needs_of starts1 (flat level bs cs1))
         → widths.TooManyUnits (needs_of starts flat_block_items)
-    narrow cs1 starts1 c1 a1 h =
+    flat_block_narrow cs1 starts1 c1 a1 h =
         let e : cs1 ≡ cs = one_chain bs cs1 cs c1 chain in
         let a2 : StartsAt level bs cs starts1 = subst (λ z. StartsAt level bs z starts1) e a1 in
         let h1 : widths.TooManyUnits (needs_of starts1 flat_block_items) = subst (λ z. widths.TooManyUnits (needs_of starts1 (flat level bs z))) e h in
         subst widths.TooManyUnits (map_on (need_of starts1) (need_of starts) flat_block_items (need_same starts1 a2)) h1
 
     -- what is made of a list whose walks are sound
-    module _ (d : ℕ) (low : d < 2 ^ 32) (code : IsCode starts flat_block_items) (range : InRange flat_block_items) (ok : Sound (look_at starts flat_block_items) 0 (d + 1)) (dep : IsDepth (look_at starts flat_block_items) 0 d) (units : List CodeUnit) (locations : List SourceLocation) (done : IsAssembled starts flat_block_items units locations) where
+    module _ (d : ℕ) (low : d < 2 ^ 32) (code : IsCode starts flat_block_items) (range : InRange flat_block_items)
+        (ok : Sound (look_at starts flat_block_items) 0 (d + 1)) (dep : IsDepth (look_at starts flat_block_items) 0 d)
+        (units : List CodeUnit) (locations : List SourceLocation) (done : IsAssembled starts flat_block_items units locations) where
       ok1 : Sound (look_at starts flat_block_items) 0 (suc d)
       ok1 = let e : d + 1 ≡ suc d = omega arith in subst (Sound (look_at starts flat_block_items) 0) e ok
 
       sound_units : Sound (λ p. seen_instr (fetch_unit t units p)) 0 (suc d)
-      sound_units = subst (λ us. Sound (λ p. seen_instr (fetch_unit t us p)) 0 (suc d)) (sym done.units_are) (units_sound starts flat_block_items done.widths code range done.least.fits t flat_block_decodes (suc d) ok1)
+      sound_units = subst (λ us. Sound (λ p. seen_instr (fetch_unit t us p)) 0 (suc d)) (sym done.units_are)
+          (units_sound starts flat_block_items done.widths code range done.least.fits t flat_block_decodes (suc d) ok1)
 
       flat_block_runs : RunsAsBlocks t bs units d
       flat_block_runs fuel w =
@@ -219,7 +230,8 @@ module _ (t : Tables) (level : ℕ) (bs : List Blk) (cs starts : List ℕ) (chai
         starts_at = at;
         assembled = done;
         is_depth = walked.blocks_depth t level bs cs starts chain short at linked flat_block_decodes d dep;
-        unit_depth = subst (λ us. IsDepth (λ p. seen_instr (fetch_unit t us p)) 0 d) (sym done.units_are) (units_depth starts flat_block_items done.widths code range done.least.fits t flat_block_decodes (suc d) ok1 d dep);
+        unit_depth = subst (λ us. IsDepth (λ p. seen_instr (fetch_unit t us p)) 0 d) (sym done.units_are)
+            (units_depth starts flat_block_items done.widths code range done.least.fits t flat_block_decodes (suc d) ok1 d dep);
         sound = sound_units;
         runs = flat_block_runs;
       }
@@ -244,8 +256,11 @@ module _ (t : Tables) (level : ℕ) (bs : List Blk) (cs starts : List ℕ) (chai
       list_refused e (inl m) = subst (Refused t level bs) (sym m) (memory_refused t level bs)
       list_refused e (inr (inl w)) =
           let nm = w.names in
-          subst (Refused t level bs) (sym nm.is)
-          (walked.walk_holds t level bs cs starts chain short at linked flat_block_decodes w.refused w.place nm.block nm.index nm.located w.refusal, before_walk w.refused (get_or cs (length cs - 1) 0) nm.block nm.index)
+          subst (Refused t level bs) (sym nm.is) (
+            walked.walk_holds t level bs cs starts chain short at linked flat_block_decodes w.refused w.place nm.block nm.index nm.located
+                w.refusal,
+            before_walk w.refused (get_or cs (length cs - 1) 0) nm.block nm.index,
+          )
       list_refused e (inr (inr u)) = subst (Refused t level bs) (sym u.is) (
         record { chain = cs; starts = starts; is_chain = chain; starts_at = at; too_many = u.too_many },
         clear 9 (λ _. tables_fit) (λ _. walks_clear u.limit u.low u.sound) (λ l. absurd (omega arith)),
@@ -254,7 +269,8 @@ module _ (t : Tables) (level : ℕ) (bs : List Blk) (cs starts : List ℕ) (chai
       pub all_clear : (d : ℕ) → d < 2 ^ 32 → Sound (look_at starts flat_block_items) 0 (d + 1) → ¬ widths.TooManyUnits (needs_of starts flat_block_items) → NoneBefore 10 t level bs
       all_clear d low ok few =
           let e : d + 1 ≡ suc d = omega arith in
-          clear 10 (λ _. tables_fit) (λ _. walks_clear (suc d) (omega arith) (subst (Sound (look_at starts flat_block_items) 0) e ok)) (λ _ h. few (narrow h.chain h.starts h.is_chain h.starts_at h.too_many))
+          clear 10 (λ _. tables_fit) (λ _. walks_clear (suc d) (omega arith) (subst (Sound (look_at starts flat_block_items) 0) e ok))
+          (λ _ h. few (flat_block_narrow h.chain h.starts h.is_chain h.starts_at h.too_many))
 
 pub chain_some : (bs : List Blk) (cs : List ℕ) → IsChain bs cs → 0 < length cs
 chain_some bs cs chain = slice_get_within cs 0 0 chain.path.first

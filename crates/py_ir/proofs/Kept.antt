@@ -29,7 +29,9 @@ module _ (bs ds : List Blk) (cs : List ℕ) (c : ℕ) (path : IsPath bs (cs ++ c
   }
 
   agree : (level : ℕ) → All (λ b. body level (blk ds b).items ≡ body level (blk bs b).items) cs
-  agree level = All-from_get_or (λ b. body level (blk ds b).items ≡ body level (blk bs b).items) cs 0 (λ i l. ap (λ (b : Blk). body level b.items) (sym (same (get_or cs i 0) (subst (λ b. b ≢ c) (get_or_append_left cs (c ∷ []) 0 i l) (kept_others i l)))))
+  agree level = All-from_get_or (λ b. body level (blk ds b).items ≡ body level (blk bs b).items) cs 0
+      (λ i l. ap (λ (b : Blk). body level b.items)
+      (sym (same (get_or cs i 0) (subst (λ b. b ≢ c) (get_or_append_left cs (c ∷ []) 0 i l) (kept_others i l)))))
 
   pub flat_kept : (level : ℕ) → flat level ds cs ≡ flat level bs cs
   flat_kept level = flat_agree (λ b. body level (blk ds b).items) (λ b. body level (blk bs b).items) cs (agree level)
@@ -37,7 +39,8 @@ module _ (bs ds : List Blk) (cs : List ℕ) (c : ℕ) (path : IsPath bs (cs ++ c
   pub front_kept : (level k : ℕ) → k ≤ length cs → flat level ds (take k kept_all) ≡ flat level bs (take k kept_all)
   front_kept level k l =
       let e = take-append-le k cs (c ∷ []) l in
-      ap (flat level ds) e ∙ flat_agree (λ b. body level (blk ds b).items) (λ b. body level (blk bs b).items) (take k cs) (All-take (λ b. body level (blk ds b).items ≡ body level (blk bs b).items) k cs (agree level)) ∙ ap (flat level bs) (sym e)
+      ap (flat level ds) e ∙ flat_agree (λ b. body level (blk ds b).items) (λ b. body level (blk bs b).items) (take k cs)
+      (All-take (λ b. body level (blk ds b).items ≡ body level (blk bs b).items) k cs (agree level)) ∙ ap (flat level bs) (sym e)
 
   pub starts_kept : (level : ℕ) (starts starts1 : List ℕ) → length starts1 ≡ length ds → ((b : ℕ) → b < length bs → get_or starts1 b 0 ≡ get_or starts b 0)
       → StartsAt level bs kept_all starts → StartsAt level ds kept_all starts1

@@ -23,7 +23,10 @@ module _ (xs : List InstructionInfo) (ss : List Span) (c : ℕ) (h : Follows xs 
   listed_low = All-map (λ s. s ≤ length xs) (λ (s : Span). s.first) ss (λ k d l. let o = h.ordered k d l in let w = span_within xs ss c h k d l in omega (arith, o, w))
 
   pub starts_are : StartsAt 0 (blks_of xs ss) cs (map (λ (s : Span). s.first) ss) × All (λ s. s ≤ length (flat 0 (blks_of xs ss) cs)) (map (λ (s : Span). s.first) ss)
-  starts_are = (subst (λ ds. StartsAt 0 (blks_of xs ss) ds (map (λ (s : Span). s.first) ss)) same_chain h.starts_at, subst (λ (zs : List InstructionInfo). All (λ s. s ≤ length zs) (map (λ (s : Span). s.first) ss)) list_is listed_low)
+  starts_are = (
+    subst (λ ds. StartsAt 0 (blks_of xs ss) ds (map (λ (s : Span). s.first) ss)) same_chain h.starts_at,
+    subst (λ (zs : List InstructionInfo). All (λ s. s ≤ length zs) (map (λ (s : Span). s.first) ss)) list_is listed_low,
+  )
 
 -- the chain is followed as far as a block
 pub record Going (bs : List Blk) (cs : List ℕ) (block : ℕ) : Type 0 where

@@ -7,7 +7,9 @@ use Rattle.py_bytecode.specs.declared.instruction.Instruction.TheVariants as op
 use Rattle.py_bytecode.specs.Table.{row_of, bits_of}
 use Rattle.py_bytecode.specs.Objects.{Object}
 use Rattle.py_bytecode.specs.Values.{Bare, Number, Named, operation, It, Cells, Load, Store, Delete, Fast, ByName, Global, Deref, ClassDeref}
-use Rattle.py_bytecode.specs.Machine.{Instr, Push, Access, Operate, MakeFunction, Import, Append, Unpack, Nop, Pop, Rotate2, Rotate3, Duplicate, Duplicate2, SetupLoop, PopBlock, ReturnValue, ReturnConst, PopException, EnterFinally, EndFinally, WithCleanupStart, WithCleanupFinish}
+use Rattle.py_bytecode.specs.Machine.{Instr, Push, Access, Operate, MakeFunction, Import, Append, Unpack, Nop, Pop, Rotate2, Rotate3}
+use Rattle.py_bytecode.specs.Machine.{Duplicate, Duplicate2, SetupLoop, PopBlock, ReturnValue, ReturnConst, PopException, EnterFinally}
+use Rattle.py_bytecode.specs.Machine.{EndFinally, WithCleanupStart, WithCleanupFinish}
 use Rattle.py_bytecode.specs.Decode.{Tables, value_of, for_some, raise_instr, instr_of}
 use Rattle.py_bytecode.specs.Units.{is_prefix}
 use Rattle.py_ir.specs.Checks.{lens_of, in_kind}

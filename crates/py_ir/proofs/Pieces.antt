@@ -1,5 +1,6 @@
 -- Parts of lists, and blocks that lost what follows a branch.
-use Rattle.std.proofs.Common.{◌≡◌, ℕ, zero, suc, ◌+◌, ◌<◌, ◌≤◌, ◌⊎◌, List, [], ◌∷◌, ◌++◌, length, take, drop, get_or, Bool, true, false, Some, refl, sym, inl, inr, ap, ◌∙◌, subst, arith, suc-add, zero-add}
+use Rattle.std.proofs.Common.{◌≡◌, ℕ, zero, suc, ◌+◌, ◌<◌, ◌≤◌, ◌⊎◌, List, [], ◌∷◌, ◌++◌, length, take, drop, get_or, Bool, true, false}
+use Rattle.std.proofs.Common.{Some, refl, sym, inl, inr, ap, ◌∙◌, subst, arith, suc-add, zero-add}
 use Rattle.std.specs.Prelude.{slice_get, if◌then◌else◌}
 use Rattle.std.specs.List.{flat_map}
 use Rattle.std.proofs.lemmas.Bool.{cases_lt}
@@ -8,7 +9,7 @@ use Rattle.std.proofs.lemmas.List.{take_more, take-append-drop, drop_more, appen
 use Rattle.std.proofs.lemmas.List.Concat.{flat_map-append}
 use Rattle.py_dataflow.specs.declared.info.InstructionInfo.{InstructionInfo}
 use Rattle.py_bytecode.specs.Table.{row_of}
-use Rattle.py_ir.specs.Chain.{cut, body}
+use Rattle.py_ir.specs.Chain.{without_unreachable, body}
 
 pub get_right : {A : Type 0} (xs ys : List A) (i : ℕ) → slice_get (xs ++ ys) (length xs + i) ≡ slice_get ys i
 get_right [] ys i = ap (slice_get ys) (zero-add i)
@@ -20,55 +21,57 @@ get_left (x ∷ xs) ys zero h = refl
 get_left (x ∷ xs) ys (suc i) h = get_left xs ys i (omega arith)
 
 -- a cut list is a front of the list, and ends there or at an unconditional branch
-pub cut_get : (xs : List InstructionInfo) (i : ℕ) (x : InstructionInfo) → slice_get (cut xs) i ≡ Some x → slice_get xs i ≡ Some x
+pub cut_get : (xs : List InstructionInfo) (i : ℕ) (x : InstructionInfo) → slice_get (without_unreachable xs) i ≡ Some x → slice_get xs i ≡ Some x
 cut_get [] i x h = h
 cut_get (y ∷ xs) i x h = go ((row_of y.instr).leaves) i h (λ j e. cut_get xs j x e)
   where
-    go : (b : Bool) (i : ℕ) → slice_get (if b then y ∷ [] else (y ∷ cut xs)) i ≡ Some x → ((j : ℕ) → slice_get (cut xs) j ≡ Some x → slice_get xs j ≡ Some x) → slice_get (y ∷ xs) i ≡ Some x
+    go : (b : Bool) (i : ℕ) → slice_get (if b then y ∷ [] else (y ∷ without_unreachable xs)) i ≡ Some x
+        → ((j : ℕ) → slice_get (without_unreachable xs) j ≡ Some x → slice_get xs j ≡ Some x) → slice_get (y ∷ xs) i ≡ Some x
     go true zero h r = h
     go true (suc i) h r = absurd (cc)
     go false zero h r = h
     go false (suc i) h r = r i h
 
-pub cut_goes_on : (xs : List InstructionInfo) (i : ℕ) (x : InstructionInfo) → slice_get (cut xs) i ≡ Some x → (row_of x.instr).leaves ≡ false
-    → (suc i < length (cut xs)) ⊎ ((suc i ≡ length xs) × (length xs ≡ length (cut xs)))
+pub cut_goes_on : (xs : List InstructionInfo) (i : ℕ) (x : InstructionInfo) → slice_get (without_unreachable xs) i ≡ Some x → (row_of x.instr).leaves ≡ false
+    → (suc i < length (without_unreachable xs)) ⊎ ((suc i ≡ length xs) × (length xs ≡ length (without_unreachable xs)))
 cut_goes_on [] i x h l = absurd (cc)
 cut_goes_on (y ∷ xs) i x h l = go ((row_of y.instr).leaves) refl i h (λ j e. cut_goes_on xs j x e l)
   where
-    step : (j : ℕ) → (suc j < length (cut xs)) ⊎ ((suc j ≡ length xs) × (length xs ≡ length (cut xs)))
-        → (suc (suc j) < suc (length (cut xs))) ⊎ ((suc (suc j) ≡ suc (length xs)) × (suc (length xs) ≡ suc (length (cut xs))))
+    step : (j : ℕ) → (suc j < length (without_unreachable xs)) ⊎ ((suc j ≡ length xs) × (length xs ≡ length (without_unreachable xs)))
+        → (suc (suc j) < suc (length (without_unreachable xs))) ⊎ ((suc (suc j) ≡ suc (length xs)) × (suc (length xs) ≡ suc (length (without_unreachable xs))))
     step j (inl a) = inl (omega arith)
     step j (inr a) = inr (ap suc a.0, ap suc a.1)
 
-    at_zero : (zs : List InstructionInfo) → (suc zero < suc (length (cut zs))) ⊎ ((suc zero ≡ suc (length zs)) × (suc (length zs) ≡ suc (length (cut zs))))
+    at_zero : (zs : List InstructionInfo) → (suc zero < suc (length (without_unreachable zs))) ⊎ ((suc zero ≡ suc (length zs)) × (suc (length zs) ≡ suc (length (without_unreachable zs))))
     at_zero [] = inr (refl, refl)
     at_zero (z ∷ zs) = inl (some ((row_of z.instr).leaves))
       where
-        some : (b : Bool) → suc zero < suc (length (if b then z ∷ [] else (z ∷ cut zs)))
+        some : (b : Bool) → suc zero < suc (length (if b then z ∷ [] else (z ∷ without_unreachable zs)))
         some true = omega arith
         some false = omega arith
 
-    go : (b : Bool) → (row_of y.instr).leaves ≡ b → (i : ℕ) → slice_get (if b then y ∷ [] else (y ∷ cut xs)) i ≡ Some x
-        → ((j : ℕ) → slice_get (cut xs) j ≡ Some x → (suc j < length (cut xs)) ⊎ ((suc j ≡ length xs) × (length xs ≡ length (cut xs))))
-        → (suc i < length (if b then y ∷ [] else (y ∷ cut xs))) ⊎ ((suc i ≡ suc (length xs)) × (suc (length xs) ≡ length (if b then y ∷ [] else (y ∷ cut xs))))
-    go true e zero h r = let q : y ≡ x = some_same y x h in let o : (row_of y.instr).leaves ≡ false = subst (λ (z : InstructionInfo). (row_of z.instr).leaves ≡ false) (sym q) l in absurd (let w : true ≡ false = sym e ∙ o in cc)
+    go : (b : Bool) → (row_of y.instr).leaves ≡ b → (i : ℕ) → slice_get (if b then y ∷ [] else (y ∷ without_unreachable xs)) i ≡ Some x
+        → ((j : ℕ) → slice_get (without_unreachable xs) j ≡ Some x → (suc j < length (without_unreachable xs)) ⊎ ((suc j ≡ length xs) × (length xs ≡ length (without_unreachable xs))))
+        → (suc i < length (if b then y ∷ [] else (y ∷ without_unreachable xs))) ⊎ ((suc i ≡ suc (length xs)) × (suc (length xs) ≡ length (if b then y ∷ [] else (y ∷ without_unreachable xs))))
+    go true e zero h r = let q : y ≡ x = some_same y x h in let o : (row_of y.instr).leaves ≡ false =
+        subst (λ (z : InstructionInfo). (row_of z.instr).leaves ≡ false) (sym q) l in absurd (let w : true ≡ false = sym e ∙ o in cc)
     go true e (suc i) h r = absurd (cc)
     go false e zero h r = at_zero xs
     go false e (suc i) h r = step i (r i h)
 
-pub length-cut : (xs : List InstructionInfo) → length (cut xs) ≤ length xs
+pub length-cut : (xs : List InstructionInfo) → length (without_unreachable xs) ≤ length xs
 length-cut [] = omega arith
 length-cut (y ∷ xs) = go ((row_of y.instr).leaves) (length-cut xs)
   where
-    go : (b : Bool) → length (cut xs) ≤ length xs → length (if b then y ∷ [] else (y ∷ cut xs)) ≤ suc (length xs)
+    go : (b : Bool) → length (without_unreachable xs) ≤ length xs → length (if b then y ∷ [] else (y ∷ without_unreachable xs)) ≤ suc (length xs)
     go true h = omega arith
     go false h = omega arith
 
-pub cut_empty : (xs : List InstructionInfo) → length (cut xs) ≡ 0 → length xs ≡ 0
+pub cut_empty : (xs : List InstructionInfo) → length (without_unreachable xs) ≡ 0 → length xs ≡ 0
 cut_empty [] h = refl
 cut_empty (y ∷ xs) h = go ((row_of y.instr).leaves) h
   where
-    go : (b : Bool) → length (if b then y ∷ [] else (y ∷ cut xs)) ≡ 0 → suc (length xs) ≡ 0
+    go : (b : Bool) → length (if b then y ∷ [] else (y ∷ without_unreachable xs)) ≡ 0 → suc (length xs) ≡ 0
     go true h = absurd (omega arith)
     go false h = absurd (omega arith)
 

@@ -1,5 +1,6 @@
 -- The machine on the blocks and the machine on the list of their instructions do the same, and walks go over both alike.
-use Rattle.std.proofs.Common.{◌≡◌, ◌≢◌, ℕ, zero, suc, ◌+◌, ◌-◌, ◌<◌, ◌≤◌, ◌⊎◌, List, [], ◌∷◌, ◌++◌, length, take, drop, get_or, map, Bool, true, false, Option, Some, None, refl, sym, inl, inr, ap, ◌∙◌, subst, arith, length-append, lt-ltb}
+use Rattle.std.proofs.Common.{◌≡◌, ◌≢◌, ℕ, zero, suc, ◌+◌, ◌-◌, ◌<◌, ◌≤◌, ◌⊎◌, List, [], ◌∷◌, ◌++◌, length, take, drop, get_or, map, Bool}
+use Rattle.std.proofs.Common.{true, false, Option, Some, None, refl, sym, inl, inr, ap, ◌∙◌, subst, arith, length-append, lt-ltb}
 use Rattle.std.specs.Prelude.{slice_get, nat_eq, nat_lt, if◌then◌else◌}
 use Rattle.std.specs.Option.{option_map}
 use Rattle.std.proofs.lemmas.Bool.{cases_lt}
@@ -26,7 +27,8 @@ use Rattle.py_dataflow.proofs.InstructionViewLemmas.{seen_same}
 use Rattle.py_ir.specs.Chain.{Blk, blk, blk_of, block_number, coded_item, coded_block, coded_blocks, body, IsChain, flat, StartsAt}
 use Rattle.py_ir.proofs.Pieces.{get_right, get_left, body_get, length-body, body_empty, body_goes_on, flat_more, flat_parts}
 
-seen_found : {P : Type 0} (o : Option (Instr Object P)) (n : P) (x : Seen P) → seen_instr (fetch_of_instr o n) ≡ Some x → (i : Instr Object P) × (o ≡ Some i) × ((let s : Seen P = record { flow = flow_of i; next = n; target = target_of i } in s) ≡ x)
+seen_found : {P : Type 0} (o : Option (Instr Object P)) (n : P) (x : Seen P) → seen_instr (fetch_of_instr o n) ≡ Some x
+    → (i : Instr Object P) × (o ≡ Some i) × ((let s : Seen P = record { flow = flow_of i; next = n; target = target_of i } in s) ≡ x)
 seen_found None n x e = absurd (cc)
 seen_found (Some i) n x e = (i, refl, same_Some (let s : Seen _ = record { flow = flow_of i; next = n; target = target_of i } in s) x e)
 
@@ -58,7 +60,9 @@ module _ (t : Tables) (level : ℕ) (bs : List Blk) (cs starts : List ℕ) (chai
 
   -- a place of the chain: at an instruction, or at the end of the last block
   abbrev pub SameBlockGood : Place → Type 0
-  SameBlockGood (Of b i) = (k : ℕ) × (k < length cs) × (get_or cs k 0 ≡ b) × ((i < length (same_block_part b)) ⊎ ((i ≡ length (same_block_whole b)) × (length (same_block_whole b) ≡ length (same_block_part b)) × (suc k ≡ length cs)))
+  SameBlockGood (Of b i) = (k : ℕ) × (k < length cs) × (get_or cs k 0 ≡ b)
+      × ((i < length (same_block_part b))
+      ⊎ ((i ≡ length (same_block_whole b)) × (length (same_block_whole b) ≡ length (same_block_part b)) × (suc k ≡ length cs)))
 
   abbrev Entry : ℕ → ℕ → Type 0
   Entry b i = (i < length (same_block_part b)) ⊎ ((i ≡ length (same_block_whole b)) × (length (same_block_whole b) ≡ length (same_block_part b)))
@@ -77,10 +81,15 @@ module _ (t : Tables) (level : ℕ) (bs : List Blk) (cs starts : List ℕ) (chai
 
   pub after_block : (k : ℕ) → k < length cs → length (flat level bs (take (k + 1) cs)) ≡ same_block_at_start (get_or cs k 0) + length (same_block_part (get_or cs k 0))
   after_block k h =
-      ap length (flat_more same_block_part cs k 0 h) ∙ length-append (flat level bs (take k cs)) (same_block_part (get_or cs k 0)) ∙ ap (λ n. n + length (same_block_part (get_or cs k 0))) (sym (at.each k h))
+      ap length (flat_more same_block_part cs k 0 h) ∙ length-append (flat level bs (take k cs)) (same_block_part (get_or cs k 0))
+      ∙ ap (λ n. n + length (same_block_part (get_or cs k 0))) (sym (at.each k h))
 
   entry_zero : (b : ℕ) → Entry b 0
-  entry_zero b = elim (cases_lt 0 (length (same_block_part b))) [ inl h ↦ inl h | inr h ↦ (let z : length (same_block_part b) ≡ 0 = omega arith in let w = body_empty level (same_block_whole b) z in inr (sym w, w ∙ sym z)) ]
+  entry_zero b = elim (cases_lt 0 (length (same_block_part b))) [
+    | inl h ↦ inl h
+    | inr h ↦ (let z : length (same_block_part b) ≡ 0 = omega arith in let w =
+        body_empty level (same_block_whole b) z in inr (sym w, w ∙ sym z))
+  ]
 
   same_block_stays : (k i : ℕ) → k < length cs → i < length (same_block_part (get_or cs k 0)) → SameBlockComes (Of (get_or cs k 0) i) (same_block_at_start (get_or cs k 0) + i)
   same_block_stays k i lt h = ((k, lt, refl, inl h), refl)
@@ -97,16 +106,22 @@ module _ (t : Tables) (level : ℕ) (bs : List Blk) (cs starts : List ℕ) (chai
       → SameBlockComes (if b then Of (get_or cs k 0) i else hop (block_at cbs (get_or cs k 0)).next (Of (get_or cs k 0) i) (λ c. settle cbs n (Of c 0))) (same_block_at_start (get_or cs k 0) + i)
   settle_step n k i lt (inl h) r true e = same_block_stays k i lt h
   settle_step n k i lt (inr h) r true e = absurd (let z = size_at (get_or cs k 0) in let a : i < length (block_at cbs (get_or cs k 0)).items = grind (arith, nat_tests) in omega (arith, a, h.0, z))
-  settle_step n k i lt (inl h) r false e = absurd (let z = size_at (get_or cs k 0) in let a : length (block_at cbs (get_or cs k 0)).items ≤ i = grind (arith, nat_tests) in let l = length-body level (same_block_whole (get_or cs k 0)) in omega (arith, a, l, z))
+  settle_step n k i lt (inl h) r false e = absurd
+      (let z = size_at (get_or cs k 0) in let a : length (block_at cbs (get_or cs k 0)).items ≤ i = grind (arith, nat_tests) in let l =
+      length-body level (same_block_whole (get_or cs k 0)) in omega (arith, a, l, z))
   settle_step n k i lt (inr h) r false e = elim (cases_lt (k + 1) (length cs)) [
     | inl more ↦
         let c : ℕ = get_or cs (k + 1) 0 in
         let v : same_block_at_start c + 0 ≡ same_block_at_start (get_or cs k 0) + i = (let a = at.each (k + 1) more in let b = after_block k lt in omega (arith, a, b, h.0, h.1)) in
-        hop_some (block_at cbs (get_or cs k 0)).next (Of (get_or cs k 0) i) (λ z. settle cbs n (Of z 0)) c (same_block_at_start (get_or cs k 0) + i) (same_block_next_at (get_or cs k 0) ∙ chain.path.follows k more) (subst (λ z. SameBlockComes (settle cbs n (Of c 0)) z) v (r more))
+        hop_some (block_at cbs (get_or cs k 0)).next (Of (get_or cs k 0) i) (λ z. settle cbs n (Of z 0)) c
+        (same_block_at_start (get_or cs k 0) + i) (same_block_next_at (get_or cs k 0) ∙ chain.path.follows k more)
+        (subst (λ z. SameBlockComes (settle cbs n (Of c 0)) z) v (r more))
     | inr last ↦
         let q : length cs - 1 ≡ k = omega arith in
         let none : (blk bs (get_or cs k 0)).next ≡ None = subst (λ z. (blk bs (get_or cs z 0)).next ≡ None) q chain.ends in
-        hop_none (block_at cbs (get_or cs k 0)).next (Of (get_or cs k 0) i) (λ z. settle cbs n (Of z 0)) (same_block_at_start (get_or cs k 0) + i) (same_block_next_at (get_or cs k 0) ∙ none) ((k, lt, refl, inr (h.0, h.1, omega arith)), refl)
+        hop_none (block_at cbs (get_or cs k 0)).next (Of (get_or cs k 0) i) (λ z. settle cbs n (Of z 0))
+        (same_block_at_start (get_or cs k 0) + i) (same_block_next_at (get_or cs k 0) ∙ none)
+        ((k, lt, refl, inr (h.0, h.1, omega arith)), refl)
   ]
 
   settles : (n k i : ℕ) → k < length cs → length cs ≤ n + suc k → Entry (get_or cs k 0) i → SameBlockComes (settle cbs n (Of (get_or cs k 0) i)) (same_block_at_start (get_or cs k 0) + i)
@@ -140,11 +155,14 @@ module _ (t : Tables) (level : ℕ) (bs : List Blk) (cs starts : List ℕ) (chai
   in_items k i lt h =
       let front = flat level bs (take k cs) in
       let rest = flat level bs (drop (k + 1) cs) in
-      ap (λ l. slice_get l (same_block_at_start (get_or cs k 0) + i)) (flat_parts same_block_part cs k 0 lt) ∙ ap (λ n. slice_get (front ++ (same_block_part (get_or cs k 0) ++ rest)) (n + i)) (at.each k lt) ∙ get_right front (same_block_part (get_or cs k 0) ++ rest) i ∙ get_left (same_block_part (get_or cs k 0)) rest i h
+      ap (λ l. slice_get l (same_block_at_start (get_or cs k 0) + i)) (flat_parts same_block_part cs k 0 lt)
+      ∙ ap (λ n. slice_get (front ++ (same_block_part (get_or cs k 0) ++ rest)) (n + i)) (at.each k lt)
+      ∙ get_right front (same_block_part (get_or cs k 0) ++ rest) i ∙ get_left (same_block_part (get_or cs k 0)) rest i h
 
   -- the starts do not fall along the chain
   rises : (k n : ℕ) → k + suc n < length cs → same_block_at_start (get_or cs k 0) + length (same_block_part (get_or cs k 0)) ≤ same_block_at_start (get_or cs (k + suc n) 0)
-  rises k zero h = let a = after_block k (omega arith) in let b = at.each (k + 1) (omega arith) in let e : k + suc zero ≡ k + 1 = omega arith in let q = ap (λ j. same_block_at_start (get_or cs j 0)) e in omega (arith, a, b, q)
+  rises k zero h = let a = after_block k (omega arith) in let b = at.each (k + 1) (omega arith) in let e : k + suc zero ≡ k + 1 =
+      omega arith in let q = ap (λ j. same_block_at_start (get_or cs j 0)) e in omega (arith, a, b, q)
   rises k (suc n) h =
       let i = rises k n (omega arith) in
       let a = after_block (k + suc n) (omega arith) in
@@ -154,12 +172,15 @@ module _ (t : Tables) (level : ℕ) (bs : List Blk) (cs starts : List ℕ) (chai
       omega (arith, i, a, b, q)
 
   pub rises_to : (k j : ℕ) → k < j → j < length cs → same_block_at_start (get_or cs k 0) + length (same_block_part (get_or cs k 0)) ≤ same_block_at_start (get_or cs j 0)
-  rises_to k j l h = let e : k + suc (j - k - 1) ≡ j = omega arith in subst (λ z. same_block_at_start (get_or cs k 0) + length (same_block_part (get_or cs k 0)) ≤ same_block_at_start (get_or cs z 0)) e (rises k (j - k - 1) (omega arith))
+  rises_to k j l h = let e : k + suc (j - k - 1) ≡ j =
+      omega arith in subst (λ z. same_block_at_start (get_or cs k 0) + length (same_block_part (get_or cs k 0))
+      ≤ same_block_at_start (get_or cs z 0)) e (rises k (j - k - 1) (omega arith))
 
   pub total : (k : ℕ) → suc k ≡ length cs → length same_block_items ≡ same_block_at_start (get_or cs k 0) + length (same_block_part (get_or cs k 0))
   total k e = let all : take (k + 1) cs ≡ cs = take_all (k + 1) cs (omega arith) in ap (λ l. length (flat level bs l)) (sym all) ∙ after_block k (omega arith)
 
-  module _ (linked : (j : ℕ) (x : InstructionInfo) → slice_get same_block_items j ≡ Some x → is_jump x.instr ≡ true → (x.target.0 ≢ 0xffff_ffff) × ((k : ℕ) × (k < length cs) × (get_or cs k 0 ≡ x.target.0))) where
+  module _ (linked : (j : ℕ) (x : InstructionInfo) → slice_get same_block_items j ≡ Some x → is_jump x.instr ≡ true
+      → (x.target.0 ≢ 0xffff_ffff) × ((k : ℕ) × (k < length cs) × (get_or cs k 0 ≡ x.target.0))) where
     abbrev pub same_block_from : Place → Option (Seen Place)
     same_block_from p = seen_instr (fetch_block t cbs p)
 
@@ -173,7 +194,9 @@ module _ (t : Tables) (level : ℕ) (bs : List Blk) (cs starts : List ℕ) (chai
         let k = l.1.0 in
         let r = comes_all k 0 l.1.1 (entry_zero (get_or cs k 0)) in
         let z : same_block_at_start (get_or cs k 0) + 0 ≡ same_block_at_start (get_or cs k 0) = omega arith in
-        let c : SameBlockComes (settled_place cbs (Of x.target.0 0)) (named_place starts x) = subst (λ b. SameBlockComes (settled_place cbs (Of b 0)) (same_block_at_start b)) l.1.2 (subst (λ v. SameBlockComes (settled_place cbs (Of (get_or cs k 0) 0)) v) z r) in
+        let c : SameBlockComes (settled_place cbs (Of x.target.0 0)) (named_place starts x) =
+        subst (λ b. SameBlockComes (settled_place cbs (Of b 0)) (same_block_at_start b)) l.1.2
+        (subst (λ v. SameBlockComes (settled_place cbs (Of (get_or cs k 0) 0)) v) z r) in
         let lt : x.target.0 < length cbs = (let i = chain.path.inside k 0 l.1.1 in let m = many in let w = l.1.2 in omega (arith, i, m, w)) in
         (settled_place cbs (Of x.target.0 0), goes x.target.0 l.0 lt, c)
       where
@@ -220,7 +243,10 @@ module _ (t : Tables) (level : ℕ) (bs : List Blk) (cs starts : List ℕ) (chai
         let jump : is_jump x.instr ≡ true → Some (named_place starts x) ≡ option_map flat_place (arrives cbs (block_number x.target.0)) = λ j.
         let g = target_comes (same_block_at_start b + i) x s.in_list j in ap Some (sym g.2.1) ∙ sym (ap (option_map flat_place) g.1) in
         ap (decoded_item t starts (same_block_at_start b + i)) s.in_list
-        ∙ found_at flat_place (instr_of t (Some (named_place starts x)) x.instr x.arg.0) (instr_of t (arrives cbs (block_number x.target.0)) x.instr x.arg.0) (suc (same_block_at_start b + i)) n (instr_at flat_place t (arrives cbs (block_number x.target.0)) (Some (named_place starts x)) x.instr x.arg.0 x.arg.0 jump (λ _. refl)) en
+        ∙ found_at flat_place (instr_of t (Some (named_place starts x)) x.instr x.arg.0)
+        (instr_of t (arrives cbs (block_number x.target.0)) x.instr x.arg.0) (suc (same_block_at_start b + i)) n
+        (instr_at flat_place t (arrives cbs (block_number x.target.0)) (Some (named_place starts x)) x.instr x.arg.0 x.arg.0 jump
+        (λ _. refl)) en
         ∙ ap (λ o. fetched_at flat_place (at_index t cbs b i o)) (sym s.in_block)
 
     nothing_at : (k i : ℕ) → k < length cs → i ≡ length (same_block_whole (get_or cs k 0)) → fetch_block t cbs (Of (get_or cs k 0) i) ≡ Nothing
@@ -278,7 +304,8 @@ module _ (t : Tables) (level : ℕ) (bs : List Blk) (cs starts : List ℕ) (chai
         go : (i < length (same_block_part b)) ⊎ ((i ≡ length (same_block_whole b)) × (length (same_block_whole b) ≡ length (same_block_part b)) × (suc g.0 ≡ length cs))
             → (x.flow.falls ≡ true → SameBlockGood x.next) × ((q : Place) → x.target ≡ Some q → SameBlockGood q)
         go (inl h) = same_block_leads g.0 i x g.1 (subst (λ z. i < length (same_block_part z)) (sym g.2) h) (subst (λ z. same_block_from (Of z i) ≡ Some x) (sym g.2) e)
-        go (inr h) = absurd (let n = nothing_at g.0 i g.1 (subst (λ z. i ≡ length (same_block_whole z)) (sym g.2) h.0) in let z : None ≡ Some x = sym (ap seen_instr n) ∙ subst (λ z. same_block_from (Of z i) ≡ Some x) (sym g.2) e in cc)
+        go (inr h) = absurd (let n = nothing_at g.0 i g.1 (subst (λ z. i ≡ length (same_block_whole z)) (sym g.2) h.0) in let z : None
+            ≡ Some x = sym (ap seen_instr n) ∙ subst (λ z. same_block_from (Of z i) ≡ Some x) (sym g.2) e in cc)
 
     same_block_begins : SameBlockComes (settled_place cbs (Of 0 0)) 0
     same_block_begins =
@@ -301,7 +328,9 @@ module _ (t : Tables) (level : ℕ) (bs : List Blk) (cs starts : List ℕ) (chai
 
     -- two places of the chain with one number are one
     one_block : (k j i1 i2 : ℕ) → k < length cs → j < length cs
-        → (i1 < length (same_block_part (get_or cs k 0))) ⊎ ((i1 ≡ length (same_block_whole (get_or cs k 0))) × (length (same_block_whole (get_or cs k 0)) ≡ length (same_block_part (get_or cs k 0))) × (suc k ≡ length cs))
+        → (i1 < length (same_block_part (get_or cs k 0)))
+        ⊎ ((i1 ≡ length (same_block_whole (get_or cs k 0)))
+        × (length (same_block_whole (get_or cs k 0)) ≡ length (same_block_part (get_or cs k 0))) × (suc k ≡ length cs))
         → k < j → same_block_at_start (get_or cs k 0) + i1 ≡ same_block_at_start (get_or cs j 0) + i2 → ⊥
     one_block k j i1 i2 lk lj (inl h) l e = absurd (let r = rises_to k j l lj in omega (arith, r, h, e))
     one_block k j i1 i2 lk lj (inr h) l e = absurd (let z = h.2 in omega (arith, z, l, lj))
@@ -312,9 +341,15 @@ module _ (t : Tables) (level : ℕ) (bs : List Blk) (cs starts : List ℕ) (chai
         let hb : same_block_at_start (get_or cs h.0 0) ≡ same_block_at_start c = ap same_block_at_start h.2 in
         let e1 : same_block_at_start (get_or cs g.0 0) + i ≡ same_block_at_start (get_or cs h.0 0) + j = omega (arith, gb, hb, e) in
         elim (cases_lt g.0 h.0) [
-          | inl l ↦ absurd (one_block g.0 h.0 i j g.1 h.1 (subst (λ z. (i < length (same_block_part z)) ⊎ ((i ≡ length (same_block_whole z)) × (length (same_block_whole z) ≡ length (same_block_part z)) × (suc g.0 ≡ length cs))) (sym g.2) g.3) l e1)
+          | inl l ↦ absurd (one_block g.0 h.0 i j g.1 h.1
+              (subst (λ z. (i < length (same_block_part z))
+              ⊎ ((i ≡ length (same_block_whole z)) × (length (same_block_whole z) ≡ length (same_block_part z)) × (suc g.0 ≡ length cs)))
+              (sym g.2) g.3) l e1)
           | inr l ↦ elim (cases_lt h.0 g.0) [
-            | inl m ↦ absurd (one_block h.0 g.0 j i h.1 g.1 (subst (λ z. (j < length (same_block_part z)) ⊎ ((j ≡ length (same_block_whole z)) × (length (same_block_whole z) ≡ length (same_block_part z)) × (suc h.0 ≡ length cs))) (sym h.2) h.3) m (sym e1))
+            | inl m ↦ absurd (one_block h.0 g.0 j i h.1 g.1
+                (subst (λ z. (j < length (same_block_part z))
+                ⊎ ((j ≡ length (same_block_whole z)) × (length (same_block_whole z) ≡ length (same_block_part z)) × (suc h.0 ≡ length cs)))
+                (sym h.2) h.3) m (sym e1))
             | inr m ↦
                 let q : g.0 ≡ h.0 = omega arith in
                 let bc : b ≡ c = sym g.2 ∙ ap (λ k. get_or cs k 0) q ∙ h.2 in

@@ -1,5 +1,6 @@
 -- Blocks that are parts of a list.
-use Rattle.std.proofs.Common.{◌≡◌, ◌≢◌, ℕ, ◌-◌, ◌<◌, ◌≤◌, List, [], ◌++◌, length, take, drop, set, get_or, None, refl, sym, inl, inr, ap, ◌∙◌, arith, length-drop, length-set, get_or-set_same, get_or-set_other}
+use Rattle.std.proofs.Common.{◌≡◌, ◌≢◌, ℕ, ◌-◌, ◌<◌, ◌≤◌, List, [], ◌++◌, length, take, drop, set, get_or, None, refl, sym, inl, inr, ap}
+use Rattle.std.proofs.Common.{◌∙◌, arith, length-drop, length-set, get_or-set_same, get_or-set_other}
 use Rattle.std.proofs.lemmas.Bool.{cases_lt, cases_eq}
 use Rattle.std.proofs.lemmas.List.{length-map, get_or-map, get_or_push, length_push, ext_get_or, take_rest, take-append-le, drop-append-le}
 use Rattle.std.proofs.lemmas.Option.{slice_get_past}
@@ -41,13 +42,18 @@ part_kept xs ys s o w =
     with zs = record { instructions = zs; next = s.next }
 
 -- spans that differ at one place
-module _ (xs ys : List InstructionInfo) (ss ts : List Span) (c : ℕ) (long : length ts ≡ length ss) (same : (b : ℕ) (d : Span) → b < length ss → b ≢ c → block_of ys (get_or ts b d) ≡ block_of xs (get_or ss b d)) where
+module _ (xs ys : List InstructionInfo) (ss ts : List Span) (c : ℕ) (long : length ts ≡ length ss)
+    (same : (b : ℕ) (d : Span) → b < length ss → b ≢ c → block_of ys (get_or ts b d) ≡ block_of xs (get_or ss b d)) where
   pub blocks_set : (d : Span) (z : Block) → c < length ss → block_of ys (get_or ts c d) ≡ z → blocks_of ys ts ≡ set (blocks_of xs ss) c z
-  blocks_set d z lt e = ext_get_or empty_block (blocks_of ys ts) (set (blocks_of xs ss) c z) (length-blocks ys ts ∙ long ∙ sym (length-blocks xs ss) ∙ sym (length-set (blocks_of xs ss) c z)) (λ b l. each b (let n = length-blocks ys ts in omega (arith, n, l, long)))
+  blocks_set d z lt e = ext_get_or empty_block (blocks_of ys ts) (set (blocks_of xs ss) c z)
+      (length-blocks ys ts ∙ long ∙ sym (length-blocks xs ss) ∙ sym (length-set (blocks_of xs ss) c z))
+      (λ b l. each b (let n = length-blocks ys ts in omega (arith, n, l, long)))
     where
       each : (b : ℕ) → b < length ss → get_or (blocks_of ys ts) b empty_block ≡ get_or (set (blocks_of xs ss) c z) b empty_block
       each b l = block_is ys ts b d empty_block (omega (arith, long, l)) ∙ elim (cases_eq b c) [
-        | inl q ↦ ap (λ n. block_of ys (get_or ts n d)) q ∙ e ∙ sym (get_or-set_same (blocks_of xs ss) c z empty_block (let n = length-blocks xs ss in omega (arith, n, lt))) ∙ ap (λ n. get_or (set (blocks_of xs ss) c z) n empty_block) (sym q)
+        | inl q ↦ ap (λ n. block_of ys (get_or ts n d)) q ∙ e
+            ∙ sym (get_or-set_same (blocks_of xs ss) c z empty_block (let n = length-blocks xs ss in omega (arith, n, lt)))
+            ∙ ap (λ n. get_or (set (blocks_of xs ss) c z) n empty_block) (sym q)
         | inr n ↦ same b d l n ∙ sym (block_is xs ss b d empty_block l) ∙ sym (get_or-set_other (blocks_of xs ss) c b z empty_block n)
       ]
 
@@ -59,7 +65,8 @@ module _ (xs ys : List InstructionInfo) (ss ts : List Span) (c : ℕ) (long : le
 
 module _ (xs : List InstructionInfo) (ss : List Span) (c : ℕ) (h : Follows xs ss c) where
   pub span_made : c < length ss
-  span_made = let a = length_push h.before c in let l = h.is_chain.path.inside (length h.before) 0 (omega (arith, a)) in let e = get_or_push h.before c 0 (length h.before) refl in let n = length-blks xs ss in omega (arith, l, e, n)
+  span_made = let a = length_push h.before c in let l = h.is_chain.path.inside (length h.before) 0 (omega (arith, a)) in let e =
+      get_or_push h.before c 0 (length h.before) refl in let n = length-blks xs ss in omega (arith, l, e, n)
 
   pub starts_low : (d : Span) → (get_or ss c d).first ≤ length xs
   starts_low d = let o = h.ordered c d span_made in let f = h.full d in omega (arith, o, f)

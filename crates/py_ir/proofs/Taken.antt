@@ -20,7 +20,9 @@ same_flattened level bs ds cs starts items s f = record {
   is_chain = s.chain cs f.is_chain;
   starts_at = record {
     long = f.starts_at.long ∙ sym s.long;
-    each = λ k l. f.starts_at.each k l ∙ ap length (flat_agree (λ b. body level (blk ds b).items) (λ b. body level (blk bs b).items) (take k cs) (All-take (λ b. body level (blk ds b).items ≡ body level (blk bs b).items) k cs agree));
+    each = λ k l. f.starts_at.each k l
+        ∙ ap length (flat_agree (λ b. body level (blk ds b).items) (λ b. body level (blk bs b).items) (take k cs)
+        (All-take (λ b. body level (blk ds b).items ≡ body level (blk bs b).items) k cs agree));
   };
   list = f.list ∙ flat_agree (λ b. body level (blk ds b).items) (λ b. body level (blk bs b).items) cs agree;
   within = f.within;
@@ -58,7 +60,8 @@ pub same_of : (given : List Block) (kept : BlockList) → IsChainOf given kept �
 same_of given kept h = record {
   long = long;
   chain = λ cs k. subst (IsChain (map plain given)) (is k) h.is_chain;
-  blocks = λ cs k. subst (λ zs. All (λ c. blk (map plain given) c ≡ blk (map plain kept.blocks) c) zs) (is k) (All-from_get_or (λ c. blk (map plain given) c ≡ blk (map plain kept.blocks) c) h.chain 0 same);
+  blocks = λ cs k. subst (λ zs. All (λ c. blk (map plain given) c ≡ blk (map plain kept.blocks) c) zs) (is k)
+      (All-from_get_or (λ c. blk (map plain given) c ≡ blk (map plain kept.blocks) c) h.chain 0 same);
 }
   where
     long : length (map plain given) ≡ length (map plain kept.blocks)

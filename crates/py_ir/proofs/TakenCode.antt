@@ -24,7 +24,9 @@ use Rattle.py_ir.proofs.Taken.{same_of}
 made_lens : ℕ → ℕ → ℕ → ℕ → TableLens
 made_lens k n v c = record { constants = k; names = n; varnames = v; cells = c }
 
-pub lens_are : (info : CodeInfo) (k n v c f : ℕ) → k ≡ length info.constants → n ≡ length info.name_cache → v ≡ length info.varname_cache → c ≡ length info.cellvar_cache → f ≡ length info.freevar_cache → lens_of (tables_of info) ≡ record { constants = k; names = n; varnames = v; cells = c + f }
+pub lens_are : (info : CodeInfo) (k n v c f : ℕ) → k ≡ length info.constants → n ≡ length info.name_cache → v ≡ length info.varname_cache
+    → c ≡ length info.cellvar_cache → f ≡ length info.freevar_cache
+    → lens_of (tables_of info) ≡ record { constants = k; names = n; varnames = v; cells = c + f }
 unfolding made_lens
 lens_are info k n v c f ek en ev ec ef =
     ap (λ x. made_lens x (length info.name_cache) (length info.varname_cache) (length (info.cellvar_cache ++ info.freevar_cache))) (length-map info.constants constant ∙ sym ek)
@@ -70,7 +72,8 @@ module _ (level : ℕ) (info : CodeInfo) (flat : FlatCode) (t : IsTaken info fla
 
   pub taken_final : (code : CodeObject) (units : List CodeUnit) (locations : List SourceLocation) (depth : ℕ)
       → IsLaid (tables_of (info_of flat)) level bs units locations depth → IsFilled (info_of flat) units locations depth code → IsFinal level info code
-  taken_final code units locations depth l f = finals level info code units locations depth (subst (λ (z : Tables). IsLaid z level bs units locations depth) taken_code_tables_are l) (filled_back units locations depth code f)
+  taken_final code units locations depth l f = finals level info code units locations depth
+      (subst (λ (z : Tables). IsLaid z level bs units locations depth) taken_code_tables_are l) (filled_back units locations depth code f)
 
   pub taken_clear : NoneBefore 10 (tables_of (info_of flat)) level bs → NoneBefore 10 (tables_of info) level bs
   taken_clear n = subst (λ (z : Tables). NoneBefore 10 z level bs) taken_code_tables_are n

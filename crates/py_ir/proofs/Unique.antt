@@ -18,7 +18,8 @@ module _ (bs : List Blk) (cs : List ℕ) (chain : IsChain bs cs) where
       let n : (blk bs (get_or cs k 0)).next ≡ Some (get_or ps (k + 1) 0) = ap (λ c. (blk bs c).next) (sym i.1) ∙ h.follows k (omega arith) in
       elim (cases_lt (k + 1) (length cs)) [
         | inl m ↦ (omega arith, subst (λ j. get_or ps j 0 ≡ get_or cs j 0) e (same_Some (get_or ps (k + 1) 0) (get_or cs (k + 1) 0) (sym n ∙ chain.path.follows k m)))
-        | inr m ↦ absurd (let i0 = i.0 in let q : length cs - 1 ≡ k = omega arith in let z : None ≡ Some (get_or ps (k + 1) 0) = sym (subst (λ j. (blk bs (get_or cs j 0)).next ≡ None) q chain.ends) ∙ n in cc)
+        | inr m ↦ absurd (let i0 = i.0 in let q : length cs - 1 ≡ k = omega arith in let z : None ≡ Some (get_or ps (k + 1) 0) =
+            sym (subst (λ j. (blk bs (get_or cs j 0)).next ≡ None) q chain.ends) ∙ n in cc)
       ]
 
   short_of : (ps : List ℕ) → IsPath bs ps → length ps ≤ length cs
@@ -46,7 +47,8 @@ module _ (bs : List Blk) (cs : List ℕ) (chain : IsChain bs cs) where
                   let e : get_or cs j 0 ≡ get_or cs (k + 1) 0 = sym aj.1 ∙ get_or_default ps j 0 r.next c.1 ∙ c.2 ∙ sym q in
                   chain.path.distinct j (k + 1) 0 (omega (arith, jl)) m e
             ]
-        | inr m ↦ absurd (let a0 = a.0 in let q : length cs - 1 ≡ k = omega (arith, a0, m) in let z : None ≡ Some r.next = sym (subst (λ j. (blk bs (get_or cs j 0)).next ≡ None) q chain.ends) ∙ n in cc)
+        | inr m ↦ absurd (let a0 = a.0 in let q : length cs - 1 ≡ k = omega (arith, a0, m) in let z : None ≡ Some r.next =
+            sym (subst (λ j. (blk bs (get_or cs j 0)).next ≡ None) q chain.ends) ∙ n in cc)
       ]
 
   not_empty : ¬ (length bs ≡ 0)

@@ -25,7 +25,11 @@ use Rattle.py_ir.specs.Refusals.{block_look, block_start, capped_place, WalkAt, 
 use Rattle.py_ir.specs.Located.{IsLocated, walk_error}
 use Rattle.py_ir.proofs.SameBlocks as same
 
-module _ (t : Tables) (level : ℕ) (bs : List Blk) (cs starts : List ℕ) (chain : IsChain bs cs) (short : length cs ≤ length bs) (at : StartsAt level bs cs starts) (linked : (j : ℕ) (x : InstructionInfo) → slice_get (flat level bs cs) j ≡ Some x → is_jump x.instr ≡ true → (x.target.0 ≢ 0xffff_ffff) × ((k : ℕ) × (k < length cs) × (get_or cs k 0 ≡ x.target.0))) (decodes : Decodes t starts (flat level bs cs)) where
+module _ (t : Tables) (level : ℕ) (bs : List Blk) (cs starts : List ℕ) (chain : IsChain bs cs) (short : length cs ≤ length bs)
+    (at : StartsAt level bs cs starts)
+    (linked : (j : ℕ) (x : InstructionInfo) → slice_get (flat level bs cs) j ≡ Some x → is_jump x.instr ≡ true
+    → (x.target.0 ≢ 0xffff_ffff) × ((k : ℕ) × (k < length cs) × (get_or cs k 0 ≡ x.target.0)))
+    (decodes : Decodes t starts (flat level bs cs)) where
   abbrev walked_items : List InstructionInfo
   walked_items = flat level bs cs
 
@@ -68,7 +72,9 @@ module _ (t : Tables) (level : ℕ) (bs : List Blk) (cs starts : List ℕ) (chai
       let le : j ≤ length (same.same_block_part t level bs cs starts chain short at c) = elim g.3 [ inl l ↦ omega (arith, l) | inr l ↦ (let y = l.0 in let z = l.1 in omega (arith, y, z)) ] in
       elim (cases_lt g.0 r.at) [
         | inl m ↦ absurd (let up = same.rises_to t level bs cs starts chain short at g.0 r.at m r.within in elim g.3 [
-          | inl l ↦ (let lc : length (same.same_block_part t level bs cs starts chain short at (get_or cs g.0 0)) ≡ length (same.same_block_part t level bs cs starts chain short at c) = ap (λ z. length (same.same_block_part t level bs cs starts chain short at z)) g.2 in omega (arith, up, gc, rb, h, e, l, lc))
+          | inl l ↦ (let lc : length (same.same_block_part t level bs cs starts chain short at (get_or cs g.0 0))
+              ≡ length (same.same_block_part t level bs cs starts chain short at c) =
+              ap (λ z. length (same.same_block_part t level bs cs starts chain short at z)) g.2 in omega (arith, up, gc, rb, h, e, l, lc))
           | inr l ↦ (let y = l.2 in let w = r.within in omega (arith, y, m, w))
         ])
         | inr m ↦ elim (cases_lt r.at g.0) [
@@ -81,7 +87,7 @@ module _ (t : Tables) (level : ℕ) (bs : List Blk) (cs starts : List ℕ) (chai
         ]
       ]
 
-  -- where a walk over the list comes to a located place, the block's place is good and has its number
+  -- where a walk over the list reaches a located place, the block's place is good and has its number
   good_at : (place b i : ℕ) → IsLocated cs starts place b i → (s : State) → Reached to (place_of begin) place s → WalkedGood (Of b i) × (place_of (Of b i) ≡ place)
   good_at place b i r s w =
       let x = reached_back walked_from to place_of begin WalkedGood image place s w in
@@ -99,7 +105,12 @@ module _ (t : Tables) (level : ℕ) (bs : List Blk) (cs starts : List ℕ) (chai
   range_at place b i r h =
       let e : HeightOutOfRange to (place_of begin) (2 ^ 32) place = subst (λ z. HeightOutOfRange to z (2 ^ 32) place) (sym zero_is) (subst (λ l. HeightOutOfRange l 0 (2 ^ 32) place) (sym looks) h) in
       let g = good_at place b i r e.at e.reached in
-      record { index = i; carried = refl; holds = range_back walked_from to place_of begin WalkedGood image one_place (Of b i) g.0 (2 ^ 32) (subst (HeightOutOfRange to (place_of begin) (2 ^ 32)) (sym g.1) e) }
+      record {
+        index = i;
+        carried = refl;
+        holds = range_back walked_from to place_of begin WalkedGood image one_place (Of b i) g.0 (2 ^ 32)
+            (subst (HeightOutOfRange to (place_of begin) (2 ^ 32)) (sym g.1) e);
+      }
 
   some_reached : (place : ℕ) → BlockMismatch to (place_of begin) place → (s : State) × Reached to (place_of begin) place s
   some_reached place (inl e) = (e.at, e.reached)
@@ -123,7 +134,9 @@ module _ (t : Tables) (level : ℕ) (bs : List Blk) (cs starts : List ℕ) (chai
       any [] k l = absurd (omega arith)
       any (x ∷ xs) k l = x
 
-      go : (i < length (same.same_block_part t level bs cs starts chain short at b)) ⊎ ((i ≡ length (blk bs b).items) × (length (blk bs b).items ≡ length (same.same_block_part t level bs cs starts chain short at b)) × (suc g.0 ≡ length cs))
+      go : (i < length (same.same_block_part t level bs cs starts chain short at b))
+          ⊎ ((i ≡ length (blk bs b).items) × (length (blk bs b).items ≡ length (same.same_block_part t level bs cs starts chain short at b))
+          × (suc g.0 ≡ length cs))
           → LeavesLast t bs (get_or cs (length cs - 1) 0)
       go (inl l) = absurd (
           let part : ℕ → List InstructionInfo = same.same_block_part t level bs cs starts chain short at in
@@ -176,7 +189,10 @@ module _ (t : Tables) (level : ℕ) (bs : List Blk) (cs starts : List ℕ) (chai
       → machine (fetch_at t starts walked_items) fuel 0 w ≡ machine (fetch_block t (coded_blocks bs)) fuel begin w
   blocks_run limit ok fuel w =
       ap (λ z. machine (fetch_at t starts walked_items) fuel z w) (sym zero_is)
-      ∙ machine_same (fetch_block t (coded_blocks bs)) begin limit (blocks_sound limit ok) item_proper place_of (fetch_at t starts walked_items) (λ p s r. same.fetch_same t level bs cs starts chain short at linked p (reached_there walked_from to place_of begin WalkedGood image p s r).0) fuel w
+      ∙ machine_same (fetch_block t (coded_blocks bs)) begin limit (blocks_sound limit ok) item_proper place_of
+      (fetch_at t starts walked_items)
+      (λ p s r. same.fetch_same t level bs cs starts chain short at linked p
+      (reached_there walked_from to place_of begin WalkedGood image p s r).0) fuel w
 
   narrower : (limit : ℕ) → limit ≤ 2 ^ 32 → (x : Seen Place) (s : State) → OutOfRange walked_from begin (2 ^ 32) x s → OutOfRange walked_from begin limit x s
   narrower limit l x s (inl o) = inl o
@@ -192,7 +208,8 @@ module _ (t : Tables) (level : ℕ) (bs : List Blk) (cs starts : List ℕ) (chai
     even_clear b p h = (blocks_sound limit ok).even (Of b h.index) h.holds
 
     pub range_clear : (b p : ℕ) → ¬ WalkAt b p (HeightOutOfRange walked_from begin (2 ^ 32))
-    range_clear b p h = let e = h.holds in (blocks_sound limit ok).within (Of b h.index) (record { sees = e.sees; at = e.at; reached = e.reached; sees_is = e.sees_is; outside = narrower limit l e.sees e.at e.outside })
+    range_clear b p h = let e = h.holds in (blocks_sound limit ok).within (Of b h.index)
+        (record { sees = e.sees; at = e.at; reached = e.reached; sees_is = e.sees_is; outside = narrower limit l e.sees e.at e.outside })
 
     pub match_clear : (b p : ℕ) → ¬ WalkAt b p (BlockMismatch walked_from begin)
     match_clear b p h = (blocks_sound limit ok).matched (Of b h.index) h.holds

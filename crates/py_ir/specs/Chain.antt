@@ -37,14 +37,14 @@ abbrev pub coded_blocks : List Blk → List coded.Block
 coded_blocks bs = map coded_block bs
 
 -- up to the first unconditional branch
-abbrev pub cut : List InstructionInfo → List InstructionInfo
-cut [] = []
-cut (x ∷ xs) = if (row_of x.instr).leaves then x ∷ [] else (x ∷ cut xs)
+abbrev pub without_unreachable : List InstructionInfo → List InstructionInfo
+without_unreachable [] = []
+without_unreachable (x ∷ xs) = if (row_of x.instr).leaves then x ∷ [] else (x ∷ without_unreachable xs)
 
 -- what is left of a block at an optimization level
 abbrev pub body : ℕ → List InstructionInfo → List InstructionInfo
 body zero xs = xs
-body (suc level) xs = cut xs
+body (suc level) xs = without_unreachable xs
 
 -- numbers of blocks from block 0 on, each the next of the one before it, none twice
 pub record IsPath (bs : List Blk) (cs : List ℕ) : Type 0 where

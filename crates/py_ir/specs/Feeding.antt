@@ -13,7 +13,8 @@ use Rattle.py_bytecode.specs.Objects.{Head, Const, Consts, Object}
 
 -- what stands in a code beside its constants and its places
 abbrev pub head_input : Head → HashWrites
-head_input h = fed.str h.obj_name ++ fed.slice units.ghosts.hash_input h.instructions ++ fed.slice fed.str h.names ++ fed.slice fed.str h.varnames ++ fed.slice fed.str h.cellvars ++ fed.slice fed.str h.freevars
+head_input h = fed.str h.obj_name ++ fed.slice units.ghosts.hash_input h.instructions ++ fed.slice fed.str h.names
+    ++ fed.slice fed.str h.varnames ++ fed.slice fed.str h.cellvars ++ fed.slice fed.str h.freevars
 
 -- a constant; the numbers tell those apart that hold nothing
 abbrev mutual

@@ -35,21 +35,21 @@ walk_error Walked.HeightOutOfRange last b i = FinalizeError.HeightOutOfRange b (
 walk_error Walked.BlockMismatch last b i = FinalizeError.BlockMismatch b (capped_place i)
 walk_error Walked.OutOfMemory last b i = FinalizeError.OutOfMemory
 
--- the error tells the check at the place
+-- the error gives the check at the place
 pub record NamesCheck (cs starts : List ℕ) (check : Check) (place : ℕ) (e : FinalizeError) : Type 0 where
   pub block : ℕ
   pub index : ℕ
   pub located : IsLocated cs starts place block index
   pub is : e ≡ check_error check block index
 
--- the error tells the walk at the place
+-- the error gives the walk at the place
 pub record NamesWalk (cs starts : List ℕ) (refused : Walked) (place : ℕ) (e : FinalizeError) : Type 0 where
   pub block : ℕ
   pub index : ℕ
   pub located : IsLocated cs starts place block index
   pub is : e ≡ walk_error refused (slice_index cs (length cs - 1)) block index
 
--- a walk over the list is refused, and the error tells it
+-- a walk over the list is refused, and the error gives it
 pub record WalkFault (cs starts : List ℕ) (items : List InstructionInfo) (e : FinalizeError) : Type 0 where
   pub refused : Walked
   pub place : ℕ

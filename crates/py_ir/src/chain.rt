@@ -106,7 +106,8 @@ fn push_body(
 /// There is no memory for them.
 pub fn cut(alloc: Global, blocks: &FlatBlocks, chain: &[u32], level: u8) -> Result<Flat, AllocError>
     requires { IsChain (map plain blocks.now.blocks) chain.now }
-    ensures { IfOk result (λ f. IsFlattened level (map plain blocks.now.blocks) chain.now f.starts.items f.items.items) }
+    ensures { IfOk result (λ f. IsFlattened level
+        (map plain blocks.now.blocks) chain.now f.starts.items f.items.items) }
 {
     let mut items: Vec<InstructionInfo> = Vec::with_capacity(alloc, chain.len())?;
     let mut starts: Vec<usize> = vec![in alloc; 0; blocks.len()]?;

@@ -118,7 +118,8 @@ fn first_failing(
     lens: TableLens,
     items: &[InstructionInfo],
 ) -> Option<usize>
-    ensures answer { MatchOption result (NowhereFails check inside.now lens items.now) (λ place. FailsAt check inside.now lens items.now place) }
+    ensures answer { MatchOption result (NowhereFails check inside.now lens items.now)
+        (λ place. FailsAt check inside.now lens items.now place) }
     ensures range { IfNone result (All (λ x. x.arg.0 < 2 ^ 32) items.now) }
 {
     for (k, item) in items.iter().enumerate() {
@@ -131,7 +132,8 @@ fn first_failing(
 
 // Whether what jumps has a target in the chain, and what does not jump has none.
 fn target_passes(inside: &[bool], jumps: bool, target: BlockIdx) -> bool
-    ensures stands { result ≡ true → target.0 ≢ 0xffff_ffff → slice_index_or inside.now target.0 false ≡ true }
+    ensures stands { result ≡ true → target.0 ≢ 0xffff_ffff
+        → slice_index_or inside.now target.0 false ≡ true }
     ensures given { result ≡ true → jumps ≡ true → target.0 ≢ 0xffff_ffff }
     ensures needed { result ≡ true → target.0 ≢ 0xffff_ffff → jumps ≡ true }
 {
@@ -185,10 +187,14 @@ pub fn check_items(
     lens: TableLens,
     items: &[InstructionInfo],
 ) -> Result<(), ItemFault>
-    ensures fine { IfOk result (λ _. (check : Check) → NowhereFails check inside.now lens items.now) }
+    ensures fine { IfOk result (λ _. (check : Check)
+        → NowhereFails check inside.now lens items.now) }
     ensures range { IfOk result (λ _. All (λ x. x.arg.0 < 2 ^ 32) items.now) }
-    ensures here { IfErr result (λ fault. FailsAt fault.check inside.now lens items.now fault.place) }
-    ensures earlier { IfErr result (λ fault. (check : Check) → rank check < rank fault.check → NowhereFails check inside.now lens items.now) }
+    ensures here { IfErr result (λ fault.
+        FailsAt fault.check inside.now lens items.now fault.place) }
+    ensures earlier { IfErr result
+        (λ fault. (check : Check) → rank check < rank fault.check
+        → NowhereFails check inside.now lens items.now) }
 {
     if all_pass(inside, lens, items) {
         return Ok(());

@@ -212,7 +212,8 @@ impl ConstantSet {
     pub fn insert_full(&mut self, x: ConstantData) -> Result<usize, ConstantData>
         ensures ok { OnOk result (self.new ≡ insert_key constant_eq self.old x) }
         ensures place { IfOk result (λ i. i ≡ position_or_len (constant_eq x) self.old) }
-        ensures stored { IfOk result (λ i. (k : ConstantData) × (slice_get self.new i ≡ Some k) × (constant_eq x k ≡ true)) }
+        ensures stored { IfOk result (λ i.
+            (k : ConstantData) × (slice_get self.new i ≡ Some k) × (constant_eq x k ≡ true)) }
         ensures back { IfErr result (λ y. y ≡ x) }
         ensures err { OnErr result (self.new ≡ self.old) }
     {

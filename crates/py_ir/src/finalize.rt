@@ -35,8 +35,10 @@ pub struct Position {
 fn inside_of(alloc: Global, count: usize, chain: &[u32]) -> Result<Vec<bool>, AllocError>
     requires { All (λ c. c < count) chain.now }
     ensures long { IfOk result (λ inside. length inside.items ≡ count) }
-    ensures inside { IfOk result (λ inside. (c : ℕ) → slice_index_or inside.items c false ≡ true → Contains chain.now c) }
-    ensures marked { IfOk result (λ inside. (k : ℕ) → k < length chain.now → slice_index_or inside.items (slice_index chain.now k) false ≡ true) }
+    ensures inside { IfOk result (λ inside. (c : ℕ) → slice_index_or inside.items c false ≡ true
+        → Contains chain.now c) }
+    ensures marked { IfOk result (λ inside. (k : ℕ) → k < length chain.now
+        → slice_index_or inside.items (slice_index chain.now k) false ≡ true) }
 {
     let mut inside: Vec<bool> = vec![in alloc; false; count]?;
     for block in chain {
@@ -144,7 +146,8 @@ fn lay_list(
     requires inside { All (λ c. c < length starts.now) chain.now }
     requires some { 0 < length chain.now }
     requires first { slice_index starts.now (slice_index chain.now 0) ≡ 0 }
-    ensures assembled { IfOk result (λ l. IsAssembled starts.now items.now l.units.items l.locations.items) }
+    ensures assembled { IfOk result
+        (λ l. IsAssembled starts.now items.now l.units.items l.locations.items) }
     ensures few { IfOk result (λ l. ¬ widths.TooManyUnits (needs_of starts.now items.now)) }
     ensures sound { IfOk result (λ l. Sound (look_at starts.now items.now) 0 (l.depth + 1)) }
     ensures depth { IfOk result (λ l. IsDepth (look_at starts.now items.now) 0 l.depth) }
@@ -175,9 +178,14 @@ fn finish(
     lens: TableLens,
 ) -> Result<Laid, FinalizeError>
     requires { Flattened chain.now starts.now items.now }
-    ensures laid { IfOk result (λ l. (t : Tables) (level : ℕ) (bs : List Blk) → lens_of t ≡ lens → IsFlattened level bs chain.now starts.now items.now → IsLaid t level bs l.units.items l.locations.items l.depth) }
-    ensures clear { IfOk result (λ _. (t : Tables) (level : ℕ) (bs : List Blk) → lens_of t ≡ lens → IsFlattened level bs chain.now starts.now items.now → NoneBefore 10 t level bs) }
-    ensures refused { IfErr result (λ e. (t : Tables) (level : ℕ) (bs : List Blk) → lens_of t ≡ lens → IsFlattened level bs chain.now starts.now items.now → Refused t level bs e) }
+    ensures laid { IfOk result (λ l. (t : Tables) (level : ℕ) (bs : List Blk) → lens_of t ≡ lens
+        → IsFlattened level bs chain.now starts.now items.now
+        → IsLaid t level bs l.units.items l.locations.items l.depth) }
+    ensures clear { IfOk result (λ _. (t : Tables) (level : ℕ) (bs : List Blk) → lens_of t ≡ lens
+        → IsFlattened level bs chain.now starts.now items.now → NoneBefore 10 t level bs) }
+    ensures refused { IfErr result
+        (λ e. (t : Tables) (level : ℕ) (bs : List Blk) → lens_of t ≡ lens
+        → IsFlattened level bs chain.now starts.now items.now → Refused t level bs e) }
 {
     let inside = match inside_of(alloc, starts.len(), chain) {
         Ok(inside) => inside,
@@ -201,9 +209,14 @@ fn lay_whole(
     lens: TableLens,
 ) -> Result<Laid, FinalizeError>
     requires { IsChain (map plain blocks.now.blocks) chain.now }
-    ensures laid { IfOk result (λ l. (t : Tables) (bs : List Blk) → lens_of t ≡ lens → SameChain bs (map plain blocks.now.blocks) → IsLaid t 0 bs l.units.items l.locations.items l.depth) }
-    ensures clear { IfOk result (λ _. (t : Tables) (bs : List Blk) → lens_of t ≡ lens → SameChain bs (map plain blocks.now.blocks) → NoneBefore 10 t 0 bs) }
-    ensures refused { IfErr result (λ e. (t : Tables) (bs : List Blk) → lens_of t ≡ lens → SameChain bs (map plain blocks.now.blocks) → Refused t 0 bs e) }
+    ensures laid { IfOk result (λ l. (t : Tables) (bs : List Blk) → lens_of t ≡ lens
+        → SameChain bs (map plain blocks.now.blocks)
+        → IsLaid t 0 bs l.units.items l.locations.items l.depth) }
+    ensures clear { IfOk result (λ _. (t : Tables) (bs : List Blk) → lens_of t ≡ lens
+        → SameChain bs (map plain blocks.now.blocks) → NoneBefore 10 t 0 bs) }
+    ensures refused { IfErr result
+        (λ e. (t : Tables) (bs : List Blk) → lens_of t ≡ lens
+        → SameChain bs (map plain blocks.now.blocks) → Refused t 0 bs e) }
 {
     match blocks.starts(alloc) {
         Ok(starts) => finish(alloc, chain, &starts, blocks.items(), lens),
@@ -220,9 +233,14 @@ fn lay_cut(
     level: u8,
 ) -> Result<Laid, FinalizeError>
     requires { IsChain (map plain blocks.now.blocks) chain.now }
-    ensures laid { IfOk result (λ l. (t : Tables) (bs : List Blk) → lens_of t ≡ lens → SameChain bs (map plain blocks.now.blocks) → IsLaid t level bs l.units.items l.locations.items l.depth) }
-    ensures clear { IfOk result (λ _. (t : Tables) (bs : List Blk) → lens_of t ≡ lens → SameChain bs (map plain blocks.now.blocks) → NoneBefore 10 t level bs) }
-    ensures refused { IfErr result (λ e. (t : Tables) (bs : List Blk) → lens_of t ≡ lens → SameChain bs (map plain blocks.now.blocks) → Refused t level bs e) }
+    ensures laid { IfOk result (λ l. (t : Tables) (bs : List Blk) → lens_of t ≡ lens
+        → SameChain bs (map plain blocks.now.blocks)
+        → IsLaid t level bs l.units.items l.locations.items l.depth) }
+    ensures clear { IfOk result (λ _. (t : Tables) (bs : List Blk) → lens_of t ≡ lens
+        → SameChain bs (map plain blocks.now.blocks) → NoneBefore 10 t level bs) }
+    ensures refused { IfErr result
+        (λ e. (t : Tables) (bs : List Blk) → lens_of t ≡ lens
+        → SameChain bs (map plain blocks.now.blocks) → Refused t level bs e) }
 {
     match cut(alloc, blocks, chain, level) {
         Ok(flat) => finish(alloc, chain, &flat.starts, &flat.items, lens),
@@ -242,9 +260,14 @@ pub fn lay_out_blocks(
     level: u8,
 ) -> Result<Laid, FinalizeError>
     ensures whole { IsWhole blocks.now }
-    ensures laid { IfOk result (λ l. (t : Tables) (bs : List Blk) → lens_of t ≡ lens → SameChain bs (map plain blocks.now.blocks) → IsLaid t level bs l.units.items l.locations.items l.depth) }
-    ensures clear { IfOk result (λ _. (t : Tables) (bs : List Blk) → lens_of t ≡ lens → SameChain bs (map plain blocks.now.blocks) → NoneBefore 10 t level bs) }
-    ensures refused { IfErr result (λ e. (t : Tables) (bs : List Blk) → lens_of t ≡ lens → SameChain bs (map plain blocks.now.blocks) → Refused t level bs e) }
+    ensures laid { IfOk result (λ l. (t : Tables) (bs : List Blk) → lens_of t ≡ lens
+        → SameChain bs (map plain blocks.now.blocks)
+        → IsLaid t level bs l.units.items l.locations.items l.depth) }
+    ensures clear { IfOk result (λ _. (t : Tables) (bs : List Blk) → lens_of t ≡ lens
+        → SameChain bs (map plain blocks.now.blocks) → NoneBefore 10 t level bs) }
+    ensures refused { IfErr result
+        (λ e. (t : Tables) (bs : List Blk) → lens_of t ≡ lens
+        → SameChain bs (map plain blocks.now.blocks) → Refused t level bs e) }
 {
     match blocks.chain(alloc) {
         Ok(chain) => {

@@ -170,7 +170,8 @@ impl FlatBlocks {
 
     /// The instructions of the blocks of the chain, one after the other.
     pub(crate) fn items(&self) -> &[InstructionInfo]
-        ensures { (chain : ListOf ℕ) → IsChain (map plain self.now.blocks) chain → result.now ≡ flat 0 (map plain self.now.blocks) chain }
+        ensures { (chain : ListOf ℕ) → IsChain (map plain self.now.blocks) chain
+            → result.now ≡ flat 0 (map plain self.now.blocks) chain }
     {
         self.items.as_slice()
     }
@@ -186,7 +187,10 @@ impl FlatBlocks {
 
     /// The places where the blocks start in the list of all instructions.
     pub(crate) fn starts(&self, alloc: Global) -> Result<Vec<usize>, AllocError>
-        ensures { IfOk result (λ starts. (chain : ListOf ℕ) → IsChain (map plain self.now.blocks) chain → StartsAt 0 (map plain self.now.blocks) chain starts.items × All (λ s. s ≤ length (flat 0 (map plain self.now.blocks) chain)) starts.items) }
+        ensures { IfOk result (λ starts. (chain : ListOf ℕ)
+            → IsChain (map plain self.now.blocks) chain
+            → StartsAt 0 (map plain self.now.blocks) chain starts.items
+            × All (λ s. s ≤ length (flat 0 (map plain self.now.blocks) chain)) starts.items) }
     {
         firsts(alloc, self.spans.as_slice())
     }

@@ -46,7 +46,8 @@ impl FlatCode {
     pub fn from_info(alloc: Global, info: CodeInfo) -> Result<FlatCode, FinalizeError>
         ensures taken { IfOk result (λ code. IsTaken info code) }
         ensures few { IfErr result (λ e. order e < 2) }
-        ensures refused { IfErr result (λ e. (t : Tables) (level : ℕ) → Refused t level (map plain info.blocks) e) }
+        ensures refused { IfErr result
+            (λ e. (t : Tables) (level : ℕ) → Refused t level (map plain info.blocks) e) }
     {
         let body = match flat_blocks(alloc, info.blocks.as_slice()) {
             Ok(body) => body,
@@ -94,11 +95,18 @@ impl FlatCode {
     pub fn finalize(self, alloc: Global, optimize: u8) -> Result<CodeObject, FinalizeError>
         ensures whole { IsWhole self.body }
         ensures code { IfOk result (λ code. IsFinal optimize (info_of self) code) }
-        ensures clear { IfOk result (λ code. NoneBefore 10 (tables_of (info_of self)) optimize (map plain self.body.blocks)) }
-        ensures refused { IfErr result (λ e. Refused (tables_of (info_of self)) optimize (map plain self.body.blocks) e) }
-        ensures taken_code { IfOk result (λ code. (info : Info) → IsTaken info self → IsFinal optimize info code) }
-        ensures taken_clear { IfOk result (λ code. (info : Info) → IsTaken info self → NoneBefore 10 (tables_of info) optimize (map plain info.blocks)) }
-        ensures taken_refused { IfErr result (λ e. (info : Info) → IsTaken info self → Refused (tables_of info) optimize (map plain info.blocks) e) }
+        ensures clear { IfOk result (λ code.
+            NoneBefore 10 (tables_of (info_of self)) optimize (map plain self.body.blocks)) }
+        ensures refused { IfErr result
+            (λ e. Refused (tables_of (info_of self)) optimize (map plain self.body.blocks) e) }
+        ensures taken_code { IfOk result
+            (λ code. (info : Info) → IsTaken info self → IsFinal optimize info code) }
+        ensures taken_clear { IfOk result
+            (λ code. (info : Info) → IsTaken info self
+            → NoneBefore 10 (tables_of info) optimize (map plain info.blocks)) }
+        ensures taken_refused { IfErr result
+            (λ e. (info : Info) → IsTaken info self
+            → Refused (tables_of info) optimize (map plain info.blocks) e) }
     {
         let laid = match self.lay_out(alloc, optimize) {
             Ok(laid) => laid,
@@ -112,9 +120,16 @@ impl FlatCode {
 
     fn lay_out(&self, alloc: Global, optimize: u8) -> Result<Laid, FinalizeError>
         ensures whole { IsWhole self.now.body }
-        ensures laid { IfOk result (λ l. (bs : ListOf Blk) → SameChain bs (map plain self.now.body.blocks) → IsLaid (tables_of (info_of self.now)) optimize bs l.units.items l.locations.items l.depth) }
-        ensures clear { IfOk result (λ _. (bs : ListOf Blk) → SameChain bs (map plain self.now.body.blocks) → NoneBefore 10 (tables_of (info_of self.now)) optimize bs) }
-        ensures refused { IfErr result (λ e. (bs : ListOf Blk) → SameChain bs (map plain self.now.body.blocks) → Refused (tables_of (info_of self.now)) optimize bs e) }
+        ensures laid { IfOk result (λ l. (bs : ListOf Blk)
+            → SameChain bs (map plain self.now.body.blocks)
+            → IsLaid (tables_of (info_of self.now)) optimize bs l.units.items l.locations.items
+            l.depth) }
+        ensures clear { IfOk result (λ _. (bs : ListOf Blk)
+            → SameChain bs (map plain self.now.body.blocks)
+            → NoneBefore 10 (tables_of (info_of self.now)) optimize bs) }
+        ensures refused { IfErr result
+            (λ e. (bs : ListOf Blk) → SameChain bs (map plain self.now.body.blocks)
+            → Refused (tables_of (info_of self.now)) optimize bs e) }
     {
         let lens = TableLens {
             constants: self.constants.len(),
@@ -128,7 +143,8 @@ impl FlatCode {
     // All but the units, their locations and the height is as it is given.
     fn with_code(self, alloc: Global, laid: Laid) -> Result<CodeObject, AllocError>
         requires { length self.varname_cache < 2 ^ 31 }
-        ensures { IfOk result (λ code. IsFilled (info_of self) laid.units.items laid.locations.items laid.depth code) }
+        ensures { IfOk result (λ code. IsFilled
+            (info_of self) laid.units.items laid.locations.items laid.depth code) }
     {
         let FlatCode {
             flags,

@@ -77,8 +77,10 @@ impl CodeInfo {
     /// does anywhere.
     pub fn finalize_code(self, alloc: Global, optimize: u8) -> Result<CodeObject, FinalizeError>
         ensures code { IfOk result (λ code. IsFinal optimize self code) }
-        ensures clear { IfOk result (λ code. NoneBefore 10 (tables_of self) optimize (map plain self.blocks)) }
-        ensures refused { IfErr result (λ e. Refused (tables_of self) optimize (map plain self.blocks) e) }
+        ensures clear { IfOk result (λ code.
+            NoneBefore 10 (tables_of self) optimize (map plain self.blocks)) }
+        ensures refused { IfErr result
+            (λ e. Refused (tables_of self) optimize (map plain self.blocks) e) }
     {
         match FlatCode::from_info(alloc, self) {
             Ok(code) => code.finalize(alloc, optimize),
@@ -124,7 +126,8 @@ fn place_of(found: Option<usize>) -> i32
 }
 
 fn is_any(count: u64, varnames: &NameSet, cells: &[Text]) -> bool
-    ensures none { result ≡ false → All (λ c. parameter_of count varnames.now c ≡ Nothing) cells.now }
+    ensures none { result ≡ false → All
+        (λ c. parameter_of count varnames.now c ≡ Nothing) cells.now }
     ensures some { result ≡ true → IsAny count varnames.now cells.now }
 {
     for cell in cells {

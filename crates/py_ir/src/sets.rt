@@ -75,7 +75,8 @@ impl NameSet {
     pub fn insert_full(&mut self, x: Text) -> Result<usize, Text>
         ensures ok { OnOk result (self.new ≡ insert_key text_eq self.old x) }
         ensures place { IfOk result (λ i. i ≡ position_or_len (text_eq x) self.old) }
-        ensures stored { IfOk result (λ i. (k : Items ℕ) × (slice_get self.new i ≡ Some k) × (text_eq x k ≡ true)) }
+        ensures stored { IfOk result (λ i.
+            (k : Items ℕ) × (slice_get self.new i ≡ Some k) × (text_eq x k ≡ true)) }
         ensures back { IfErr result (λ y. y ≡ x) }
         ensures err { OnErr result (self.new ≡ self.old) }
     {

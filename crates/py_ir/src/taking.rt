@@ -52,7 +52,8 @@ fn place_all(blocks: &mut FlatBlocks, given: &[Block], chain: &[u32]) -> Result<
 pub fn flat_blocks(alloc: Global, given: &[Block]) -> Result<FlatBlocks, FinalizeError>
     ensures taken { IfOk result (λ blocks. IsChainOf given.now blocks) }
     ensures few { IfErr result (λ e. order e < 2) }
-    ensures refused { IfErr result (λ e. (t : Tables) (level : ℕ) → Refused t level (map plain given.now) e) }
+    ensures refused { IfErr result
+        (λ e. (t : Tables) (level : ℕ) → Refused t level (map plain given.now) e) }
 {
     let chain = match chain_of(alloc, given) {
         Ok(chain) => chain,

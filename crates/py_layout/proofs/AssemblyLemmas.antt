@@ -63,7 +63,8 @@ pub widths_are : (starts others : List ℕ) (items : List InstructionInfo) (ws :
     → Least (needs_of starts items) ws → ws ≡ least_widths (needs_of others items)
 widths_are starts others items ws alike l = least_is (needs_of starts items) ws (needs_small starts items) l ∙ ap least_widths (needs_same starts others items alike)
 
-module _ (starts others : List ℕ) (items : List InstructionInfo) (units : List CodeUnit) (locations : List SourceLocation) (alike : AllByRecursion (NamesAlike starts others) items) (a : IsAssembled starts items units locations) where
+module _ (starts others : List ℕ) (items : List InstructionInfo) (units : List CodeUnit) (locations : List SourceLocation)
+    (alike : AllByRecursion (NamesAlike starts others) items) (a : IsAssembled starts items units locations) where
   pub units_assembled : units ≡ (assembled_code others items).units
   units_assembled =
       let same = widths_are starts others items a.widths alike a.least in

@@ -1,4 +1,4 @@
--- The widths that rounds come to are the least.
+-- The widths that rounds reach are the least.
 use Rattle.std.proofs.Common.{◌≡◌, ◌⊎◌, ℕ, zero, suc, ◌+◌, ◌*◌, ◌^◌, ◌<◌, ◌≤◌, max, List, [], ◌∷◌, length, get_or, sum, map, All, refl, sym, inl, inr, ap, ◌∙◌, subst, arith, ext_get_or}
 use Rattle.std.proofs.lemmas.Bool.{cases_lt}
 use Rattle.std.proofs.lemmas.List.{get_or_past, get_or-map, length-map}
@@ -97,7 +97,9 @@ module _ (needs : List Need) (ws : List ℕ) (small : All (λ x. narrowest x ≤
 
   least_width_few : sum ws ≤ 4 * length needs
   least_width_few =
-      let each : (k : ℕ) → k < length ws → get_or ws k 0 ≤ 4 = (λ k l. let lt : k < length needs = omega (arith, l, fits.chosen.long) in width_small (get_or needs k (Jump 0)) (get_or ws k 0) (small k (Jump 0) lt) (fits.chosen.each k (Jump 0) lt)) in
+      let each : (k : ℕ) → k < length ws → get_or ws k 0 ≤ 4 =
+      (λ k l. let lt : k < length needs = omega (arith, l, fits.chosen.long) in width_small (get_or needs k (Jump 0)) (get_or ws k 0)
+      (small k (Jump 0) lt) (fits.chosen.each k (Jump 0) lt)) in
       let b = sum_by-le (λ n. n) 4 ws (All-from_get_or (λ n. n ≤ 4) ws 0 each) in
       omega (arith, b, fits.chosen.long)
 
@@ -120,14 +122,14 @@ module _ (needs : List Need) (ws : List ℕ) (small : All (λ x. narrowest x ≤
           let e : get_or (round needs (least_widths needs)) k 0 ≡ get_or (least_widths needs) k 0 = ap (λ vs. get_or vs k 0) least_width_stays in
           wanted_reaches (get_or needs k d) (least_widths needs) (get_or (least_widths needs) k 0) (omega (arith, g, e))
 
--- where some choice fits, rounds come to the least
+-- where some choice fits, rounds reach the least
 pub least_is : (needs : List Need) (ws : List ℕ) → All (λ x. narrowest x ≤ 4) needs → Least needs ws → ws ≡ least_widths needs
 least_is needs ws small l =
     let r = rounds needs ws small l.fits in
     let f = least_width_holds needs ws small l.fits in
     ext_get_or 0 ws (least_widths needs) (l.fits.chosen.long ∙ sym r.long) (λ k lt. let a = l.least (least_widths needs) f k in let b = r.below k in omega (arith, a, b))
 
--- and where one fits, what they come to is the least
+-- and where one fits, what they reach is the least
 pub least_found : (needs : List Need) (ws : List ℕ) → All (λ x. narrowest x ≤ 4) needs → Fits needs ws → Least needs (least_widths needs)
 least_found needs ws small f = record { fits = least_width_holds needs ws small f; least = λ others g. (rounds needs others small g).below }
 

@@ -10,7 +10,8 @@ use Rattle.py_layout.specs.Widths.{AtMost, offset, width_for}
 pub offset-suc : (ws : List ℕ) (p : ℕ) → offset ws (p + 1) ≡ offset ws p + get_or ws p 0
 offset-suc ws p = elim (cases_lt p (length ws)) [
   | inl h ↦ sum_by_more (λ x. x) ws p 0 h
-  | inr h ↦ let a : take (p + 1) ws ≡ ws = take_all (p + 1) ws (omega arith) in let b : take p ws ≡ ws = take_all p ws h in let z : get_or ws p 0 ≡ 0 = get_or_past ws p 0 h in let x = ap sum a in let y = ap sum b in omega (arith, x, y, z)
+  | inr h ↦ let a : take (p + 1) ws ≡ ws = take_all (p + 1) ws (omega arith) in let b : take p ws ≡ ws =
+      take_all p ws h in let z : get_or ws p 0 ≡ 0 = get_or_past ws p 0 h in let x = ap sum a in let y = ap sum b in omega (arith, x, y, z)
 ]
 
 pub offset-le : (ws vs : List ℕ) → AtMost ws vs → (p : ℕ) → offset ws p ≤ offset vs p
@@ -18,7 +19,9 @@ offset-le ws vs h zero = omega arith
 offset-le ws vs h (suc p) = let a = offset-suc ws p in let b = offset-suc vs p in let i = offset-le ws vs h p in let k = h p in rw (← add-one) (omega arith)
 
 pub sum-le : (ws vs : List ℕ) → AtMost ws vs → length ws ≡ length vs → sum ws ≤ sum vs
-sum-le ws vs h e = let i = offset-le ws vs h (length ws) in let a : take (length ws) ws ≡ ws = take_all (length ws) ws (omega arith) in let b : take (length ws) vs ≡ vs = take_all (length ws) vs (omega arith) in let x = ap sum a in let y = ap sum b in omega arith
+sum-le ws vs h e = let i = offset-le ws vs h (length ws) in let a : take (length ws) ws ≡ ws =
+    take_all (length ws) ws (omega arith) in let b : take (length ws) vs ≡ vs = take_all (length ws) vs (omega arith) in let x =
+    ap sum a in let y = ap sum b in omega arith
 
 pub width_for-le : (a b : ℕ) → a ≤ b → width_for a ≤ width_for b
 width_for-le a b h = grind (arith, nat_tests)

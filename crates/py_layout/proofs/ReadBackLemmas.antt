@@ -31,24 +31,28 @@ higher operand w h =
 read_back_last : (operand : ℕ) → operand < 2 ^ 32 → (operand / 256 ^ 1 * 256 + operand % 256) % 2 ^ 32 ≡ operand
 read_back_last operand h = let s : operand / 256 ^ 1 * 256 + operand % 256 ≡ operand = omega arith in ap (λ n. n % 2 ^ 32) s ∙ mod-eq_of_lt h
 
-abbrev reads : Instruction → (operand next : ℕ) → Option Read
-reads op operand next = Some (record { op = op; operand = operand; next = next })
+abbrev read_back_reads : Instruction → (operand next : ℕ) → Option Read
+read_back_reads op operand next = Some (record { op = op; operand = operand; next = next })
 
 pub read_units : (op : Instruction) (operand w at : ℕ) (rest : List CodeUnit) → is_prefix op ≡ false → operand < 2 ^ 32
-    → read_from (operand / 256 ^ suc w) at (units_of op operand (suc w) ++ rest) ≡ reads op operand (at + suc w)
+    → read_from (operand / 256 ^ suc w) at (units_of op operand (suc w) ++ rest) ≡ read_back_reads op operand (at + suc w)
 read_units op operand zero at rest h lt =
     let e : suc at ≡ at + 1 = omega arith in
-    if_false (is_prefix op) (read_from ((operand / 256 ^ 1 * 256 + operand % 256) % 2 ^ 32) (suc at) rest) (reads op ((operand / 256 ^ 1 * 256 + operand % 256) % 2 ^ 32) (suc at)) h ∙ ap (λ n. reads op n (suc at)) (read_back_last operand lt) ∙ ap (reads op operand) e
+    if_false (is_prefix op) (read_from ((operand / 256 ^ 1 * 256 + operand % 256) % 2 ^ 32) (suc at) rest)
+    (read_back_reads op ((operand / 256 ^ 1 * 256 + operand % 256) % 2 ^ 32) (suc at)) h
+    ∙ ap (λ n. read_back_reads op n (suc at)) (read_back_last operand lt) ∙ ap (read_back_reads op operand) e
 read_units op operand (suc w) at rest h lt =
     let e : suc at + suc w ≡ at + suc (suc w) = omega arith in
-    ap (λ n. read_from n (suc at) (units_of op operand (suc w) ++ rest)) (higher operand w lt) ∙ read_units op operand w (suc at) rest h lt ∙ ap (reads op operand) e
+    ap (λ n. read_from n (suc at) (units_of op operand (suc w) ++ rest)) (higher operand w lt) ∙ read_units op operand w (suc at) rest h lt ∙ ap (read_back_reads op operand) e
 
-abbrev decoded : Instruction → ℕ → Decoded
-decoded op operand = record { op = op; operand = operand }
+abbrev read_back_unit : Instruction → ℕ → Decoded
+read_back_unit op operand = record { op = op; operand = operand }
 
 pub decode_units : (op : Instruction) (operand w : ℕ) (rest : List CodeUnit) → is_prefix op ≡ false → operand < 2 ^ 32
-    → decode (operand / 256 ^ suc w) (units_of op operand (suc w) ++ rest) ≡ decoded op operand ∷ decode 0 rest
+    → decode (operand / 256 ^ suc w) (units_of op operand (suc w) ++ rest) ≡ read_back_unit op operand ∷ decode 0 rest
 decode_units op operand zero rest h lt =
-    if_false (is_prefix op) (decode ((operand / 256 ^ 1 * 256 + operand % 256) % 2 ^ 32) rest) (decoded op ((operand / 256 ^ 1 * 256 + operand % 256) % 2 ^ 32) ∷ decode 0 rest) h ∙ ap (λ n. decoded op n ∷ decode 0 rest) (read_back_last operand lt)
+    if_false (is_prefix op) (decode ((operand / 256 ^ 1 * 256 + operand % 256) % 2 ^ 32) rest)
+    (read_back_unit op ((operand / 256 ^ 1 * 256 + operand % 256) % 2 ^ 32) ∷ decode 0 rest) h
+    ∙ ap (λ n. read_back_unit op n ∷ decode 0 rest) (read_back_last operand lt)
 decode_units op operand (suc w) rest h lt =
     ap (λ n. decode n (units_of op operand (suc w) ++ rest)) (higher operand w lt) ∙ decode_units op operand w rest h lt

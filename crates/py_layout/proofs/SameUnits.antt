@@ -1,5 +1,6 @@
 -- The machine on the units and the machine on the instructions have the same runs, and walks go over both alike.
-use Rattle.std.proofs.Common.{◌≡◌, ℕ, zero, suc, ◌+◌, ◌-◌, ◌/◌, ◌^◌, ◌<◌, ◌≤◌, List, [], ◌∷◌, ◌++◌, length, drop, get_or, sum, map, Bool, true, false, Option, Some, None, refl, sym, inl, inr, ap, ◌∙◌, subst, arith, add-one, lt-ltb}
+use Rattle.std.proofs.Common.{◌≡◌, ℕ, zero, suc, ◌+◌, ◌-◌, ◌/◌, ◌^◌, ◌<◌, ◌≤◌, List, [], ◌∷◌, ◌++◌, length, drop, get_or, sum, map, Bool}
+use Rattle.std.proofs.Common.{true, false, Option, Some, None, refl, sym, inl, inr, ap, ◌∙◌, subst, arith, add-one, lt-ltb}
 use Rattle.std.specs.Prelude.{if◌then◌else◌, slice_get}
 use Rattle.std.specs.Option.{option_map}
 use Rattle.std.proofs.lemmas.Bool.{cases_lt}
@@ -61,7 +62,8 @@ offset_less ws h a b l m =
     let e : a + suc (b - a - 1) ≡ b = omega arith in
     subst (λ c. offset ws a < offset ws c) e (offset_up ws h a (b - a - 1) (omega arith))
 
-decode_one : (op : Instruction) (v w : ℕ) (rest : List CodeUnit) → is_prefix op ≡ false → 1 ≤ w → w ≤ 4 → v < 256 ^ w → decode 0 (units_of op v w ++ rest) ≡ (let d : Decoded = record { op = op; operand = v } in d ∷ decode 0 rest)
+decode_one : (op : Instruction) (v w : ℕ) (rest : List CodeUnit) → is_prefix op ≡ false → 1 ≤ w → w ≤ 4 → v < 256 ^ w
+    → decode 0 (units_of op v w ++ rest) ≡ (let d : Decoded = record { op = op; operand = v } in d ∷ decode 0 rest)
 decode_one op v zero rest h l m lt = absurd (omega arith)
 decode_one op v (suc w) rest h l m lt = ap (λ n. decode n (units_of op v (suc w) ++ rest)) (sym (div-eq_of_lt lt)) ∙ decode_units op v w rest h (below_all v (suc w) m lt)
 
@@ -99,7 +101,9 @@ module _ (starts : List ℕ) (items : List InstructionInfo) (ws : List ℕ) (cod
       (subst (λ n. Reaches ws n (get_or ws k 0)) g (fits.reaches k (need_of starts d) l))
 
   -- what is read at an instruction's offset
-  read_at : (k : ℕ) (x : InstructionInfo) → k < length items → x ≡ get_or items k x → read_from 0 (offset ws k) (drop (offset ws k) same_unit_units) ≡ Some (record { op = x.instr; operand = operand x; next = offset ws k + get_or ws k 0 })
+  read_at : (k : ℕ) (x : InstructionInfo) → k < length items → x ≡ get_or items k x
+      → read_from 0 (offset ws k) (drop (offset ws k) same_unit_units)
+      ≡ Some (record { op = x.instr; operand = operand x; next = offset ws k + get_or ws k 0 })
   read_at k x lt is =
       let w : ℕ = get_or ws k 0 in
       let v : ℕ = operand x in
@@ -110,10 +114,14 @@ module _ (starts : List ℕ) (items : List InstructionInfo) (ws : List ℕ) (cod
       let rest : List CodeUnit = written_units operand (drop (k + 1) items) (drop (k + 1) ws) in
       let whole : is_prefix x.instr ≡ false = subst (λ (y : InstructionInfo). is_prefix y.instr ≡ false) (sym is) (code.linked k x lt).whole in
       let dx : drop k items ≡ x ∷ drop (k + 1) items = drop_more items k x lt ∙ ap (λ y. y ∷ drop (k + 1) items) (sym is) in
-      let d : drop (offset ws k) same_unit_units ≡ units_of x.instr v w ++ rest = written_drop operand items ws k long_ws ∙ ap (λ l. written_units operand l (drop k ws)) dx ∙ ap (λ l. written_units operand (x ∷ drop (k + 1) items) l) (drop_more ws k 0 ltw) in
+      let d : drop (offset ws k) same_unit_units ≡ units_of x.instr v w ++ rest =
+      written_drop operand items ws k long_ws ∙ ap (λ l. written_units operand l (drop k ws)) dx
+      ∙ ap (λ l. written_units operand (x ∷ drop (k + 1) items) l) (drop_more ws k 0 ltw) in
       let z : 0 ≡ v / 256 ^ suc (w - 1) = sym (div-eq_of_lt (subst (λ n. v < 256 ^ n) (sym w1) h)) in
       let r = read_units x.instr v (w - 1) (offset ws k) rest whole (below_all v w b.1 h) in
-      ap (read_from 0 (offset ws k)) d ∙ ap (λ n. read_from 0 (offset ws k) (units_of x.instr v n ++ rest)) (sym w1) ∙ ap (λ n. read_from n (offset ws k) (units_of x.instr v (suc (w - 1)) ++ rest)) z ∙ r ∙ ap (λ n. let y : Read = record { op = x.instr; operand = v; next = offset ws k + n } in Some y) w1
+      ap (read_from 0 (offset ws k)) d ∙ ap (λ n. read_from 0 (offset ws k) (units_of x.instr v n ++ rest)) (sym w1)
+      ∙ ap (λ n. read_from n (offset ws k) (units_of x.instr v (suc (w - 1)) ++ rest)) z ∙ r
+      ∙ ap (λ n. let y : Read = record { op = x.instr; operand = v; next = offset ws k + n } in Some y) w1
 
   pub units_decode : decode 0 same_unit_units ≡ map (reads operand) items
   units_decode = decode_all operand items ws long_ws (λ k d l. ((code.linked k d l).whole, (width_at k d l).0, (width_at k d l).1, same_unit_held k d l))
@@ -175,9 +183,14 @@ module _ (starts : List ℕ) (items : List InstructionInfo) (ws : List ℕ) (cod
         let n : offset ws k + get_or ws k 0 ≡ offset ws (suc k) = sym (offset-suc ws k) ∙ ap (offset ws) (add-one k) in
         let jump : is_jump x.instr ≡ true → place_in (length same_unit_units) v ≡ Some (offset ws (named_place starts x)) = λ j.
         let q : jump_place starts x ≡ Some (named_place starts x) = ap (λ b. if b then Some (named_place starts x) else None) j in
-        ap (place_in (length same_unit_units)) (operand_jump x j) ∙ same_unit_placed (named_place starts x) (same_unit_inside (named_place starts x) (jumps_good k (sees starts k x) (named_place starts x) g el q)) in
+        ap (place_in (length same_unit_units)) (operand_jump x j)
+        ∙ same_unit_placed (named_place starts x)
+        (same_unit_inside (named_place starts x) (jumps_good k (sees starts k x) (named_place starts x) g el q)) in
         ap (fetch_of_read t (length same_unit_units)) (read_at k x lt is)
-        ∙ found_at (offset ws) (instr_of t (place_in (length same_unit_units) v) x.instr v) (instr_of t (Some (named_place starts x)) x.instr x.arg.0) (offset ws k + get_or ws k 0) (suc k) (instr_at (offset ws) t (Some (named_place starts x)) (place_in (length same_unit_units) v) x.instr x.arg.0 v jump (operand_other x)) n
+        ∙ found_at (offset ws) (instr_of t (place_in (length same_unit_units) v) x.instr v)
+        (instr_of t (Some (named_place starts x)) x.instr x.arg.0) (offset ws k + get_or ws k 0) (suc k)
+        (instr_at (offset ws) t (Some (named_place starts x)) (place_in (length same_unit_units) v) x.instr x.arg.0 v jump
+        (operand_other x)) n
 
     fetch_same : (k : ℕ) → SameUnitGood k → fetch_unit t same_unit_units (offset ws k) ≡ fetched_at (offset ws) (fetch_at t starts items k)
     fetch_same k g =
@@ -221,7 +234,8 @@ module _ (starts : List ℕ) (items : List InstructionInfo) (ws : List ℕ) (cod
 
     -- the same runs
     pub units_run : (fuel : ℕ) (w : World Object) → machine (fetch_unit t same_unit_units) fuel 0 w ≡ machine (fetch_at t starts items) fuel 0 w
-    units_run fuel w = machine_same (fetch_at t starts items) 0 limit ok_from (λ p i n e. item_proper p (slice_get items p) i n e) (offset ws) (fetch_unit t same_unit_units) (λ p s r. fetch_same p (s, r)) fuel w
+    units_run fuel w = machine_same (fetch_at t starts items) 0 limit ok_from (λ p i n e. item_proper p (slice_get items p) i n e)
+        (offset ws) (fetch_unit t same_unit_units) (λ p s r. fetch_same p (s, r)) fuel w
 
 pub assembled : (starts : List ℕ) (items : List InstructionInfo) (ws : List ℕ) (needs : List Need) (units1 : List CodeUnit) (locations : List SourceLocation)
     → IsCode starts items → InRange items → needs ≡ needs_of starts items → Least needs ws → units1 ≡ written_units (operand_in starts ws) items ws

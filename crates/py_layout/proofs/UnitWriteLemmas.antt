@@ -1,5 +1,7 @@
 -- Writing one instruction more.
-use Rattle.std.proofs.Common.{◌≡◌, ℕ, zero, suc, ◌+◌, ◌-◌, ◌^◌, ◌%◌, ◌/◌, ◌<◌, ◌≤◌, List, [], ◌∷◌, ◌++◌, length, take, drop, get_or, replicate, sum, All, Bool, true, false, refl, sym, inl, inr, ap, ◌∙◌, subst, arith, add-one, append_assoc, length-append}
+use Rattle.std.proofs.Common.{◌≡◌, ℕ, zero, suc, ◌+◌, ◌-◌, ◌^◌, ◌%◌, ◌/◌, ◌<◌, ◌≤◌, List, [], ◌∷◌, ◌++◌, length, take, drop, get_or}
+use Rattle.std.proofs.Common.{replicate, sum, All, Bool, true, false, refl, sym, inl, inr, ap, ◌∙◌, subst, arith, add-one, append_assoc}
+use Rattle.std.proofs.Common.{length-append}
 use Rattle.std.proofs.lemmas.Bool.{cases_lt}
 use Rattle.std.proofs.lemmas.List.{append-nil, drop-drop, drop_at, length-map, get_or-map, get_or_past}
 use Rattle.std.proofs.lemmas.List.Sums.{sum_by-cons}
@@ -25,8 +27,12 @@ written_more f [] ws k d lt e = absurd (omega arith)
 written_more f (x ∷ xs) [] k d lt e = absurd (omega arith)
 written_more f (x ∷ xs) (w ∷ ws) zero d lt e = append-nil (units_of x.instr (f x) w)
 written_more f (x ∷ xs) (w ∷ ws) (suc k) d lt e =
-    let i : written_units f (take (suc k) xs) (take (suc k) ws) ≡ written_units f (take k xs) (take k ws) ++ units_of (get_or xs k d).instr (f (get_or xs k d)) (get_or ws k 0) = rw (← add-one) (written_more f xs ws k d (omega arith) (omega arith)) in
-    rw add-one (ap (λ us. units_of x.instr (f x) w ++ us) i ∙ sym (append_assoc (units_of x.instr (f x) w) (written_units f (take k xs) (take k ws)) (units_of (get_or xs k d).instr (f (get_or xs k d)) (get_or ws k 0))))
+    let i : written_units f (take (suc k) xs) (take (suc k) ws) ≡ written_units f (take k xs) (take k ws)
+    ++ units_of (get_or xs k d).instr (f (get_or xs k d)) (get_or ws k 0) =
+    rw (← add-one) (written_more f xs ws k d (omega arith) (omega arith)) in
+    rw add-one (ap (λ us. units_of x.instr (f x) w ++ us) i
+    ∙ sym (append_assoc (units_of x.instr (f x) w) (written_units f (take k xs) (take k ws))
+    (units_of (get_or xs k d).instr (f (get_or xs k d)) (get_or ws k 0))))
 
 -- with what stands before a place cut off
 pub written_drop : (f : InstructionInfo → ℕ) (xs : List InstructionInfo) (ws : List ℕ) (k : ℕ) → length ws ≡ length xs
@@ -38,14 +44,18 @@ written_drop f (x ∷ xs) [] (suc k) e = absurd (omega arith)
 written_drop f (x ∷ xs) (w ∷ ws) (suc k) e =
     let us = units_of x.instr (f x) w ++ written_units f xs ws in
     let s : offset (w ∷ ws) (suc k) ≡ w + offset ws k = sum_by-cons (λ n. n) w (take k ws) in
-    ap (λ n. drop n us) s ∙ sym (drop-drop (offset ws k) w us) ∙ ap (drop (offset ws k)) (drop_at (units_of x.instr (f x) w) (written_units f xs ws) w (length-units_of x.instr (f x) w)) ∙ written_drop f xs ws k (omega arith)
+    ap (λ n. drop n us) s ∙ sym (drop-drop (offset ws k) w us)
+    ∙ ap (drop (offset ws k)) (drop_at (units_of x.instr (f x) w) (written_units f xs ws) w (length-units_of x.instr (f x) w))
+    ∙ written_drop f xs ws k (omega arith)
 
 pub length-written : (f : InstructionInfo → ℕ) (xs : List InstructionInfo) (ws : List ℕ) → length ws ≡ length xs → length (written_units f xs ws) ≡ sum ws
 length-written f [] [] e = refl
 length-written f [] (w ∷ ws) e = absurd (omega arith)
 length-written f (x ∷ xs) [] e = absurd (omega arith)
 length-written f (x ∷ xs) (w ∷ ws) e =
-    length-append (units_of x.instr (f x) w) (written_units f xs ws) ∙ ap (λ n. n + length (written_units f xs ws)) (length-units_of x.instr (f x) w) ∙ ap (λ n. w + n) (length-written f xs ws (omega arith)) ∙ sym (sum_by-cons (λ n. n) w ws)
+    length-append (units_of x.instr (f x) w) (written_units f xs ws)
+    ∙ ap (λ n. n + length (written_units f xs ws)) (length-units_of x.instr (f x) w)
+    ∙ ap (λ n. w + n) (length-written f xs ws (omega arith)) ∙ sym (sum_by-cons (λ n. n) w ws)
 
 operand_cases : (b : Bool) (p q r : ℕ) → (b ≡ true → q ≡ p) → (if b then p else r) ≡ (if b then q else r)
 operand_cases true p q r h = sym (h refl)
@@ -87,7 +97,9 @@ write_step starts offsets items ws k d us us1 v code o long lt e ev e1 =
 pub units_of_more : (op : Instruction) (operand left : ℕ) → 1 < left → units_of op operand left ≡ unit ExtendedArg (operand / 256 ^ (left - 1) % 256) ∷ units_of op operand (left - 1)
 units_of_more op operand zero h = absurd (omega arith)
 units_of_more op operand (suc zero) h = absurd (omega arith)
-units_of_more op operand (suc (suc w)) h = let e : suc (suc w) - 1 ≡ suc w = omega arith in subst (λ n. units_of op operand (suc (suc w)) ≡ unit ExtendedArg (operand / 256 ^ n % 256) ∷ units_of op operand n) (sym e) refl
+units_of_more op operand (suc (suc w)) h = let e : suc (suc w) - 1 ≡ suc w =
+    omega arith in subst (λ n. units_of op operand (suc (suc w)) ≡ unit ExtendedArg (operand / 256 ^ n % 256) ∷ units_of op operand n)
+    (sym e) refl
 
 pub put_step : (op : Instruction) (operand left : ℕ) (us us1 old : List CodeUnit) (byte : ℕ) (all : List CodeUnit) → 1 < left
     → byte ≡ operand / 256 ^ (left - 1) % 256 → us1 ≡ us ++ unit ExtendedArg byte ∷ [] → us ++ units_of op operand left ≡ all
@@ -107,7 +119,9 @@ need_is starts n x h = need_if (is_jump x.instr) (named_place starts x) x.arg.0 
     need_if false p a n h = (size-pos a, size-within a)
 
 pub needs_are : (starts : List ℕ) (items : List InstructionInfo) → IsCode starts items → All (IsNeed (length (needs_of starts items))) (needs_of starts items)
-needs_are starts items code = All-map (IsNeed (length (needs_of starts items))) (need_of starts) items (λ k d lt. need_is starts (length (needs_of starts items)) (get_or items k d) (subst (λ n. All (λ s. s ≤ n) starts) (sym (length-map items (need_of starts))) code.starts_within))
+needs_are starts items code = All-map (IsNeed (length (needs_of starts items))) (need_of starts) items
+    (λ k d lt. need_is starts (length (needs_of starts items)) (get_or items k d)
+    (subst (λ n. All (λ s. s ≤ n) starts) (sym (length-map items (need_of starts))) code.starts_within))
 
 -- the same of locations
 pub located_more : (xs : List InstructionInfo) (ws : List ℕ) (k : ℕ) (d : InstructionInfo) → k < length xs → length ws ≡ length xs
@@ -116,11 +130,14 @@ located_more [] ws k d lt e = absurd (omega arith)
 located_more (x ∷ xs) [] k d lt e = absurd (omega arith)
 located_more (x ∷ xs) (w ∷ ws) zero d lt e = append-nil (replicate w x.location)
 located_more (x ∷ xs) (w ∷ ws) (suc k) d lt e =
-    let i : unit_locations (take (suc k) xs) (take (suc k) ws) ≡ unit_locations (take k xs) (take k ws) ++ replicate (get_or ws k 0) (get_or xs k d).location = rw (← add-one) (located_more xs ws k d (omega arith) (omega arith)) in
+    let i : unit_locations (take (suc k) xs) (take (suc k) ws) ≡ unit_locations (take k xs) (take k ws)
+    ++ replicate (get_or ws k 0) (get_or xs k d).location = rw (← add-one) (located_more xs ws k d (omega arith) (omega arith)) in
     rw add-one (ap (λ us. replicate w x.location ++ us) i ∙ sym (append_assoc (replicate w x.location) (unit_locations (take k xs) (take k ws)) (replicate (get_or ws k 0) (get_or xs k d).location)))
 
 pub locate_step : (items : List InstructionInfo) (ws : List ℕ) (k : ℕ) (x : InstructionInfo) (ls ls1 : List SourceLocation) → length ws ≡ length items
     → k < length items → x ≡ get_or items k x → ls ≡ unit_locations (take k items) (take k ws) → ls1 ≡ ls ++ replicate (get_or ws k 0) x.location
     → ls1 ≡ unit_locations (take (k + 1) items) (take (k + 1) ws)
 locate_step items ws k x ls ls1 l lt is e e1 =
-    e1 ∙ ap (λ z. z ++ replicate (get_or ws k 0) x.location) e ∙ ap (λ (z : InstructionInfo). unit_locations (take k items) (take k ws) ++ replicate (get_or ws k 0) z.location) is ∙ sym (located_more items ws k x lt l)
+    e1 ∙ ap (λ z. z ++ replicate (get_or ws k 0) x.location) e
+    ∙ ap (λ (z : InstructionInfo). unit_locations (take k items) (take k ws) ++ replicate (get_or ws k 0) z.location) is
+    ∙ sym (located_more items ws k x lt l)

@@ -19,7 +19,8 @@ pub record Growing (needs : List Need) (old ws : List ℕ) (k : ℕ) (grown : Bo
 wanted_least : (x : Need) (old offsets others : List ℕ) (v : ℕ) → Offsets old offsets → IsNeed (length old) x → AtMost old others → IsWidth x v → Reaches others x v → wanted_at offsets x ≤ v
 wanted_least (Fixed n) old offsets others v o i a h r = omega arith
 wanted_least (Jump p) old offsets others v o i a h r =
-    let e = o.each p i in let le = width_for-le (offset old p) (offset others p) (offset-le old others a p) in let q : width_for (get_or offsets p 0) ≡ width_for (offset old p) = ap width_for e in omega (arith, q, le, r)
+    let e = o.each p i in let le = width_for-le (offset old p) (offset others p) (offset-le old others a p) in let q : width_for
+    (get_or offsets p 0) ≡ width_for (offset old p) = ap width_for e in omega (arith, q, le, r)
 
 wanted_reaches : (x : Need) (old offsets : List ℕ) (v : ℕ) → Offsets old offsets → IsNeed (length old) x → wanted_at offsets x ≤ v → Reaches old x v
 wanted_reaches (Fixed n) old offsets v o i h = tt
@@ -62,7 +63,9 @@ module _ (needs : List Need) (old offsets : List ℕ) (o : Offsets old offsets) 
 
       each : (j : ℕ) (d : Need) → j < length needs → IsWidth (get_or needs j d) (get_or (set ws k w) j 0)
       each j d jl = elim (cases_eq j k) [
-        | inl q ↦ subst (λ n. IsWidth (get_or needs n d) (get_or (set ws k w) n 0)) (sym q) (subst (λ y. IsWidth y (get_or (set ws k w) k 0)) (get_or_read needs k x lt e d) (subst (λ v. IsWidth x v) (sym (get_or-set_same ws k w 0 ltw)) iw))
+        | inl q ↦ subst (λ n. IsWidth (get_or needs n d) (get_or (set ws k w) n 0)) (sym q)
+            (subst (λ y. IsWidth y (get_or (set ws k w) k 0)) (get_or_read needs k x lt e d)
+            (subst (λ v. IsWidth x v) (sym (get_or-set_same ws k w 0 ltw)) iw))
         | inr n ↦ subst (λ v. IsWidth (get_or needs j d) v) (sym (get_or-set_other ws k j w 0 n)) (h.chosen.each j d jl)
       ]
 

@@ -133,7 +133,8 @@ fn write_units(
     requires offsets { Offsets widths.now offsets.now }
     requires empty { units.old.items ≡ [] }
     requires room { sum widths.now ≤ vec_capacity units.old }
-    ensures items { units.new.items ≡ written_units (operand_in starts.now widths.now) items.now widths.now }
+    ensures items { units.new.items ≡ written_units
+        (operand_in starts.now widths.now) items.now widths.now }
 {
     for (k, item) in items.iter().enumerate() {
         put_all(units, item.instr, operand(starts, offsets, item), widths[k]);
@@ -164,9 +165,11 @@ pub fn assemble(
 ) -> Result<Assembled, LayoutError>
     requires code { IsCode starts.now items.now }
     requires range { InRange items.now }
-    ensures code { IfOk result (λ a. IsAssembled starts.now items.now a.units.items a.locations.items) }
+    ensures code { IfOk result (λ a. IsAssembled starts.now items.now a.units.items
+        a.locations.items) }
     ensures few { IfOk result (λ _. ¬ TooManyUnits (needs_of starts.now items.now)) }
-    ensures refused { IfErr result (λ e. e ≡ LayoutError.TooManyUnits → TooManyUnits (needs_of starts.now items.now)) }
+    ensures refused { IfErr result
+        (λ e. e ≡ LayoutError.TooManyUnits → TooManyUnits (needs_of starts.now items.now)) }
 {
     let needs = match needs(alloc, starts, items) {
         Ok(needs) => needs,

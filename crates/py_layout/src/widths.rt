@@ -41,7 +41,8 @@ pub fn width_of(n: u32) -> u8
 fn first_widths(alloc: Global, needs: &[Need]) -> Result<Vec<u8>, AllocError>
     requires { All (IsNeed (length needs.now)) needs.now }
     ensures chosen { IfOk result (λ widths. Chosen needs.now widths.items) }
-    ensures least { IfOk result (λ widths. (others : List ℕ) → Chosen needs.now others → AtMost widths.items others) }
+    ensures least { IfOk result (λ widths. (others : List ℕ) → Chosen needs.now others
+        → AtMost widths.items others) }
 {
     let mut widths = Vec::with_capacity(alloc, needs.len())?;
     for need in needs {
@@ -62,7 +63,8 @@ fn first_width(need: Need) -> u8
 // The offsets of these widths, and the number of units, if it is below 2 ^ 32.
 fn sum_up(widths: &[u8], offsets: &mut [u32]) -> Option<u32>
     requires { length offsets.old ≡ length widths.now + 1 }
-    ensures { MatchOption result (2 ^ 32 ≤ sum widths.now) (λ units. (units ≡ sum widths.now) × Offsets widths.now offsets.new) }
+    ensures { MatchOption result (2 ^ 32 ≤ sum widths.now)
+        (λ units. (units ≡ sum widths.now) × Offsets widths.now offsets.new) }
 {
     let mut units: u32 = 0;
     for (k, width) in widths.iter().enumerate() {
@@ -94,7 +96,8 @@ fn grow(needs: &[Need], offsets: &[u32], widths: &mut [u8]) -> bool
     requires chosen { Chosen needs.now widths.old }
     requires offsets { Offsets widths.old offsets.now }
     ensures chosen { Chosen needs.now widths.new }
-    ensures least { (others : List ℕ) → Fits needs.now others → AtMost widths.old others → AtMost widths.new others }
+    ensures least { (others : List ℕ) → Fits needs.now others → AtMost widths.old others
+        → AtMost widths.new others }
     ensures done { result ≡ false → Fits needs.now widths.new }
     ensures more { result ≡ true → sum widths.old < sum widths.new }
     ensures same { result ≡ false → widths.new ≡ widths.old }
@@ -116,7 +119,8 @@ fn settle(needs: &[Need], widths: &mut [u8], offsets: &mut [u32]) -> Option<u32>
     requires chosen { Chosen needs.now widths.old }
     requires least { (others : List ℕ) → Fits needs.now others → AtMost widths.old others }
     requires room { length offsets.old ≡ length widths.old + 1 }
-    ensures { MatchOption result (TooManyUnits needs.now) (λ units. IsLayout needs.now widths.new offsets.new units) }
+    ensures { MatchOption result (TooManyUnits needs.now)
+        (λ units. IsLayout needs.now widths.new offsets.new units) }
 {
     loop {
         let Some(units) = sum_up(widths, offsets) else {
@@ -134,7 +138,8 @@ fn settle(needs: &[Need], widths: &mut [u8], offsets: &mut [u32]) -> Option<u32>
 /// `TooManyUnits` exactly where each choice of widths that fits has 2^32 units or more; there may be no memory.
 pub fn lay_out(alloc: Global, needs: &[Need]) -> Result<Layout, LayoutError>
     requires { All (IsNeed (length needs.now)) needs.now }
-    ensures least { IfOk result (λ layout. IsLayout needs.now layout.widths.items layout.offsets.items layout.units) }
+    ensures least { IfOk result (λ layout.
+        IsLayout needs.now layout.widths.items layout.offsets.items layout.units) }
     ensures refused { IfErr result (λ e. e ≡ LayoutError.TooManyUnits → TooManyUnits needs.now) }
 {
     let mut widths = match first_widths(alloc, needs) {

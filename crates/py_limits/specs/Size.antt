@@ -1,5 +1,5 @@
--- How large a tree is: one for each row of its rows form, that is for each node and each constant, one for each identifier, one for each dot in the path of an import, one for each operator of a comparison,
--- and one for each key that a dict lacks.
+-- How large a tree is: one for each row of its rows form, that is for each node and each constant, one for each identifier, one for each
+-- dot in the path of an import, one for each operator of a comparison, and one for each key that a dict lacks.
 use Rattle.std.specs.Prelude.{ℕ, ◌+◌, List, [], ◌∷◌, length, Option, None, Some, nat_eq, count_by}
 use Rattle.py_base.specs.Literal as literal
 use Rattle.py_tree.specs.Tree as tree

@@ -14,7 +14,8 @@ use py_tree::{
 #[cycle(depth)]
 #[tactic(auto, using(py_tree::proofs::View::trees))]
 pub fn measure_expr(expr: &Expr, most: u32, room: &mut u32) -> Option<u32>
-    ensures { IsMeasured result most room.old room.new (expr_nesting (view.expr_tree expr.now)) (expr_size (view.expr_tree expr.now)) }
+    ensures { IsMeasured result most room.old room.new (expr_nesting (view.expr_tree expr.now))
+        (expr_size (view.expr_tree expr.now)) }
 {
     let below = most.checked_sub(1)?;
     spend(room, 1);
@@ -89,7 +90,9 @@ pub fn measure_expr(expr: &Expr, most: u32, room: &mut u32) -> Option<u32>
 /// The nesting of the deeper of two expressions. None where it is above `most`, as below.
 #[cycle(depth)]
 pub fn measure_pair(left: &Expr, right: &Expr, most: u32, room: &mut u32) -> Option<u32>
-    ensures { IsMeasured result most room.old room.new (max (expr_nesting (view.expr_tree left.now)) (expr_nesting (view.expr_tree right.now))) (expr_size (view.expr_tree left.now) + expr_size (view.expr_tree right.now)) }
+    ensures { IsMeasured result most room.old room.new
+        (max (expr_nesting (view.expr_tree left.now)) (expr_nesting (view.expr_tree right.now)))
+        (expr_size (view.expr_tree left.now) + expr_size (view.expr_tree right.now)) }
 {
     let left = measure_expr(left, most, room)?;
     let right = measure_expr(right, most, room)?;
@@ -99,7 +102,11 @@ pub fn measure_pair(left: &Expr, right: &Expr, most: u32, room: &mut u32) -> Opt
 /// The nesting of the deepest of an element and the clauses that give it.
 #[cycle(depth)]
 fn measure_element(elt: &Expr, clauses: &[Comprehension], most: u32, room: &mut u32) -> Option<u32>
-    ensures { IsMeasured result most room.old room.new (max (expr_nesting (view.expr_tree elt.now)) (generators_nesting (view.generators view.expr_tree clauses.now))) (expr_size (view.expr_tree elt.now) + generators_size (view.generators view.expr_tree clauses.now)) }
+    ensures { IsMeasured result most room.old room.new
+        (max (expr_nesting (view.expr_tree elt.now))
+        (generators_nesting (view.generators view.expr_tree clauses.now)))
+        (expr_size (view.expr_tree elt.now)
+        + generators_size (view.generators view.expr_tree clauses.now)) }
 {
     let elt = measure_expr(elt, most, room)?;
     let clauses = measure_generators(clauses, most, room)?;
@@ -109,7 +116,13 @@ fn measure_element(elt: &Expr, clauses: &[Comprehension], most: u32, room: &mut 
 /// The nesting of the deepest of a callee and its arguments.
 #[cycle(depth)]
 fn measure_call(e: &ExprCall, most: u32, room: &mut u32) -> Option<u32>
-    ensures { IsMeasured result most room.old room.new (max (expr_nesting (view.expr_tree e.now.func.value)) (max (exprs_nesting (view.exprs view.expr_tree e.now.args)) (keywords_nesting (view.keywords view.expr_tree e.now.keywords)))) (expr_size (view.expr_tree e.now.func.value) + exprs_size (view.exprs view.expr_tree e.now.args) + keywords_size (view.keywords view.expr_tree e.now.keywords)) }
+    ensures { IsMeasured result most room.old room.new
+        (max (expr_nesting (view.expr_tree e.now.func.value))
+        (max (exprs_nesting (view.exprs view.expr_tree e.now.args))
+        (keywords_nesting (view.keywords view.expr_tree e.now.keywords))))
+        (expr_size (view.expr_tree e.now.func.value)
+        + exprs_size (view.exprs view.expr_tree e.now.args)
+        + keywords_size (view.keywords view.expr_tree e.now.keywords)) }
 {
     let func = measure_expr(&e.func, most, room)?;
     let args = measure_exprs(e.args.as_slice(), most, room)?;
@@ -120,7 +133,13 @@ fn measure_call(e: &ExprCall, most: u32, room: &mut u32) -> Option<u32>
 /// The nesting of the deepest bound or step.
 #[cycle(depth)]
 fn measure_slice(e: &ExprSlice, most: u32, room: &mut u32) -> Option<u32>
-    ensures { IsMeasured result most room.old room.new (max (opt_expr_nesting (view.opt_box view.expr_tree e.now.lower)) (max (opt_expr_nesting (view.opt_box view.expr_tree e.now.upper)) (opt_expr_nesting (view.opt_box view.expr_tree e.now.step)))) (opt_expr_size (view.opt_box view.expr_tree e.now.lower) + opt_expr_size (view.opt_box view.expr_tree e.now.upper) + opt_expr_size (view.opt_box view.expr_tree e.now.step)) }
+    ensures { IsMeasured result most room.old room.new
+        (max (opt_expr_nesting (view.opt_box view.expr_tree e.now.lower))
+        (max (opt_expr_nesting (view.opt_box view.expr_tree e.now.upper))
+        (opt_expr_nesting (view.opt_box view.expr_tree e.now.step))))
+        (opt_expr_size (view.opt_box view.expr_tree e.now.lower)
+        + opt_expr_size (view.opt_box view.expr_tree e.now.upper)
+        + opt_expr_size (view.opt_box view.expr_tree e.now.step)) }
 {
     let lower = measure_optional(&e.lower, most, room)?;
     let upper = measure_optional(&e.upper, most, room)?;
@@ -131,7 +150,9 @@ fn measure_slice(e: &ExprSlice, most: u32, room: &mut u32) -> Option<u32>
 /// The nesting of the deepest expression, 0 where there is none.
 #[cycle(depth)]
 pub fn measure_exprs(items: &[Expr], most: u32, room: &mut u32) -> Option<u32>
-    ensures { IsMeasured result most room.old room.new (exprs_nesting (view.exprs view.expr_tree items.now)) (exprs_size (view.exprs view.expr_tree items.now)) }
+    ensures { IsMeasured result most room.old room.new
+        (exprs_nesting (view.exprs view.expr_tree items.now))
+        (exprs_size (view.exprs view.expr_tree items.now)) }
 {
     let mut deepest = 0;
     for e in items {
@@ -143,7 +164,9 @@ pub fn measure_exprs(items: &[Expr], most: u32, room: &mut u32) -> Option<u32>
 /// The nesting of the expression, 0 where it is missing.
 #[cycle(depth)]
 pub fn measure_optional(value: &Option<Box<Expr>>, most: u32, room: &mut u32) -> Option<u32>
-    ensures { IsMeasured result most room.old room.new (opt_expr_nesting (view.opt_box view.expr_tree value.now)) (opt_expr_size (view.opt_box view.expr_tree value.now)) }
+    ensures { IsMeasured result most room.old room.new
+        (opt_expr_nesting (view.opt_box view.expr_tree value.now))
+        (opt_expr_size (view.opt_box view.expr_tree value.now)) }
 {
     match value {
         Some(e) => measure_expr(e, most, room),
@@ -154,7 +177,9 @@ pub fn measure_optional(value: &Option<Box<Expr>>, most: u32, room: &mut u32) ->
 /// The nesting of the deepest key, 0 where there is none.
 #[cycle(depth)]
 fn measure_keys(keys: &[Option<Expr>], most: u32, room: &mut u32) -> Option<u32>
-    ensures { IsMeasured result most room.old room.new (opt_exprs_nesting (view.opt_exprs view.expr_tree keys.now)) (keys_size (view.opt_exprs view.expr_tree keys.now)) }
+    ensures { IsMeasured result most room.old room.new
+        (opt_exprs_nesting (view.opt_exprs view.expr_tree keys.now))
+        (keys_size (view.opt_exprs view.expr_tree keys.now)) }
 {
     let mut deepest = 0;
     for key in keys {
@@ -165,7 +190,9 @@ fn measure_keys(keys: &[Option<Expr>], most: u32, room: &mut u32) -> Option<u32>
 
 #[cycle(depth)]
 fn measure_key(key: &Option<Expr>, most: u32, room: &mut u32) -> Option<u32>
-    ensures { IsMeasured result most room.old room.new (opt_expr_nesting (view.opt_expr view.expr_tree key.now)) (key_size (view.opt_expr view.expr_tree key.now)) }
+    ensures { IsMeasured result most room.old room.new
+        (opt_expr_nesting (view.opt_expr view.expr_tree key.now))
+        (key_size (view.opt_expr view.expr_tree key.now)) }
 {
     match key {
         Some(e) => measure_expr(e, most, room),
@@ -179,7 +206,9 @@ fn measure_key(key: &Option<Expr>, most: u32, room: &mut u32) -> Option<u32>
 /// The nesting of the deepest keyword, 0 where there is none.
 #[cycle(depth)]
 pub fn measure_keywords(items: &[Keyword], most: u32, room: &mut u32) -> Option<u32>
-    ensures { IsMeasured result most room.old room.new (keywords_nesting (view.keywords view.expr_tree items.now)) (keywords_size (view.keywords view.expr_tree items.now)) }
+    ensures { IsMeasured result most room.old room.new
+        (keywords_nesting (view.keywords view.expr_tree items.now))
+        (keywords_size (view.keywords view.expr_tree items.now)) }
 {
     let mut deepest = 0;
     for keyword in items {
@@ -190,7 +219,9 @@ pub fn measure_keywords(items: &[Keyword], most: u32, room: &mut u32) -> Option<
 
 #[cycle(depth)]
 fn measure_keyword(keyword: &Keyword, most: u32, room: &mut u32) -> Option<u32>
-    ensures { IsMeasured result most room.old room.new (expr_nesting (view.expr_tree keyword.now.value) + 1) (opt_name_size keyword.now.arg + expr_size (view.expr_tree keyword.now.value) + 1) }
+    ensures { IsMeasured result most room.old room.new
+        (expr_nesting (view.expr_tree keyword.now.value) + 1)
+        (opt_name_size keyword.now.arg + expr_size (view.expr_tree keyword.now.value) + 1) }
 {
     let below = most.checked_sub(1)?;
     spend(room, 1);
@@ -201,7 +232,9 @@ fn measure_keyword(keyword: &Keyword, most: u32, room: &mut u32) -> Option<u32>
 /// The nesting of the deepest clause, 0 where there is none.
 #[cycle(depth)]
 fn measure_generators(clauses: &[Comprehension], most: u32, room: &mut u32) -> Option<u32>
-    ensures { IsMeasured result most room.old room.new (generators_nesting (view.generators view.expr_tree clauses.now)) (generators_size (view.generators view.expr_tree clauses.now)) }
+    ensures { IsMeasured result most room.old room.new
+        (generators_nesting (view.generators view.expr_tree clauses.now))
+        (generators_size (view.generators view.expr_tree clauses.now)) }
 {
     let mut deepest = 0;
     for clause in clauses {
@@ -212,7 +245,13 @@ fn measure_generators(clauses: &[Comprehension], most: u32, room: &mut u32) -> O
 
 #[cycle(depth)]
 fn measure_generator(clause: &Comprehension, most: u32, room: &mut u32) -> Option<u32>
-    ensures { IsMeasured result most room.old room.new (max (expr_nesting (view.expr_tree clause.now.target.value)) (max (expr_nesting (view.expr_tree clause.now.iter.value)) (exprs_nesting (view.exprs view.expr_tree clause.now.ifs))) + 1) (expr_size (view.expr_tree clause.now.target.value) + expr_size (view.expr_tree clause.now.iter.value) + exprs_size (view.exprs view.expr_tree clause.now.ifs) + 1) }
+    ensures { IsMeasured result most room.old room.new
+        (max (expr_nesting (view.expr_tree clause.now.target.value))
+        (max (expr_nesting (view.expr_tree clause.now.iter.value))
+        (exprs_nesting (view.exprs view.expr_tree clause.now.ifs)))
+        + 1) (expr_size (view.expr_tree clause.now.target.value)
+        + expr_size (view.expr_tree clause.now.iter.value)
+        + exprs_size (view.exprs view.expr_tree clause.now.ifs) + 1) }
 {
     let below = most.checked_sub(1)?;
     spend(room, 1);
@@ -224,7 +263,9 @@ fn measure_generator(clause: &Comprehension, most: u32, room: &mut u32) -> Optio
 /// The nesting of the parameters of a function.
 #[cycle(depth)]
 pub fn measure_arguments(params: &Arguments, most: u32, room: &mut u32) -> Option<u32>
-    ensures { IsMeasured result most room.old room.new (arguments_nesting (view.arguments view.expr_tree params.now)) (arguments_size (view.arguments view.expr_tree params.now)) }
+    ensures { IsMeasured result most room.old room.new
+        (arguments_nesting (view.arguments view.expr_tree params.now))
+        (arguments_size (view.arguments view.expr_tree params.now)) }
 {
     let below = most.checked_sub(1)?;
     spend(room, 1);
@@ -239,7 +280,9 @@ pub fn measure_arguments(params: &Arguments, most: u32, room: &mut u32) -> Optio
 /// The nesting of the deepest parameter, 0 where there is none.
 #[cycle(depth)]
 fn measure_args(items: &[ArgWithDefault], most: u32, room: &mut u32) -> Option<u32>
-    ensures { IsMeasured result most room.old room.new (args_nesting (view.args view.expr_tree items.now)) (args_size (view.args view.expr_tree items.now)) }
+    ensures { IsMeasured result most room.old room.new
+        (args_nesting (view.args view.expr_tree items.now))
+        (args_size (view.args view.expr_tree items.now)) }
 {
     let mut deepest = 0;
     for item in items {
@@ -250,7 +293,11 @@ fn measure_args(items: &[ArgWithDefault], most: u32, room: &mut u32) -> Option<u
 
 #[cycle(depth)]
 fn measure_default_arg(item: &ArgWithDefault, most: u32, room: &mut u32) -> Option<u32>
-    ensures { IsMeasured result most room.old room.new (max (arg_nesting (view.arg view.expr_tree item.now.def)) (opt_expr_nesting (view.opt_box view.expr_tree item.now.default)) + 1) (arg_size (view.arg view.expr_tree item.now.def) + opt_expr_size (view.opt_box view.expr_tree item.now.default) + 1) }
+    ensures { IsMeasured result most room.old room.new
+        (max (arg_nesting (view.arg view.expr_tree item.now.def))
+        (opt_expr_nesting (view.opt_box view.expr_tree item.now.default))
+        + 1) (arg_size (view.arg view.expr_tree item.now.def)
+        + opt_expr_size (view.opt_box view.expr_tree item.now.default) + 1) }
 {
     let below = most.checked_sub(1)?;
     spend(room, 1);
@@ -261,7 +308,9 @@ fn measure_default_arg(item: &ArgWithDefault, most: u32, room: &mut u32) -> Opti
 
 #[cycle(depth)]
 fn measure_optional_arg(value: &Option<Box<Arg>>, most: u32, room: &mut u32) -> Option<u32>
-    ensures { IsMeasured result most room.old room.new (opt_arg_nesting (view.opt_arg view.expr_tree value.now)) (opt_arg_size (view.opt_arg view.expr_tree value.now)) }
+    ensures { IsMeasured result most room.old room.new
+        (opt_arg_nesting (view.opt_arg view.expr_tree value.now))
+        (opt_arg_size (view.opt_arg view.expr_tree value.now)) }
 {
     match value {
         Some(param) => measure_arg(param, most, room),
@@ -271,7 +320,9 @@ fn measure_optional_arg(value: &Option<Box<Arg>>, most: u32, room: &mut u32) -> 
 
 #[cycle(depth)]
 fn measure_arg(param: &Arg, most: u32, room: &mut u32) -> Option<u32>
-    ensures { IsMeasured result most room.old room.new (arg_nesting (view.arg view.expr_tree param.now)) (arg_size (view.arg view.expr_tree param.now)) }
+    ensures { IsMeasured result most room.old room.new
+        (arg_nesting (view.arg view.expr_tree param.now))
+        (arg_size (view.arg view.expr_tree param.now)) }
 {
     let below = most.checked_sub(1)?;
     spend(room, 2);
@@ -281,7 +332,8 @@ fn measure_arg(param: &Arg, most: u32, room: &mut u32) -> Option<u32>
 #[cycle(constant)]
 #[tactic(auto, using(py_tree::proofs::View::literals))]
 fn measure_constant(value: &Constant, most: u32, room: &mut u32) -> Option<u32>
-    ensures { IsMeasured result most room.old room.new (literal_nesting (view.literal_of value.now)) (literal_size (view.literal_of value.now)) }
+    ensures { IsMeasured result most room.old room.new (literal_nesting (view.literal_of value.now))
+        (literal_size (view.literal_of value.now)) }
 {
     let below = most.checked_sub(1)?;
     spend(room, 1);
@@ -299,7 +351,9 @@ fn measure_constant(value: &Constant, most: u32, room: &mut u32) -> Option<u32>
 /// The nesting of the deepest constant, 0 where there is none.
 #[cycle(constant)]
 fn measure_constants(items: &[Constant], most: u32, room: &mut u32) -> Option<u32>
-    ensures { IsMeasured result most room.old room.new (literals_nesting (view.literal_list view.literal_of items.now)) (literals_size (view.literal_list view.literal_of items.now)) }
+    ensures { IsMeasured result most room.old room.new
+        (literals_nesting (view.literal_list view.literal_of items.now))
+        (literals_size (view.literal_list view.literal_of items.now)) }
 {
     let mut deepest = 0;
     for item in items {

@@ -14,7 +14,9 @@ use py_tree::{Alias, Arguments, Expr, Exprs, List, StmtClassDef, TypeParam, With
 /// The nesting of the deepest type parameter, 0 where there is none. None where it is above `most`, as below.
 #[tactic(auto, using(py_tree::proofs::View::trees))]
 pub fn measure_type_params(items: &[TypeParam], most: u32, room: &mut u32) -> Option<u32>
-    ensures { IsMeasured result most room.old room.new (type_params_nesting (view.type_params items.now)) (type_params_size (view.type_params items.now)) }
+    ensures { IsMeasured result most room.old room.new
+        (type_params_nesting (view.type_params items.now))
+        (type_params_size (view.type_params items.now)) }
 {
     let mut deepest = 0;
     for item in items {
@@ -25,7 +27,9 @@ pub fn measure_type_params(items: &[TypeParam], most: u32, room: &mut u32) -> Op
 
 #[tactic(auto, using(py_tree::proofs::View::trees))]
 fn measure_type_param(item: &TypeParam, most: u32, room: &mut u32) -> Option<u32>
-    ensures { IsMeasured result most room.old room.new (type_param_nesting (view.type_param_tree item.now)) (type_param_size (view.type_param_tree item.now)) }
+    ensures { IsMeasured result most room.old room.new
+        (type_param_nesting (view.type_param_tree item.now))
+        (type_param_size (view.type_param_tree item.now)) }
 {
     let below = most.checked_sub(1)?;
     spend(room, 2);
@@ -37,7 +41,9 @@ fn measure_type_param(item: &TypeParam, most: u32, room: &mut u32) -> Option<u32
 
 /// The nesting of the deepest of what a `with` enters, 0 where there is none.
 pub fn measure_items(items: &[WithItem], most: u32, room: &mut u32) -> Option<u32>
-    ensures { IsMeasured result most room.old room.new (with_items_nesting (view.with_items items.now)) (with_items_size (view.with_items items.now)) }
+    ensures { IsMeasured result most room.old room.new
+        (with_items_nesting (view.with_items items.now))
+        (with_items_size (view.with_items items.now)) }
 {
     let mut deepest = 0;
     for item in items {
@@ -47,7 +53,11 @@ pub fn measure_items(items: &[WithItem], most: u32, room: &mut u32) -> Option<u3
 }
 
 fn measure_item(item: &WithItem, most: u32, room: &mut u32) -> Option<u32>
-    ensures { IsMeasured result most room.old room.new (max (expr_nesting (view.expr_tree item.now.context_expr.value)) (opt_expr_nesting (view.opt_box view.expr_tree item.now.optional_vars)) + 1) (expr_size (view.expr_tree item.now.context_expr.value) + opt_expr_size (view.opt_box view.expr_tree item.now.optional_vars) + 1) }
+    ensures { IsMeasured result most room.old room.new
+        (max (expr_nesting (view.expr_tree item.now.context_expr.value))
+        (opt_expr_nesting (view.opt_box view.expr_tree item.now.optional_vars))
+        + 1) (expr_size (view.expr_tree item.now.context_expr.value)
+        + opt_expr_size (view.opt_box view.expr_tree item.now.optional_vars) + 1) }
 {
     let below = most.checked_sub(1)?;
     spend(room, 1);
@@ -69,7 +79,8 @@ fn aliases_depth(names: &[Alias], most: u32) -> Option<u32>
 
 /// The nesting of names that are taken from a module.
 pub fn measure_aliases(names: &[Alias], most: u32, room: &mut u32) -> Option<u32>
-    ensures { IsMeasured result most room.old room.new (aliases_nesting names.now) (aliases_size names.now) }
+    ensures { IsMeasured result most room.old room.new (aliases_nesting names.now)
+        (aliases_size names.now) }
 {
     for alias in names {
         spend(room, 2);
@@ -80,7 +91,8 @@ pub fn measure_aliases(names: &[Alias], most: u32, room: &mut u32) -> Option<u32
 
 /// The nesting of modules that are imported by their paths.
 pub fn measure_paths(names: &[Alias], most: u32, room: &mut u32) -> Option<u32>
-    ensures { IsMeasured result most room.old room.new (aliases_nesting names.now) (paths_size names.now) }
+    ensures { IsMeasured result most room.old room.new (aliases_nesting names.now)
+        (paths_size names.now) }
 {
     for alias in names {
         spend_path(room, &alias.name);
@@ -99,7 +111,14 @@ pub fn measure_head(
     most: u32,
     room: &mut u32,
 ) -> Option<u32>
-    ensures { IsMeasured result most room.old room.new (head_nesting (view.arguments view.expr_tree params.now) (view.exprs view.expr_tree decorators.now) (view.opt_box view.expr_tree returns.now) (view.type_params generic.now)) (arguments_size (view.arguments view.expr_tree params.now) + exprs_size (view.exprs view.expr_tree decorators.now) + opt_expr_size (view.opt_box view.expr_tree returns.now) + type_params_size (view.type_params generic.now) + 1) }
+    ensures { IsMeasured result most room.old room.new
+        (head_nesting (view.arguments view.expr_tree params.now)
+        (view.exprs view.expr_tree decorators.now) (view.opt_box view.expr_tree returns.now)
+        (view.type_params generic.now))
+        (arguments_size (view.arguments view.expr_tree params.now)
+        + exprs_size (view.exprs view.expr_tree decorators.now)
+        + opt_expr_size (view.opt_box view.expr_tree returns.now)
+        + type_params_size (view.type_params generic.now) + 1) }
 {
     spend(room, 1);
     let params = measure_arguments(params, most, room)?;
@@ -111,7 +130,14 @@ pub fn measure_head(
 
 /// The nesting of the deepest part of a class but for its body. Its name and these parts take from the room.
 pub fn measure_class_head(s: &StmtClassDef, most: u32, room: &mut u32) -> Option<u32>
-    ensures { IsMeasured result most room.old room.new (class_head_nesting (view.exprs view.expr_tree s.now.bases) (view.keywords view.expr_tree s.now.keywords) (view.exprs view.expr_tree s.now.decorator_list) (view.type_params s.now.type_params)) (exprs_size (view.exprs view.expr_tree s.now.bases) + keywords_size (view.keywords view.expr_tree s.now.keywords) + exprs_size (view.exprs view.expr_tree s.now.decorator_list) + type_params_size (view.type_params s.now.type_params) + 1) }
+    ensures { IsMeasured result most room.old room.new
+        (class_head_nesting (view.exprs view.expr_tree s.now.bases)
+        (view.keywords view.expr_tree s.now.keywords)
+        (view.exprs view.expr_tree s.now.decorator_list) (view.type_params s.now.type_params))
+        (exprs_size (view.exprs view.expr_tree s.now.bases)
+        + keywords_size (view.keywords view.expr_tree s.now.keywords)
+        + exprs_size (view.exprs view.expr_tree s.now.decorator_list)
+        + type_params_size (view.type_params s.now.type_params) + 1) }
 {
     spend(room, 1);
     let bases = measure_exprs(s.bases.as_slice(), most, room)?;

@@ -16,7 +16,9 @@ use py_tree::{ExceptHandler, MatchCase, Stmt, Stmts, WithItem};
 /// The nesting of the deepest statement, 0 where there is none. None where it is above `most`, as below.
 #[cycle(body)]
 pub fn measure_stmts(body: &[Stmt], most: u32, room: &mut u32) -> Option<u32>
-    ensures { IsMeasured result most room.old room.new (stmts_nesting (view.stmts view.stmt_tree body.now)) (stmts_size (view.stmts view.stmt_tree body.now)) }
+    ensures { IsMeasured result most room.old room.new
+        (stmts_nesting (view.stmts view.stmt_tree body.now))
+        (stmts_size (view.stmts view.stmt_tree body.now)) }
 {
     let mut deepest = 0;
     for s in body {
@@ -28,7 +30,8 @@ pub fn measure_stmts(body: &[Stmt], most: u32, room: &mut u32) -> Option<u32>
 #[cycle(body)]
 #[tactic(auto, using(py_tree::proofs::View::trees))]
 fn measure_stmt(stmt: &Stmt, most: u32, room: &mut u32) -> Option<u32>
-    ensures { IsMeasured result most room.old room.new (stmt_nesting (view.stmt_tree stmt.now)) (stmt_size (view.stmt_tree stmt.now)) }
+    ensures { IsMeasured result most room.old room.new (stmt_nesting (view.stmt_tree stmt.now))
+        (stmt_size (view.stmt_tree stmt.now)) }
 {
     let below = most.checked_sub(1)?;
     spend(room, 1);
@@ -154,7 +157,12 @@ fn measure_stmt(stmt: &Stmt, most: u32, room: &mut u32) -> Option<u32>
 #[cycle(body)]
 #[tactic(auto, using(crate::proofs::Counts::count_items))]
 fn measure_with(items: &[WithItem], body: &Stmts, most: u32, room: &mut u32) -> Option<u32>
-    ensures { IsMeasured result most room.old room.new (max (with_items_nesting (view.with_items items.now)) (stmts_nesting (view.stmts view.stmt_tree body.now)) + with_levels (view.with_items items.now)) (with_items_size (view.with_items items.now) + stmts_size (view.stmts view.stmt_tree body.now)) }
+    ensures { IsMeasured result most room.old room.new
+        (max (with_items_nesting (view.with_items items.now))
+        (stmts_nesting (view.stmts view.stmt_tree body.now))
+        + with_levels (view.with_items items.now))
+        (with_items_size (view.with_items items.now)
+        + stmts_size (view.stmts view.stmt_tree body.now)) }
 {
     let levels = u32::try_from(items.len()).ok()?.max(1);
     let below = most.checked_sub(levels)?;
@@ -166,7 +174,11 @@ fn measure_with(items: &[WithItem], body: &Stmts, most: u32, room: &mut u32) -> 
 /// The nesting of the deeper of two bodies.
 #[cycle(body)]
 fn measure_bodies(body: &Stmts, orelse: &Stmts, most: u32, room: &mut u32) -> Option<u32>
-    ensures { IsMeasured result most room.old room.new (max (stmts_nesting (view.stmts view.stmt_tree body.now)) (stmts_nesting (view.stmts view.stmt_tree orelse.now))) (stmts_size (view.stmts view.stmt_tree body.now) + stmts_size (view.stmts view.stmt_tree orelse.now)) }
+    ensures { IsMeasured result most room.old room.new
+        (max (stmts_nesting (view.stmts view.stmt_tree body.now))
+        (stmts_nesting (view.stmts view.stmt_tree orelse.now)))
+        (stmts_size (view.stmts view.stmt_tree body.now)
+        + stmts_size (view.stmts view.stmt_tree orelse.now)) }
 {
     let body = measure_stmts(body.as_slice(), most, room)?;
     let orelse = measure_stmts(orelse.as_slice(), most, room)?;
@@ -181,7 +193,11 @@ fn measure_handled(
     most: u32,
     room: &mut u32,
 ) -> Option<u32>
-    ensures { IsMeasured result most room.old room.new (max (stmts_nesting (view.stmts view.stmt_tree body.now)) (handlers_nesting (view.handlers view.stmt_tree handlers.now))) (stmts_size (view.stmts view.stmt_tree body.now) + handlers_size (view.handlers view.stmt_tree handlers.now)) }
+    ensures { IsMeasured result most room.old room.new
+        (max (stmts_nesting (view.stmts view.stmt_tree body.now))
+        (handlers_nesting (view.handlers view.stmt_tree handlers.now)))
+        (stmts_size (view.stmts view.stmt_tree body.now)
+        + handlers_size (view.handlers view.stmt_tree handlers.now)) }
 {
     let body = measure_stmts(body.as_slice(), most, room)?;
     let handlers = measure_handlers(handlers, most, room)?;
@@ -191,7 +207,9 @@ fn measure_handled(
 /// The nesting of the deepest handler, 0 where there is none.
 #[cycle(body)]
 fn measure_handlers(handlers: &[ExceptHandler], most: u32, room: &mut u32) -> Option<u32>
-    ensures { IsMeasured result most room.old room.new (handlers_nesting (view.handlers view.stmt_tree handlers.now)) (handlers_size (view.handlers view.stmt_tree handlers.now)) }
+    ensures { IsMeasured result most room.old room.new
+        (handlers_nesting (view.handlers view.stmt_tree handlers.now))
+        (handlers_size (view.handlers view.stmt_tree handlers.now)) }
 {
     let mut deepest = 0;
     for handler in handlers {
@@ -202,7 +220,12 @@ fn measure_handlers(handlers: &[ExceptHandler], most: u32, room: &mut u32) -> Op
 
 #[cycle(body)]
 fn measure_handler(handler: &ExceptHandler, most: u32, room: &mut u32) -> Option<u32>
-    ensures { IsMeasured result most room.old room.new (max (opt_expr_nesting (view.opt_box view.expr_tree handler.now.type_)) (stmts_nesting (view.stmts view.stmt_tree handler.now.body)) + 1) (opt_expr_size (view.opt_box view.expr_tree handler.now.type_) + opt_name_size handler.now.name + stmts_size (view.stmts view.stmt_tree handler.now.body) + 1) }
+    ensures { IsMeasured result most room.old room.new
+        (max (opt_expr_nesting (view.opt_box view.expr_tree handler.now.type_))
+        (stmts_nesting (view.stmts view.stmt_tree handler.now.body))
+        + 1) (opt_expr_size (view.opt_box view.expr_tree handler.now.type_)
+        + opt_name_size handler.now.name + stmts_size (view.stmts view.stmt_tree handler.now.body)
+        + 1) }
 {
     let below = most.checked_sub(1)?;
     spend(room, 1);
@@ -215,7 +238,9 @@ fn measure_handler(handler: &ExceptHandler, most: u32, room: &mut u32) -> Option
 /// The nesting of the deepest case, 0 where there is none.
 #[cycle(body)]
 fn measure_cases(cases: &[MatchCase], most: u32, room: &mut u32) -> Option<u32>
-    ensures { IsMeasured result most room.old room.new (cases_nesting (view.cases view.stmt_tree cases.now)) (cases_size (view.cases view.stmt_tree cases.now)) }
+    ensures { IsMeasured result most room.old room.new
+        (cases_nesting (view.cases view.stmt_tree cases.now))
+        (cases_size (view.cases view.stmt_tree cases.now)) }
 {
     let mut deepest = 0;
     for case in cases {
@@ -226,7 +251,9 @@ fn measure_cases(cases: &[MatchCase], most: u32, room: &mut u32) -> Option<u32>
 
 #[cycle(body)]
 fn measure_case(case: &MatchCase, most: u32, room: &mut u32) -> Option<u32>
-    ensures { IsMeasured result most room.old room.new (stmts_nesting (view.stmts view.stmt_tree case.now.body) + 1) (stmts_size (view.stmts view.stmt_tree case.now.body) + 1) }
+    ensures { IsMeasured result most room.old room.new
+        (stmts_nesting (view.stmts view.stmt_tree case.now.body) + 1)
+        (stmts_size (view.stmts view.stmt_tree case.now.body) + 1) }
 {
     let below = most.checked_sub(1)?;
     spend(room, 1);

@@ -57,7 +57,8 @@ pub fn refusal_line(
     error: &CodegenErrorType,
     location: Option<SourceLocation>,
 ) -> Result<String, AllocError>
-    ensures { IfOk result (λ s. string_bytes s ≡ refusal_line (record { error = error.now; location = location })) }
+    ensures { IfOk result (λ s. string_bytes s
+        ≡ refusal_line (record { error = error.now; location = location })) }
 {
     let mut line = String::new(alloc);
     push_place(&mut line, location)?;

@@ -12,7 +12,9 @@ after_push [] c = append_nil' _
   where
     append_nil' : (t : List ℕ) → (codes ", " ++ t) ++ [] ≡ codes ", " ++ t
     append_nil' t = search rules
-after_push (x ∷ xs) c = ap (λ t. codes ", " ++ constant_text (constant x) ++ t) (after_push xs c) ∙ sym (append_assoc (codes ", " ++ constant_text (constant x)) (after_comma (constants_of xs)) (codes ", " ++ constant_text (constant c)))
+after_push (x ∷ xs) c = ap (λ t. codes ", " ++ constant_text (constant x) ++ t) (after_push xs c)
+    ∙ sym (append_assoc (codes ", " ++ constant_text (constant x)) (after_comma (constants_of xs))
+    (codes ", " ++ constant_text (constant c)))
 
 constant_list_append_none : (t : List ℕ) → t ++ [] ≡ t
 constant_list_append_none t = search rules

@@ -37,7 +37,8 @@ pub fn push_case(out: &mut String, kind: OperandKind, case: u32) -> Result<(), A
 /// # Errors
 /// There is no memory for it.
 pub fn push_unary(out: &mut String, case: u32) -> Result<(), AllocError>
-    ensures { OnOk result (string_bytes out.new ≡ string_bytes out.old ++ entry (λ t. t) (slice_get (case_names OperandKind.Unary) case)) }
+    ensures { OnOk result (string_bytes out.new ≡ string_bytes out.old
+        ++ entry (λ t. t) (slice_get (case_names OperandKind.Unary) case)) }
 {
     match case {
         0 => out.push_str(" Plus"),
@@ -53,7 +54,8 @@ pub fn push_unary(out: &mut String, case: u32) -> Result<(), AllocError>
 /// # Errors
 /// There is no memory for it.
 pub fn push_binary(out: &mut String, case: u32) -> Result<(), AllocError>
-    ensures { OnOk result (string_bytes out.new ≡ string_bytes out.old ++ entry (λ t. t) (slice_get (case_names OperandKind.Binary) case)) }
+    ensures { OnOk result (string_bytes out.new ≡ string_bytes out.old
+        ++ entry (λ t. t) (slice_get (case_names OperandKind.Binary) case)) }
 {
     match case {
         0 => out.push_str(" Add"),
@@ -78,7 +80,8 @@ pub fn push_binary(out: &mut String, case: u32) -> Result<(), AllocError>
 /// # Errors
 /// There is no memory for it.
 pub fn push_compare(out: &mut String, case: u32) -> Result<(), AllocError>
-    ensures { OnOk result (string_bytes out.new ≡ string_bytes out.old ++ entry (λ t. t) (slice_get (case_names OperandKind.Compare) case)) }
+    ensures { OnOk result (string_bytes out.new ≡ string_bytes out.old
+        ++ entry (λ t. t) (slice_get (case_names OperandKind.Compare) case)) }
 {
     match case {
         0 => out.push_str(" Less"),
@@ -96,7 +99,8 @@ pub fn push_compare(out: &mut String, case: u32) -> Result<(), AllocError>
 /// # Errors
 /// There is no memory for it.
 pub fn push_test(out: &mut String, case: u32) -> Result<(), AllocError>
-    ensures { OnOk result (string_bytes out.new ≡ string_bytes out.old ++ entry (λ t. t) (slice_get (case_names OperandKind.Test) case)) }
+    ensures { OnOk result (string_bytes out.new ≡ string_bytes out.old
+        ++ entry (λ t. t) (slice_get (case_names OperandKind.Test) case)) }
 {
     match case {
         0 => out.push_str(" In"),
@@ -113,7 +117,8 @@ pub fn push_test(out: &mut String, case: u32) -> Result<(), AllocError>
 /// # Errors
 /// There is no memory for it.
 pub fn push_raise_kind(out: &mut String, case: u32) -> Result<(), AllocError>
-    ensures { OnOk result (string_bytes out.new ≡ string_bytes out.old ++ entry (λ t. t) (slice_get (case_names OperandKind.RaiseKind) case)) }
+    ensures { OnOk result (string_bytes out.new ≡ string_bytes out.old
+        ++ entry (λ t. t) (slice_get (case_names OperandKind.RaiseKind) case)) }
 {
     match case {
         0 => out.push_str(" Raise"),
@@ -128,7 +133,8 @@ pub fn push_raise_kind(out: &mut String, case: u32) -> Result<(), AllocError>
 /// # Errors
 /// There is no memory for it.
 pub fn push_conversion(out: &mut String, case: u32) -> Result<(), AllocError>
-    ensures { OnOk result (string_bytes out.new ≡ string_bytes out.old ++ entry (λ t. t) (slice_get (case_names OperandKind.Conversion) case)) }
+    ensures { OnOk result (string_bytes out.new ≡ string_bytes out.old
+        ++ entry (λ t. t) (slice_get (case_names OperandKind.Conversion) case)) }
 {
     match case {
         0 => out.push_str(" None"),

@@ -15,7 +15,8 @@ use std::alloc::AllocError;
 #[cycle(constant_text)]
 #[tactic(auto, using(py_bytecode::proofs::View::views))]
 pub fn push_constant(out: &mut String, item: &ConstantData) -> Result<(), AllocError>
-    ensures { OnOk result (string_bytes out.new ≡ string_bytes out.old ++ constant_text (constant item.now)) }
+    ensures { OnOk result (string_bytes out.new ≡ string_bytes out.old
+        ++ constant_text (constant item.now)) }
 {
     match item {
         ConstantData::None => out.push_str("None"),
@@ -31,7 +32,8 @@ pub fn push_constant(out: &mut String, item: &ConstantData) -> Result<(), AllocE
 
 #[tactic(auto, using(py_bytecode::proofs::View::views))]
 fn push_code_name(out: &mut String, code: &CodeObject) -> Result<(), AllocError>
-    ensures { OnOk result (string_bytes out.new ≡ string_bytes out.old ++ code_text (object code.now)) }
+    ensures { OnOk result (string_bytes out.new ≡ string_bytes out.old
+        ++ code_text (object code.now)) }
 {
     out.push_str("<code ")?;
     push_quote(out, code.obj_name.as_str())?;
@@ -40,7 +42,8 @@ fn push_code_name(out: &mut String, code: &CodeObject) -> Result<(), AllocError>
 
 #[cycle(constant_text)]
 fn push_tuple(out: &mut String, elements: &[ConstantData]) -> Result<(), AllocError>
-    ensures { OnOk result (string_bytes out.new ≡ string_bytes out.old ++ constant_text (tuple (constants_of elements.now))) }
+    ensures { OnOk result (string_bytes out.new ≡ string_bytes out.old
+        ++ constant_text (tuple (constants_of elements.now))) }
 {
     out.push_str("(")?;
     push_joined(out, elements)?;
@@ -49,7 +52,8 @@ fn push_tuple(out: &mut String, elements: &[ConstantData]) -> Result<(), AllocEr
 
 /// Appends what closes a tuple: one element has a comma after it.
 fn push_tuple_end(out: &mut String, elements: &[ConstantData]) -> Result<(), AllocError>
-    ensures { OnOk result (string_bytes out.new ≡ string_bytes out.old ++ tuple_end (constants_of elements.now)) }
+    ensures { OnOk result (string_bytes out.new ≡ string_bytes out.old
+        ++ tuple_end (constants_of elements.now)) }
 {
     if elements.len() == 1 {
         out.push_str(",)")
@@ -77,7 +81,8 @@ pub fn push_separator(out: &mut String, i: usize) -> Result<(), AllocError>
 /// There is no memory for it.
 #[cycle(constant_text)]
 pub fn push_joined(out: &mut String, elements: &[ConstantData]) -> Result<(), AllocError>
-    ensures { OnOk result (string_bytes out.new ≡ string_bytes out.old ++ joined_constants (constants_of elements.now)) }
+    ensures { OnOk result (string_bytes out.new ≡ string_bytes out.old
+        ++ joined_constants (constants_of elements.now)) }
 {
     for (i, item) in elements.iter().enumerate() {
         push_separator(out, i)?;

@@ -23,7 +23,8 @@ pub fn push_detail(
     kind: OperandKind,
     whole: u32,
 ) -> Result<(), AllocError>
-    ensures { OnOk result (string_bytes out.new ≡ string_bytes out.old ++ (detail (object code.now) kind whole ++ codes "\n")) }
+    ensures { OnOk result (string_bytes out.new ≡ string_bytes out.old
+        ++ (detail (object code.now) kind whole ++ codes "\n")) }
 {
     match kind {
         OperandKind::Const => push_constant_entry(out, code.constants.as_slice(), whole),
@@ -46,14 +47,16 @@ pub fn push_detail(
 }
 
 fn push_case_line(out: &mut String, kind: OperandKind, case: u32) -> Result<(), AllocError>
-    ensures { OnOk result (string_bytes out.new ≡ string_bytes out.old ++ (case_text kind case ++ codes "\n")) }
+    ensures { OnOk result (string_bytes out.new ≡ string_bytes out.old
+        ++ (case_text kind case ++ codes "\n")) }
 {
     push_case(out, kind, case)?;
     out.push_str("\n")
 }
 
 fn push_label(out: &mut String, whole: u32) -> Result<(), AllocError>
-    ensures { OnOk result (string_bytes out.new ≡ string_bytes out.old ++ (codes " to " ++ decimal whole ++ codes "\n")) }
+    ensures { OnOk result (string_bytes out.new ≡ string_bytes out.old
+        ++ (codes " to " ++ decimal whole ++ codes "\n")) }
 {
     out.push_str(" to ")?;
     push_number(out, whole)?;
@@ -65,7 +68,9 @@ fn push_constant_entry(
     constants: &[ConstantData],
     place: u32,
 ) -> Result<(), AllocError>
-    ensures { OnOk result (string_bytes out.new ≡ string_bytes out.old ++ (entry (λ c. constant_text (constant c)) (slice_get constants.now place) ++ codes "\n")) }
+    ensures { OnOk result (string_bytes out.new ≡ string_bytes out.old
+        ++ (entry (λ c. constant_text (constant c)) (slice_get constants.now place)
+        ++ codes "\n")) }
 {
     match constants.get(place as usize) {
         Some(item) => push_constant_line(out, item),
@@ -76,7 +81,8 @@ fn push_constant_entry(
 /// Appends a constant after a space, and the line's end.
 #[tactic(auto, using(py_bytecode::proofs::View::views))]
 fn push_constant_line(out: &mut String, item: &ConstantData) -> Result<(), AllocError>
-    ensures { OnOk result (string_bytes out.new ≡ string_bytes out.old ++ (codes " " ++ constant_text (constant item.now) ++ codes "\n")) }
+    ensures { OnOk result (string_bytes out.new ≡ string_bytes out.old
+        ++ (codes " " ++ constant_text (constant item.now) ++ codes "\n")) }
 {
     if let ConstantData::Str { value } = item {
         return push_quote_line(out, value.as_str());
@@ -87,7 +93,8 @@ fn push_constant_line(out: &mut String, item: &ConstantData) -> Result<(), Alloc
 }
 
 fn push_name_entry(out: &mut String, names: &[Text], place: usize) -> Result<(), AllocError>
-    ensures { OnOk result (string_bytes out.new ≡ string_bytes out.old ++ (entry quote (slice_get names.now place) ++ codes "\n")) }
+    ensures { OnOk result (string_bytes out.new ≡ string_bytes out.old
+        ++ (entry quote (slice_get names.now place) ++ codes "\n")) }
 {
     match names.get(place) {
         Some(name) => push_quote_line(out, name.as_str()),
@@ -97,7 +104,8 @@ fn push_name_entry(out: &mut String, names: &[Text], place: usize) -> Result<(),
 
 #[tactic(auto, using(py_bytecode::proofs::Tables::get_left, py_bytecode::proofs::Tables::get_right))]
 fn push_cell_entry(out: &mut String, code: &CodeObject, place: usize) -> Result<(), AllocError>
-    ensures { OnOk result (string_bytes out.new ≡ string_bytes out.old ++ (entry quote (slice_get (code.now.cellvars ++ code.now.freevars) place) ++ codes "\n")) }
+    ensures { OnOk result (string_bytes out.new ≡ string_bytes out.old
+        ++ (entry quote (slice_get (code.now.cellvars ++ code.now.freevars) place) ++ codes "\n")) }
 {
     let cells = code.cellvars.len();
     if place < cells {

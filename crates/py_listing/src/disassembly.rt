@@ -23,7 +23,8 @@ pub fn listing(alloc: Global, code: &CodeObject) -> Result<String, AllocError>
 #[cycle(listing)]
 #[tactic(auto, using(py_bytecode::proofs::View::views))]
 fn push_code(out: &mut String, code: &CodeObject) -> Result<(), AllocError>
-    ensures { OnOk result (string_bytes out.new ≡ string_bytes out.old ++ listing_of (object code.now)) }
+    ensures { OnOk result (string_bytes out.new ≡ string_bytes out.old
+        ++ listing_of (object code.now)) }
 {
     push_own(out, code)?;
     push_codes(out, code.constants.as_slice())
@@ -31,7 +32,8 @@ fn push_code(out: &mut String, code: &CodeObject) -> Result<(), AllocError>
 
 /// Appends the lines of a code without those of the codes among its constants.
 fn push_own(out: &mut String, code: &CodeObject) -> Result<(), AllocError>
-    ensures { OnOk result (string_bytes out.new ≡ string_bytes out.old ++ own_lines (head_of code.now) (constants_of code.now.constants)) }
+    ensures { OnOk result (string_bytes out.new ≡ string_bytes out.old
+        ++ own_lines (head_of code.now) (constants_of code.now.constants)) }
 {
     push_head(out, code)?;
     push_constants(out, code.constants.as_slice())?;
@@ -46,7 +48,8 @@ fn push_own(out: &mut String, code: &CodeObject) -> Result<(), AllocError>
 
 #[cycle(listing)]
 fn push_codes(out: &mut String, constants: &[ConstantData]) -> Result<(), AllocError>
-    ensures { OnOk result (string_bytes out.new ≡ string_bytes out.old ++ listings (constants_of constants.now)) }
+    ensures { OnOk result (string_bytes out.new ≡ string_bytes out.old
+        ++ listings (constants_of constants.now)) }
 {
     for item in constants {
         push_code_in(out, item)?;
@@ -57,7 +60,8 @@ fn push_codes(out: &mut String, constants: &[ConstantData]) -> Result<(), AllocE
 #[cycle(listing)]
 #[tactic(auto, using(py_bytecode::proofs::View::views))]
 fn push_code_in(out: &mut String, item: &ConstantData) -> Result<(), AllocError>
-    ensures { OnOk result (string_bytes out.new ≡ string_bytes out.old ++ listing_in (constant item.now)) }
+    ensures { OnOk result (string_bytes out.new ≡ string_bytes out.old
+        ++ listing_in (constant item.now)) }
 {
     match item {
         ConstantData::Code { code } => push_code(out, code),

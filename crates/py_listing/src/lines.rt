@@ -23,7 +23,8 @@ use std::fmt::Write;
 /// There is no memory for it.
 #[tactic(auto, unfolding(crate::specs::Listing::head_line))]
 pub fn push_head(out: &mut String, code: &CodeObject) -> Result<(), AllocError>
-    ensures { OnOk result (string_bytes out.new ≡ string_bytes out.old ++ head_line (head_of code.now)) }
+    ensures { OnOk result (string_bytes out.new ≡ string_bytes out.old
+        ++ head_line (head_of code.now)) }
 {
     out.push_str("code ")?;
     push_quote(out, code.obj_name.as_str())?;
@@ -34,7 +35,8 @@ pub fn push_head(out: &mut String, code: &CodeObject) -> Result<(), AllocError>
 }
 
 fn push_line_number(out: &mut String, line: Option<OneIndexed>) -> Result<(), AllocError>
-    ensures { OnOk result (string_bytes out.new ≡ string_bytes out.old ++ codes " line " ++ line_number line) }
+    ensures { OnOk result (string_bytes out.new ≡ string_bytes out.old ++ codes " line "
+        ++ line_number line) }
 {
     match line {
         Some(line) => {
@@ -46,7 +48,10 @@ fn push_line_number(out: &mut String, line: Option<OneIndexed>) -> Result<(), Al
 }
 
 fn push_numbers(out: &mut String, code: &CodeObject) -> Result<(), AllocError>
-    ensures { OnOk result (string_bytes out.new ≡ string_bytes out.old ++ codes " flags " ++ decimal code.now.flags.0 ++ codes " args " ++ decimal code.now.posonlyarg_count ++ codes " " ++ decimal code.now.arg_count ++ codes " " ++ decimal code.now.kwonlyarg_count ++ codes " depth " ++ decimal code.now.max_stackdepth ++ codes "\n") }
+    ensures { OnOk result (string_bytes out.new ≡ string_bytes out.old ++ codes " flags "
+        ++ decimal code.now.flags.0 ++ codes " args " ++ decimal code.now.posonlyarg_count
+        ++ codes " " ++ decimal code.now.arg_count ++ codes " " ++ decimal code.now.kwonlyarg_count
+        ++ codes " depth " ++ decimal code.now.max_stackdepth ++ codes "\n") }
 {
     let flags = code.flags.bits();
     write!(
@@ -67,7 +72,8 @@ fn push_numbers(out: &mut String, code: &CodeObject) -> Result<(), AllocError>
 /// There is no memory for it.
 #[tactic(auto, using(crate::proofs::ConstantListLemmas::constants_line_some))]
 pub fn push_constants(out: &mut String, constants: &[ConstantData]) -> Result<(), AllocError>
-    ensures { OnOk result (string_bytes out.new ≡ string_bytes out.old ++ constants_line (constants_of constants.now)) }
+    ensures { OnOk result (string_bytes out.new ≡ string_bytes out.old
+        ++ constants_line (constants_of constants.now)) }
 {
     if constants.is_empty() {
         Ok(())
@@ -77,7 +83,8 @@ pub fn push_constants(out: &mut String, constants: &[ConstantData]) -> Result<()
 }
 
 fn push_all_constants(out: &mut String, constants: &[ConstantData]) -> Result<(), AllocError>
-    ensures { OnOk result (string_bytes out.new ≡ string_bytes out.old ++ (codes "constants: " ++ joined_constants (constants_of constants.now) ++ codes "\n")) }
+    ensures { OnOk result (string_bytes out.new ≡ string_bytes out.old
+        ++ (codes "constants: " ++ joined_constants (constants_of constants.now) ++ codes "\n")) }
 {
     push_text(out, "constants: ")?;
     push_joined(out, constants)?;
@@ -91,7 +98,8 @@ fn push_all_constants(out: &mut String, constants: &[ConstantData]) -> Result<()
 /// There is no memory for it.
 #[tactic(auto, unfolding(crate::specs::Listing::names_line))]
 pub fn push_names(out: &mut String, word: &str, names: &[Text]) -> Result<(), AllocError>
-    ensures { OnOk result (string_bytes out.new ≡ string_bytes out.old ++ names_line word.now names.now) }
+    ensures { OnOk result (string_bytes out.new ≡ string_bytes out.old
+        ++ names_line word.now names.now) }
 {
     let Some((first, rest)) = names.split_first() else {
         return Ok(());
@@ -122,7 +130,8 @@ pub fn push_cells(out: &mut String, places: &Option<List<i32>>) -> Result<(), Al
 }
 
 fn push_arguments(out: &mut String, places: &[i32]) -> Result<(), AllocError>
-    ensures { OnOk result (string_bytes out.new ≡ string_bytes out.old ++ join_by signed_decimal (codes ", ") places.now) }
+    ensures { OnOk result (string_bytes out.new ≡ string_bytes out.old
+        ++ join_by signed_decimal (codes ", ") places.now) }
 {
     let Some((first, rest)) = places.split_first() else {
         return Ok(());
@@ -139,7 +148,8 @@ fn push_arguments(out: &mut String, places: &[i32]) -> Result<(), AllocError>
 /// # Errors
 /// There is no memory for it.
 pub fn push_units(out: &mut String, code: &CodeObject, units: &[CodeUnit]) -> Result<(), AllocError>
-    ensures { OnOk result (string_bytes out.new ≡ string_bytes out.old ++ unit_lines (object code.now) 0 0 units.now) }
+    ensures { OnOk result (string_bytes out.new ≡ string_bytes out.old
+        ++ unit_lines (object code.now) 0 0 units.now) }
 {
     let mut high = 0u32;
     for (at, unit) in units.iter().enumerate() {
@@ -175,7 +185,8 @@ fn push_unit(
     whole: u32,
     unit: CodeUnit,
 ) -> Result<(), AllocError>
-    ensures { OnOk result (string_bytes out.new ≡ string_bytes out.old ++ unit_line (object code.now) at whole unit) }
+    ensures { OnOk result (string_bytes out.new ≡ string_bytes out.old
+        ++ unit_line (object code.now) at whole unit) }
 {
     let kind = unit.op.operand_kind();
     push_front(out, at, code.locations.as_slice())?;
@@ -187,7 +198,8 @@ fn push_unit(
 
 /// Appends what stands before the instruction: its offset, its row and its column.
 fn push_front(out: &mut String, at: usize, locations: &[SourceLocation]) -> Result<(), AllocError>
-    ensures { OnOk result (string_bytes out.new ≡ string_bytes out.old ++ (decimal at ++ codes " " ++ place_text (slice_get locations.now at) ++ codes " ")) }
+    ensures { OnOk result (string_bytes out.new ≡ string_bytes out.old
+        ++ (decimal at ++ codes " " ++ place_text (slice_get locations.now at) ++ codes " ")) }
 {
     match locations.get(at) {
         Some(location) => push_places(out, at, location.row.get(), location.column.get()),

@@ -9,7 +9,8 @@ const ROOM: usize = 63;
 
 /// Appends an offset, a row and a column, as `12 3:4 `.
 pub fn push_places(out: &mut String, at: usize, row: u32, column: u32) -> Result<(), AllocError>
-    ensures { OnOk result (string_bytes out.new ≡ string_bytes out.old ++ (decimal at ++ codes " " ++ (decimal row ++ codes ":" ++ decimal column) ++ codes " ")) }
+    ensures { OnOk result (string_bytes out.new ≡ string_bytes out.old
+        ++ (decimal at ++ codes " " ++ (decimal row ++ codes ":" ++ decimal column) ++ codes " ")) }
 {
     let mut buffer = [0; ROOM];
     let start = write_places(&mut buffer, at, row, column);
@@ -22,7 +23,8 @@ pub fn push_places(out: &mut String, at: usize, row: u32, column: u32) -> Result
 /// Writes an offset, a row and a column at the end of the buffer, and gives where they begin.
 fn write_places(buffer: &mut [u8; ROOM], at: usize, row: u32, column: u32) -> usize
     ensures start { result ≤ 63 }
-    ensures written { drop result buffer.new ≡ decimal at ++ (codes " " ++ (decimal row ++ (codes ":" ++ (decimal column ++ codes " ")))) }
+    ensures written { drop result buffer.new ≡ decimal at
+        ++ (codes " " ++ (decimal row ++ (codes ":" ++ (decimal column ++ codes " ")))) }
 {
     let end = write_marked(buffer, ROOM, u64::from(column), b' ');
     let end = write_marked(buffer, end, u64::from(row), b':');

@@ -11,7 +11,8 @@ use std::alloc::AllocError;
 /// # Errors
 /// There is no memory for it.
 pub fn push_quote_line(out: &mut String, text: &str) -> Result<(), AllocError>
-    ensures { OnOk result (string_bytes out.new ≡ string_bytes out.old ++ (codes " " ++ quote text.now ++ codes "\n")) }
+    ensures { OnOk result (string_bytes out.new ≡ string_bytes out.old
+        ++ (codes " " ++ quote text.now ++ codes "\n")) }
 {
     if is_plain(text) {
         out.push_str(" '")?;

@@ -3,7 +3,7 @@ use Rattle.std.specs.Prelude.{ℕ, List, [], ◌∷◌, ◌++◌, ◌||◌, Bool
 use Rattle.py_tree.specs.Tree as tree
 use Rattle.py_tree.specs.PythonName.{python_name}
 use Rattle.py_emission_parts.specs.Elements.{Element, Single, Spread, stars, pairs, flat}
-use Rattle.py_emission_parts.specs.Refused.{few_aside, lone_star, no_assignment, no_deletion, retold}
+use Rattle.py_emission_parts.specs.Refused.{few_aside, lone_star, no_assignment, no_deletion, rewritten}
 use Rattle.py_emission.specs.Awaits.{awaits, some_async}
 use Rattle.py_emission.specs.Predicates.{deletion_name}
 use Rattle.py_emission.specs.Parameters.{parameters}
@@ -91,10 +91,10 @@ abbrev pub parameter_faults : SourceLocation → List (List ℕ) → List Fault
 parameter_faults p [] = []
 parameter_faults p (x ∷ xs) = debug_faults no_assignment p x ++ parameter_faults p xs
 
--- what is wrong in the element of a comprehension, where a star is told in other words
-abbrev pub retold_faults : List Fault → List Fault
-retold_faults [] = []
-retold_faults (f ∷ fs) = record { error = retold f.error; location = f.location } ∷ retold_faults fs
+-- what is wrong in the element of a comprehension, where a star is reported in other words
+abbrev pub rewritten_faults : List Fault → List Fault
+rewritten_faults [] = []
+rewritten_faults (f ∷ fs) = record { error = rewritten f.error; location = f.location } ∷ rewritten_faults fs
 
 -- one text has nothing wrong
 abbrev pub joined_faults : Option (List ℕ) → List (List Fault) → List Fault
@@ -113,18 +113,20 @@ abbrev mutual
   faults_in b (tree.Dict at keys others) = either (in_order (flat (pairs (opts_faults b keys) (values (all_faults b others)))))
   faults_in b (tree.Set at elts) = either (in_order (elements (all_faults b elts)))
   faults_in b (tree.ListComp at elt gs) =
-      either (when (some_async gs) (fault_at error.NotImplementedYet at) ++ (clause_faults at gs ++ (retold_faults (faults_in true elt).value ++ first_iterable_faults b gs)))
+      either (when (some_async gs) (fault_at error.NotImplementedYet at) ++ (clause_faults at gs ++ (rewritten_faults (faults_in true elt).value ++ first_iterable_faults b gs)))
   faults_in b (tree.SetComp at elt gs) =
-      either (when (some_async gs) (fault_at error.NotImplementedYet at) ++ (clause_faults at gs ++ (retold_faults (faults_in true elt).value ++ first_iterable_faults b gs)))
+      either (when (some_async gs) (fault_at error.NotImplementedYet at) ++ (clause_faults at gs ++ (rewritten_faults (faults_in true elt).value ++ first_iterable_faults b gs)))
   faults_in b (tree.DictComp at key value gs) =
       either (when (some_async gs) (fault_at error.NotImplementedYet at) ++ (clause_faults at gs ++ ((faults_in true key).value ++ ((faults_in true value).value ++ first_iterable_faults b gs))))
   faults_in b (tree.GeneratorExp at elt gs) =
-      either (when (some_async gs || awaits elt) (fault_at error.NotImplementedYet at) ++ (clause_faults at gs ++ (retold_faults (faults_in true elt).value ++ first_iterable_faults b gs)))
+      either (when (some_async gs || awaits elt) (fault_at error.NotImplementedYet at) ++ (clause_faults at gs ++ (rewritten_faults (faults_in true elt).value ++ first_iterable_faults b gs)))
   faults_in b (tree.Await at value) = either (fault_at error.InvalidAwait at ∷ (faults_in b value).value)
   faults_in b (tree.Yield at value) = either (when (not b) (fault_at error.InvalidYield at) ++ if_any (opt_faults b value))
   faults_in b (tree.YieldFrom at value) = either (when (not b) (fault_at error.InvalidYieldFrom at) ++ (faults_in b value).value)
   faults_in b (tree.Compare at left ops others) = either ((faults_in b left).value ++ in_order (values (all_faults b others)))
-  faults_in b (tree.Call at func args keywords) = either ((faults_in b func).value ++ in_order (elements (all_faults b args)) ++ keyword_faults (args_end func args) keywords ++ in_order (keyword_values b keywords))
+  faults_in b (tree.Call at func args keywords) =
+      either ((faults_in b func).value ++ in_order (elements (all_faults b args)) ++ keyword_faults (args_end func args) keywords
+      ++ in_order (keyword_values b keywords))
   faults_in b (tree.FormattedValue at value conversion spec) = either ((faults_in b value).value ++ if_any (opt_faults b spec))
   faults_in b (tree.JoinedStr at parts) = either (joined_faults (texts_of parts) (values (all_faults b parts)))
   faults_in b (tree.Constant at value) = either []

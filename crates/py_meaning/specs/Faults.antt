@@ -23,7 +23,9 @@ use Rattle.py_tree.specs.declared.statements.Alias.{Alias}
 use Rattle.py_emission.specs.Imports.{from_future, import_name, taken_name, takes_all}
 use Rattle.py_emission.specs.Futures.{Future, future_of, is_feature, postpones}
 use Rattle.py_meaning.specs.Scanned.{scan_faults}
-use Rattle.py_meaning.specs.ExprFaults.{Fault, all_faults, assign_faults, augment_faults, debug_faults, declared_faults, default_faults, deletes_faults, elements, expr_faults, exprs_faults, fault_at, faults_to, in_order, keyword_faults, keyword_values, opt_expr_faults, parameter_faults, unsupported_fault, when}
+use Rattle.py_meaning.specs.ExprFaults.{Fault, all_faults, assign_faults, augment_faults, debug_faults, declared_faults, default_faults}
+use Rattle.py_meaning.specs.ExprFaults.{deletes_faults, elements, expr_faults, exprs_faults, fault_at, faults_to, in_order, keyword_faults}
+use Rattle.py_meaning.specs.ExprFaults.{keyword_values, opt_expr_faults, parameter_faults, unsupported_fault, when}
 
 -- a fault of the whole tree, where it is at fault
 abbrev pub whole : Fault → ℕ → ℕ → List Fault
@@ -140,7 +142,10 @@ args_note_faults postponed b p (tree.more_args a default rest) = arg_note_faults
 abbrev pub notes_faults : (postponed in_function : Bool) → SourceLocation → tree.Arguments → (returns : tree.OptExpr) → List Fault
 notes_faults postponed b p (tree.arguments posonly args vararg kwonly kwarg) returns =
     opt_note_faults postponed b p returns
-    ++ (args_note_faults postponed b p posonly ++ (args_note_faults postponed b p args ++ (args_note_faults postponed b p kwonly ++ (opt_arg_note_faults postponed b p vararg ++ opt_arg_note_faults postponed b p kwarg))))
+    ++ (args_note_faults postponed b p posonly
+    ++ (args_note_faults postponed b p args
+    ++ (args_note_faults postponed b p kwonly
+    ++ (opt_arg_note_faults postponed b p vararg ++ opt_arg_note_faults postponed b p kwarg))))
 
 -- a type parameter, which stands in a type-parameter scope: its bound, and the name that it is stored under
 abbrev pub param_faults : SourceLocation → tree.TypeParam → List Fault
@@ -153,9 +158,9 @@ params_faults p tree.no_type_params = []
 params_faults p (tree.more_type_params t ts) = param_faults p t ++ params_faults (last_of p (param_end t)) ts
 
 -- within a type-parameter scope all is in a function
-abbrev pub within_params : (in_function : Bool) → tree.TypeParams → Bool
-within_params b tree.no_type_params = b
-within_params b (tree.more_type_params t ts) = true
+abbrev pub in_type_params : (in_function : Bool) → tree.TypeParams → Bool
+in_type_params b tree.no_type_params = b
+in_type_params b (tree.more_type_params t ts) = true
 
 -- a function whose decorators and whose statements leave off there, and what is wrong in its statements: what comes before them, its parameters, and annotations
 -- after them; with type parameters its defaults come last
@@ -163,11 +168,13 @@ abbrev pub def_faults : (postponed in_function : Bool) → (decorated ended : So
 def_faults postponed b p q params returns tree.no_type_params body =
     default_faults b params ++ (parameter_faults (function_start p params tree.no_type_params) (parameters params) ++ (body ++ notes_faults postponed b q params returns))
 def_faults postponed b p q params returns (tree.more_type_params t ts) body =
-    (params_faults p (tree.more_type_params t ts) ++ (parameter_faults (function_start p params (tree.more_type_params t ts)) (parameters params) ++ (body ++ notes_faults postponed true q params returns))) ++ default_faults b params
+    (params_faults p (tree.more_type_params t ts)
+    ++ (parameter_faults (function_start p params (tree.more_type_params t ts)) (parameters params)
+    ++ (body ++ notes_faults postponed true q params returns))) ++ default_faults b params
 
 -- only a name is an alias; a target of another kind decides alone
 abbrev pub alias_faults : (in_function : Bool) → SourceLocation → (target : tree.Expr) → tree.TypeParams → (value : tree.Expr) → List Fault
-alias_faults b p (tree.Name at id) generic e = params_faults p generic ++ (expr_faults (within_params b generic) e ++ debug_faults no_assignment (expr_end e) id)
+alias_faults b p (tree.Name at id) generic e = params_faults p generic ++ (expr_faults (in_type_params b generic) e ++ debug_faults no_assignment (expr_end e) id)
 alias_faults b p other generic e = fault_at (error.Assign (python_name other)) p ∷ []
 
 -- the bases and keywords of a class, whose statements leave off there
@@ -176,7 +183,7 @@ base_faults b p bases keywords = in_order (elements (all_faults b bases)) ++ (ke
 
 -- a class whose decorators leave off there, and whose statements leave off there, and what is wrong in these
 abbrev pub class_faults : (in_function : Bool) → (start end : SourceLocation) → (bases : tree.Exprs) → tree.Keywords → tree.TypeParams → (body : List Fault) → List Fault
-class_faults b p q bases keywords generic body = params_faults p generic ++ (body ++ base_faults (within_params b generic) q bases keywords)
+class_faults b p q bases keywords generic body = params_faults p generic ++ (body ++ base_faults (in_type_params b generic) q bases keywords)
 
 -- what is wrong in the parts of a statement, in the order in which they are compiled: also a break or continue with no loop body of its
 -- own scope around it; a loop's else part is not its body
@@ -197,7 +204,8 @@ abbrev mutual
   stmt_faults c b (tree.Delete at targets) = deletes_faults c.in_function at targets
   stmt_faults c b (tree.Assign at targets value) = expr_faults c.in_function value ++ assign_faults c.in_function (expr_end value) targets
   stmt_faults c b (tree.AugAssign at target o value) = augment_faults c.in_function at target value
-  stmt_faults c b (tree.AnnAssign at target annotation value simple) = declared_faults c.in_function target value ++ annotated_faults c.postponed c.in_function (declared_end at target value) annotation
+  stmt_faults c b (tree.AnnAssign at target annotation value simple) =
+      declared_faults c.in_function target value ++ annotated_faults c.postponed c.in_function (declared_end at target value) annotation
   stmt_faults c b (tree.If at t body orelse) = expr_faults c.in_function t ++ stmts_faults c b body ++ stmts_faults c b orelse
   stmt_faults c b (tree.While at t body orelse) = expr_faults c.in_function t ++ stmts_faults c true body ++ stmts_faults c b orelse
   stmt_faults c b (tree.For at target iter body orelse) =
@@ -240,11 +248,11 @@ abbrev pub setting_after : Future → Setting → Setting
 setting_after f c = if postpones f then record c { postponed = true } else c
 
 -- future imports, and the statements after them
-abbrev pub faults_behind : Setting → tree.Stmts → List Fault
-faults_behind c tree.no_stmts = []
-faults_behind c (tree.more_stmts s ss) = elim (future_of s) [
+abbrev pub faults_after : Setting → tree.Stmts → List Fault
+faults_after c tree.no_stmts = []
+faults_after c (tree.more_stmts s ss) = elim (future_of s) [
   | None ↦ stmts_faults c false (tree.more_stmts s ss)
-  | Some f ↦ future_faults c.in_function f ++ faults_behind (setting_after f c) ss
+  | Some f ↦ future_faults c.in_function f ++ faults_after (setting_after f c) ss
 ]
 
 -- at a prompt expressions may stand before them
@@ -258,11 +266,11 @@ prompt_faults c (tree.more_stmts s ss) = elim (future_of s) [
 
 abbrev pub interactive_faults : Mode → Setting → tree.Stmts → List Fault
 interactive_faults mode.Single c ss = prompt_faults c ss
-interactive_faults other c ss = faults_behind c ss
+interactive_faults other c ss = faults_after c ss
 
 -- what is wrong with the nodes that are compiled; what is entered at a prompt has no docstring
 abbrev pub compile_faults : Mode → (level : ℕ) → tree.Mod → List Fault
-compile_faults m l (tree.Module body) = faults_behind (first_setting l) (after_doc body)
+compile_faults m l (tree.Module body) = faults_after (first_setting l) (after_doc body)
 compile_faults m l (tree.Interactive body) = interactive_faults m (first_setting l) body
 compile_faults m l (tree.Expression value) = expr_faults false value
 compile_faults m l other = unsupported_tree ∷ []

@@ -9,7 +9,7 @@ use Rattle.py_bytecode.specs.Values.{operation, Bare}
 use Rattle.py_emission_parts.specs.Context.{Context}
 use Rattle.py_control.specs.Form.{VForm, VConst, VKeep, VNone, Target, GPut, SForm, SThen, SInto, SReturn, SAt}
 use Rattle.py_emission.specs.Futures.{after_future, future_of}
-use Rattle.py_meaning.specs.TableImports.{behind_futures, future_form}
+use Rattle.py_meaning.specs.TableImports.{after_futures, future_form}
 use Rattle.py_meaning.specs.StmtParts.{after_stmt}
 use Rattle.py_emission.specs.Predicates.{none}
 use Rattle.py_meaning.specs.Table.{after, expr_form}
@@ -60,4 +60,4 @@ block_form c n (tree.more_stmts s (tree.more_stmts t ts)) = SThen (stmt_form c n
 -- what is entered at a prompt, and a file whose last value is given; in the other modes there is no such tree
 abbrev pub interactive_form : Mode → Context → tree.Stmts → SForm
 interactive_form mode.Single c ss = prompt_form c 1 ss
-interactive_form other c ss = behind_futures (λ d. block_form d 1) c ss
+interactive_form other c ss = after_futures (λ d. block_form d 1) c ss

@@ -20,9 +20,9 @@ scopes_in_params p tree.no_type_params = 0
 scopes_in_params p (tree.more_type_params t ts) = scopes_in_param p t + scopes_in_params p ts
 
 -- type parameters have a scope around them, where there are any
-abbrev pub hidden_scope : tree.TypeParams → ℕ
-hidden_scope tree.no_type_params = 0
-hidden_scope (tree.more_type_params t ts) = 1
+abbrev pub type_param_scope : tree.TypeParams → ℕ
+type_param_scope tree.no_type_params = 0
+type_param_scope (tree.more_type_params t ts) = 1
 
 -- the items of a `with`
 abbrev pub scopes_in_items : (postponed : Bool) → tree.WithItems → ℕ
@@ -37,14 +37,16 @@ scopes_in_raise p (tree.some_expr e) cause = scopes_in p e + scopes_in_opt p cau
 abbrev mutual
   pub scopes_in_stmt : (postponed : Bool) → tree.Stmt → ℕ
   scopes_in_stmt p (tree.FunctionDef at name params body decorators returns generic) =
-      scopes_in_all p decorators + (hidden_scope generic + (scopes_in_params p generic + (scopes_in_defaults p params + suc (scopes_in_stmts p body + (scopes_in_returns p returns + scopes_in_all_notes p params)))))
+      scopes_in_all p decorators + (type_param_scope generic
+      + (scopes_in_params p generic + (scopes_in_defaults p params
+      + suc (scopes_in_stmts p body + (scopes_in_returns p returns + scopes_in_all_notes p params)))))
   scopes_in_stmt p (tree.AsyncFunctionDef at name params body decorators returns generic) = 0
   scopes_in_stmt p (tree.ClassDef at name bases keywords body decorators generic) =
-      scopes_in_all p decorators + (hidden_scope generic + (scopes_in_params p generic + suc (scopes_in_stmts p body + (scopes_in_all p bases + scopes_in_keywords p keywords))))
+      scopes_in_all p decorators + (type_param_scope generic + (scopes_in_params p generic + suc (scopes_in_stmts p body + (scopes_in_all p bases + scopes_in_keywords p keywords))))
   scopes_in_stmt p (tree.Return at value) = scopes_in_opt p value
   scopes_in_stmt p (tree.Delete at targets) = scopes_in_all p targets
   scopes_in_stmt p (tree.Assign at targets value) = scopes_in p value + scopes_in_all p targets
-  scopes_in_stmt p (tree.TypeAlias at name generic value) = hidden_scope generic + (scopes_in_params p generic + (scopes_in p value + scopes_in p name))
+  scopes_in_stmt p (tree.TypeAlias at name generic value) = type_param_scope generic + (scopes_in_params p generic + (scopes_in p value + scopes_in p name))
   scopes_in_stmt p (tree.AugAssign at target o value) = scopes_in p target + scopes_in p value
   scopes_in_stmt p (tree.AnnAssign at target annotation value simple) = scopes_in_opt p value + (scopes_in p target + scopes_in_annotation p annotation)
   scopes_in_stmt p (tree.For at target iter body orelse) = scopes_in p iter + (scopes_in p target + (scopes_in_stmts p body + scopes_in_stmts p orelse))

@@ -5,11 +5,13 @@ use Rattle.py_base.specs.declared.operators.Operator.{Operator}
 use Rattle.py_bytecode.specs.declared.instruction.Instruction.TheVariants as op
 use Rattle.py_bytecode.specs.Objects as const
 use Rattle.py_bytecode.specs.Values.{operation, Bare, Number}
-use Rattle.py_emission_parts.specs.Within.{behind_name, class_within, function_inside}
+use Rattle.py_emission_parts.specs.NestedScopes.{after_name, nested_class, function_inside}
 use Rattle.py_emission_parts.specs.Context.{Context, head_of, is_function, mangled_by, qualified_under}
 use Rattle.py_emission_parts.specs.Elements.{Function}
 use Rattle.py_emission.specs.Texts.{after_doc, doc_of}
-use Rattle.py_control.specs.Form.{VForm, VConst, VLoad, VOp, VMake, VKeep, VForms, VNone, VMore, TNot, Resolved, FixedByName, FixedGlobal, Target, GDrop, GStore, GPut, SForm, SSkip, SThen, SDo, SInto, SRemove, SIf, SReturn, SReraise, SAugment, SAugmentTwo, SFinally, SWith, MkScope}
+use Rattle.py_control.specs.Form.{VForm, VConst, VLoad, VOp, VMake, VKeep, VForms, VNone, VMore, TNot, Resolved, FixedByName, FixedGlobal}
+use Rattle.py_control.specs.Form.{Target, GDrop, GStore, GPut, SForm, SSkip, SThen, SDo, SInto, SRemove, SIf, SReturn, SReraise, SAugment}
+use Rattle.py_control.specs.Form.{SAugmentTwo, SFinally, SWith, MkScope}
 use Rattle.py_emission_parts.specs.TableParts.{built_form, call_form, counted_operation, elements, inplace, name_form, named_operation}
 use Rattle.py_meaning.specs.StmtCounts.{scopes_in_stmt, scopes_in_stmts}
 use Rattle.py_meaning.specs.Table.{after, after_all, after_opt, all_forms, expr_form, keyword_forms, target_form, test_form}
@@ -42,13 +44,14 @@ abbrev pub assign_form : Context → (next : ℕ) → VForm → tree.Exprs → S
 assign_form c n f tree.no_exprs = SInto f GDrop
 assign_form c n f (tree.more_exprs e es) = assigned_form f (target_form c n e) c (after c n e) es
 
--- the present value, the operand, and the result back to where the first came from, which is come to once
+-- the present value, the operand, and the result back to where the first came from, which is reached once
 abbrev pub augment_form : Context → (next : ℕ) → tree.Expr → Operator → (value : tree.Expr) → SForm
 augment_form c n (tree.Name at id) o e = SInto (VOp (inplace o) (VMore (name_form c.level id (mangled_by c id)) (VMore (expr_form c n e) VNone))) (GStore Resolved (mangled_by c id))
 augment_form c n (tree.Attribute at value attr) o e =
     SAugment (expr_form c n value) (named_operation op.LoadAttr (mangled_by c attr)) (expr_form c (after c n value) e) (inplace o) (named_operation op.StoreAttr (mangled_by c attr))
 augment_form c n (tree.Subscript at value slice) o e =
-    SAugmentTwo (expr_form c n value) (expr_form c (after c n value) slice) (operation op.Subscript Bare) (expr_form c (after c (after c n value) slice) e) (inplace o) (operation op.StoreSubscript Bare)
+    SAugmentTwo (expr_form c n value) (expr_form c (after c n value) slice) (operation op.Subscript Bare)
+    (expr_form c (after c (after c n value) slice) e) (inplace o) (operation op.StoreSubscript Bare)
 augment_form c n other o e = SSkip
 
 -- the value, where there is one, is assigned
@@ -107,13 +110,15 @@ function_value c n flags parts name params body returns f =
 -- the function of a class with this qualified name, whose own scope has this number, and what its statements are
 abbrev pub class_function : Context → (path : List ℕ) → (number flags : ℕ) → VForms → (name : List ℕ) → tree.Stmts → SForm → VForm
 class_function c path n flags parts name body f =
-    VMake flags parts (MkScope (head_of (class_within path name c n)) (class_form path (doc_of c.level body) (any_annotates (after_doc body)) f)) name VNone
+    VMake flags parts (MkScope (head_of (nested_class path name c n)) (class_form path (doc_of c.level body) (any_annotates (after_doc body)) f)) name VNone
 
 -- a class is what its function, its name, its bases and its keywords build; these come after its own scope
 abbrev pub class_value : Context → (path : List ℕ) → (number flags : ℕ) → VForms → (name : List ℕ) → (bases : tree.Exprs) → tree.Keywords → tree.Stmts → SForm → VForm
 class_value c path n flags parts name bases keywords body f =
     let m = suc n + scopes_in_stmts c.postponed body in
-    call_form (Function build_class) (behind_name (built_form op.BuildTuple) (class_function c path n flags parts name body f) (VConst (const.str name)) (elements (all_forms c m bases))) (keyword_forms c (after_all c m bases) keywords)
+    call_form (Function build_class)
+    (after_name (built_form op.BuildTuple) (class_function c path n flags parts name body f) (VConst (const.str name))
+    (elements (all_forms c m bases))) (keyword_forms c (after_all c m bases) keywords)
 
 -- on every way out of its body the name of a handler is set to None and deleted
 abbrev pub named_form : Context → Option (List ℕ) → (body : SForm) → SForm

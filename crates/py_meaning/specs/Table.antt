@@ -6,12 +6,16 @@ use Rattle.py_bytecode.specs.declared.instruction.Instruction.TheVariants as op
 use Rattle.py_bytecode.specs.Objects as const
 use Rattle.py_bytecode.specs.Values.{operation, Bare}
 use Rattle.py_scope_counts.specs.Counts.{scopes_in, scopes_in_all, scopes_in_opt, scopes_in_args, scopes_in_clauses, scopes_in_defaults}
-use Rattle.py_emission_parts.specs.Within.{comprehension_inside, lambda_inside}
+use Rattle.py_emission_parts.specs.NestedScopes.{comprehension_inside, lambda_inside}
 use Rattle.py_emission_parts.specs.Context.{Context, head_of, mangled_by}
 use Rattle.py_emission_parts.specs.Elements.{Element, Single, Spread, Function, Method, pairs}
 use Rattle.py_emission.specs.Texts.{texts_of}
-use Rattle.py_control.specs.Form.{VForm, VConst, VOp, VMake, VChoice, VKeep, VAt, VLoad, VNone, VMore, TForm, TTruth, FixedFast, Resolved, Target, GDrop, GStore, GPut, SReturn, Clauses, CLast, CEach, Filters, NoFilter, MoreFilter, MkScope}
-use Rattle.py_emission_parts.specs.TableParts.{ExprForms, Keywords, TargetForms, binary, bool_forms, call_form, compare_form, constant_of, conversion_case, counted_operation, dict_form, display, elements, joined_form, name_form, named_operation, no_operand, plain_target, slice_form, tested_form, unary_forms, unpacked_to, value_or, values}
+use Rattle.py_control.specs.Form.{VForm, VConst, VOp, VMake, VChoice, VKeep, VAt, VLoad, VNone, VMore, TForm, TTruth, FixedFast, Resolved}
+use Rattle.py_control.specs.Form.{Target, GDrop, GStore, GPut, SReturn, Clauses, CLast, CEach, Filters, NoFilter, MoreFilter, MkScope}
+use Rattle.py_emission_parts.specs.TableParts.{ExprForms, Keywords, TargetForms, binary, bool_forms, call_form, compare_form, constant_of}
+use Rattle.py_emission_parts.specs.TableParts.{conversion_case, counted_operation, dict_form, display, elements, joined_form, name_form}
+use Rattle.py_emission_parts.specs.TableParts.{named_operation, no_operand, plain_target, slice_form, tested_form, unary_forms, unpacked_to}
+use Rattle.py_emission_parts.specs.TableParts.{value_or, values}
 use Rattle.py_meaning.specs.TableScopes.{Defaults, called_at_once, default_flags, default_parts, gather_form, generate_form, iterator}
 
 -- the number after the scopes of these
@@ -78,13 +82,20 @@ abbrev mutual
   expr_forms c n (tree.Set at elts) = tested_form (VAt at (display op.BuildSet op.BuildSetUnpack (elements (all_forms c n elts))))
   expr_forms c n (tree.ListComp at elt gs) =
       let i = comprehension_inside c n in let m = after_clauses c (suc n) gs in
-      tested_form (VAt at (called_at_once (codes "<listcomp>") (MkScope (head_of i) (gather_form op.BuildList op.ListAppend (clause_forms i (suc n) gs) (VMore (expr_forms i m elt).value VNone))) (first_iterable c (after c m elt) gs)))
+      tested_form (VAt at (called_at_once (codes "<listcomp>")
+      (MkScope (head_of i) (gather_form op.BuildList op.ListAppend (clause_forms i (suc n) gs)
+      (VMore (expr_forms i m elt).value VNone))) (first_iterable c (after c m elt) gs)))
   expr_forms c n (tree.SetComp at elt gs) =
       let i = comprehension_inside c n in let m = after_clauses c (suc n) gs in
-      tested_form (VAt at (called_at_once (codes "<setcomp>") (MkScope (head_of i) (gather_form op.BuildSet op.SetAdd (clause_forms i (suc n) gs) (VMore (expr_forms i m elt).value VNone))) (first_iterable c (after c m elt) gs)))
+      tested_form (VAt at (called_at_once (codes "<setcomp>")
+      (MkScope (head_of i) (gather_form op.BuildSet op.SetAdd (clause_forms i (suc n) gs) (VMore (expr_forms i m elt).value VNone)))
+      (first_iterable c (after c m elt) gs)))
   expr_forms c n (tree.DictComp at key value gs) =
       let i = comprehension_inside c n in let m = after_clauses c (suc n) gs in
-      tested_form (VAt at (called_at_once (codes "<dictcomp>") (MkScope (head_of i) (gather_form op.BuildMap op.MapAdd (clause_forms i (suc n) gs) (VMore (expr_forms i m key).value (VMore (expr_forms i (after c m key) value).value VNone)))) (first_iterable c (after c (after c m key) value) gs)))
+      tested_form (VAt at (called_at_once (codes "<dictcomp>")
+      (MkScope (head_of i) (gather_form op.BuildMap op.MapAdd (clause_forms i (suc n) gs)
+      (VMore (expr_forms i m key).value (VMore (expr_forms i (after c m key) value).value VNone))))
+      (first_iterable c (after c (after c m key) value) gs)))
   expr_forms c n (tree.GeneratorExp at elt gs) =
       let i = comprehension_inside c n in let m = after_clauses c (suc n) gs in
       tested_form (VAt at (called_at_once (codes "<genexpr>") (MkScope (head_of i) (generate_form (clause_forms i (suc n) gs) (expr_forms i m elt).value)) (first_iterable c (after c m elt) gs)))
@@ -95,13 +106,16 @@ abbrev mutual
   expr_forms c n (tree.Call at func args keywords) =
       tested_form (VAt at (call_form (expr_forms c n func).callee (elements (all_forms c (after c n func) args)) (keyword_forms c (after_all c (after c n func) args) keywords)))
   expr_forms c n (tree.FormattedValue at value conversion spec) =
-      tested_form (VAt at (VOp (counted_operation op.FormatValue (conversion_case conversion)) (VMore (expr_forms c n value).value (VMore (value_or (const.str []) (opt_form c (after c n value) spec)) VNone))))
+      tested_form (VAt at (VOp (counted_operation op.FormatValue (conversion_case conversion))
+      (VMore (expr_forms c n value).value (VMore (value_or (const.str []) (opt_form c (after c n value) spec)) VNone))))
   expr_forms c n (tree.JoinedStr at parts) = tested_form (VAt at (joined_form (texts_of parts) (values (all_forms c n parts))))
   expr_forms c n (tree.Constant at value) = tested_form (VAt at (VConst (constant_of value)))
   expr_forms c n (tree.Attribute at value attr) =
       let f = VAt at (VOp (named_operation op.LoadAttr (mangled_by c attr)) (VMore (expr_forms c n value).value VNone)) in
       record { value = f; test = TTruth f; element = Single f; callee = Method (mangled_by c attr) (expr_forms c n value).value }
-  expr_forms c n (tree.Subscript at value slice) = tested_form (VAt at (VOp (operation op.Subscript Bare) (VMore (expr_forms c n value).value (VMore (expr_forms c (after c n value) slice).value VNone))))
+  expr_forms c n (tree.Subscript at value slice) =
+      tested_form (VAt at (VOp (operation op.Subscript Bare)
+      (VMore (expr_forms c n value).value (VMore (expr_forms c (after c n value) slice).value VNone))))
   expr_forms c n (tree.Starred at value) =
       let f = VAt at (expr_forms c n value).value in
       record { value = f; test = TTruth f; element = Spread (expr_forms c n value).value; callee = Function f }
@@ -183,7 +197,9 @@ abbrev mutual
   pub target_forms : Context → (next : ℕ) → tree.Expr → TargetForms
   target_forms c n (tree.Name at id) = plain_target (GStore Resolved (mangled_by c id))
   target_forms c n (tree.Attribute at value attr) = plain_target (GPut (named_operation op.StoreAttr (mangled_by c attr)) (VMore (expr_forms c n value).value VNone))
-  target_forms c n (tree.Subscript at value slice) = plain_target (GPut (operation op.StoreSubscript Bare) (VMore (expr_forms c n value).value (VMore (expr_forms c (after c n value) slice).value VNone)))
+  target_forms c n (tree.Subscript at value slice) =
+      plain_target (GPut (operation op.StoreSubscript Bare)
+      (VMore (expr_forms c n value).value (VMore (expr_forms c (after c n value) slice).value VNone)))
   target_forms c n (tree.List at elts) = plain_target (unpacked_to (all_targets c n elts))
   target_forms c n (tree.Tuple at elts) = plain_target (unpacked_to (all_targets c n elts))
   target_forms c n (tree.Starred at value) = record { alone = GDrop; element = Spread (target_forms c n value).alone }

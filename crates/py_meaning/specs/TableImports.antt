@@ -52,9 +52,9 @@ abbrev pub future_form : Context → Future → SForm
 future_form c f = SAt f.at (from_form c f.path f.names f.level)
 
 -- future imports, and the statements after them by their form
-abbrev pub behind_futures : (Context → tree.Stmts → SForm) → Context → tree.Stmts → SForm
-behind_futures form c tree.no_stmts = form c tree.no_stmts
-behind_futures form c (tree.more_stmts s ss) = elim (future_of s) [
+abbrev pub after_futures : (Context → tree.Stmts → SForm) → Context → tree.Stmts → SForm
+after_futures form c tree.no_stmts = form c tree.no_stmts
+after_futures form c (tree.more_stmts s ss) = elim (future_of s) [
   | None ↦ form c (tree.more_stmts s ss)
-  | Some f ↦ SThen (future_form c f) (behind_futures form (after_future f c) ss)
+  | Some f ↦ SThen (future_form c f) (after_futures form (after_future f c) ss)
 ]

@@ -4,8 +4,9 @@ use Rattle.py_bytecode.specs.declared.instruction.Instruction.{Instruction}
 use Rattle.py_bytecode.specs.declared.instruction.Instruction.TheVariants as op
 use Rattle.py_bytecode.specs.Objects as const
 use Rattle.py_bytecode.specs.Values.{operation, Bare}
-use Rattle.py_control.specs.Form.{VForm, VConst, VLoad, VOp, VMake, VKeep, VForms, VNone, VMore, FixedByName, FixedGlobal, GStore, GUnder, SForm, SSkip, SThen, SDo, SInto, SReturn, SClassEnd, SGather, SGenerate, Clauses, Scope}
-use Rattle.py_emission_parts.specs.Within.{doc_const, some_flag}
+use Rattle.py_control.specs.Form.{VForm, VConst, VLoad, VOp, VMake, VKeep, VForms, VNone, VMore, FixedByName, FixedGlobal, GStore, GUnder}
+use Rattle.py_control.specs.Form.{SForm, SSkip, SThen, SDo, SInto, SReturn, SClassEnd, SGather, SGenerate, Clauses, Scope}
+use Rattle.py_emission_parts.specs.NestedScopes.{doc_const, some_flag}
 use Rattle.py_emission_parts.specs.TableParts.{built_form, counted_operation, map_of, named_operation, some_built}
 
 -- the defaults of a function: of the positional parameters, and of those that are keywords only, by their names

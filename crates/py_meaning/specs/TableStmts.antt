@@ -2,16 +2,18 @@
 use Rattle.std.specs.Prelude.{ℕ, suc, ◌+◌, List, Option, Some, None, codes}
 use Rattle.py_tree.specs.Tree as tree
 use Rattle.py_bytecode.specs.Objects as const
-use Rattle.py_emission_parts.specs.Within.{class_path, class_within, function_inside}
+use Rattle.py_emission_parts.specs.NestedScopes.{class_path, nested_class, function_inside}
 use Rattle.py_emission_parts.specs.Context.{Context, mangled_by}
 use Rattle.py_emission.specs.Texts.{after_doc, doc_of, stmt_text}
-use Rattle.py_control.specs.Form.{VConst, Resolved, FixedGlobal, GDrop, GStore, SForm, SSkip, SThen, SInto, SIf, SIfElse, SWhile, SFor, SBreak, SContinue, SReturn, STry, STryFinal, SAt, Handlers, HNone, HAny, HTyped}
+use Rattle.py_control.specs.Form.{VConst, Resolved, FixedGlobal, GDrop, GStore, SForm, SSkip, SThen, SInto, SIf, SIfElse, SWhile, SFor}
+use Rattle.py_control.specs.Form.{SBreak, SContinue, SReturn, STry, STryFinal, SAt, Handlers, HNone, HAny, HTyped}
 use Rattle.py_emission_parts.specs.TableParts.{values}
-use Rattle.py_meaning.specs.TableImports.{behind_futures, from_form, import_form}
+use Rattle.py_meaning.specs.TableImports.{after_futures, from_form, import_form}
 use Rattle.py_meaning.specs.StmtCounts.{scopes_in_handlers, scopes_in_items}
-use Rattle.py_meaning.specs.StmtParts.{after_stmt, after_stmts, annotated_form, assert_form, assign_form, augment_form, declared_form, handler_target, named_form, raise_form, removals, return_form, unless_last, with_form}
+use Rattle.py_meaning.specs.StmtParts.{after_stmt, after_stmts, annotated_form, assert_form, assign_form, augment_form, declared_form}
+use Rattle.py_meaning.specs.StmtParts.{handler_target, named_form, raise_form, removals, return_form, unless_last, with_form}
 use Rattle.py_emission.specs.Predicates.{any_annotates, but_doc, is_last_return}
-use Rattle.py_meaning.specs.TableParams.{alias_form, around_own, built_value, def_form, function_number, own_number}
+use Rattle.py_meaning.specs.TableParams.{alias_form, enclosing_own, built_value, def_form, function_number, own_number}
 use Rattle.py_meaning.specs.Table.{after, after_all, after_opt, all_forms, expr_form, target_form, test_form}
 use Rattle.py_meaning.specs.TableScopes.{decorated_form, iterator, setup_form}
 
@@ -20,10 +22,15 @@ abbrev mutual
   pub stmt_form : Context → (next : ℕ) → tree.Stmt → SForm
   stmt_form c n (tree.FunctionDef at name params body decorators returns generic) =
       let m = after_all c n decorators in let k = function_number c m params generic in
-      SAt at (SInto (decorated_form (values (all_forms c n decorators)) (def_form c m name params body returns generic (function_body (function_inside name (around_own c m generic) k) (suc k) body))) (GStore Resolved (mangled_by c name)))
+      SAt at (SInto (decorated_form (values (all_forms c n decorators))
+      (def_form c m name params body returns generic (function_body (function_inside name (enclosing_own c m generic) k) (suc k) body)))
+      (GStore Resolved (mangled_by c name)))
   stmt_form c n (tree.ClassDef at name bases keywords body decorators generic) =
       let m = after_all c n decorators in let k = own_number c m generic in
-      SAt at (SInto (decorated_form (values (all_forms c n decorators)) (built_value c m name bases keywords body generic (rest_form (class_within (class_path c name) name (around_own c m generic) k) (suc k) body))) (GStore Resolved (mangled_by c name)))
+      SAt at (SInto (decorated_form (values (all_forms c n decorators))
+      (built_value c m name bases keywords body generic
+      (rest_form (nested_class (class_path c name) name (enclosing_own c m generic) k) (suc k) body)))
+      (GStore Resolved (mangled_by c name)))
   stmt_form c n (tree.Return at value) = SAt at (return_form c n value)
   stmt_form c n (tree.Delete at targets) = SAt at (removals c n targets)
   stmt_form c n (tree.Assign at targets value) = SAt at (assign_form c (after c n value) (expr_form c n value) targets)
@@ -92,4 +99,6 @@ doc_form (Some text) = SInto (VConst (const.str text)) (GStore FixedGlobal (code
 
 -- the docstring that is kept, room for annotations where there are any, future imports and what follows, and a return of None
 abbrev pub program_form : Context → tree.Stmts → SForm
-program_form c body = SThen (doc_form (doc_of c.level body)) (SThen (setup_form (any_annotates (after_doc body))) (SThen (behind_futures (λ d. stmts_form d 1) c (after_doc body)) (SReturn (VConst const.none))))
+program_form c body = SThen (doc_form (doc_of c.level body))
+    (SThen (setup_form (any_annotates (after_doc body)))
+    (SThen (after_futures (λ d. stmts_form d 1) c (after_doc body)) (SReturn (VConst const.none))))

@@ -1,4 +1,4 @@
--- Worked comprehensions: the code objects that they come to, and the code of their forms.
+-- Worked comprehensions: the code objects that they reach, and the code of their forms.
 use Rattle.std.proofs.Common.{◌≡◌, refl, List, [], ◌∷◌, true, false, Some, None, pos, negsuc, codes, length}
 use Rattle.py_base.specs.Literal as literal
 use Rattle.py_base.specs.declared.operators.BoolOp.TheVariants as boolean
@@ -18,7 +18,7 @@ use Rattle.py_emission_parts.specs.Children.{child, load_cell}
 use Rattle.py_emission_parts.specs.Comprehensions.{as_element, called_at_once}
 use Rattle.py_emission_parts.specs.Context.{inside, outermost, with_path}
 use Rattle.py_emission_parts.specs.Emitting.{Refused, with_step, with_block, with_name, with_varname, with_constant, with_loops, with_location, refuse, emit, jump, emit_count, emit_name, emit_varname, emit_mangled, add_varname, add_constant, emit_constant, move, generator_mark, pass_over, by_context, by_level, by_loops, in_loop, one_block, two_blocks, three_blocks}
-use Rattle.py_emission_parts.specs.Running.{put}
+use Rattle.py_emission_parts.specs.Running.{put_instruction}
 use Rattle.py_emission_parts.specs.Sealed.{assembled_object}
 use Rattle.py_emission.specs.Emission.{lambda_value}
 use Rattle.py_emission.specs.EmissionDefs.{emission_of_def}
@@ -26,7 +26,7 @@ use Rattle.py_emission.specs.EmissionMods.{emission_outcome}
 use Rattle.py_meaning.specs.Faults.{compile_faults}
 use Rattle.py_meaning.specs.Meaning.{body}
 use Rattle.py_meaning_samples.proofs.ObjectTools.{codes_of_object, codes_of_scope, entry, object_emitted, sealed_as, object_tool_symbol, object_tool_unit}
-use Rattle.py_meaning_samples.proofs.SampleTools.{source_place, sample_tool_told}
+use Rattle.py_meaning_samples.proofs.SampleTools.{source_place, sample_tool_faults}
 
 -- a list, a set and a dict of a comprehension, with an unpacked target:
 --     x = [a + 1 for a in b]
@@ -42,14 +42,14 @@ abbrev displays_object : Object
 displays_object = (sealed_as 2 None 1 0 0 0 1 (codes "<module>") ((object_tool_unit op.LoadConst 0) ∷ (object_tool_unit op.LoadConst 1) ∷ (object_tool_unit op.MakeFunction 0) ∷ (object_tool_unit op.LoadNameAny 0) ∷ (object_tool_unit op.GetIter 0) ∷ (object_tool_unit op.CallFunctionPositional 1) ∷ (object_tool_unit op.StoreLocal 1) ∷ (object_tool_unit op.LoadConst 2) ∷ (object_tool_unit op.LoadConst 3) ∷ (object_tool_unit op.MakeFunction 0) ∷ (object_tool_unit op.LoadNameAny 0) ∷ (object_tool_unit op.GetIter 0) ∷ (object_tool_unit op.CallFunctionPositional 1) ∷ (object_tool_unit op.StoreLocal 2) ∷ (object_tool_unit op.LoadConst 4) ∷ (object_tool_unit op.LoadConst 5) ∷ (object_tool_unit op.MakeFunction 0) ∷ (object_tool_unit op.LoadNameAny 3) ∷ (object_tool_unit op.GetIter 0) ∷ (object_tool_unit op.CallFunctionPositional 1) ∷ (object_tool_unit op.StoreLocal 4) ∷ (object_tool_unit op.ReturnConst 6) ∷ []) ((source_place 1 10) ∷ (source_place 1 10) ∷ (source_place 1 10) ∷ (source_place 1 21) ∷ (source_place 1 21) ∷ (source_place 1 21) ∷ (source_place 1 21) ∷ (source_place 2 6) ∷ (source_place 2 6) ∷ (source_place 2 6) ∷ (source_place 2 21) ∷ (source_place 2 21) ∷ (source_place 2 21) ∷ (source_place 2 21) ∷ (source_place 3 9) ∷ (source_place 3 9) ∷ (source_place 3 9) ∷ (source_place 3 29) ∷ (source_place 3 29) ∷ (source_place 3 29) ∷ (source_place 3 29) ∷ (source_place 3 29) ∷ []) ((codes "b") ∷ (codes "x") ∷ (codes "y") ∷ (codes "d") ∷ (codes "z") ∷ []) [] [] [] ((const.code (sealed_as 4 None 33 1 1 0 1 (codes "<listcomp>") ((object_tool_unit op.BuildList 0) ∷ (object_tool_unit op.LoadFast 0) ∷ (object_tool_unit op.ForIter 9) ∷ (object_tool_unit op.StoreFast 1) ∷ (object_tool_unit op.LoadFast 1) ∷ (object_tool_unit op.LoadConst 0) ∷ (object_tool_unit op.BinaryOperation 0) ∷ (object_tool_unit op.ListAppend 1) ∷ (object_tool_unit op.Jump 2) ∷ (object_tool_unit op.ReturnValue 0) ∷ []) ((source_place 1 5) ∷ (source_place 1 5) ∷ (source_place 1 5) ∷ (source_place 1 5) ∷ (source_place 1 6) ∷ (source_place 1 10) ∷ (source_place 1 10) ∷ (source_place 1 10) ∷ (source_place 1 10) ∷ (source_place 1 10) ∷ []) [] ((codes ".0") ∷ (codes "a") ∷ []) [] [] ((const.integer (pos 1)) ∷ []))) ∷ (const.str (codes "<listcomp>")) ∷ (const.code (sealed_as 4 None 33 1 1 0 2 (codes "<setcomp>") ((object_tool_unit op.BuildSet 0) ∷ (object_tool_unit op.LoadFast 0) ∷ (object_tool_unit op.ForIter 9) ∷ (object_tool_unit op.UnpackEx 1) ∷ (object_tool_unit op.StoreFast 1) ∷ (object_tool_unit op.StoreFast 2) ∷ (object_tool_unit op.LoadFast 1) ∷ (object_tool_unit op.SetAdd 1) ∷ (object_tool_unit op.Jump 2) ∷ (object_tool_unit op.ReturnValue 0) ∷ []) ((source_place 2 5) ∷ (source_place 2 5) ∷ (source_place 2 5) ∷ (source_place 2 5) ∷ (source_place 2 5) ∷ (source_place 2 5) ∷ (source_place 2 6) ∷ (source_place 2 6) ∷ (source_place 2 6) ∷ (source_place 2 6) ∷ []) [] ((codes ".0") ∷ (codes "a") ∷ (codes "c") ∷ []) [] [] [])) ∷ (const.str (codes "<setcomp>")) ∷ (const.code (sealed_as 4 None 33 1 1 0 3 (codes "<dictcomp>") ((object_tool_unit op.BuildMap 0) ∷ (object_tool_unit op.LoadFast 0) ∷ (object_tool_unit op.ForIter 12) ∷ (object_tool_unit op.UnpackSequence 2) ∷ (object_tool_unit op.StoreFast 1) ∷ (object_tool_unit op.UnpackSequence 1) ∷ (object_tool_unit op.StoreFast 2) ∷ (object_tool_unit op.LoadFast 1) ∷ (object_tool_unit op.LoadFast 2) ∷ (object_tool_unit op.LoadAttr 0) ∷ (object_tool_unit op.MapAdd 1) ∷ (object_tool_unit op.Jump 2) ∷ (object_tool_unit op.ReturnValue 0) ∷ []) ((source_place 3 5) ∷ (source_place 3 5) ∷ (source_place 3 5) ∷ (source_place 3 5) ∷ (source_place 3 5) ∷ (source_place 3 5) ∷ (source_place 3 5) ∷ (source_place 3 6) ∷ (source_place 3 9) ∷ (source_place 3 9) ∷ (source_place 3 9) ∷ (source_place 3 9) ∷ (source_place 3 9) ∷ []) ((codes "w") ∷ []) ((codes ".0") ∷ (codes "k") ∷ (codes "v") ∷ []) [] [] [])) ∷ (const.str (codes "<dictcomp>")) ∷ const.none ∷ []))
 
 displays_emitted : object_emitted displays_scopes displays 0 ≡ Some (displays_object, length displays_scopes)
-unfolding with_step with_block with_name with_varname with_constant with_loops with_location refuse emit jump one_block two_blocks three_blocks put emit_count emit_name emit_varname emit_mangled add_varname add_constant emit_constant move generator_mark pass_over by_context by_level by_loops in_loop name_access inside with_path child lambda_value emission_of_def load_cell assembled_object as_element called_at_once
+unfolding with_step with_block with_name with_varname with_constant with_loops with_location refuse emit jump one_block two_blocks three_blocks put_instruction emit_count emit_name emit_varname emit_mangled add_varname add_constant emit_constant move generator_mark pass_over by_context by_level by_loops in_loop name_access inside with_path child lambda_value emission_of_def load_cell assembled_object as_element called_at_once
 displays_emitted = refl
 
 displays_forms : codes_of_object 9 displays_object ≡ codes_of_scope 9 (body displays_scopes displays Exec 0)
 unfolding inside with_path
 displays_forms = refl
 
-displays_faults : sample_tool_told (compile_faults Exec 0 displays) ≡ []
+displays_faults : sample_tool_faults (compile_faults Exec 0 displays) ≡ []
 displays_faults = refl
 
 -- a generator, whose iterable stands outside:
@@ -64,14 +64,14 @@ abbrev generator_object : Object
 generator_object = (sealed_as 3 None 1 0 0 0 1 (codes "<module>") ((object_tool_unit op.LoadNameAny 0) ∷ (object_tool_unit op.LoadConst 0) ∷ (object_tool_unit op.LoadConst 1) ∷ (object_tool_unit op.MakeFunction 0) ∷ (object_tool_unit op.LoadNameAny 1) ∷ (object_tool_unit op.LoadAttr 2) ∷ (object_tool_unit op.GetIter 0) ∷ (object_tool_unit op.CallFunctionPositional 1) ∷ (object_tool_unit op.CallFunctionPositional 1) ∷ (object_tool_unit op.StoreLocal 3) ∷ (object_tool_unit op.ReturnConst 2) ∷ []) ((source_place 1 5) ∷ (source_place 1 7) ∷ (source_place 1 7) ∷ (source_place 1 7) ∷ (source_place 1 18) ∷ (source_place 1 18) ∷ (source_place 1 18) ∷ (source_place 1 18) ∷ (source_place 1 18) ∷ (source_place 1 18) ∷ (source_place 1 18) ∷ []) ((codes "f") ∷ (codes "b") ∷ (codes "c") ∷ (codes "x") ∷ []) [] [] [] ((const.code (sealed_as 2 None 35 1 1 0 1 (codes "<genexpr>") ((object_tool_unit op.LoadFast 0) ∷ (object_tool_unit op.ForIter 9) ∷ (object_tool_unit op.StoreFast 1) ∷ (object_tool_unit op.LoadFast 1) ∷ (object_tool_unit op.JumpIfFalse 1) ∷ (object_tool_unit op.LoadFast 1) ∷ (object_tool_unit op.YieldValue 0) ∷ (object_tool_unit op.Pop 0) ∷ (object_tool_unit op.Jump 1) ∷ (object_tool_unit op.ReturnConst 0) ∷ []) ((source_place 1 6) ∷ (source_place 1 6) ∷ (source_place 1 6) ∷ (source_place 1 25) ∷ (source_place 1 25) ∷ (source_place 1 7) ∷ (source_place 1 7) ∷ (source_place 1 7) ∷ (source_place 1 7) ∷ (source_place 1 7) ∷ []) [] ((codes ".0") ∷ (codes "a") ∷ []) [] [] (const.none ∷ []))) ∷ (const.str (codes "<genexpr>")) ∷ const.none ∷ []))
 
 generator_emitted : object_emitted generator_scopes comprehension_sample_generator 0 ≡ Some (generator_object, length generator_scopes)
-unfolding with_step with_block with_name with_varname with_constant with_loops with_location refuse emit jump one_block two_blocks three_blocks put emit_count emit_name emit_varname emit_mangled add_varname add_constant emit_constant move generator_mark pass_over by_context by_level by_loops in_loop name_access inside with_path child lambda_value emission_of_def load_cell assembled_object as_element called_at_once
+unfolding with_step with_block with_name with_varname with_constant with_loops with_location refuse emit jump one_block two_blocks three_blocks put_instruction emit_count emit_name emit_varname emit_mangled add_varname add_constant emit_constant move generator_mark pass_over by_context by_level by_loops in_loop name_access inside with_path child lambda_value emission_of_def load_cell assembled_object as_element called_at_once
 generator_emitted = refl
 
 generator_forms : codes_of_object 9 generator_object ≡ codes_of_scope 9 (body generator_scopes comprehension_sample_generator Exec 0)
 unfolding inside with_path
 generator_forms = refl
 
-generator_faults : sample_tool_told (compile_faults Exec 0 comprehension_sample_generator) ≡ []
+generator_faults : sample_tool_faults (compile_faults Exec 0 comprehension_sample_generator) ≡ []
 generator_faults = refl
 
 -- two clauses with conditions:
@@ -86,37 +86,37 @@ abbrev two_clauses_object : Object
 two_clauses_object = (sealed_as 2 None 1 0 0 0 1 (codes "<module>") ((object_tool_unit op.LoadConst 0) ∷ (object_tool_unit op.LoadConst 1) ∷ (object_tool_unit op.MakeFunction 0) ∷ (object_tool_unit op.LoadNameAny 0) ∷ (object_tool_unit op.GetIter 0) ∷ (object_tool_unit op.CallFunctionPositional 1) ∷ (object_tool_unit op.Pop 0) ∷ (object_tool_unit op.ReturnConst 2) ∷ []) ((source_place 1 6) ∷ (source_place 1 6) ∷ (source_place 1 6) ∷ (source_place 1 17) ∷ (source_place 1 17) ∷ (source_place 1 17) ∷ (source_place 1 17) ∷ (source_place 1 17) ∷ []) ((codes "b") ∷ []) [] [] [] ((const.code (sealed_as 5 None 33 1 1 0 1 (codes "<listcomp>") ((object_tool_unit op.BuildList 0) ∷ (object_tool_unit op.LoadFast 0) ∷ (object_tool_unit op.ForIter 27) ∷ (object_tool_unit op.StoreFast 1) ∷ (object_tool_unit op.LoadFast 1) ∷ (object_tool_unit op.JumpIfFalse 2) ∷ (object_tool_unit op.LoadFast 1) ∷ (object_tool_unit op.LoadAttr 0) ∷ (object_tool_unit op.JumpIfTrue 2) ∷ (object_tool_unit op.LoadFast 1) ∷ (object_tool_unit op.LoadConst 0) ∷ (object_tool_unit op.Subscript 0) ∷ (object_tool_unit op.GetIter 0) ∷ (object_tool_unit op.ForIter 26) ∷ (object_tool_unit op.StoreFast 2) ∷ (object_tool_unit op.LoadFast 2) ∷ (object_tool_unit op.JumpIfFalse 13) ∷ (object_tool_unit op.LoadFast 1) ∷ (object_tool_unit op.JumpIfTrue 21) ∷ (object_tool_unit op.LoadGlobal 0) ∷ (object_tool_unit op.JumpIfFalse 13) ∷ (object_tool_unit op.LoadFast 1) ∷ (object_tool_unit op.LoadFast 2) ∷ (object_tool_unit op.BinaryOperation 0) ∷ (object_tool_unit op.ListAppend 2) ∷ (object_tool_unit op.Jump 13) ∷ (object_tool_unit op.Jump 2) ∷ (object_tool_unit op.ReturnValue 0) ∷ []) ((source_place 1 1) ∷ (source_place 1 1) ∷ (source_place 1 1) ∷ (source_place 1 1) ∷ (source_place 1 22) ∷ (source_place 1 22) ∷ (source_place 1 31) ∷ (source_place 1 31) ∷ (source_place 1 31) ∷ (source_place 1 44) ∷ (source_place 1 46) ∷ (source_place 1 46) ∷ (source_place 1 46) ∷ (source_place 1 46) ∷ (source_place 1 46) ∷ (source_place 1 52) ∷ (source_place 1 52) ∷ (source_place 1 59) ∷ (source_place 1 59) ∷ (source_place 1 64) ∷ (source_place 1 64) ∷ (source_place 1 2) ∷ (source_place 1 6) ∷ (source_place 1 6) ∷ (source_place 1 6) ∷ (source_place 1 6) ∷ (source_place 1 6) ∷ (source_place 1 6) ∷ []) ((codes "d") ∷ []) ((codes ".0") ∷ (codes "a") ∷ (codes "c") ∷ []) [] [] ((const.integer (pos 0)) ∷ []))) ∷ (const.str (codes "<listcomp>")) ∷ const.none ∷ []))
 
 two_clauses_emitted : object_emitted two_clauses_scopes two_clauses 0 ≡ Some (two_clauses_object, length two_clauses_scopes)
-unfolding with_step with_block with_name with_varname with_constant with_loops with_location refuse emit jump one_block two_blocks three_blocks put emit_count emit_name emit_varname emit_mangled add_varname add_constant emit_constant move generator_mark pass_over by_context by_level by_loops in_loop name_access inside with_path child lambda_value emission_of_def load_cell assembled_object as_element called_at_once
+unfolding with_step with_block with_name with_varname with_constant with_loops with_location refuse emit jump one_block two_blocks three_blocks put_instruction emit_count emit_name emit_varname emit_mangled add_varname add_constant emit_constant move generator_mark pass_over by_context by_level by_loops in_loop name_access inside with_path child lambda_value emission_of_def load_cell assembled_object as_element called_at_once
 two_clauses_emitted = refl
 
 two_clauses_forms : codes_of_object 9 two_clauses_object ≡ codes_of_scope 9 (body two_clauses_scopes two_clauses Exec 0)
 unfolding inside with_path
 two_clauses_forms = refl
 
-two_clauses_faults : sample_tool_told (compile_faults Exec 0 two_clauses) ≡ []
+two_clauses_faults : sample_tool_faults (compile_faults Exec 0 two_clauses) ≡ []
 two_clauses_faults = refl
 
 -- a walrus binds in the enclosing function:
 --     def f(): return [y := v for v in z]
-abbrev walrus_within : tree.Mod
-walrus_within = (tree.Module (tree.more_stmts (tree.FunctionDef (source_place 1 1) (codes "f") (tree.arguments tree.no_args tree.no_args tree.no_arg tree.no_args tree.no_arg) (tree.more_stmts (tree.Return (source_place 1 10) (tree.some_expr (tree.ListComp (source_place 1 17) (tree.NamedExpr (source_place 1 18) (tree.Name (source_place 1 18) (codes "y")) (tree.Name (source_place 1 23) (codes "v"))) (tree.more_generators (tree.Name (source_place 1 29) (codes "v")) (tree.Name (source_place 1 34) (codes "z")) tree.no_exprs false tree.no_generators)))) tree.no_stmts) tree.no_exprs tree.no_expr tree.no_type_params) tree.no_stmts))
+abbrev walrus_nested : tree.Mod
+walrus_nested = (tree.Module (tree.more_stmts (tree.FunctionDef (source_place 1 1) (codes "f") (tree.arguments tree.no_args tree.no_args tree.no_arg tree.no_args tree.no_arg) (tree.more_stmts (tree.Return (source_place 1 10) (tree.some_expr (tree.ListComp (source_place 1 17) (tree.NamedExpr (source_place 1 18) (tree.Name (source_place 1 18) (codes "y")) (tree.Name (source_place 1 23) (codes "v"))) (tree.more_generators (tree.Name (source_place 1 29) (codes "v")) (tree.Name (source_place 1 34) (codes "z")) tree.no_exprs false tree.no_generators)))) tree.no_stmts) tree.no_exprs tree.no_expr tree.no_type_params) tree.no_stmts))
 
-abbrev walrus_within_scopes : List ScopeEntry
-walrus_within_scopes = ((entry kinds.Module ((object_tool_symbol (codes "f") symbols.Local 2) ∷ []) 3) ∷ (entry kinds.Function ((object_tool_symbol (codes "z") symbols.GlobalImplicit 1) ∷ (object_tool_symbol (codes "y") symbols.Cell 2) ∷ []) 3) ∷ (entry kinds.Comprehension ((object_tool_symbol (codes ".0") symbols.Local 4) ∷ (object_tool_symbol (codes "v") symbols.Local 129) ∷ (object_tool_symbol (codes "y") symbols.Free 66) ∷ []) 3) ∷ [])
+abbrev walrus_nested_scopes : List ScopeEntry
+walrus_nested_scopes = ((entry kinds.Module ((object_tool_symbol (codes "f") symbols.Local 2) ∷ []) 3) ∷ (entry kinds.Function ((object_tool_symbol (codes "z") symbols.GlobalImplicit 1) ∷ (object_tool_symbol (codes "y") symbols.Cell 2) ∷ []) 3) ∷ (entry kinds.Comprehension ((object_tool_symbol (codes ".0") symbols.Local 4) ∷ (object_tool_symbol (codes "v") symbols.Local 129) ∷ (object_tool_symbol (codes "y") symbols.Free 66) ∷ []) 3) ∷ [])
 
-abbrev walrus_within_object : Object
-walrus_within_object = (sealed_as 2 None 1 0 0 0 1 (codes "<module>") ((object_tool_unit op.LoadConst 0) ∷ (object_tool_unit op.LoadConst 1) ∷ (object_tool_unit op.MakeFunction 0) ∷ (object_tool_unit op.StoreLocal 0) ∷ (object_tool_unit op.ReturnConst 2) ∷ []) ((source_place 1 34) ∷ (source_place 1 34) ∷ (source_place 1 34) ∷ (source_place 1 34) ∷ (source_place 1 34) ∷ []) ((codes "f") ∷ []) [] [] [] ((const.code (sealed_as 3 None 33 0 0 0 1 (codes "f") ((object_tool_unit op.LoadClosure 0) ∷ (object_tool_unit op.BuildTuple 1) ∷ (object_tool_unit op.LoadConst 1) ∷ (object_tool_unit op.LoadConst 2) ∷ (object_tool_unit op.MakeFunction 1) ∷ (object_tool_unit op.LoadGlobal 0) ∷ (object_tool_unit op.GetIter 0) ∷ (object_tool_unit op.CallFunctionPositional 1) ∷ (object_tool_unit op.ReturnValue 0) ∷ []) ((source_place 1 23) ∷ (source_place 1 23) ∷ (source_place 1 23) ∷ (source_place 1 23) ∷ (source_place 1 23) ∷ (source_place 1 34) ∷ (source_place 1 34) ∷ (source_place 1 34) ∷ (source_place 1 34) ∷ []) ((codes "z") ∷ []) [] ((codes "y") ∷ []) [] (const.none ∷ (const.code (sealed_as 4 None 33 1 1 0 1 (codes "<listcomp>") ((object_tool_unit op.BuildList 0) ∷ (object_tool_unit op.LoadFast 0) ∷ (object_tool_unit op.ForIter 9) ∷ (object_tool_unit op.StoreFast 1) ∷ (object_tool_unit op.LoadFast 1) ∷ (object_tool_unit op.Duplicate 0) ∷ (object_tool_unit op.StoreDeref 0) ∷ (object_tool_unit op.ListAppend 1) ∷ (object_tool_unit op.Jump 2) ∷ (object_tool_unit op.ReturnValue 0) ∷ []) ((source_place 1 17) ∷ (source_place 1 17) ∷ (source_place 1 17) ∷ (source_place 1 17) ∷ (source_place 1 23) ∷ (source_place 1 23) ∷ (source_place 1 23) ∷ (source_place 1 23) ∷ (source_place 1 23) ∷ (source_place 1 23) ∷ []) [] ((codes ".0") ∷ (codes "v") ∷ []) [] ((codes "y") ∷ []) [])) ∷ (const.str (codes "<listcomp>")) ∷ []))) ∷ (const.str (codes "f")) ∷ const.none ∷ []))
+abbrev walrus_nested_object : Object
+walrus_nested_object = (sealed_as 2 None 1 0 0 0 1 (codes "<module>") ((object_tool_unit op.LoadConst 0) ∷ (object_tool_unit op.LoadConst 1) ∷ (object_tool_unit op.MakeFunction 0) ∷ (object_tool_unit op.StoreLocal 0) ∷ (object_tool_unit op.ReturnConst 2) ∷ []) ((source_place 1 34) ∷ (source_place 1 34) ∷ (source_place 1 34) ∷ (source_place 1 34) ∷ (source_place 1 34) ∷ []) ((codes "f") ∷ []) [] [] [] ((const.code (sealed_as 3 None 33 0 0 0 1 (codes "f") ((object_tool_unit op.LoadClosure 0) ∷ (object_tool_unit op.BuildTuple 1) ∷ (object_tool_unit op.LoadConst 1) ∷ (object_tool_unit op.LoadConst 2) ∷ (object_tool_unit op.MakeFunction 1) ∷ (object_tool_unit op.LoadGlobal 0) ∷ (object_tool_unit op.GetIter 0) ∷ (object_tool_unit op.CallFunctionPositional 1) ∷ (object_tool_unit op.ReturnValue 0) ∷ []) ((source_place 1 23) ∷ (source_place 1 23) ∷ (source_place 1 23) ∷ (source_place 1 23) ∷ (source_place 1 23) ∷ (source_place 1 34) ∷ (source_place 1 34) ∷ (source_place 1 34) ∷ (source_place 1 34) ∷ []) ((codes "z") ∷ []) [] ((codes "y") ∷ []) [] (const.none ∷ (const.code (sealed_as 4 None 33 1 1 0 1 (codes "<listcomp>") ((object_tool_unit op.BuildList 0) ∷ (object_tool_unit op.LoadFast 0) ∷ (object_tool_unit op.ForIter 9) ∷ (object_tool_unit op.StoreFast 1) ∷ (object_tool_unit op.LoadFast 1) ∷ (object_tool_unit op.Duplicate 0) ∷ (object_tool_unit op.StoreDeref 0) ∷ (object_tool_unit op.ListAppend 1) ∷ (object_tool_unit op.Jump 2) ∷ (object_tool_unit op.ReturnValue 0) ∷ []) ((source_place 1 17) ∷ (source_place 1 17) ∷ (source_place 1 17) ∷ (source_place 1 17) ∷ (source_place 1 23) ∷ (source_place 1 23) ∷ (source_place 1 23) ∷ (source_place 1 23) ∷ (source_place 1 23) ∷ (source_place 1 23) ∷ []) [] ((codes ".0") ∷ (codes "v") ∷ []) [] ((codes "y") ∷ []) [])) ∷ (const.str (codes "<listcomp>")) ∷ []))) ∷ (const.str (codes "f")) ∷ const.none ∷ []))
 
-walrus_within_emitted : object_emitted walrus_within_scopes walrus_within 0 ≡ Some (walrus_within_object, length walrus_within_scopes)
-unfolding with_step with_block with_name with_varname with_constant with_loops with_location refuse emit jump one_block two_blocks three_blocks put emit_count emit_name emit_varname emit_mangled add_varname add_constant emit_constant move generator_mark pass_over by_context by_level by_loops in_loop name_access inside with_path child lambda_value emission_of_def load_cell assembled_object as_element called_at_once
-walrus_within_emitted = refl
+walrus_nested_emitted : object_emitted walrus_nested_scopes walrus_nested 0 ≡ Some (walrus_nested_object, length walrus_nested_scopes)
+unfolding with_step with_block with_name with_varname with_constant with_loops with_location refuse emit jump one_block two_blocks three_blocks put_instruction emit_count emit_name emit_varname emit_mangled add_varname add_constant emit_constant move generator_mark pass_over by_context by_level by_loops in_loop name_access inside with_path child lambda_value emission_of_def load_cell assembled_object as_element called_at_once
+walrus_nested_emitted = refl
 
-walrus_within_forms : codes_of_object 9 walrus_within_object ≡ codes_of_scope 9 (body walrus_within_scopes walrus_within Exec 0)
+walrus_nested_forms : codes_of_object 9 walrus_nested_object ≡ codes_of_scope 9 (body walrus_nested_scopes walrus_nested Exec 0)
 unfolding inside with_path
-walrus_within_forms = refl
+walrus_nested_forms = refl
 
-walrus_within_faults : sample_tool_told (compile_faults Exec 0 walrus_within) ≡ []
-walrus_within_faults = refl
+walrus_nested_faults : sample_tool_faults (compile_faults Exec 0 walrus_nested) ≡ []
+walrus_nested_faults = refl
 
 -- a walrus of a module, in a condition, and a lambda over its name:
 --     [(lambda: y) for v in z if (y := v)]
@@ -130,14 +130,14 @@ abbrev walrus_of_module_object : Object
 walrus_of_module_object = (sealed_as 2 None 1 0 0 0 1 (codes "<module>") ((object_tool_unit op.LoadConst 0) ∷ (object_tool_unit op.LoadConst 1) ∷ (object_tool_unit op.MakeFunction 0) ∷ (object_tool_unit op.LoadNameAny 0) ∷ (object_tool_unit op.GetIter 0) ∷ (object_tool_unit op.CallFunctionPositional 1) ∷ (object_tool_unit op.Pop 0) ∷ (object_tool_unit op.ReturnConst 2) ∷ []) ((source_place 1 11) ∷ (source_place 1 11) ∷ (source_place 1 11) ∷ (source_place 1 23) ∷ (source_place 1 23) ∷ (source_place 1 23) ∷ (source_place 1 23) ∷ (source_place 1 23) ∷ []) ((codes "z") ∷ []) [] [] [] ((const.code (sealed_as 4 None 33 1 1 0 1 (codes "<listcomp>") ((object_tool_unit op.BuildList 0) ∷ (object_tool_unit op.LoadFast 0) ∷ (object_tool_unit op.ForIter 13) ∷ (object_tool_unit op.StoreFast 1) ∷ (object_tool_unit op.LoadFast 1) ∷ (object_tool_unit op.Duplicate 0) ∷ (object_tool_unit op.StoreGlobal 0) ∷ (object_tool_unit op.JumpIfFalse 2) ∷ (object_tool_unit op.LoadConst 0) ∷ (object_tool_unit op.LoadConst 1) ∷ (object_tool_unit op.MakeFunction 0) ∷ (object_tool_unit op.ListAppend 1) ∷ (object_tool_unit op.Jump 2) ∷ (object_tool_unit op.ReturnValue 0) ∷ []) ((source_place 1 1) ∷ (source_place 1 1) ∷ (source_place 1 1) ∷ (source_place 1 1) ∷ (source_place 1 34) ∷ (source_place 1 34) ∷ (source_place 1 34) ∷ (source_place 1 34) ∷ (source_place 1 11) ∷ (source_place 1 11) ∷ (source_place 1 11) ∷ (source_place 1 11) ∷ (source_place 1 11) ∷ (source_place 1 11) ∷ []) ((codes "y") ∷ []) ((codes ".0") ∷ (codes "v") ∷ []) [] [] ((const.code (sealed_as 1 None 33 0 0 0 1 (codes "<lambda>") ((object_tool_unit op.LoadGlobal 0) ∷ (object_tool_unit op.ReturnValue 0) ∷ []) ((source_place 1 11) ∷ (source_place 1 11) ∷ []) ((codes "y") ∷ []) [] [] [] (const.none ∷ []))) ∷ (const.str (codes "<lambda>")) ∷ []))) ∷ (const.str (codes "<listcomp>")) ∷ const.none ∷ []))
 
 walrus_of_module_emitted : object_emitted walrus_of_module_scopes walrus_of_module 0 ≡ Some (walrus_of_module_object, length walrus_of_module_scopes)
-unfolding with_step with_block with_name with_varname with_constant with_loops with_location refuse emit jump one_block two_blocks three_blocks put emit_count emit_name emit_varname emit_mangled add_varname add_constant emit_constant move generator_mark pass_over by_context by_level by_loops in_loop name_access inside with_path child lambda_value emission_of_def load_cell assembled_object as_element called_at_once
+unfolding with_step with_block with_name with_varname with_constant with_loops with_location refuse emit jump one_block two_blocks three_blocks put_instruction emit_count emit_name emit_varname emit_mangled add_varname add_constant emit_constant move generator_mark pass_over by_context by_level by_loops in_loop name_access inside with_path child lambda_value emission_of_def load_cell assembled_object as_element called_at_once
 walrus_of_module_emitted = refl
 
 walrus_of_module_forms : codes_of_object 9 walrus_of_module_object ≡ codes_of_scope 9 (body walrus_of_module_scopes walrus_of_module Exec 0)
 unfolding inside with_path
 walrus_of_module_forms = refl
 
-walrus_of_module_faults : sample_tool_told (compile_faults Exec 0 walrus_of_module) ≡ []
+walrus_of_module_faults : sample_tool_faults (compile_faults Exec 0 walrus_of_module) ≡ []
 walrus_of_module_faults = refl
 
 -- the value of an assignment comes before its target:
@@ -152,14 +152,14 @@ abbrev stored_into_object : Object
 stored_into_object = (sealed_as 4 None 1 0 0 0 1 (codes "<module>") ((object_tool_unit op.LoadConst 0) ∷ (object_tool_unit op.LoadConst 1) ∷ (object_tool_unit op.MakeFunction 0) ∷ (object_tool_unit op.LoadNameAny 0) ∷ (object_tool_unit op.GetIter 0) ∷ (object_tool_unit op.CallFunctionPositional 1) ∷ (object_tool_unit op.LoadNameAny 1) ∷ (object_tool_unit op.LoadConst 2) ∷ (object_tool_unit op.LoadConst 3) ∷ (object_tool_unit op.MakeFunction 0) ∷ (object_tool_unit op.CallFunctionPositional 0) ∷ (object_tool_unit op.StoreSubscript 0) ∷ (object_tool_unit op.ReturnConst 4) ∷ []) ((source_place 1 21) ∷ (source_place 1 21) ∷ (source_place 1 21) ∷ (source_place 1 32) ∷ (source_place 1 32) ∷ (source_place 1 32) ∷ (source_place 1 1) ∷ (source_place 1 12) ∷ (source_place 1 12) ∷ (source_place 1 12) ∷ (source_place 1 12) ∷ (source_place 1 12) ∷ (source_place 1 12) ∷ []) ((codes "y") ∷ (codes "d") ∷ []) [] [] [] ((const.code (sealed_as 3 None 33 1 1 0 1 (codes "<listcomp>") ((object_tool_unit op.BuildList 0) ∷ (object_tool_unit op.LoadFast 0) ∷ (object_tool_unit op.ForIter 7) ∷ (object_tool_unit op.StoreFast 1) ∷ (object_tool_unit op.LoadFast 1) ∷ (object_tool_unit op.ListAppend 1) ∷ (object_tool_unit op.Jump 2) ∷ (object_tool_unit op.ReturnValue 0) ∷ []) ((source_place 1 20) ∷ (source_place 1 20) ∷ (source_place 1 20) ∷ (source_place 1 20) ∷ (source_place 1 21) ∷ (source_place 1 21) ∷ (source_place 1 21) ∷ (source_place 1 21) ∷ []) [] ((codes ".0") ∷ (codes "x") ∷ []) [] [] [])) ∷ (const.str (codes "<listcomp>")) ∷ (const.code (sealed_as 1 None 33 0 0 0 1 (codes "<lambda>") ((object_tool_unit op.LoadGlobal 0) ∷ (object_tool_unit op.ReturnValue 0) ∷ []) ((source_place 1 12) ∷ (source_place 1 12) ∷ []) ((codes "k") ∷ []) [] [] [] (const.none ∷ []))) ∷ (const.str (codes "<lambda>")) ∷ const.none ∷ []))
 
 stored_into_emitted : object_emitted stored_into_scopes stored_into 0 ≡ Some (stored_into_object, length stored_into_scopes)
-unfolding with_step with_block with_name with_varname with_constant with_loops with_location refuse emit jump one_block two_blocks three_blocks put emit_count emit_name emit_varname emit_mangled add_varname add_constant emit_constant move generator_mark pass_over by_context by_level by_loops in_loop name_access inside with_path child lambda_value emission_of_def load_cell assembled_object as_element called_at_once
+unfolding with_step with_block with_name with_varname with_constant with_loops with_location refuse emit jump one_block two_blocks three_blocks put_instruction emit_count emit_name emit_varname emit_mangled add_varname add_constant emit_constant move generator_mark pass_over by_context by_level by_loops in_loop name_access inside with_path child lambda_value emission_of_def load_cell assembled_object as_element called_at_once
 stored_into_emitted = refl
 
 stored_into_forms : codes_of_object 9 stored_into_object ≡ codes_of_scope 9 (body stored_into_scopes stored_into Exec 0)
 unfolding inside with_path
 stored_into_forms = refl
 
-stored_into_faults : sample_tool_told (compile_faults Exec 0 stored_into) ≡ []
+stored_into_faults : sample_tool_faults (compile_faults Exec 0 stored_into) ≡ []
 stored_into_faults = refl
 
 -- a comprehension in the element, and others in an iterable, a condition and a target:
@@ -175,14 +175,14 @@ abbrev nested_object : Object
 nested_object = (sealed_as 2 None 1 0 0 0 1 (codes "<module>") ((object_tool_unit op.LoadConst 0) ∷ (object_tool_unit op.LoadConst 1) ∷ (object_tool_unit op.MakeFunction 0) ∷ (object_tool_unit op.StoreLocal 0) ∷ (object_tool_unit op.ReturnConst 2) ∷ []) ((source_place 2 58) ∷ (source_place 2 58) ∷ (source_place 2 58) ∷ (source_place 2 58) ∷ (source_place 2 58) ∷ []) ((codes "f") ∷ []) [] [] [] ((const.code (sealed_as 3 (Some ((pos 0) ∷ (pos 1) ∷ [])) 33 0 2 0 1 (codes "f") ((object_tool_unit op.LoadClosure 0) ∷ (object_tool_unit op.LoadClosure 1) ∷ (object_tool_unit op.BuildTuple 2) ∷ (object_tool_unit op.LoadConst 1) ∷ (object_tool_unit op.LoadConst 2) ∷ (object_tool_unit op.MakeFunction 1) ∷ (object_tool_unit op.LoadConst 3) ∷ (object_tool_unit op.LoadConst 4) ∷ (object_tool_unit op.MakeFunction 0) ∷ (object_tool_unit op.LoadDeref 0) ∷ (object_tool_unit op.GetIter 0) ∷ (object_tool_unit op.CallFunctionPositional 1) ∷ (object_tool_unit op.GetIter 0) ∷ (object_tool_unit op.CallFunctionPositional 1) ∷ (object_tool_unit op.ReturnValue 0) ∷ []) ((source_place 2 29) ∷ (source_place 2 29) ∷ (source_place 2 29) ∷ (source_place 2 29) ∷ (source_place 2 29) ∷ (source_place 2 29) ∷ (source_place 2 47) ∷ (source_place 2 47) ∷ (source_place 2 47) ∷ (source_place 2 58) ∷ (source_place 2 58) ∷ (source_place 2 58) ∷ (source_place 2 58) ∷ (source_place 2 58) ∷ (source_place 2 58) ∷ []) [] ((codes "m") ∷ (codes "n") ∷ []) ((codes "m") ∷ (codes "n") ∷ []) [] (const.none ∷ (const.code (sealed_as 8 None 33 1 1 0 2 (codes "<listcomp>") ((object_tool_unit op.BuildList 0) ∷ (object_tool_unit op.LoadFast 0) ∷ (object_tool_unit op.ForIter 46) ∷ (object_tool_unit op.StoreDeref 0) ∷ (object_tool_unit op.LoadClosure 0) ∷ (object_tool_unit op.BuildTuple 1) ∷ (object_tool_unit op.LoadConst 0) ∷ (object_tool_unit op.LoadConst 1) ∷ (object_tool_unit op.MakeFunction 1) ∷ (object_tool_unit op.LoadDeref 0) ∷ (object_tool_unit op.GetIter 0) ∷ (object_tool_unit op.CallFunctionPositional 1) ∷ (object_tool_unit op.GetIter 0) ∷ (object_tool_unit op.ForIter 45) ∷ (object_tool_unit op.LoadGlobal 0) ∷ (object_tool_unit op.LoadClosure 2) ∷ (object_tool_unit op.BuildTuple 1) ∷ (object_tool_unit op.LoadConst 2) ∷ (object_tool_unit op.LoadConst 1) ∷ (object_tool_unit op.MakeFunction 1) ∷ (object_tool_unit op.LoadDeref 0) ∷ (object_tool_unit op.GetIter 0) ∷ (object_tool_unit op.CallFunctionPositional 1) ∷ (object_tool_unit op.LoadConst 3) ∷ (object_tool_unit op.Subscript 0) ∷ (object_tool_unit op.StoreSubscript 0) ∷ (object_tool_unit op.LoadClosure 1) ∷ (object_tool_unit op.BuildTuple 1) ∷ (object_tool_unit op.LoadConst 4) ∷ (object_tool_unit op.LoadConst 1) ∷ (object_tool_unit op.MakeFunction 1) ∷ (object_tool_unit op.LoadDeref 1) ∷ (object_tool_unit op.GetIter 0) ∷ (object_tool_unit op.CallFunctionPositional 1) ∷ (object_tool_unit op.JumpIfFalse 13) ∷ (object_tool_unit op.LoadClosure 2) ∷ (object_tool_unit op.BuildTuple 1) ∷ (object_tool_unit op.LoadConst 5) ∷ (object_tool_unit op.LoadConst 6) ∷ (object_tool_unit op.MakeFunction 1) ∷ (object_tool_unit op.LoadDeref 0) ∷ (object_tool_unit op.GetIter 0) ∷ (object_tool_unit op.CallFunctionPositional 1) ∷ (object_tool_unit op.ListAppend 2) ∷ (object_tool_unit op.Jump 13) ∷ (object_tool_unit op.Jump 2) ∷ (object_tool_unit op.ReturnValue 0) ∷ []) ((source_place 2 12) ∷ (source_place 2 12) ∷ (source_place 2 12) ∷ (source_place 2 12) ∷ (source_place 2 90) ∷ (source_place 2 90) ∷ (source_place 2 90) ∷ (source_place 2 90) ∷ (source_place 2 90) ∷ (source_place 2 101) ∷ (source_place 2 101) ∷ (source_place 2 101) ∷ (source_place 2 101) ∷ (source_place 2 101) ∷ (source_place 2 65) ∷ (source_place 2 68) ∷ (source_place 2 68) ∷ (source_place 2 68) ∷ (source_place 2 68) ∷ (source_place 2 68) ∷ (source_place 2 79) ∷ (source_place 2 79) ∷ (source_place 2 79) ∷ (source_place 2 82) ∷ (source_place 2 82) ∷ (source_place 2 82) ∷ (source_place 2 108) ∷ (source_place 2 108) ∷ (source_place 2 108) ∷ (source_place 2 108) ∷ (source_place 2 108) ∷ (source_place 2 119) ∷ (source_place 2 119) ∷ (source_place 2 119) ∷ (source_place 2 119) ∷ (source_place 2 18) ∷ (source_place 2 18) ∷ (source_place 2 18) ∷ (source_place 2 18) ∷ (source_place 2 18) ∷ (source_place 2 29) ∷ (source_place 2 29) ∷ (source_place 2 29) ∷ (source_place 2 29) ∷ (source_place 2 29) ∷ (source_place 2 29) ∷ (source_place 2 29) ∷ []) ((codes "a") ∷ []) ((codes ".0") ∷ []) ((codes "r") ∷ []) ((codes "m") ∷ (codes "n") ∷ []) ((const.code (sealed_as 3 None 33 1 1 0 2 (codes "<listcomp>") ((object_tool_unit op.BuildList 0) ∷ (object_tool_unit op.LoadFast 0) ∷ (object_tool_unit op.ForIter 7) ∷ (object_tool_unit op.StoreFast 1) ∷ (object_tool_unit op.LoadDeref 0) ∷ (object_tool_unit op.ListAppend 1) ∷ (object_tool_unit op.Jump 2) ∷ (object_tool_unit op.ReturnValue 0) ∷ []) ((source_place 2 89) ∷ (source_place 2 89) ∷ (source_place 2 89) ∷ (source_place 2 89) ∷ (source_place 2 90) ∷ (source_place 2 90) ∷ (source_place 2 90) ∷ (source_place 2 90) ∷ []) [] ((codes ".0") ∷ (codes "m") ∷ []) [] ((codes "r") ∷ []) [])) ∷ (const.str (codes "<listcomp>")) ∷ (const.code (sealed_as 3 None 33 1 1 0 2 (codes "<listcomp>") ((object_tool_unit op.BuildList 0) ∷ (object_tool_unit op.LoadFast 0) ∷ (object_tool_unit op.ForIter 7) ∷ (object_tool_unit op.StoreFast 1) ∷ (object_tool_unit op.LoadDeref 0) ∷ (object_tool_unit op.ListAppend 1) ∷ (object_tool_unit op.Jump 2) ∷ (object_tool_unit op.ReturnValue 0) ∷ []) ((source_place 2 67) ∷ (source_place 2 67) ∷ (source_place 2 67) ∷ (source_place 2 67) ∷ (source_place 2 68) ∷ (source_place 2 68) ∷ (source_place 2 68) ∷ (source_place 2 68) ∷ []) [] ((codes ".0") ∷ (codes "i") ∷ []) [] ((codes "n") ∷ []) [])) ∷ (const.integer (pos 0)) ∷ (const.code (sealed_as 3 None 33 1 1 0 2 (codes "<listcomp>") ((object_tool_unit op.BuildList 0) ∷ (object_tool_unit op.LoadFast 0) ∷ (object_tool_unit op.ForIter 7) ∷ (object_tool_unit op.StoreFast 1) ∷ (object_tool_unit op.LoadDeref 0) ∷ (object_tool_unit op.ListAppend 1) ∷ (object_tool_unit op.Jump 2) ∷ (object_tool_unit op.ReturnValue 0) ∷ []) ((source_place 2 107) ∷ (source_place 2 107) ∷ (source_place 2 107) ∷ (source_place 2 107) ∷ (source_place 2 108) ∷ (source_place 2 108) ∷ (source_place 2 108) ∷ (source_place 2 108) ∷ []) [] ((codes ".0") ∷ (codes "j") ∷ []) [] ((codes "m") ∷ []) [])) ∷ (const.code (sealed_as 4 None 33 1 1 0 2 (codes "<setcomp>") ((object_tool_unit op.BuildSet 0) ∷ (object_tool_unit op.LoadFast 0) ∷ (object_tool_unit op.ForIter 11) ∷ (object_tool_unit op.StoreFast 1) ∷ (object_tool_unit op.LoadDeref 0) ∷ (object_tool_unit op.JumpIfFalse 2) ∷ (object_tool_unit op.LoadFast 1) ∷ (object_tool_unit op.LoadDeref 0) ∷ (object_tool_unit op.BinaryOperation 2) ∷ (object_tool_unit op.SetAdd 1) ∷ (object_tool_unit op.Jump 2) ∷ (object_tool_unit op.ReturnValue 0) ∷ []) ((source_place 2 13) ∷ (source_place 2 13) ∷ (source_place 2 13) ∷ (source_place 2 13) ∷ (source_place 2 34) ∷ (source_place 2 34) ∷ (source_place 2 14) ∷ (source_place 2 18) ∷ (source_place 2 18) ∷ (source_place 2 18) ∷ (source_place 2 18) ∷ (source_place 2 18) ∷ []) [] ((codes ".0") ∷ (codes "c") ∷ []) [] ((codes "n") ∷ []) [])) ∷ (const.str (codes "<setcomp>")) ∷ []))) ∷ (const.str (codes "<listcomp>")) ∷ (const.code (sealed_as 2 None 35 1 1 0 2 (codes "<genexpr>") ((object_tool_unit op.LoadFast 0) ∷ (object_tool_unit op.ForIter 7) ∷ (object_tool_unit op.StoreFast 1) ∷ (object_tool_unit op.LoadFast 1) ∷ (object_tool_unit op.YieldValue 0) ∷ (object_tool_unit op.Pop 0) ∷ (object_tool_unit op.Jump 1) ∷ (object_tool_unit op.ReturnConst 0) ∷ []) ((source_place 2 46) ∷ (source_place 2 46) ∷ (source_place 2 46) ∷ (source_place 2 47) ∷ (source_place 2 47) ∷ (source_place 2 47) ∷ (source_place 2 47) ∷ (source_place 2 47) ∷ []) [] ((codes ".0") ∷ (codes "q") ∷ []) [] [] (const.none ∷ []))) ∷ (const.str (codes "<genexpr>")) ∷ []))) ∷ (const.str (codes "f")) ∷ const.none ∷ []))
 
 nested_emitted : object_emitted nested_scopes comprehension_sample_nested 0 ≡ Some (nested_object, length nested_scopes)
-unfolding with_step with_block with_name with_varname with_constant with_loops with_location refuse emit jump one_block two_blocks three_blocks put emit_count emit_name emit_varname emit_mangled add_varname add_constant emit_constant move generator_mark pass_over by_context by_level by_loops in_loop name_access inside with_path child lambda_value emission_of_def load_cell assembled_object as_element called_at_once
+unfolding with_step with_block with_name with_varname with_constant with_loops with_location refuse emit jump one_block two_blocks three_blocks put_instruction emit_count emit_name emit_varname emit_mangled add_varname add_constant emit_constant move generator_mark pass_over by_context by_level by_loops in_loop name_access inside with_path child lambda_value emission_of_def load_cell assembled_object as_element called_at_once
 nested_emitted = refl
 
 nested_forms : codes_of_object 9 nested_object ≡ codes_of_scope 9 (body nested_scopes comprehension_sample_nested Exec 0)
 unfolding inside with_path
 nested_forms = refl
 
-nested_faults : sample_tool_told (compile_faults Exec 0 comprehension_sample_nested) ≡ []
+nested_faults : sample_tool_faults (compile_faults Exec 0 comprehension_sample_nested) ≡ []
 nested_faults = refl
 
 -- walruses in nested comprehensions, of names that are global or of the function:
@@ -200,14 +200,14 @@ abbrev lifted_object : Object
 lifted_object = (sealed_as 2 None 1 0 0 0 1 (codes "<module>") ((object_tool_unit op.LoadConst 0) ∷ (object_tool_unit op.LoadConst 1) ∷ (object_tool_unit op.MakeFunction 0) ∷ (object_tool_unit op.StoreLocal 0) ∷ (object_tool_unit op.ReturnConst 2) ∷ []) ((source_place 4 68) ∷ (source_place 4 68) ∷ (source_place 4 68) ∷ (source_place 4 68) ∷ (source_place 4 68) ∷ []) ((codes "f") ∷ []) [] [] [] ((const.code (sealed_as 3 (Some ((pos 0) ∷ (negsuc 0) ∷ [])) 33 0 1 0 1 (codes "f") ((object_tool_unit op.LoadConst 1) ∷ (object_tool_unit op.StoreDeref 1) ∷ (object_tool_unit op.LoadClosure 0) ∷ (object_tool_unit op.LoadClosure 1) ∷ (object_tool_unit op.BuildTuple 2) ∷ (object_tool_unit op.LoadConst 2) ∷ (object_tool_unit op.LoadConst 3) ∷ (object_tool_unit op.MakeFunction 1) ∷ (object_tool_unit op.ReturnValue 0) ∷ []) ((source_place 3 9) ∷ (source_place 3 9) ∷ (source_place 4 68) ∷ (source_place 4 68) ∷ (source_place 4 68) ∷ (source_place 4 68) ∷ (source_place 4 68) ∷ (source_place 4 68) ∷ (source_place 4 68) ∷ []) [] ((codes "b") ∷ []) ((codes "b") ∷ (codes "h") ∷ []) [] (const.none ∷ (const.integer (pos 0)) ∷ (const.code (sealed_as 3 None 33 0 0 0 4 (codes "<lambda>") ((object_tool_unit op.LoadClosure 1) ∷ (object_tool_unit op.LoadClosure 0) ∷ (object_tool_unit op.LoadClosure 3) ∷ (object_tool_unit op.BuildTuple 3) ∷ (object_tool_unit op.LoadConst 1) ∷ (object_tool_unit op.LoadConst 2) ∷ (object_tool_unit op.MakeFunction 1) ∷ (object_tool_unit op.LoadDeref 2) ∷ (object_tool_unit op.GetIter 0) ∷ (object_tool_unit op.CallFunctionPositional 1) ∷ (object_tool_unit op.LoadDeref 0) ∷ (object_tool_unit op.BuildTuple 2) ∷ (object_tool_unit op.ReturnValue 0) ∷ []) ((source_place 4 52) ∷ (source_place 4 52) ∷ (source_place 4 52) ∷ (source_place 4 52) ∷ (source_place 4 52) ∷ (source_place 4 52) ∷ (source_place 4 52) ∷ (source_place 4 64) ∷ (source_place 4 64) ∷ (source_place 4 64) ∷ (source_place 4 68) ∷ (source_place 4 68) ∷ (source_place 4 68) ∷ []) [] [] ((codes "k") ∷ (codes "g") ∷ []) ((codes "b") ∷ (codes "h") ∷ []) (const.none ∷ (const.code (sealed_as 5 None 33 1 1 0 4 (codes "<listcomp>") ((object_tool_unit op.BuildList 0) ∷ (object_tool_unit op.LoadFast 0) ∷ (object_tool_unit op.ForIter 16) ∷ (object_tool_unit op.StoreFast 1) ∷ (object_tool_unit op.LoadClosure 0) ∷ (object_tool_unit op.LoadClosure 2) ∷ (object_tool_unit op.LoadClosure 1) ∷ (object_tool_unit op.BuildTuple 3) ∷ (object_tool_unit op.LoadConst 0) ∷ (object_tool_unit op.LoadConst 1) ∷ (object_tool_unit op.MakeFunction 1) ∷ (object_tool_unit op.LoadFast 1) ∷ (object_tool_unit op.GetIter 0) ∷ (object_tool_unit op.CallFunctionPositional 1) ∷ (object_tool_unit op.ListAppend 1) ∷ (object_tool_unit op.Jump 2) ∷ (object_tool_unit op.ReturnValue 0) ∷ []) ((source_place 4 21) ∷ (source_place 4 21) ∷ (source_place 4 21) ∷ (source_place 4 21) ∷ (source_place 4 40) ∷ (source_place 4 40) ∷ (source_place 4 40) ∷ (source_place 4 40) ∷ (source_place 4 40) ∷ (source_place 4 40) ∷ (source_place 4 40) ∷ (source_place 4 52) ∷ (source_place 4 52) ∷ (source_place 4 52) ∷ (source_place 4 52) ∷ (source_place 4 52) ∷ (source_place 4 52) ∷ []) [] ((codes ".0") ∷ (codes "c") ∷ []) [] ((codes "g") ∷ (codes "k") ∷ (codes "h") ∷ []) ((const.code (sealed_as 6 None 33 1 1 0 4 (codes "<listcomp>") ((object_tool_unit op.BuildList 0) ∷ (object_tool_unit op.LoadFast 0) ∷ (object_tool_unit op.ForIter 14) ∷ (object_tool_unit op.StoreFast 1) ∷ (object_tool_unit op.LoadFast 1) ∷ (object_tool_unit op.Duplicate 0) ∷ (object_tool_unit op.StoreDeref 0) ∷ (object_tool_unit op.LoadDeref 1) ∷ (object_tool_unit op.LoadFast 1) ∷ (object_tool_unit op.Duplicate 0) ∷ (object_tool_unit op.StoreDeref 2) ∷ (object_tool_unit op.BuildTuple 3) ∷ (object_tool_unit op.ListAppend 1) ∷ (object_tool_unit op.Jump 2) ∷ (object_tool_unit op.ReturnValue 0) ∷ []) ((source_place 4 22) ∷ (source_place 4 22) ∷ (source_place 4 22) ∷ (source_place 4 22) ∷ (source_place 4 29) ∷ (source_place 4 29) ∷ (source_place 4 29) ∷ (source_place 4 32) ∷ (source_place 4 40) ∷ (source_place 4 40) ∷ (source_place 4 40) ∷ (source_place 4 40) ∷ (source_place 4 40) ∷ (source_place 4 40) ∷ (source_place 4 40) ∷ []) [] ((codes ".0") ∷ (codes "a") ∷ []) [] ((codes "g") ∷ (codes "h") ∷ (codes "k") ∷ []) [])) ∷ (const.str (codes "<listcomp>")) ∷ []))) ∷ (const.str (codes "<listcomp>")) ∷ []))) ∷ (const.str (codes "<lambda>")) ∷ []))) ∷ (const.str (codes "f")) ∷ const.none ∷ []))
 
 lifted_emitted : object_emitted lifted_scopes lifted 0 ≡ Some (lifted_object, length lifted_scopes)
-unfolding with_step with_block with_name with_varname with_constant with_loops with_location refuse emit jump one_block two_blocks three_blocks put emit_count emit_name emit_varname emit_mangled add_varname add_constant emit_constant move generator_mark pass_over by_context by_level by_loops in_loop name_access inside with_path child lambda_value emission_of_def load_cell assembled_object as_element called_at_once
+unfolding with_step with_block with_name with_varname with_constant with_loops with_location refuse emit jump one_block two_blocks three_blocks put_instruction emit_count emit_name emit_varname emit_mangled add_varname add_constant emit_constant move generator_mark pass_over by_context by_level by_loops in_loop name_access inside with_path child lambda_value emission_of_def load_cell assembled_object as_element called_at_once
 lifted_emitted = refl
 
 lifted_forms : codes_of_object 9 lifted_object ≡ codes_of_scope 9 (body lifted_scopes lifted Exec 0)
 unfolding inside with_path
 lifted_forms = refl
 
-lifted_faults : sample_tool_told (compile_faults Exec 0 lifted) ≡ []
+lifted_faults : sample_tool_faults (compile_faults Exec 0 lifted) ≡ []
 lifted_faults = refl
 
 -- scopes in defaults, decorators, annotations and displays:
@@ -225,14 +225,14 @@ abbrev numbered_object : Object
 numbered_object = (sealed_as 8 None 1 0 0 0 1 (codes "<module>") ((object_tool_unit op.LoadNameAny 0) ∷ (object_tool_unit op.LoadConst 0) ∷ (object_tool_unit op.LoadConst 1) ∷ (object_tool_unit op.MakeFunction 0) ∷ (object_tool_unit op.LoadNameAny 1) ∷ (object_tool_unit op.GetIter 0) ∷ (object_tool_unit op.CallFunctionPositional 1) ∷ (object_tool_unit op.CallFunctionPositional 1) ∷ (object_tool_unit op.LoadConst 2) ∷ (object_tool_unit op.LoadConst 3) ∷ (object_tool_unit op.MakeFunction 0) ∷ (object_tool_unit op.LoadNameAny 2) ∷ (object_tool_unit op.GetIter 0) ∷ (object_tool_unit op.CallFunctionPositional 1) ∷ (object_tool_unit op.BuildTuple 1) ∷ (object_tool_unit op.LoadConst 4) ∷ (object_tool_unit op.LoadConst 5) ∷ (object_tool_unit op.LoadConst 6) ∷ (object_tool_unit op.MakeFunction 0) ∷ (object_tool_unit op.LoadNameAny 3) ∷ (object_tool_unit op.GetIter 0) ∷ (object_tool_unit op.CallFunctionPositional 1) ∷ (object_tool_unit op.BuildMap 1) ∷ (object_tool_unit op.LoadConst 7) ∷ (object_tool_unit op.LoadConst 8) ∷ (object_tool_unit op.LoadConst 9) ∷ (object_tool_unit op.MakeFunction 0) ∷ (object_tool_unit op.LoadNameAny 4) ∷ (object_tool_unit op.GetIter 0) ∷ (object_tool_unit op.CallFunctionPositional 1) ∷ (object_tool_unit op.LoadConst 10) ∷ (object_tool_unit op.LoadConst 11) ∷ (object_tool_unit op.LoadConst 1) ∷ (object_tool_unit op.MakeFunction 0) ∷ (object_tool_unit op.LoadNameAny 5) ∷ (object_tool_unit op.GetIter 0) ∷ (object_tool_unit op.CallFunctionPositional 1) ∷ (object_tool_unit op.BuildMap 2) ∷ (object_tool_unit op.LoadConst 12) ∷ (object_tool_unit op.LoadConst 13) ∷ (object_tool_unit op.MakeFunction 14) ∷ (object_tool_unit op.CallFunctionPositional 1) ∷ (object_tool_unit op.StoreLocal 6) ∷ (object_tool_unit op.LoadNameAny 7) ∷ (object_tool_unit op.LoadConst 14) ∷ (object_tool_unit op.LoadConst 1) ∷ (object_tool_unit op.MakeFunction 0) ∷ (object_tool_unit op.LoadNameAny 8) ∷ (object_tool_unit op.GetIter 0) ∷ (object_tool_unit op.CallFunctionPositional 1) ∷ (object_tool_unit op.BuildTupleUnpack 1) ∷ (object_tool_unit op.LoadConst 15) ∷ (object_tool_unit op.LoadConst 16) ∷ (object_tool_unit op.LoadConst 1) ∷ (object_tool_unit op.MakeFunction 0) ∷ (object_tool_unit op.LoadNameAny 9) ∷ (object_tool_unit op.GetIter 0) ∷ (object_tool_unit op.CallFunctionPositional 1) ∷ (object_tool_unit op.BuildMap 1) ∷ (object_tool_unit op.CallFunctionEx 1) ∷ (object_tool_unit op.Pop 0) ∷ (object_tool_unit op.ReturnConst 17) ∷ []) ((source_place 1 2) ∷ (source_place 1 5) ∷ (source_place 1 5) ∷ (source_place 1 5) ∷ (source_place 1 16) ∷ (source_place 1 16) ∷ (source_place 1 16) ∷ (source_place 1 16) ∷ (source_place 2 28) ∷ (source_place 2 28) ∷ (source_place 2 28) ∷ (source_place 2 39) ∷ (source_place 2 39) ∷ (source_place 2 39) ∷ (source_place 2 39) ∷ (source_place 2 39) ∷ (source_place 2 49) ∷ (source_place 2 49) ∷ (source_place 2 49) ∷ (source_place 2 60) ∷ (source_place 2 60) ∷ (source_place 2 60) ∷ (source_place 2 60) ∷ (source_place 3 49) ∷ (source_place 2 71) ∷ (source_place 2 71) ∷ (source_place 2 71) ∷ (source_place 2 82) ∷ (source_place 2 82) ∷ (source_place 2 82) ∷ (source_place 2 82) ∷ (source_place 2 11) ∷ (source_place 2 11) ∷ (source_place 2 11) ∷ (source_place 2 22) ∷ (source_place 2 22) ∷ (source_place 2 22) ∷ (source_place 2 22) ∷ (source_place 2 22) ∷ (source_place 2 22) ∷ (source_place 2 22) ∷ (source_place 2 22) ∷ (source_place 2 22) ∷ (source_place 4 1) ∷ (source_place 4 5) ∷ (source_place 4 5) ∷ (source_place 4 5) ∷ (source_place 4 16) ∷ (source_place 4 16) ∷ (source_place 4 16) ∷ (source_place 4 16) ∷ (source_place 4 16) ∷ (source_place 4 23) ∷ (source_place 4 23) ∷ (source_place 4 23) ∷ (source_place 4 34) ∷ (source_place 4 34) ∷ (source_place 4 34) ∷ (source_place 4 34) ∷ (source_place 4 34) ∷ (source_place 4 34) ∷ (source_place 4 34) ∷ []) ((codes "d") ∷ (codes "j") ∷ (codes "n") ∷ (codes "p") ∷ (codes "r") ∷ (codes "l") ∷ (codes "f") ∷ (codes "g") ∷ (codes "t") ∷ (codes "v") ∷ []) [] [] [] ((const.code (sealed_as 3 None 33 1 1 0 1 (codes "<listcomp>") ((object_tool_unit op.BuildList 0) ∷ (object_tool_unit op.LoadFast 0) ∷ (object_tool_unit op.ForIter 7) ∷ (object_tool_unit op.StoreFast 1) ∷ (object_tool_unit op.LoadFast 1) ∷ (object_tool_unit op.ListAppend 1) ∷ (object_tool_unit op.Jump 2) ∷ (object_tool_unit op.ReturnValue 0) ∷ []) ((source_place 1 4) ∷ (source_place 1 4) ∷ (source_place 1 4) ∷ (source_place 1 4) ∷ (source_place 1 5) ∷ (source_place 1 5) ∷ (source_place 1 5) ∷ (source_place 1 5) ∷ []) [] ((codes ".0") ∷ (codes "i") ∷ []) [] [] [])) ∷ (const.str (codes "<listcomp>")) ∷ (const.code (sealed_as 3 None 33 1 1 0 2 (codes "<setcomp>") ((object_tool_unit op.BuildSet 0) ∷ (object_tool_unit op.LoadFast 0) ∷ (object_tool_unit op.ForIter 7) ∷ (object_tool_unit op.StoreFast 1) ∷ (object_tool_unit op.LoadFast 1) ∷ (object_tool_unit op.SetAdd 1) ∷ (object_tool_unit op.Jump 2) ∷ (object_tool_unit op.ReturnValue 0) ∷ []) ((source_place 2 27) ∷ (source_place 2 27) ∷ (source_place 2 27) ∷ (source_place 2 27) ∷ (source_place 2 28) ∷ (source_place 2 28) ∷ (source_place 2 28) ∷ (source_place 2 28) ∷ []) [] ((codes ".0") ∷ (codes "m") ∷ []) [] [] [])) ∷ (const.str (codes "<setcomp>")) ∷ (const.str (codes "b")) ∷ (const.code (sealed_as 2 None 35 1 1 0 2 (codes "<genexpr>") ((object_tool_unit op.LoadFast 0) ∷ (object_tool_unit op.ForIter 7) ∷ (object_tool_unit op.StoreFast 1) ∷ (object_tool_unit op.LoadFast 1) ∷ (object_tool_unit op.YieldValue 0) ∷ (object_tool_unit op.Pop 0) ∷ (object_tool_unit op.Jump 1) ∷ (object_tool_unit op.ReturnConst 0) ∷ []) ((source_place 2 48) ∷ (source_place 2 48) ∷ (source_place 2 48) ∷ (source_place 2 49) ∷ (source_place 2 49) ∷ (source_place 2 49) ∷ (source_place 2 49) ∷ (source_place 2 49) ∷ []) [] ((codes ".0") ∷ (codes "o") ∷ []) [] [] (const.none ∷ []))) ∷ (const.str (codes "<genexpr>")) ∷ (const.str (codes "return")) ∷ (const.code (sealed_as 4 None 33 1 1 0 2 (codes "<dictcomp>") ((object_tool_unit op.BuildMap 0) ∷ (object_tool_unit op.LoadFast 0) ∷ (object_tool_unit op.ForIter 8) ∷ (object_tool_unit op.StoreFast 1) ∷ (object_tool_unit op.LoadFast 1) ∷ (object_tool_unit op.LoadFast 1) ∷ (object_tool_unit op.MapAdd 1) ∷ (object_tool_unit op.Jump 2) ∷ (object_tool_unit op.ReturnValue 0) ∷ []) ((source_place 2 67) ∷ (source_place 2 67) ∷ (source_place 2 67) ∷ (source_place 2 67) ∷ (source_place 2 68) ∷ (source_place 2 71) ∷ (source_place 2 71) ∷ (source_place 2 71) ∷ (source_place 2 71) ∷ []) [] ((codes ".0") ∷ (codes "q") ∷ []) [] [] [])) ∷ (const.str (codes "<dictcomp>")) ∷ (const.str (codes "a")) ∷ (const.code (sealed_as 3 None 33 1 1 0 2 (codes "<listcomp>") ((object_tool_unit op.BuildList 0) ∷ (object_tool_unit op.LoadFast 0) ∷ (object_tool_unit op.ForIter 7) ∷ (object_tool_unit op.StoreFast 1) ∷ (object_tool_unit op.LoadFast 1) ∷ (object_tool_unit op.ListAppend 1) ∷ (object_tool_unit op.Jump 2) ∷ (object_tool_unit op.ReturnValue 0) ∷ []) ((source_place 2 10) ∷ (source_place 2 10) ∷ (source_place 2 10) ∷ (source_place 2 10) ∷ (source_place 2 11) ∷ (source_place 2 11) ∷ (source_place 2 11) ∷ (source_place 2 11) ∷ []) [] ((codes ".0") ∷ (codes "k") ∷ []) [] [] [])) ∷ (const.code (sealed_as 3 None 33 0 1 1 2 (codes "f") ((object_tool_unit op.LoadGlobal 0) ∷ (object_tool_unit op.LoadConst 1) ∷ (object_tool_unit op.LoadConst 2) ∷ (object_tool_unit op.MakeFunction 0) ∷ (object_tool_unit op.LoadGlobal 0) ∷ (object_tool_unit op.GetIter 0) ∷ (object_tool_unit op.CallFunctionPositional 1) ∷ (object_tool_unit op.BuildMap 1) ∷ (object_tool_unit op.LoadConst 3) ∷ (object_tool_unit op.LoadConst 4) ∷ (object_tool_unit op.MakeFunction 0) ∷ (object_tool_unit op.LoadGlobal 1) ∷ (object_tool_unit op.GetIter 0) ∷ (object_tool_unit op.CallFunctionPositional 1) ∷ (object_tool_unit op.DictUpdate 0) ∷ (object_tool_unit op.ReturnValue 0) ∷ []) ((source_place 3 13) ∷ (source_place 3 17) ∷ (source_place 3 17) ∷ (source_place 3 17) ∷ (source_place 3 28) ∷ (source_place 3 28) ∷ (source_place 3 28) ∷ (source_place 3 28) ∷ (source_place 3 38) ∷ (source_place 3 38) ∷ (source_place 3 38) ∷ (source_place 3 49) ∷ (source_place 3 49) ∷ (source_place 3 49) ∷ (source_place 3 49) ∷ (source_place 3 49) ∷ []) ((codes "x") ∷ (codes "y") ∷ []) ((codes "a") ∷ (codes "b") ∷ []) [] [] (const.none ∷ (const.code (sealed_as 3 None 33 1 1 0 3 (codes "<listcomp>") ((object_tool_unit op.BuildList 0) ∷ (object_tool_unit op.LoadFast 0) ∷ (object_tool_unit op.ForIter 7) ∷ (object_tool_unit op.StoreFast 1) ∷ (object_tool_unit op.LoadFast 1) ∷ (object_tool_unit op.ListAppend 1) ∷ (object_tool_unit op.Jump 2) ∷ (object_tool_unit op.ReturnValue 0) ∷ []) ((source_place 3 16) ∷ (source_place 3 16) ∷ (source_place 3 16) ∷ (source_place 3 16) ∷ (source_place 3 17) ∷ (source_place 3 17) ∷ (source_place 3 17) ∷ (source_place 3 17) ∷ []) [] ((codes ".0") ∷ (codes "x") ∷ []) [] [] [])) ∷ (const.str (codes "<listcomp>")) ∷ (const.code (sealed_as 4 None 33 1 1 0 3 (codes "<dictcomp>") ((object_tool_unit op.BuildMap 0) ∷ (object_tool_unit op.LoadFast 0) ∷ (object_tool_unit op.ForIter 8) ∷ (object_tool_unit op.StoreFast 1) ∷ (object_tool_unit op.LoadFast 1) ∷ (object_tool_unit op.LoadFast 1) ∷ (object_tool_unit op.MapAdd 1) ∷ (object_tool_unit op.Jump 2) ∷ (object_tool_unit op.ReturnValue 0) ∷ []) ((source_place 3 34) ∷ (source_place 3 34) ∷ (source_place 3 34) ∷ (source_place 3 34) ∷ (source_place 3 35) ∷ (source_place 3 38) ∷ (source_place 3 38) ∷ (source_place 3 38) ∷ (source_place 3 38) ∷ []) [] ((codes ".0") ∷ (codes "y") ∷ []) [] [] [])) ∷ (const.str (codes "<dictcomp>")) ∷ []))) ∷ (const.str (codes "f")) ∷ (const.code (sealed_as 3 None 33 1 1 0 4 (codes "<listcomp>") ((object_tool_unit op.BuildList 0) ∷ (object_tool_unit op.LoadFast 0) ∷ (object_tool_unit op.ForIter 7) ∷ (object_tool_unit op.StoreFast 1) ∷ (object_tool_unit op.LoadFast 1) ∷ (object_tool_unit op.ListAppend 1) ∷ (object_tool_unit op.Jump 2) ∷ (object_tool_unit op.ReturnValue 0) ∷ []) ((source_place 4 4) ∷ (source_place 4 4) ∷ (source_place 4 4) ∷ (source_place 4 4) ∷ (source_place 4 5) ∷ (source_place 4 5) ∷ (source_place 4 5) ∷ (source_place 4 5) ∷ []) [] ((codes ".0") ∷ (codes "s") ∷ []) [] [] [])) ∷ (const.str (codes "k")) ∷ (const.code (sealed_as 3 None 33 1 1 0 4 (codes "<listcomp>") ((object_tool_unit op.BuildList 0) ∷ (object_tool_unit op.LoadFast 0) ∷ (object_tool_unit op.ForIter 7) ∷ (object_tool_unit op.StoreFast 1) ∷ (object_tool_unit op.LoadFast 1) ∷ (object_tool_unit op.ListAppend 1) ∷ (object_tool_unit op.Jump 2) ∷ (object_tool_unit op.ReturnValue 0) ∷ []) ((source_place 4 22) ∷ (source_place 4 22) ∷ (source_place 4 22) ∷ (source_place 4 22) ∷ (source_place 4 23) ∷ (source_place 4 23) ∷ (source_place 4 23) ∷ (source_place 4 23) ∷ []) [] ((codes ".0") ∷ (codes "u") ∷ []) [] [] [])) ∷ const.none ∷ []))
 
 numbered_emitted : object_emitted numbered_scopes comprehension_sample_numbered 0 ≡ Some (numbered_object, length numbered_scopes)
-unfolding with_step with_block with_name with_varname with_constant with_loops with_location refuse emit jump one_block two_blocks three_blocks put emit_count emit_name emit_varname emit_mangled add_varname add_constant emit_constant move generator_mark pass_over by_context by_level by_loops in_loop name_access inside with_path child lambda_value emission_of_def load_cell assembled_object as_element called_at_once
+unfolding with_step with_block with_name with_varname with_constant with_loops with_location refuse emit jump one_block two_blocks three_blocks put_instruction emit_count emit_name emit_varname emit_mangled add_varname add_constant emit_constant move generator_mark pass_over by_context by_level by_loops in_loop name_access inside with_path child lambda_value emission_of_def load_cell assembled_object as_element called_at_once
 numbered_emitted = refl
 
 numbered_forms : codes_of_object 9 numbered_object ≡ codes_of_scope 9 (body numbered_scopes comprehension_sample_numbered Exec 0)
 unfolding inside with_path
 numbered_forms = refl
 
-numbered_faults : sample_tool_told (compile_faults Exec 0 comprehension_sample_numbered) ≡ []
+numbered_faults : sample_tool_faults (compile_faults Exec 0 comprehension_sample_numbered) ≡ []
 numbered_faults = refl
 
 -- a yield in a function is of its comprehension:
@@ -249,17 +249,17 @@ abbrev yields_object : Object
 yields_object = (sealed_as 2 None 1 0 0 0 1 (codes "<module>") ((object_tool_unit op.LoadConst 0) ∷ (object_tool_unit op.LoadConst 1) ∷ (object_tool_unit op.MakeFunction 0) ∷ (object_tool_unit op.StoreLocal 0) ∷ (object_tool_unit op.ReturnConst 2) ∷ []) ((source_place 3 38) ∷ (source_place 3 38) ∷ (source_place 3 38) ∷ (source_place 3 38) ∷ (source_place 3 38) ∷ []) ((codes "f") ∷ []) [] [] [] ((const.code (sealed_as 2 None 35 0 1 0 1 (codes "f") ((object_tool_unit op.LoadConst 1) ∷ (object_tool_unit op.LoadConst 2) ∷ (object_tool_unit op.MakeFunction 0) ∷ (object_tool_unit op.LoadFast 0) ∷ (object_tool_unit op.GetIter 0) ∷ (object_tool_unit op.CallFunctionPositional 1) ∷ (object_tool_unit op.StoreFast 1) ∷ (object_tool_unit op.LoadConst 3) ∷ (object_tool_unit op.LoadConst 4) ∷ (object_tool_unit op.MakeFunction 0) ∷ (object_tool_unit op.LoadConst 0) ∷ (object_tool_unit op.YieldValue 0) ∷ (object_tool_unit op.GetIter 0) ∷ (object_tool_unit op.CallFunctionPositional 1) ∷ (object_tool_unit op.ReturnValue 0) ∷ []) ((source_place 2 17) ∷ (source_place 2 17) ∷ (source_place 2 17) ∷ (source_place 2 29) ∷ (source_place 2 29) ∷ (source_place 2 29) ∷ (source_place 2 29) ∷ (source_place 3 25) ∷ (source_place 3 25) ∷ (source_place 3 25) ∷ (source_place 3 38) ∷ (source_place 3 38) ∷ (source_place 3 38) ∷ (source_place 3 38) ∷ (source_place 3 38) ∷ []) [] ((codes "b") ∷ (codes "x") ∷ []) [] [] (const.none ∷ (const.code (sealed_as 3 None 35 1 1 0 2 (codes "<listcomp>") ((object_tool_unit op.BuildList 0) ∷ (object_tool_unit op.LoadFast 0) ∷ (object_tool_unit op.ForIter 8) ∷ (object_tool_unit op.StoreFast 1) ∷ (object_tool_unit op.LoadFast 1) ∷ (object_tool_unit op.YieldValue 0) ∷ (object_tool_unit op.ListAppend 1) ∷ (object_tool_unit op.Jump 2) ∷ (object_tool_unit op.ReturnValue 0) ∷ []) ((source_place 2 9) ∷ (source_place 2 9) ∷ (source_place 2 9) ∷ (source_place 2 9) ∷ (source_place 2 17) ∷ (source_place 2 17) ∷ (source_place 2 17) ∷ (source_place 2 17) ∷ (source_place 2 17) ∷ []) [] ((codes ".0") ∷ (codes "a") ∷ []) [] [] [])) ∷ (const.str (codes "<listcomp>")) ∷ (const.code (sealed_as 3 None 35 1 1 0 3 (codes "<genexpr>") ((object_tool_unit op.LoadFast 0) ∷ (object_tool_unit op.ForIter 10) ∷ (object_tool_unit op.StoreFast 1) ∷ (object_tool_unit op.LoadFast 1) ∷ (object_tool_unit op.GetIter 0) ∷ (object_tool_unit op.LoadConst 0) ∷ (object_tool_unit op.YieldFrom 0) ∷ (object_tool_unit op.YieldValue 0) ∷ (object_tool_unit op.Pop 0) ∷ (object_tool_unit op.Jump 1) ∷ (object_tool_unit op.ReturnConst 0) ∷ []) ((source_place 3 12) ∷ (source_place 3 12) ∷ (source_place 3 12) ∷ (source_place 3 25) ∷ (source_place 3 25) ∷ (source_place 3 25) ∷ (source_place 3 25) ∷ (source_place 3 25) ∷ (source_place 3 25) ∷ (source_place 3 25) ∷ (source_place 3 25) ∷ []) [] ((codes ".0") ∷ (codes "a") ∷ []) [] [] (const.none ∷ []))) ∷ (const.str (codes "<genexpr>")) ∷ []))) ∷ (const.str (codes "f")) ∷ const.none ∷ []))
 
 yields_emitted : object_emitted yields_scopes comprehension_sample_yields 0 ≡ Some (yields_object, length yields_scopes)
-unfolding with_step with_block with_name with_varname with_constant with_loops with_location refuse emit jump one_block two_blocks three_blocks put emit_count emit_name emit_varname emit_mangled add_varname add_constant emit_constant move generator_mark pass_over by_context by_level by_loops in_loop name_access inside with_path child lambda_value emission_of_def load_cell assembled_object as_element called_at_once
+unfolding with_step with_block with_name with_varname with_constant with_loops with_location refuse emit jump one_block two_blocks three_blocks put_instruction emit_count emit_name emit_varname emit_mangled add_varname add_constant emit_constant move generator_mark pass_over by_context by_level by_loops in_loop name_access inside with_path child lambda_value emission_of_def load_cell assembled_object as_element called_at_once
 yields_emitted = refl
 
 yields_forms : codes_of_object 9 yields_object ≡ codes_of_scope 9 (body yields_scopes comprehension_sample_yields Exec 0)
 unfolding inside with_path
 yields_forms = refl
 
-yields_faults : sample_tool_told (compile_faults Exec 0 comprehension_sample_yields) ≡ []
+yields_faults : sample_tool_faults (compile_faults Exec 0 comprehension_sample_yields) ≡ []
 yields_faults = refl
 
--- stars in elements are told in other words, in parts of them too:
+-- stars in elements are reported in other words, in parts of them too:
 --     x = [*a for a in b]
 --     y = {f(lambda: *a) for a in b}
 --     z = ({*a: *c for a in *b} for a in b)
@@ -271,10 +271,10 @@ abbrev stars_scopes : List ScopeEntry
 stars_scopes = ((entry kinds.Module ((object_tool_symbol (codes "b") symbols.Unknown 1) ∷ (object_tool_symbol (codes "x") symbols.Local 2) ∷ (object_tool_symbol (codes "y") symbols.Local 2) ∷ (object_tool_symbol (codes "z") symbols.Local 2) ∷ []) 7) ∷ (entry kinds.Comprehension ((object_tool_symbol (codes ".0") symbols.Local 4) ∷ (object_tool_symbol (codes "a") symbols.Local 129) ∷ []) 2) ∷ (entry kinds.Comprehension ((object_tool_symbol (codes ".0") symbols.Local 4) ∷ (object_tool_symbol (codes "a") symbols.Cell 128) ∷ (object_tool_symbol (codes "f") symbols.GlobalImplicit 1) ∷ []) 4) ∷ (entry kinds.Function ((object_tool_symbol (codes "a") symbols.Free 1) ∷ []) 4) ∷ (entry kinds.Comprehension ((object_tool_symbol (codes ".0") symbols.Local 4) ∷ (object_tool_symbol (codes "a") symbols.Local 128) ∷ (object_tool_symbol (codes "b") symbols.GlobalImplicit 1) ∷ []) 6) ∷ (entry kinds.Comprehension ((object_tool_symbol (codes ".0") symbols.Local 4) ∷ (object_tool_symbol (codes "a") symbols.Local 129) ∷ (object_tool_symbol (codes "c") symbols.GlobalImplicit 1) ∷ []) 6) ∷ (entry kinds.Comprehension ((object_tool_symbol (codes ".0") symbols.Local 4) ∷ (object_tool_symbol (codes "a") symbols.Local 129) ∷ (object_tool_symbol (codes "c") symbols.GlobalImplicit 1) ∷ []) 7) ∷ [])
 
 stars_refused : emission_outcome stars Exec (outermost 0 (codes "m.py") stars_scopes) ≡ Refused (error.SyntaxError (codes "iterable unpacking cannot be used in comprehension")) (Some (source_place 1 6))
-unfolding with_step with_block with_name with_varname with_constant with_loops with_location refuse emit jump one_block two_blocks three_blocks put emit_count emit_name emit_varname emit_mangled add_varname add_constant emit_constant move generator_mark pass_over by_context by_level by_loops in_loop name_access inside with_path child lambda_value emission_of_def load_cell assembled_object as_element called_at_once
+unfolding with_step with_block with_name with_varname with_constant with_loops with_location refuse emit jump one_block two_blocks three_blocks put_instruction emit_count emit_name emit_varname emit_mangled add_varname add_constant emit_constant move generator_mark pass_over by_context by_level by_loops in_loop name_access inside with_path child lambda_value emission_of_def load_cell assembled_object as_element called_at_once
 stars_refused = refl
 
-stars_faults : sample_tool_told (compile_faults Exec 0 stars) ≡ (((codes "iterable unpacking cannot be used in comprehension"), Some (source_place 1 6)) ∷ ((codes "iterable unpacking cannot be used in comprehension"), Some (source_place 2 16)) ∷ ((codes "iterable unpacking cannot be used in comprehension"), Some (source_place 3 7)) ∷ ((codes "iterable unpacking cannot be used in comprehension"), Some (source_place 3 11)) ∷ ((codes "iterable unpacking cannot be used in comprehension"), Some (source_place 3 23)) ∷ ((codes "cannot use starred expression here"), Some (source_place 4 2)) ∷ ((codes "cannot use starred expression here"), Some (source_place 4 17)) ∷ [])
+stars_faults : sample_tool_faults (compile_faults Exec 0 stars) ≡ (((codes "iterable unpacking cannot be used in comprehension"), Some (source_place 1 6)) ∷ ((codes "iterable unpacking cannot be used in comprehension"), Some (source_place 2 16)) ∷ ((codes "iterable unpacking cannot be used in comprehension"), Some (source_place 3 7)) ∷ ((codes "iterable unpacking cannot be used in comprehension"), Some (source_place 3 11)) ∷ ((codes "iterable unpacking cannot be used in comprehension"), Some (source_place 3 23)) ∷ ((codes "cannot use starred expression here"), Some (source_place 4 2)) ∷ ((codes "cannot use starred expression here"), Some (source_place 4 17)) ∷ [])
 stars_faults = refl
 
 -- clauses that are async, and an element that awaits:
@@ -289,28 +289,28 @@ abbrev asynchronous_scopes : List ScopeEntry
 asynchronous_scopes = ((entry kinds.Module ((object_tool_symbol (codes "b") symbols.Unknown 1) ∷ (object_tool_symbol (codes "x") symbols.Local 2) ∷ (object_tool_symbol (codes "y") symbols.Local 2) ∷ (object_tool_symbol (codes "z") symbols.Local 2) ∷ []) 5) ∷ (entry kinds.Comprehension ((object_tool_symbol (codes ".0") symbols.Local 4) ∷ (object_tool_symbol (codes "a") symbols.Local 129) ∷ []) 2) ∷ (entry kinds.Comprehension ((object_tool_symbol (codes ".0") symbols.Local 4) ∷ (object_tool_symbol (codes "a") symbols.Local 129) ∷ (object_tool_symbol (codes "c") symbols.GlobalImplicit 1) ∷ []) 3) ∷ (entry kinds.Comprehension ((object_tool_symbol (codes ".0") symbols.Local 4) ∷ (object_tool_symbol (codes "a") symbols.Local 129) ∷ (object_tool_symbol (codes "b") symbols.GlobalImplicit 1) ∷ (object_tool_symbol (codes "c") symbols.Local 128) ∷ (object_tool_symbol (codes "e") symbols.GlobalImplicit 1) ∷ (object_tool_symbol (codes "d") symbols.Local 128) ∷ (object_tool_symbol (codes "f") symbols.GlobalImplicit 1) ∷ []) 4) ∷ (entry kinds.Comprehension ((object_tool_symbol (codes ".0") symbols.Local 4) ∷ (object_tool_symbol (codes "a") symbols.Local 129) ∷ []) 5) ∷ [])
 
 asynchronous_refused : emission_outcome asynchronous Exec (outermost 0 (codes "m.py") asynchronous_scopes) ≡ Refused error.NotImplementedYet (Some (source_place 2 5))
-unfolding with_step with_block with_name with_varname with_constant with_loops with_location refuse emit jump one_block two_blocks three_blocks put emit_count emit_name emit_varname emit_mangled add_varname add_constant emit_constant move generator_mark pass_over by_context by_level by_loops in_loop name_access inside with_path child lambda_value emission_of_def load_cell assembled_object as_element called_at_once
+unfolding with_step with_block with_name with_varname with_constant with_loops with_location refuse emit jump one_block two_blocks three_blocks put_instruction emit_count emit_name emit_varname emit_mangled add_varname add_constant emit_constant move generator_mark pass_over by_context by_level by_loops in_loop name_access inside with_path child lambda_value emission_of_def load_cell assembled_object as_element called_at_once
 asynchronous_refused = refl
 
-asynchronous_faults : sample_tool_told (compile_faults Exec 0 asynchronous) ≡ (((codes "RustPython does not implement this feature yet"), Some (source_place 2 5)) ∷ ((codes "RustPython does not implement this feature yet"), Some (source_place 3 5)) ∷ ((codes "cannot use starred expression here"), Some (source_place 3 37)) ∷ ((codes "'await' outside async function"), Some (source_place 3 8)) ∷ ((codes "'await' outside async function"), Some (source_place 4 2)) ∷ [])
+asynchronous_faults : sample_tool_faults (compile_faults Exec 0 asynchronous) ≡ (((codes "RustPython does not implement this feature yet"), Some (source_place 2 5)) ∷ ((codes "RustPython does not implement this feature yet"), Some (source_place 3 5)) ∷ ((codes "cannot use starred expression here"), Some (source_place 3 37)) ∷ ((codes "'await' outside async function"), Some (source_place 3 8)) ∷ ((codes "'await' outside async function"), Some (source_place 4 2)) ∷ [])
 asynchronous_faults = refl
 
 -- what an element awaits, and what it does not:
 --     x = ((lambda: await a) for a in b)
 --     y = ((lambda c=await a: c) for a in b)
 --     z = ([a for c in await a] for a in b)
-abbrev awaits_within : tree.Mod
-awaits_within = (tree.Module (tree.more_stmts (tree.Assign (source_place 1 1) (tree.more_exprs (tree.Name (source_place 1 1) (codes "x")) tree.no_exprs) (tree.GeneratorExp (source_place 1 5) (tree.Lambda (source_place 1 7) (tree.arguments tree.no_args tree.no_args tree.no_arg tree.no_args tree.no_arg) (tree.Await (source_place 1 15) (tree.Name (source_place 1 21) (codes "a")))) (tree.more_generators (tree.Name (source_place 1 28) (codes "a")) (tree.Name (source_place 1 33) (codes "b")) tree.no_exprs false tree.no_generators))) (tree.more_stmts (tree.Assign (source_place 2 1) (tree.more_exprs (tree.Name (source_place 2 1) (codes "y")) tree.no_exprs) (tree.GeneratorExp (source_place 2 5) (tree.Lambda (source_place 2 7) (tree.arguments tree.no_args (tree.more_args (tree.arg (source_place 2 14) (codes "c") tree.no_expr) (tree.some_expr (tree.Await (source_place 2 16) (tree.Name (source_place 2 22) (codes "a")))) tree.no_args) tree.no_arg tree.no_args tree.no_arg) (tree.Name (source_place 2 25) (codes "c"))) (tree.more_generators (tree.Name (source_place 2 32) (codes "a")) (tree.Name (source_place 2 37) (codes "b")) tree.no_exprs false tree.no_generators))) (tree.more_stmts (tree.Assign (source_place 3 1) (tree.more_exprs (tree.Name (source_place 3 1) (codes "z")) tree.no_exprs) (tree.GeneratorExp (source_place 3 5) (tree.ListComp (source_place 3 6) (tree.Name (source_place 3 7) (codes "a")) (tree.more_generators (tree.Name (source_place 3 13) (codes "c")) (tree.Await (source_place 3 18) (tree.Name (source_place 3 24) (codes "a"))) tree.no_exprs false tree.no_generators)) (tree.more_generators (tree.Name (source_place 3 31) (codes "a")) (tree.Name (source_place 3 36) (codes "b")) tree.no_exprs false tree.no_generators))) tree.no_stmts))))
+abbrev awaits_nested : tree.Mod
+awaits_nested = (tree.Module (tree.more_stmts (tree.Assign (source_place 1 1) (tree.more_exprs (tree.Name (source_place 1 1) (codes "x")) tree.no_exprs) (tree.GeneratorExp (source_place 1 5) (tree.Lambda (source_place 1 7) (tree.arguments tree.no_args tree.no_args tree.no_arg tree.no_args tree.no_arg) (tree.Await (source_place 1 15) (tree.Name (source_place 1 21) (codes "a")))) (tree.more_generators (tree.Name (source_place 1 28) (codes "a")) (tree.Name (source_place 1 33) (codes "b")) tree.no_exprs false tree.no_generators))) (tree.more_stmts (tree.Assign (source_place 2 1) (tree.more_exprs (tree.Name (source_place 2 1) (codes "y")) tree.no_exprs) (tree.GeneratorExp (source_place 2 5) (tree.Lambda (source_place 2 7) (tree.arguments tree.no_args (tree.more_args (tree.arg (source_place 2 14) (codes "c") tree.no_expr) (tree.some_expr (tree.Await (source_place 2 16) (tree.Name (source_place 2 22) (codes "a")))) tree.no_args) tree.no_arg tree.no_args tree.no_arg) (tree.Name (source_place 2 25) (codes "c"))) (tree.more_generators (tree.Name (source_place 2 32) (codes "a")) (tree.Name (source_place 2 37) (codes "b")) tree.no_exprs false tree.no_generators))) (tree.more_stmts (tree.Assign (source_place 3 1) (tree.more_exprs (tree.Name (source_place 3 1) (codes "z")) tree.no_exprs) (tree.GeneratorExp (source_place 3 5) (tree.ListComp (source_place 3 6) (tree.Name (source_place 3 7) (codes "a")) (tree.more_generators (tree.Name (source_place 3 13) (codes "c")) (tree.Await (source_place 3 18) (tree.Name (source_place 3 24) (codes "a"))) tree.no_exprs false tree.no_generators)) (tree.more_generators (tree.Name (source_place 3 31) (codes "a")) (tree.Name (source_place 3 36) (codes "b")) tree.no_exprs false tree.no_generators))) tree.no_stmts))))
 
-abbrev awaits_within_scopes : List ScopeEntry
-awaits_within_scopes = ((entry kinds.Module ((object_tool_symbol (codes "b") symbols.Unknown 1) ∷ (object_tool_symbol (codes "x") symbols.Local 2) ∷ (object_tool_symbol (codes "y") symbols.Local 2) ∷ (object_tool_symbol (codes "z") symbols.Local 2) ∷ []) 7) ∷ (entry kinds.Comprehension ((object_tool_symbol (codes ".0") symbols.Local 4) ∷ (object_tool_symbol (codes "a") symbols.Cell 128) ∷ []) 3) ∷ (entry kinds.Function ((object_tool_symbol (codes "a") symbols.Free 1) ∷ []) 3) ∷ (entry kinds.Comprehension ((object_tool_symbol (codes ".0") symbols.Local 4) ∷ (object_tool_symbol (codes "a") symbols.Local 129) ∷ []) 5) ∷ (entry kinds.Function ((object_tool_symbol (codes "c") symbols.Local 5) ∷ []) 5) ∷ (entry kinds.Comprehension ((object_tool_symbol (codes ".0") symbols.Local 4) ∷ (object_tool_symbol (codes "a") symbols.Cell 129) ∷ []) 7) ∷ (entry kinds.Comprehension ((object_tool_symbol (codes ".0") symbols.Local 4) ∷ (object_tool_symbol (codes "c") symbols.Local 128) ∷ (object_tool_symbol (codes "a") symbols.Free 1) ∷ []) 7) ∷ [])
+abbrev awaits_nested_scopes : List ScopeEntry
+awaits_nested_scopes = ((entry kinds.Module ((object_tool_symbol (codes "b") symbols.Unknown 1) ∷ (object_tool_symbol (codes "x") symbols.Local 2) ∷ (object_tool_symbol (codes "y") symbols.Local 2) ∷ (object_tool_symbol (codes "z") symbols.Local 2) ∷ []) 7) ∷ (entry kinds.Comprehension ((object_tool_symbol (codes ".0") symbols.Local 4) ∷ (object_tool_symbol (codes "a") symbols.Cell 128) ∷ []) 3) ∷ (entry kinds.Function ((object_tool_symbol (codes "a") symbols.Free 1) ∷ []) 3) ∷ (entry kinds.Comprehension ((object_tool_symbol (codes ".0") symbols.Local 4) ∷ (object_tool_symbol (codes "a") symbols.Local 129) ∷ []) 5) ∷ (entry kinds.Function ((object_tool_symbol (codes "c") symbols.Local 5) ∷ []) 5) ∷ (entry kinds.Comprehension ((object_tool_symbol (codes ".0") symbols.Local 4) ∷ (object_tool_symbol (codes "a") symbols.Cell 129) ∷ []) 7) ∷ (entry kinds.Comprehension ((object_tool_symbol (codes ".0") symbols.Local 4) ∷ (object_tool_symbol (codes "c") symbols.Local 128) ∷ (object_tool_symbol (codes "a") symbols.Free 1) ∷ []) 7) ∷ [])
 
-awaits_within_refused : emission_outcome awaits_within Exec (outermost 0 (codes "m.py") awaits_within_scopes) ≡ Refused error.NotImplementedYet (Some (source_place 1 5))
-unfolding with_step with_block with_name with_varname with_constant with_loops with_location refuse emit jump one_block two_blocks three_blocks put emit_count emit_name emit_varname emit_mangled add_varname add_constant emit_constant move generator_mark pass_over by_context by_level by_loops in_loop name_access inside with_path child lambda_value emission_of_def load_cell assembled_object as_element called_at_once
-awaits_within_refused = refl
+awaits_nested_refused : emission_outcome awaits_nested Exec (outermost 0 (codes "m.py") awaits_nested_scopes) ≡ Refused error.NotImplementedYet (Some (source_place 1 5))
+unfolding with_step with_block with_name with_varname with_constant with_loops with_location refuse emit jump one_block two_blocks three_blocks put_instruction emit_count emit_name emit_varname emit_mangled add_varname add_constant emit_constant move generator_mark pass_over by_context by_level by_loops in_loop name_access inside with_path child lambda_value emission_of_def load_cell assembled_object as_element called_at_once
+awaits_nested_refused = refl
 
-awaits_within_faults : sample_tool_told (compile_faults Exec 0 awaits_within) ≡ (((codes "RustPython does not implement this feature yet"), Some (source_place 1 5)) ∷ ((codes "'await' outside async function"), Some (source_place 1 15)) ∷ ((codes "'await' outside async function"), Some (source_place 2 16)) ∷ ((codes "RustPython does not implement this feature yet"), Some (source_place 3 5)) ∷ ((codes "'await' outside async function"), Some (source_place 3 18)) ∷ [])
-awaits_within_faults = refl
+awaits_nested_faults : sample_tool_faults (compile_faults Exec 0 awaits_nested) ≡ (((codes "RustPython does not implement this feature yet"), Some (source_place 1 5)) ∷ ((codes "'await' outside async function"), Some (source_place 1 15)) ∷ ((codes "'await' outside async function"), Some (source_place 2 16)) ∷ ((codes "RustPython does not implement this feature yet"), Some (source_place 3 5)) ∷ ((codes "'await' outside async function"), Some (source_place 3 18)) ∷ [])
+awaits_nested_faults = refl
 
 -- a fault in the iterable of a further clause, in a condition and in targets:
 --     x = [a for a in b if a for f.__debug__ in *c if *d]
@@ -322,10 +322,10 @@ abbrev further_scopes : List ScopeEntry
 further_scopes = ((entry kinds.Module ((object_tool_symbol (codes "b") symbols.Unknown 1) ∷ (object_tool_symbol (codes "x") symbols.Local 2) ∷ []) 3) ∷ (entry kinds.Comprehension ((object_tool_symbol (codes ".0") symbols.Local 4) ∷ (object_tool_symbol (codes "a") symbols.Local 129) ∷ (object_tool_symbol (codes "c") symbols.GlobalImplicit 1) ∷ (object_tool_symbol (codes "f") symbols.GlobalImplicit 1) ∷ (object_tool_symbol (codes "d") symbols.GlobalImplicit 1) ∷ []) 2) ∷ (entry kinds.Comprehension ((object_tool_symbol (codes ".0") symbols.Local 4) ∷ (object_tool_symbol (codes "a") symbols.Local 129) ∷ (object_tool_symbol (codes "c") symbols.Local 129) ∷ (object_tool_symbol (codes "d") symbols.Local 129) ∷ (object_tool_symbol (codes "e") symbols.Local 128) ∷ (object_tool_symbol (codes "h") symbols.GlobalImplicit 1) ∷ (object_tool_symbol (codes "__debug__") symbols.Local 128) ∷ []) 3) ∷ [])
 
 further_refused : emission_outcome comprehension_sample_further Exec (outermost 0 (codes "m.py") further_scopes) ≡ Refused error.InvalidStarExpr (Some (source_place 1 43))
-unfolding with_step with_block with_name with_varname with_constant with_loops with_location refuse emit jump one_block two_blocks three_blocks put emit_count emit_name emit_varname emit_mangled add_varname add_constant emit_constant move generator_mark pass_over by_context by_level by_loops in_loop name_access inside with_path child lambda_value emission_of_def load_cell assembled_object as_element called_at_once
+unfolding with_step with_block with_name with_varname with_constant with_loops with_location refuse emit jump one_block two_blocks three_blocks put_instruction emit_count emit_name emit_varname emit_mangled add_varname add_constant emit_constant move generator_mark pass_over by_context by_level by_loops in_loop name_access inside with_path child lambda_value emission_of_def load_cell assembled_object as_element called_at_once
 further_refused = refl
 
-further_faults : sample_tool_told (compile_faults Exec 0 comprehension_sample_further) ≡ (((codes "cannot use starred expression here"), Some (source_place 1 43)) ∷ ((codes "cannot assign to __debug__"), Some (source_place 1 44)) ∷ ((codes "cannot use starred expression here"), Some (source_place 1 49)) ∷ ((codes "two starred expressions in assignment"), Some (source_place 2 35)) ∷ ((codes "cannot assign to __debug__"), Some (source_place 2 67)) ∷ ((codes "cannot use starred expression here"), Some (source_place 2 13)) ∷ [])
+further_faults : sample_tool_faults (compile_faults Exec 0 comprehension_sample_further) ≡ (((codes "cannot use starred expression here"), Some (source_place 1 43)) ∷ ((codes "cannot assign to __debug__"), Some (source_place 1 44)) ∷ ((codes "cannot use starred expression here"), Some (source_place 1 49)) ∷ ((codes "two starred expressions in assignment"), Some (source_place 2 35)) ∷ ((codes "cannot assign to __debug__"), Some (source_place 2 67)) ∷ ((codes "cannot use starred expression here"), Some (source_place 2 13)) ∷ [])
 further_faults = refl
 
 -- the first iterable is no part of the function:
@@ -339,13 +339,13 @@ abbrev outside_scopes : List ScopeEntry
 outside_scopes = ((entry kinds.Module ((object_tool_symbol (codes "b") symbols.Unknown 1) ∷ (object_tool_symbol (codes "x") symbols.Local 2) ∷ (object_tool_symbol (codes "y") symbols.Local 2) ∷ []) 4) ∷ (entry kinds.Comprehension ((object_tool_symbol (codes ".0") symbols.Local 4) ∷ (object_tool_symbol (codes "a") symbols.Local 128) ∷ (object_tool_symbol (codes "c") symbols.Local 129) ∷ []) 2) ∷ (entry kinds.Comprehension ((object_tool_symbol (codes ".0") symbols.Local 4) ∷ (object_tool_symbol (codes "a") symbols.Local 129) ∷ []) 3) ∷ (entry kinds.Comprehension ((object_tool_symbol (codes ".0") symbols.Local 4) ∷ (object_tool_symbol (codes "a") symbols.Local 129) ∷ (object_tool_symbol (codes "c") symbols.GlobalImplicit 1) ∷ []) 4) ∷ [])
 
 outside_refused : emission_outcome comprehension_sample_outside Exec (outermost 0 (codes "m.py") outside_scopes) ≡ Refused error.InvalidYield (Some (source_place 2 18))
-unfolding with_step with_block with_name with_varname with_constant with_loops with_location refuse emit jump one_block two_blocks three_blocks put emit_count emit_name emit_varname emit_mangled add_varname add_constant emit_constant move generator_mark pass_over by_context by_level by_loops in_loop name_access inside with_path child lambda_value emission_of_def load_cell assembled_object as_element called_at_once
+unfolding with_step with_block with_name with_varname with_constant with_loops with_location refuse emit jump one_block two_blocks three_blocks put_instruction emit_count emit_name emit_varname emit_mangled add_varname add_constant emit_constant move generator_mark pass_over by_context by_level by_loops in_loop name_access inside with_path child lambda_value emission_of_def load_cell assembled_object as_element called_at_once
 outside_refused = refl
 
-outside_faults : sample_tool_told (compile_faults Exec 0 comprehension_sample_outside) ≡ (((codes "'yield' outside function"), Some (source_place 2 18)) ∷ ((codes "'yield from' outside function"), Some (source_place 3 17)) ∷ [])
+outside_faults : sample_tool_faults (compile_faults Exec 0 comprehension_sample_outside) ≡ (((codes "'yield' outside function"), Some (source_place 2 18)) ∷ ((codes "'yield from' outside function"), Some (source_place 3 17)) ∷ [])
 outside_faults = refl
 
--- a loop around goes on after:
+-- an enclosing loop goes on after:
 --     while a:
 --         [b for b in c]
 --         break
@@ -357,8 +357,8 @@ abbrev in_loops_scopes : List ScopeEntry
 in_loops_scopes = ((entry kinds.Module ((object_tool_symbol (codes "a") symbols.Unknown 1) ∷ (object_tool_symbol (codes "c") symbols.Unknown 1) ∷ []) 2) ∷ (entry kinds.Comprehension ((object_tool_symbol (codes ".0") symbols.Local 4) ∷ (object_tool_symbol (codes "b") symbols.Local 129) ∷ []) 2) ∷ [])
 
 in_loops_refused : emission_outcome in_loops Exec (outermost 0 (codes "m.py") in_loops_scopes) ≡ Refused error.InvalidContinue (Some (source_place 4 1))
-unfolding with_step with_block with_name with_varname with_constant with_loops with_location refuse emit jump one_block two_blocks three_blocks put emit_count emit_name emit_varname emit_mangled add_varname add_constant emit_constant move generator_mark pass_over by_context by_level by_loops in_loop name_access inside with_path child lambda_value emission_of_def load_cell assembled_object as_element called_at_once
+unfolding with_step with_block with_name with_varname with_constant with_loops with_location refuse emit jump one_block two_blocks three_blocks put_instruction emit_count emit_name emit_varname emit_mangled add_varname add_constant emit_constant move generator_mark pass_over by_context by_level by_loops in_loop name_access inside with_path child lambda_value emission_of_def load_cell assembled_object as_element called_at_once
 in_loops_refused = refl
 
-in_loops_faults : sample_tool_told (compile_faults Exec 0 in_loops) ≡ (((codes "'continue' outside loop"), Some (source_place 4 1)) ∷ [])
+in_loops_faults : sample_tool_faults (compile_faults Exec 0 in_loops) ≡ (((codes "'continue' outside loop"), Some (source_place 4 1)) ∷ [])
 in_loops_faults = refl

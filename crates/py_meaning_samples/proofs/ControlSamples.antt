@@ -1,4 +1,4 @@
--- Worked loops, raises, handlers, last parts, `with` statements and assertions: what they mean, run.
+-- Worked loops, raises, handlers, finally blocks, `with` statements and assertions: what they mean, run.
 use Rattle.std.proofs.Common.{◌≡◌, refl, ℕ, List, [], ◌∷◌, true, false, Some, None, codes}
 use Rattle.py_tree.specs.Tree as tree
 use Rattle.py_tree.specs.declared.modules.Mode.TheVariants.{Exec}
@@ -31,11 +31,11 @@ broken : meaning (body [] raised_else Exec 0) (Gives 1 ∷ Truth true ∷ Gives 
 unfolding inside
 broken = refl
 
--- a break through a last part
-abbrev control_sample_last_part : tree.Mod
-control_sample_last_part = tree.Module (tree.more_stmts (tree.While (source_place 1 1) (tree.Name (source_place 1 7) (codes "a")) (tree.more_stmts (tree.Try (source_place 2 5) (tree.more_stmts (tree.Break (source_place 3 9)) tree.no_stmts) tree.no_handlers tree.no_stmts (tree.more_stmts (tree.StmtExpr (source_place 5 9) (tree.Name (source_place 5 9) (codes "b"))) tree.no_stmts)) tree.no_stmts) tree.no_stmts) tree.no_stmts)
+-- a break through a finally block
+abbrev control_sample_finally_block : tree.Mod
+control_sample_finally_block = tree.Module (tree.more_stmts (tree.While (source_place 1 1) (tree.Name (source_place 1 7) (codes "a")) (tree.more_stmts (tree.Try (source_place 2 5) (tree.more_stmts (tree.Break (source_place 3 9)) tree.no_stmts) tree.no_handlers tree.no_stmts (tree.more_stmts (tree.StmtExpr (source_place 5 9) (tree.Name (source_place 5 9) (codes "b"))) tree.no_stmts)) tree.no_stmts) tree.no_stmts) tree.no_stmts)
 
-broken_through : meaning (body [] control_sample_last_part Exec 0) (Gives 1 ∷ Truth true ∷ Gives 1 ∷ []) ≡ ran (control_sample_loads (codes "a") ∷ AsksTruth (Given 0 0) ∷ control_sample_loads (codes "b") ∷ []) (Returned (It (Constant const.none)))
+broken_through : meaning (body [] control_sample_finally_block Exec 0) (Gives 1 ∷ Truth true ∷ Gives 1 ∷ []) ≡ ran (control_sample_loads (codes "a") ∷ AsksTruth (Given 0 0) ∷ control_sample_loads (codes "b") ∷ []) (Returned (It (Constant const.none)))
 unfolding inside
 broken_through = refl
 
@@ -119,7 +119,7 @@ none_raised : meaning (body [] control_sample_tried Exec 0) (Gives 1 ∷ Gives 1
 unfolding inside
 none_raised = refl
 
--- an else part and a last part
+-- an else part and a finally block
 abbrev all_parts : tree.Mod
 all_parts = tree.Module (tree.more_stmts (tree.Try (source_place 1 1) (tree.more_stmts (tree.StmtExpr (source_place 2 5) (tree.Name (source_place 2 5) (codes "a"))) tree.no_stmts) (tree.more_handlers (tree.some_expr (tree.Name (source_place 3 8) (codes "b"))) None (tree.more_stmts (tree.StmtExpr (source_place 4 5) (tree.Name (source_place 4 5) (codes "c"))) tree.no_stmts) tree.no_handlers) (tree.more_stmts (tree.StmtExpr (source_place 6 5) (tree.Name (source_place 6 5) (codes "d"))) tree.no_stmts) (tree.more_stmts (tree.StmtExpr (source_place 8 5) (tree.Name (source_place 8 5) (codes "e"))) tree.no_stmts)) tree.no_stmts)
 

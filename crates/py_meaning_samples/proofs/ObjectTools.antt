@@ -20,7 +20,7 @@ use Rattle.py_control.specs.Code.{Item, body_code}
 use Rattle.py_control.specs.Form.{Scope}
 use Rattle.py_control.specs.Places.{instr_over}
 use Rattle.py_emission_parts.specs.Running.{code_head}
-use Rattle.py_emission_parts.specs.Within.{Shape}
+use Rattle.py_emission_parts.specs.NestedScopes.{Shape}
 use Rattle.py_emission_parts.specs.Context.{Context, outermost}
 use Rattle.py_emission_parts.specs.Emitting.{Outcome, Done, TooWide, Refused}
 use Rattle.py_emission_parts.specs.Sealed.{assembled_object}
@@ -76,18 +76,18 @@ abbrev pub object_emitted : List ScopeEntry → tree.Mod → (level : ℕ) → O
 object_emitted scopes t level = object_in_mode scopes t Exec level
 
 -- without the nested scopes
-abbrev decoded : Tables → CodeUnit → Option (Instr ℕ ℕ)
-decoded t u = option_map (instr_over (λ o. 0) (λ p. p)) (instr_of t (Some u.arg) u.op u.arg)
+abbrev decoded_unit : Tables → CodeUnit → Option (Instr ℕ ℕ)
+decoded_unit t u = option_map (instr_over (λ o. 0) (λ p. p)) (instr_of t (Some u.arg) u.op u.arg)
 
--- the instructions of a code object and of those within it, to a depth
+-- the instructions of a code object and of those nested in it, to a depth
 abbrev pub codes_of_object : ℕ → Object → List (List (Option (Instr ℕ ℕ)))
 codes_of_object zero o = []
-codes_of_object (suc n) o = map (decoded (tables o)) (head o).instructions ∷ flat_map (codes_of_object n) (codes_in (constants o))
+codes_of_object (suc n) o = map (decoded_unit (tables o)) (head o).instructions ∷ flat_map (codes_of_object n) (codes_in (constants o))
 
 abbrev of_items : List (Item ℕ) → List (Option (Instr ℕ ℕ))
 of_items is = map (λ i. Some (at_places (λ l. place_of is l 0) i)) (instrs is)
 
--- those of the form of a scope and of those within it
+-- those of the form of a scope and of those nested in it
 abbrev pub codes_of_scope : ℕ → Scope → List (List (Option (Instr ℕ ℕ)))
 codes_of_scope zero s = []
 codes_of_scope (suc n) s = of_items (body_code (exactly (λ t. 0) s) (form_of s)) ∷ flat_map (codes_of_scope n) (kids (form_of s))

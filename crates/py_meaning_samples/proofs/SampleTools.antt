@@ -12,8 +12,8 @@ abbrev pub source_place : (row column : ℕ) → SourceLocation
 source_place r c = record { row = r; column = c }
 
 -- a module of whose names nothing is known, so each is looked up by name
-abbrev pub unscoped : (level : ℕ) → Context
-unscoped level = outermost level [] []
+abbrev pub unscoped_context : (level : ℕ) → Context
+unscoped_context level = outermost level [] []
 
 -- an instruction with its operand, or the number of the one that it jumps to
 pub record Line : Type 0 where
@@ -57,6 +57,6 @@ lines_in (Done s) = Some (record { lines = lines_of s.steps s.steps; names = s.n
 lines_in TooWide = None
 lines_in (Refused e p) = None
 
-abbrev pub sample_tool_told : List Fault → List (List ℕ × Option SourceLocation)
-sample_tool_told [] = []
-sample_tool_told (f ∷ fs) = (message f.error, f.location) ∷ sample_tool_told fs
+abbrev pub sample_tool_faults : List Fault → List (List ℕ × Option SourceLocation)
+sample_tool_faults [] = []
+sample_tool_faults (f ∷ fs) = (message f.error, f.location) ∷ sample_tool_faults fs

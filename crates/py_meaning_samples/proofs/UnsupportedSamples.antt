@@ -11,7 +11,7 @@ use Rattle.py_emission_parts.specs.Context.{inside}
 use Rattle.py_emission.specs.EmissionMods.{emission_outcome}
 use Rattle.py_meaning.specs.ExprFaults.{Fault, fault_at}
 use Rattle.py_meaning.specs.Faults.{faults, unsupported_tree}
-use Rattle.py_meaning_samples.proofs.SampleTools.{unscoped}
+use Rattle.py_meaning_samples.proofs.SampleTools.{unscoped_context}
 
 abbrev unsupported_sample_at : ℕ → SourceLocation
 unsupported_sample_at column = record { row = 1; column = column }
@@ -33,11 +33,11 @@ ones place = tree.ListComp place (tree.Constant (unsupported_sample_at 2) (liter
 abbrev not_yet : SourceLocation → Fault
 not_yet place = fault_at error.NotImplementedYet place
 
--- an async def is at fault where it stands, and nothing within it is told
+-- an async def is at fault where it stands, and nothing within it is reported
 def_alone : faults (tree.Module (unsupported_sample_one (def_f (unsupported_sample_at 1)))) Exec 0 ≡ not_yet (unsupported_sample_at 1) ∷ []
 def_alone = refl
 
-def_refused : emission_outcome (tree.Module (unsupported_sample_one (def_f (unsupported_sample_at 1)))) Exec (unscoped 0) ≡ Refused error.NotImplementedYet (Some (unsupported_sample_at 1))
+def_refused : emission_outcome (tree.Module (unsupported_sample_one (def_f (unsupported_sample_at 1)))) Exec (unscoped_context 0) ≡ Refused error.NotImplementedYet (Some (unsupported_sample_at 1))
 unfolding move refuse with_location by_level by_loops inside
 def_refused = refl
 
@@ -45,7 +45,7 @@ def_refused = refl
 break_before : faults (tree.Module (tree.more_stmts (tree.Break (unsupported_sample_at 1)) (unsupported_sample_one (def_f (unsupported_sample_at 8))))) Exec 0 ≡ fault_at error.InvalidBreak (unsupported_sample_at 1) ∷ not_yet (unsupported_sample_at 8) ∷ []
 break_before = refl
 
-break_decides : emission_outcome (tree.Module (tree.more_stmts (tree.Break (unsupported_sample_at 1)) (unsupported_sample_one (def_f (unsupported_sample_at 8))))) Exec (unscoped 0) ≡ Refused error.InvalidBreak (Some (unsupported_sample_at 1))
+break_decides : emission_outcome (tree.Module (tree.more_stmts (tree.Break (unsupported_sample_at 1)) (unsupported_sample_one (def_f (unsupported_sample_at 8))))) Exec (unscoped_context 0) ≡ Refused error.InvalidBreak (Some (unsupported_sample_at 1))
 unfolding move refuse with_location by_level by_loops inside
 break_decides = refl
 
@@ -74,5 +74,5 @@ type = tree.FunctionType tree.no_exprs (tree.Name (unsupported_sample_at 1) (cod
 typed : faults type Single 0 ≡ record { error = error.MalformedTree WrongMode; location = None } ∷ unsupported_tree ∷ []
 typed = refl
 
-type_refused : emission_outcome type Single (unscoped 0) ≡ Refused error.NotImplementedYet None
+type_refused : emission_outcome type Single (unscoped_context 0) ≡ Refused error.NotImplementedYet None
 type_refused = refl

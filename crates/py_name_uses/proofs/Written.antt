@@ -1,4 +1,4 @@
--- Names as a class writes them, one more at a time, and what is told where one stands twice.
+-- Names as a class writes them, one more at a time, and what is reported where one stands twice.
 use Rattle.std.proofs.Common.{◌≡◌, ◌≢◌, refl, sym, ap, ◌∙◌, Bool, true, false, ◌||◌, List, [], ◌∷◌, ◌++◌, Option, Some}
 use Rattle.std.proofs.lemmas.List.Folds.{list_any-append}
 use Rattle.std.specs.List.{list_any}
@@ -29,7 +29,7 @@ written_one_more class names these those n w added m =
     ∙ ap (λ b. list_any f names || b) (same_turned m (mangled_in class n) ∙ sym (written_or_false (f n)))
     ∙ sym (list_any-append f names (n ∷ []))
 
--- an error that tells a refusal and is not out of memory is that of the refusal
+-- an error that reports a refusal and is not out of memory is that of the refusal
 pub written_told : (e : ScanFault) (at : Option SourceLocation) (r : Refusal) (location : SourceLocation) → TellsFault e at (Some r) (Some location)
     → e ≢ OutOfMemory → Refused (Text (text_of r)) (Some location) ≡ Refused e at
 written_told (Text t) at r location h ne = sym (ap (λ x. Refused (Text x) at) h.0 ∙ ap (Refused (Text (text_of r))) h.1)

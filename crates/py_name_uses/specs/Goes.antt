@@ -12,7 +12,7 @@ use Rattle.py_name_uses.specs.Steps.{State, Outcome, Done, Refused}
 abbrev pub state : Scan → State
 state a = record { scopes = a.scopes; class = a.class; postponed = a.postponed }
 
--- the scan is done and has come to this state, or the error is its refusal; out of memory may come in its place
+-- the scan is done and has reached this state, or the error is its refusal; out of memory may come in its place
 abbrev pub Goes : {A : Type 0} → Result A SymbolTableError → State → Outcome → Type 0
 Goes (Ok a) s o = o ≡ Done s
 Goes (Err e) s o = e.error ≢ OutOfMemory → o ≡ Refused e.error e.location

@@ -63,7 +63,8 @@ use_each r (n ∷ ns) at = use_name r n at ▸ use_each r ns at
 
 -- the names that each class has
 abbrev pub use_first_names : SourceLocation → Step
-use_first_names at = use_name role.Assigned (codes "__module__") at ▸ use_name role.Assigned (codes "__qualname__") at ▸ use_name role.Assigned (codes "__doc__") at ▸ use_name role.Assigned class_cell at
+use_first_names at = use_name role.Assigned (codes "__module__") at ▸ use_name role.Assigned (codes "__qualname__") at
+    ▸ use_name role.Assigned (codes "__doc__") at ▸ use_name role.Assigned class_cell at
 
 -- what stands before the first dot
 abbrev pub first_segment : Name → Name

@@ -44,7 +44,9 @@ pub fn use_first_names(scan: &mut Scan, at: &SourceLocation) -> Result<(), Symbo
 }
 
 fn use_last_names(scan: &mut Scan, at: &SourceLocation) -> Result<(), SymbolTableError>
-    ensures goes { Goes result (state scan.new) ((use_name role.Assigned (codes "__doc__") at.now ▸ use_name role.Assigned class_cell at.now) (state scan.old)) }
+    ensures goes { Goes result (state scan.new)
+        ((use_name role.Assigned (codes "__doc__") at.now
+        ▸ use_name role.Assigned class_cell at.now) (state scan.old)) }
     ensures told { IfErr result IsTextOrMemory }
 {
     scan.use_own(Role::Assigned, "__doc__", *at)?;
@@ -88,7 +90,9 @@ pub fn use_aliases(
 }
 
 fn use_alias(scan: &mut Scan, alias: &Alias, at: &SourceLocation) -> Result<(), SymbolTableError>
-    ensures goes { Goes result (state scan.new) (use_name role.Imported (bound_name alias.now.asname alias.now.name) at.now (state scan.old)) }
+    ensures goes { Goes result (state scan.new)
+        (use_name role.Imported (bound_name alias.now.asname alias.now.name) at.now
+        (state scan.old)) }
     ensures told { IfErr result IsTextOrMemory }
 {
     match &alias.asname {
@@ -103,7 +107,8 @@ fn use_first_segment(
     path: &Text,
     at: &SourceLocation,
 ) -> Result<(), SymbolTableError>
-    ensures goes { Goes result (state scan.new) (use_name role.Imported (first_segment path.now) at.now (state scan.old)) }
+    ensures goes { Goes result (state scan.new)
+        (use_name role.Imported (first_segment path.now) at.now (state scan.old)) }
     ensures told { IfErr result IsTextOrMemory }
 {
     match path.as_str().split_once('.') {

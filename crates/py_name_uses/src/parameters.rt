@@ -13,7 +13,8 @@ use py_tree::{Arg, ArgWithDefault, Arguments};
 /// # Errors
 /// The first fault of the scan, at its place; or OutOfMemory.
 pub fn use_parameters(scan: &mut Scan, params: &Arguments) -> Result<(), SymbolTableError>
-    ensures goes { Goes result (state scan.new) (use_parameters (arguments expr_tree params.now) (state scan.old)) }
+    ensures goes { Goes result (state scan.new)
+        (use_parameters (arguments expr_tree params.now) (state scan.old)) }
     ensures told { IfErr result IsTextOrMemory }
 {
     use_parameters_in(scan, params.posonlyargs.as_slice())?;
@@ -24,7 +25,8 @@ pub fn use_parameters(scan: &mut Scan, params: &Arguments) -> Result<(), SymbolT
 }
 
 fn use_parameters_in(scan: &mut Scan, params: &[ArgWithDefault]) -> Result<(), SymbolTableError>
-    ensures goes { Goes result (state scan.new) (use_parameters_in (args expr_tree params.now) (state scan.old)) }
+    ensures goes { Goes result (state scan.new)
+        (use_parameters_in (args expr_tree params.now) (state scan.old)) }
     ensures told { IfErr result IsTextOrMemory }
 {
     for param in params {
@@ -34,7 +36,8 @@ fn use_parameters_in(scan: &mut Scan, params: &[ArgWithDefault]) -> Result<(), S
 }
 
 fn use_opt_parameter(scan: &mut Scan, param: &Option<Box<Arg>>) -> Result<(), SymbolTableError>
-    ensures goes { Goes result (state scan.new) (use_opt_parameter (opt_arg expr_tree param.now) (state scan.old)) }
+    ensures goes { Goes result (state scan.new)
+        (use_opt_parameter (opt_arg expr_tree param.now) (state scan.old)) }
     ensures told { IfErr result IsTextOrMemory }
 {
     match param {
@@ -44,7 +47,8 @@ fn use_opt_parameter(scan: &mut Scan, param: &Option<Box<Arg>>) -> Result<(), Sy
 }
 
 fn use_parameter(scan: &mut Scan, param: &Arg) -> Result<(), SymbolTableError>
-    ensures goes { Goes result (state scan.new) (use_parameter (arg expr_tree param.now) (state scan.old)) }
+    ensures goes { Goes result (state scan.new)
+        (use_parameter (arg expr_tree param.now) (state scan.old)) }
     ensures told { IfErr result IsTextOrMemory }
 {
     let role = role_of(param);

@@ -1,6 +1,6 @@
 //! The state of a scan, and its steps.
 ghost use Rattle.std.specs.Prelude.{◌≡◌, IfErr, IfOk, OnOk, Some};
-ghost use Rattle.py_base.specs.Mangle.{mangling};
+ghost use Rattle.py_base.specs.Mangle.{mangling_of};
 ghost use Rattle.py_scope.specs.Scanned.{IsWithin};
 ghost use Rattle.py_name_uses.specs.Goes.{Goes, IsMemory, IsTextOrMemory, state};
 ghost use Rattle.py_name_uses.specs.declared.usage.Usage.TheVariants.{Load, Delete};
@@ -54,7 +54,7 @@ impl Scan {
     /// # Errors
     /// There is no memory for it.
     pub fn mangled(&self, name: &Text) -> Result<Option<Text>, SymbolTableError>
-        ensures mangled { IfOk result (λ m. m ≡ mangling (state self.now).class name.now) }
+        ensures mangled { IfOk result (λ m. m ≡ mangling_of (state self.now).class name.now) }
         ensures memory { IfErr result IsMemory }
     {
         let class = match &self.class {
@@ -124,13 +124,13 @@ impl Scan {
     /// OutOfMemory alone.
     pub fn enter_class(&mut self, name: &Text) -> Result<Option<Text>, SymbolTableError>
         ensures goes { Goes result (state self.new) (set_class (Some name.now) (state self.old)) }
-        ensures around { IfOk result (λ around. around ≡ (state self.old).class) }
+        ensures enclosing { IfOk result (λ enclosing. enclosing ≡ (state self.old).class) }
         ensures memory { IfErr result IsMemory }
     {
         let name = copy(self.alloc, name.as_str())?;
-        let around = self.class.take();
+        let enclosing = self.class.take();
         self.class = Some(name);
-        Ok(around)
+        Ok(enclosing)
     }
 
     /// Enters a scope.

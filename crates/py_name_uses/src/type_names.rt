@@ -42,7 +42,8 @@ impl TypeNames {
 
     /// Adds a name, unless it is there.
     pub(crate) fn add(&mut self, name: Text) -> Result<(), AllocError>
-        ensures { OnOk result ((n : Name) → list_any (same_name n) self.new ≡ (list_any (same_name n) self.old || same_name n name)) }
+        ensures { OnOk result ((n : Name) → list_any (same_name n) self.new
+            ≡ (list_any (same_name n) self.old || same_name n name)) }
     {
         self.set.insert(name)?;
         Ok(())

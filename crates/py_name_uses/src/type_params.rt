@@ -25,7 +25,8 @@ use std::alloc::{AllocError, Global};
 /// # Errors
 /// The first fault of the scan, at its place; or OutOfMemory.
 pub fn check_type_params(scan: &Scan, params: &[TypeParam]) -> Result<(), SymbolTableError>
-    ensures goes { Goes result (state scan.now) (check_type_params (type_params params.now) (state scan.now)) }
+    ensures goes { Goes result (state scan.now)
+        (check_type_params (type_params params.now) (state scan.now)) }
     ensures told { IfErr result IsTextOrMemory }
 {
     for param in params {
@@ -35,7 +36,8 @@ pub fn check_type_params(scan: &Scan, params: &[TypeParam]) -> Result<(), Symbol
 }
 
 fn check_type_param(scan: &Scan, param: &TypeParam) -> Result<(), SymbolTableError>
-    ensures goes { Goes result (state scan.now) (check_type_params (type_params (param.now ∷ [])) (state scan.now)) }
+    ensures goes { Goes result (state scan.now)
+        (check_type_params (type_params (param.now ∷ [])) (state scan.now)) }
     ensures told { IfErr result IsTextOrMemory }
 {
     match param {
@@ -57,14 +59,14 @@ fn generic_name(alloc: Global, name: &str) -> Result<Text, SymbolTableError>
     ensures named { IfOk result (λ text. text ≡ generic_name name.now) }
     ensures memory { IfErr result IsMemory }
 {
-    match around(alloc, "<generic parameters of ", name, ">") {
+    match name_between(alloc, "<generic parameters of ", name, ">") {
         Ok(text) => Ok(Text::from_string(text)),
         Err(_) => Err(SymbolTableError::out_of_memory()),
     }
 }
 
 /// A name between two texts.
-fn around(alloc: Global, before: &str, name: &str, after: &str) -> Result<String, AllocError>
+fn name_between(alloc: Global, before: &str, name: &str, after: &str) -> Result<String, AllocError>
     ensures { IfOk result (λ text. string_bytes text ≡ before.now ++ name.now ++ after.now) }
 {
     let mut text = String::from_str(alloc, before)?;
@@ -90,7 +92,8 @@ pub fn enter_type_params(
     name: &str,
     at: SourceLocation,
 ) -> Result<(), SymbolTableError>
-    ensures goes { Goes result (state scan.new) (when generic (enter scope.TypeParams (generic_name name.now) at) (state scan.old)) }
+    ensures goes { Goes result (state scan.new)
+        (when generic (enter scope.TypeParams (generic_name name.now) at) (state scan.old)) }
     ensures open { OnOk result (IsOpen generic (state scan.new).scopes) }
     ensures told { IfErr result IsTextOrMemory }
 {
@@ -138,7 +141,9 @@ pub fn use_handed_defaults(
     handed: &Arguments,
     at: &SourceLocation,
 ) -> Result<(), SymbolTableError>
-    ensures goes { Goes result (state scan.new) (when generic (use_handed_defaults (arguments expr_tree handed.now) at.now) (state scan.old)) }
+    ensures goes { Goes result (state scan.new)
+        (when generic (use_handed_defaults (arguments expr_tree handed.now) at.now)
+        (state scan.old)) }
     ensures told { IfErr result IsTextOrMemory }
 {
     if !generic {
@@ -161,7 +166,8 @@ fn use_if(
     name: &str,
     at: &SourceLocation,
 ) -> Result<(), SymbolTableError>
-    ensures goes { Goes result (state scan.new) (when there (use_name role.Parameter name.now at.now) (state scan.old)) }
+    ensures goes { Goes result (state scan.new)
+        (when there (use_name role.Parameter name.now at.now) (state scan.old)) }
     ensures told { IfErr result IsTextOrMemory }
 {
     if there {
@@ -184,7 +190,8 @@ fn type_name(param: &TypeParam) -> &Text
 
 /// Whether one of these is the name, as the class writes it. It is copied only where it is mangled.
 fn is_among(scan: &Scan, earlier: &TypeNames, name: &Text) -> Result<bool, SymbolTableError>
-    ensures among { IfOk result (λ among. among ≡ list_any (same_name (written_name (state scan.now) name.now)) earlier.now) }
+    ensures among { IfOk result (λ among.
+        among ≡ list_any (same_name (written_name (state scan.now) name.now)) earlier.now) }
     ensures memory { IfErr result IsMemory }
 {
     match scan.mangled(name)? {
@@ -203,7 +210,8 @@ pub fn check_new(
     name: &Text,
     at: &SourceLocation,
 ) -> Result<(), SymbolTableError>
-    ensures goes { (names : List Name) → AreWritten (state scan.now).class names earlier.now → Goes result (state scan.now) (check_new names name.now at.now (state scan.now)) }
+    ensures goes { (names : List Name) → AreWritten (state scan.now).class names earlier.now
+        → Goes result (state scan.now) (check_new names name.now at.now (state scan.now)) }
     ensures told { IfErr result IsTextOrMemory }
 {
     if !is_among(scan, earlier, name)? {
@@ -222,7 +230,10 @@ pub fn note_name(
     earlier: &mut TypeNames,
     param: &TypeParam,
 ) -> Result<(), SymbolTableError>
-    ensures noted { OnOk result ((names : List Name) → AreWritten (state scan.now).class names earlier.old → AreWritten (state scan.now).class (names ++ type_name (type_param_tree param.now) ∷ []) earlier.new) }
+    ensures noted { OnOk result ((names : List Name)
+        → AreWritten (state scan.now).class names earlier.old
+        → AreWritten (state scan.now).class
+        (names ++ type_name (type_param_tree param.now) ∷ []) earlier.new) }
     ensures memory { IfErr result IsMemory }
 {
     let written = scan.written(type_name(param))?;

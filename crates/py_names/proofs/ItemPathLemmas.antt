@@ -1,5 +1,6 @@
--- The paths of what is told.
-use Rattle.std.proofs.Common.{◌≡◌, refl, sym, ap, ◌∙◌, subst, ℕ, zero, suc, ◌+◌, ◌<◌, ◌≤◌, Bool, true, false, ◌||◌, List, [], ◌∷◌, ◌++◌, length, map, reverse, nat_eq, nat_lt, if◌then◌else◌, slice_get, Option, Some, None, arith}
+-- The paths of what is reported.
+use Rattle.std.proofs.Common.{◌≡◌, refl, sym, ap, ◌∙◌, subst, ℕ, zero, suc, ◌+◌, ◌<◌, ◌≤◌, Bool, true, false, ◌||◌, List, [], ◌∷◌, ◌++◌}
+use Rattle.std.proofs.Common.{length, map, reverse, nat_eq, nat_lt, if◌then◌else◌, slice_get, Option, Some, None, arith}
 use Rattle.std.specs.Prelude.{cond, filter, find}
 use Rattle.std.specs.Option.{option_map}
 use Rattle.py_tree.specs.Tree as tree
@@ -7,7 +8,7 @@ use Rattle.py_scope.specs.declared.outward.Meets.{Meets}
 use Rattle.py_scope.specs.declared.outward.Meets.TheVariants.{Past, Binding, Explicit}
 use Rattle.py_scope.specs.declared.rows.Row.{Row}
 use Rattle.py_scope.specs.declared.table.SymbolTable.{SymbolTable}
-use Rattle.py_scope.specs.Resolve.{binder, binder_at, among, around, binder_in}
+use Rattle.py_scope.specs.Resolve.{binder, binder_at, among, outward_scopes, binder_in}
 use Rattle.py_scope.specs.Lifts.{outward_from}
 use Rattle.py_scope.specs.Names.{Name}
 use Rattle.py_scope.specs.Outward.{IsNumbered, parents}
@@ -27,10 +28,10 @@ use Rattle.py_names.specs.declared.items.NameItem.{NameItem}
 use Rattle.py_names.specs.declared.items.NameKind.{NameKind}
 use Rattle.py_names.specs.declared.items.NameKind.TheVariants.{Unused, Unbound, Shadowed, Captured}
 use Rattle.py_names.specs.declared.places.Place.{Place}
-use Rattle.py_names.specs.Places.{around_in, child_of_place, finding, found_by_places, found_if, found_shadowed, item_in, items_by_places, path_in, places_of}
+use Rattle.py_names.specs.Places.{outward_in, child_of_place, finding, found_by_places, found_if, found_shadowed, item_in, items_by_places, path_in, places_of}
 use Rattle.py_names.specs.Report.{child_number, findings_at, findings_from, findings_in, is_captured, is_own_name, is_unbound, is_unused, item_of, items_of, path, shadowed_scope}
 use Rattle.py_names.specs.Trees.{names_of, report_faults, report_of, scan_of, tree_report}
-use Rattle.py_names.proofs.PreorderLemmas.{around_below, way_below}
+use Rattle.py_names.proofs.PreorderLemmas.{outward_below, way_below}
 use Rattle.py_names.proofs.ReportLemmas as reporting
 use Rattle.py_names.proofs.ReportLemmas.{found_among}
 
@@ -38,7 +39,8 @@ same_on : (f g : ℕ → ℕ) (q : ℕ → Bool) (es : List ℕ) → ((e : ℕ) 
 same_on f g q [] h = refl
 same_on f g q (e ∷ es) h = by (q e) (h e (left_or (nat_eq e e) _ (tells_same e))) (same_on f g q es (λ x a. h x (truth_right_or (nat_eq x e) _ a)))
   where
-    by : (b : Bool) → f e ≡ g e → map {B = ℕ} f (filter q es) ≡ map {B = ℕ} g (filter q es) → map {B = ℕ} f (cond b (e ∷ filter q es) (filter q es)) ≡ map {B = ℕ} g (cond b (e ∷ filter q es) (filter q es))
+    by : (b : Bool) → f e ≡ g e → map {B = ℕ} f (filter q es) ≡ map {B = ℕ} g (filter q es)
+        → map {B = ℕ} f (cond b (e ∷ filter q es) (filter q es)) ≡ map {B = ℕ} g (cond b (e ∷ filter q es) (filter q es))
     by true x y = λ j. x j ∷ y j
     by false x y = y
 
@@ -82,15 +84,18 @@ fits_alone : (n : ℕ) (kind : NameKind) (k : ℕ) (x : Name) → k < n → Item
 fits_alone n kind k x l = record { scope = l; other = λ e h. cc }
 
 module _ (rows : List Row) (numbered : IsNumbered rows) (ordered : InOrder rows) where
-  around_fits : (k e : ℕ) → k < length rows → among e (around rows k) ≡ true → e < length rows
-  around_fits k e l h = let w = around_below rows numbered ordered k k e (omega arith) l h in omega (arith, w, l)
+  outward_fits : (k e : ℕ) → k < length rows → among e (outward_scopes rows k) ≡ true → e < length rows
+  outward_fits k e l h = let w = outward_below rows numbered ordered k k e (omega arith) l h in omega (arith, w, l)
 
   fit_at : (k : ℕ) (n : Name) → k < length rows → AllFit (length rows) (findings_at rows k n)
   fit_at k n l =
       fit_append (length rows) (found_if (is_unused rows k n) (finding Unused k n None)) _ (fit_if (length rows) (is_unused rows k n) _ (fits_alone (length rows) Unused k n l))
       (fit_append (length rows) (found_if (is_unbound rows k n) (finding Unbound k n None)) _ (fit_if (length rows) (is_unbound rows k n) _ (fits_alone (length rows) Unbound k n l))
-      (fit_append (length rows) (found_shadowed (is_own_name rows k n) k n (shadowed_scope rows k n)) _ (fit_shadowed (length rows) (is_own_name rows k n) k n (shadowed_scope rows k n) l (λ e h. around_fits k e l (found_among _ (around rows k) e h)))
-      (fit_if (length rows) (is_captured rows k n) (finding Captured k n (binder_in rows k n)) (record { scope = l; other = λ e h. around_fits k e l (binder_among _ _ (around rows k) e h) }))))
+      (fit_append (length rows) (found_shadowed (is_own_name rows k n) k n (shadowed_scope rows k n))
+      _ (fit_shadowed (length rows) (is_own_name rows k n) k n (shadowed_scope rows k n) l
+      (λ e h. outward_fits k e l (found_among _ (outward_scopes rows k) e h)))
+      (fit_if (length rows) (is_captured rows k n) (finding Captured k n (binder_in rows k n))
+      (record { scope = l; other = λ e h. outward_fits k e l (binder_among _ _ (outward_scopes rows k) e h) }))))
 
   fit_in : (k : ℕ) (ns : List Name) → k < length rows → AllFit (length rows) (findings_in rows k ns)
   fit_in k [] l = tt
@@ -106,8 +111,10 @@ module _ (s : Scanned) (orderly : IsOrderly s) (fine : first_fault s ≡ None) (
 
   path_is : (k : ℕ) → k < length s.rows → path_in ps k ≡ path s.rows k
   path_is k l =
-      ap (λ es. reverse (map {B = ℕ} (λ e. child_of_place (slice_get ps e)) (filter (nat_lt 0) (k ∷ es)))) (reporting.around_is s orderly fine table is_table k)
-      ∙ ap reverse (same_on (λ e. child_of_place (slice_get ps e)) (child_number s.rows) (nat_lt 0) (outward_from s.rows k) (λ e a. reporting.child_is s orderly fine table is_table e (let w = way_below s.rows (orderly.scanned.numbered) (orderly.preorder.rows) k e l a in omega (arith, w, l))))
+      ap (λ es. reverse (map {B = ℕ} (λ e. child_of_place (slice_get ps e)) (filter (nat_lt 0) (k ∷ es)))) (reporting.outward_is s orderly fine table is_table k)
+      ∙ ap reverse (same_on (λ e. child_of_place (slice_get ps e)) (child_number s.rows) (nat_lt 0) (outward_from s.rows k)
+      (λ e a. reporting.child_is s orderly fine table is_table e
+      (let w = way_below s.rows (orderly.scanned.numbered) (orderly.preorder.rows) k e l a in omega (arith, w, l))))
 
   item_is : (f : Finding) → ItemPathFits (length s.rows) f → item_in ps f ≡ item_of s.rows f
   item_is f h = λ j. record { kind = f.kind; scope = path_is f.scope h.scope j; name = f.name; other = by f.other h.other j }
@@ -140,7 +147,7 @@ told_of (Done s) orderly clean table is =
     ∙ ap (λ o. items_of s.scopes.rows (findings_from s.scopes.rows 0 (names_of o))) (sym is)
 told_of (Refused error at) orderly clean table is = cc
 
--- the report of a tree without faults is what its table tells
+-- the report of a tree without faults is what its table gives
 pub tree_told : (t : tree.Mod) (table : SymbolTable) → report_faults t ≡ [] → table_of (scan_of t) ≡ Some table → items_by_places (places_of table) ≡ tree_report t
 tree_told (tree.Module stmts) table h is = told_of (scan_stmts stmts begun_state) (λ s e. program_orderly stmts s e) (item_path_none_after _ _ h) table is
 tree_told (tree.Interactive stmts) table h is = told_of (scan_stmts stmts begun_state) (λ s e. program_orderly stmts s e) (item_path_none_after _ _ h) table is

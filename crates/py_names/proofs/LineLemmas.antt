@@ -1,4 +1,4 @@
--- The lines of what is told.
+-- The lines of what is reported.
 use Rattle.std.proofs.Common.{◌≡◌, refl, sym, ap, ◌∙◌, ℕ, List, [], ◌∷◌, ◌++◌, map, slice_get, Option, Some, None}
 use Rattle.std.specs.Prelude.{codes}
 use Rattle.py_tree.specs.Tree as tree
@@ -27,7 +27,7 @@ module _ (s : Scanned) (orderly : IsOrderly s) (fine : first_fault s ≡ None) (
   ps = reporting.ps s orderly fine table is_table
 
   text_is : (k : ℕ) → text_in ps k ≡ scope_text s.rows k
-  text_is k = λ j. slashed_path (λ e. reporting.name_is s orderly fine table is_table e j) (k ∷ reporting.around_is s orderly fine table is_table k j)
+  text_is k = λ j. slashed_path (λ e. reporting.name_is s orderly fine table is_table e j) (k ∷ reporting.outward_is s orderly fine table is_table k j)
 
   line_is : (f : Finding) → line_in ps f ≡ line_of s.rows f
   line_is f = λ j. word_of f.kind ++ text_is f.scope j ++ codes " " ++ f.name ++ by f.other j
@@ -48,7 +48,7 @@ told_of (Done s) orderly clean table is =
     ∙ ap (λ o. map {B = List ℕ} (line_of s.scopes.rows) (findings_from s.scopes.rows 0 (names_of o))) (sym is)
 told_of (Refused error at) orderly clean table is = cc
 
--- the lines of a tree without faults are those that its table tells
+-- the lines of a tree without faults are those that its table gives
 pub tree_lines : (t : tree.Mod) (table : SymbolTable) → report_faults t ≡ [] → table_of (scan_of t) ≡ Some table → lines_by_places (places_of table) ≡ report_lines t
 tree_lines (tree.Module stmts) table h is = told_of (scan_stmts stmts begun_state) (λ s e. program_orderly stmts s e) (item_path_none_after _ _ h) table is
 tree_lines (tree.Interactive stmts) table h is = told_of (scan_stmts stmts begun_state) (λ s e. program_orderly stmts s e) (item_path_none_after _ _ h) table is

@@ -1,5 +1,7 @@
 -- The scopes of a table, listed in preorder, are those that were entered, in their order: scope k of the list has the parent of scope k.
-use Rattle.std.proofs.Common.{◌≡◌, refl, sym, ap, ◌∙◌, subst, ℕ, zero, suc, ◌+◌, ◌-◌, ◌<◌, ◌≤◌, Bool, true, false, ◌||◌, ◌&&◌, List, [], ◌∷◌, ◌++◌, length, map, nat_eq, nat_lt, if◌then◌else◌, slice_get, Option, Some, None, ◌⊎◌, inl, inr, append_assoc, length-append, arith, rules}
+use Rattle.std.proofs.Common.{◌≡◌, refl, sym, ap, ◌∙◌, subst, ℕ, zero, suc, ◌+◌, ◌-◌, ◌<◌, ◌≤◌, Bool, true, false, ◌||◌, ◌&&◌, List, []}
+use Rattle.std.proofs.Common.{◌∷◌, ◌++◌, length, map, nat_eq, nat_lt, if◌then◌else◌, slice_get, Option, Some, None, ◌⊎◌, inl, inr}
+use Rattle.std.proofs.Common.{append_assoc, length-append, arith, rules}
 use Rattle.std.proofs.lemmas.List.{append-nil}
 use Rattle.std.specs.List.{list_any}
 use Rattle.py_scope.specs.declared.rows.Row.{Row}
@@ -16,7 +18,7 @@ use Rattle.py_scope.proofs.Chains.{equal_numbers, outward, tells_apart, tells_sa
 use Rattle.py_scope.proofs.Truth.{truth_and_false, truth_either, left_or, truth_right_or}
 use Rattle.py_symbol_tables.specs.Laws.{InOrder}
 use Rattle.py_names.specs.declared.places.Place.{Place}
-use Rattle.py_names.specs.Places.{Placing, all_places, place_step, places_of, placing}
+use Rattle.py_names.specs.Places.{Placing, all_places, place_step, places_of, placing_of_table}
 use Rattle.py_names.specs.Report.{before, child_number}
 
 -- these scopes with these symbols, numbered from k on
@@ -27,9 +29,9 @@ preorder_placed rows k (r ∷ rs) (s ∷ ss) = record { name = r.head.name; typ 
 
 -- the scopes of these tables, which stand in scope a
 abbrev forest : List SymbolTable → (a c k : ℕ) → List Place
-forest ts a c k = all_places (map {B = Placing} placing ts) a c k
+forest ts a c k = all_places (map {B = Placing} placing_of_table ts) a c k
 
-placing_of : (x : SymbolTable-F SymbolTable) (a c k : ℕ) → placing (roll-SymbolTable x) a c k ≡ place_step (map-SymbolTable SymbolTable Placing placing x) a c k
+placing_of : (x : SymbolTable-F SymbolTable) (a c k : ℕ) → placing_of_table (roll-SymbolTable x) a c k ≡ place_step (map-SymbolTable SymbolTable Placing placing_of_table x) a c k
 placing_of x a c k = ap (λ (f : Placing). f a c k) (fold-roll-SymbolTable Placing place_step x)
 
 module _ (rows : List Row) (numbered : IsNumbered rows) (ordered : InOrder rows) where
@@ -43,12 +45,12 @@ module _ (rows : List Row) (numbered : IsNumbered rows) (ordered : InOrder rows)
   way_next k a l = outward p k (p k) refl (numbered k a l)
 
   -- the way outward goes down
-  pub around_below : (m k x : ℕ) → k ≤ m → k < length rows → among x (enclosing_scopes p k) ≡ true → x < k
-  around_below m zero x b l h = cc
-  around_below zero (suc k) x b l h = absurd (omega arith)
-  around_below (suc m) (suc k) x b l h =
+  pub outward_below : (m k x : ℕ) → k ≤ m → k < length rows → among x (enclosing_scopes p k) ≡ true → x < k
+  outward_below m zero x b l h = cc
+  outward_below zero (suc k) x b l h = absurd (omega arith)
+  outward_below (suc m) (suc k) x b l h =
       let d : p (suc k) < suc k = numbered (suc k) (omega arith) l in
-      next (truth_either (nat_eq x (p (suc k))) _ (sym (ap (among x) (way_next (suc k) (omega arith) l)) ∙ h)) d (around_below m (p (suc k)) x (omega (arith, d)) (omega (arith, d, l)))
+      next (truth_either (nat_eq x (p (suc k))) _ (sym (ap (among x) (way_next (suc k) (omega arith) l)) ∙ h)) d (outward_below m (p (suc k)) x (omega (arith, d)) (omega (arith, d, l)))
     where
       next : (nat_eq x (p (suc k)) ≡ true) ⊎ (among x (enclosing_scopes p (p (suc k))) ≡ true) → p (suc k) < suc k → (among x (enclosing_scopes p (p (suc k))) ≡ true → x < p (suc k)) → x < suc k
       next (inl e) d ih = let q = equal_numbers x (p (suc k)) e in omega (arith, q, d)
@@ -59,7 +61,7 @@ module _ (rows : List Row) (numbered : IsNumbered rows) (ordered : InOrder rows)
     where
       by : (nat_eq x k ≡ true) ⊎ (among x (enclosing_scopes p k) ≡ true) → x ≤ k
       by (inl q) = let z = equal_numbers x k q in omega (arith, z)
-      by (inr q) = let z = around_below k k x (omega arith) l q in omega (arith, z)
+      by (inr q) = let z = outward_below k k x (omega arith) l q in omega (arith, z)
 
   -- the way from a scope on the way is a part of it
   way_through : (m k y x : ℕ) → k ≤ m → k < length rows → among y (way k) ≡ true → among x (way y) ≡ true → among x (way k) ≡ true
@@ -90,7 +92,8 @@ module _ (rows : List Row) (numbered : IsNumbered rows) (ordered : InOrder rows)
       by : (nat_eq x (suc (j + d)) ≡ true) ⊎ (among x (enclosing_scopes p (suc (j + d))) ≡ true)
           → (among x (way (j + d)) ≡ true → (j ≤ x) ⊎ (among x (way (p j)) ≡ true)) → (j ≤ x) ⊎ (among x (way (p j)) ≡ true)
       by (inl e) ih = let q = equal_numbers x (suc (j + d)) e in inl (omega (arith, q))
-      by (inr e) ih = ih (way_through (j + d) (j + d) (p (suc (j + d))) x (omega arith) (omega arith) (ordered (j + d) (omega arith)) (sym (ap (among x) (way_next (suc (j + d)) (omega arith) (omega arith))) ∙ e))
+      by (inr e) ih = ih (way_through (j + d) (j + d) (p (suc (j + d))) x (omega arith) (omega arith) (ordered (j + d) (omega arith))
+          (sym (ap (among x) (way_next (suc (j + d)) (omega arith) (omega arith))) ∙ e))
 
   -- no scope from j on stands in one before it that is not around it
   none_since : (j i m : ℕ) → 0 < j → j ≤ i → i < length rows → p j < m → m < j → p i ≡ m → ⊥
@@ -184,7 +187,8 @@ module _ (rows : List Row) (numbered : IsNumbered rows) (ordered : InOrder rows)
   before_none a (suc zero) l h = refl
   before_none a (suc (suc c)) l h =
       let d : p (suc c) < suc c = numbered (suc c) (omega arith) (omega (arith, h)) in
-      ap (λ b. if b then suc (before rows a (suc c)) else before rows a (suc c)) (ap (λ b. nat_lt 0 (suc c) && b) (tells_apart (p (suc c)) a (λ q. omega (arith, d, q, l))) ∙ truth_and_false (nat_lt 0 (suc c)))
+      ap (λ b. if b then suc (before rows a (suc c)) else before rows a (suc c))
+      (ap (λ b. nat_lt 0 (suc c) && b) (tells_apart (p (suc c)) a (λ q. omega (arith, d, q, l))) ∙ truth_and_false (nat_lt 0 (suc c)))
       ∙ before_none a (suc c) (omega (arith, l)) (omega (arith, h))
 
   before_next : (j : ℕ) → 0 < j → before rows (p j) (suc j) ≡ suc (before rows (p j) j)
@@ -235,7 +239,10 @@ module _ (rows : List Row) (numbered : IsNumbered rows) (ordered : InOrder rows)
     preorder_inner = forest children j 0 (suc j)
 
     abbrev shape : ℕ → ℕ → List Place
-    shape b d = forest children j b (suc j) ++ (forest us q d (suc j + length (forest children j b (suc j))) ++ pend rs ts (suc j) (enclosing_scopes p q) (suc j + length (forest children j b (suc j)) + length (forest us q d (suc j + length (forest children j b (suc j))))))
+    shape b d = forest children j b (suc j)
+        ++ (forest us q d (suc j + length (forest children j b (suc j)))
+        ++ pend rs ts (suc j) (enclosing_scopes p q)
+        (suc j + length (forest children j b (suc j)) + length (forest us q d (suc j + length (forest children j b (suc j))))))
 
     preorder_inside : j < length rows
     preorder_inside = omega (arith, n)
@@ -254,10 +261,15 @@ module _ (rows : List Row) (numbered : IsNumbered rows) (ordered : InOrder rows)
         ap (λ vs. forest vs q c j ++ pend (r ∷ rs) (t ∷ ts) j (enclosing_scopes p q) (j + length (forest vs q c j))) preorder_first
         ∙ ap (λ zs. (zs ++ forest us q (suc c) (j + length zs)) ++ pend (r ∷ rs) (t ∷ ts) j (enclosing_scopes p q) (j + length (zs ++ forest us q (suc c) (j + length zs)))) (placing_of x q c j)
         ∙ glue rec preorder_inner (forest us q (suc c)) (pend (r ∷ rs) (t ∷ ts) j (enclosing_scopes p q)) j
-        ∙ ap (λ ys. rec ∷ (preorder_inner ++ (forest us q (suc c) (suc j + length preorder_inner) ++ ys))) (pend_same r rs t ts j (enclosing_scopes p q) _ parent (λ a g. tells_apart q a (λ z. let w = around_below q q a (omega arith) (omega (arith, preorder_low, preorder_inside)) g in omega (arith, w, z))))
+        ∙ ap (λ ys. rec ∷ (preorder_inner ++ (forest us q (suc c) (suc j + length preorder_inner) ++ ys)))
+        (pend_same r rs t ts j (enclosing_scopes p q) _ parent
+        (λ a g. tells_apart q a (λ z. let w = outward_below q q a (omega arith)
+        (omega (arith, preorder_low, preorder_inside)) g in omega (arith, w, z))))
 
     preorder_shaped : shape 0 (suc c) ≡ pend rs ts (suc j) (way j) (suc j)
-    preorder_shaped = (λ i. shape (sym (before_none j (suc j) (omega arith) (omega (arith, preorder_inside))) i) (sym (before_next j (omega arith)) i)) ∙ ap (λ es. pend rs ts (suc j) (j ∷ es) (suc j)) (sym (way_next j (omega arith) preorder_inside))
+    preorder_shaped = (λ i. shape (sym (before_none j (suc j) (omega arith) (omega (arith, preorder_inside))) i)
+        (sym (before_next j (omega arith)) i)) ∙ ap (λ es. pend rs ts (suc j) (j ∷ es) (suc j))
+        (sym (way_next j (omega arith) preorder_inside))
 
     numbering_next : pend rs ts (suc j) (way j) (suc j) ≡ preorder_placed rows (suc j) rs ss → pend (r ∷ rs) (t ∷ ts) j (way last) j ≡ preorder_placed rows j (r ∷ rs) (s ∷ ss)
     numbering_next ih =
@@ -283,7 +295,9 @@ module _ (r : Row) (rs : List Row) (s : List Symbol) (ss : List (List Symbol)) w
       → places_of (roll-SymbolTable preorder_whole) ≡ preorder_placed (r ∷ rs) 0 (r ∷ rs) (s ∷ ss)
   numbered_whole numbered ordered root l =
       placing_of preorder_whole 0 0 0
-      ∙ ap (λ ys. record { name = r.head.name; typ = r.kind; symbols = s; parent = 0; child = 0 } ∷ ys) (sym (append-nil preorder_within) ∙ numbering (r ∷ rs) numbered ordered rs ss 0 (λ i. let e : suc i ≡ 1 + i = omega arith in ap (slice_get (r ∷ rs)) e) (omega (arith, l)) (omega arith))
+      ∙ ap (λ ys. record { name = r.head.name; typ = r.kind; symbols = s; parent = 0; child = 0 } ∷ ys)
+      (sym (append-nil preorder_within) ∙ numbering (r ∷ rs) numbered ordered rs ss 0
+      (λ i. let e : suc i ≡ 1 + i = omega arith in ap (slice_get (r ∷ rs)) e) (omega (arith, l)) (omega arith))
       ∙ ap (λ z. record { name = r.head.name; typ = r.kind; symbols = s; parent = z; child = 0 } ∷ preorder_placed (r ∷ rs) 1 rs ss) (sym root)
 
 -- the scopes of a whole table

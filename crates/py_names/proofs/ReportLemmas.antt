@@ -1,5 +1,7 @@
--- What is told by the places of a table is the report over the uses.
-use Rattle.std.proofs.Common.{◌≡◌, refl, sym, ap, ◌∙◌, subst, ℕ, zero, suc, ◌+◌, ◌<◌, ◌≤◌, Bool, true, false, ◌||◌, ◌&&◌, not, List, [], ◌∷◌, ◌++◌, length, map, reverse, nat_eq, nat_lt, if◌then◌else◌, slice_get, Option, Some, None, ◌⊎◌, inl, inr, arith}
+-- What is given by the places of a table is the report over the uses.
+use Rattle.std.proofs.Common.{◌≡◌, refl, sym, ap, ◌∙◌, subst, ℕ, zero, suc, ◌+◌, ◌<◌, ◌≤◌, Bool, true, false, ◌||◌, ◌&&◌, not, List, []}
+use Rattle.std.proofs.Common.{◌∷◌, ◌++◌, length, map, reverse, nat_eq, nat_lt, if◌then◌else◌, slice_get, Option, Some, None, ◌⊎◌, inl, inr}
+use Rattle.std.proofs.Common.{arith}
 use Rattle.std.specs.Prelude.{cond, filter, find}
 use Rattle.std.proofs.lemmas.List.{length-map}
 use Rattle.std.specs.Option.{option_map}
@@ -14,7 +16,7 @@ use Rattle.py_scope.specs.Lifts.{kind_of, outward_from}
 use Rattle.py_scope.specs.Marks.{is_class}
 use Rattle.py_scope.specs.Names.{Name, same_name}
 use Rattle.py_scope.specs.Outward.{enclosing_scopes, parent_of, parents}
-use Rattle.py_scope.specs.Resolve.{among, around, binder_in, binds_in, holds_in, kind_at, needs, resolve, scopes}
+use Rattle.py_scope.specs.Resolve.{among, outward_scopes, binder_in, binds_in, holds_in, kind_at, needs, resolve, scopes}
 use Rattle.py_scope.specs.Resolved.{first_fault, resolved_table}
 use Rattle.py_scope.specs.Scanned.{Scanned}
 use Rattle.py_scope.specs.Symbols.{is_local_kind}
@@ -29,11 +31,16 @@ use Rattle.py_names.specs.declared.items.Finding.{Finding}
 use Rattle.py_names.specs.declared.items.NameItem.{NameItem}
 use Rattle.py_names.specs.declared.items.NameKind.TheVariants.{Unused, Unbound, Shadowed, Captured}
 use Rattle.py_names.specs.declared.places.Place.{Place}
-use Rattle.py_names.specs.Places.{around_in, binding_around, binds_for, captured_symbol, cell_around, child_of_place, finding, found_at, found_by_places, found_from, found_if, found_in, found_shadowed, has_any, has_such, holds_cell, is_bound_symbol, is_cell_symbol, is_known, is_noted, is_open_kind, item_in, items_by_places, name_of_place, parent_of_place, parents_in, path_in, places_of, stores_global, symbols_of_place, typ_of_place, unbound_symbol, unused_symbol}
+use Rattle.py_names.specs.Places.{outward_in, enclosing_binding, binds_for, captured_symbol, enclosing_cell, child_of_place, finding}
+use Rattle.py_names.specs.Places.{found_at, found_by_places, found_from, found_if, found_in, found_shadowed, has_any, has_such, holds_cell}
+use Rattle.py_names.specs.Places.{is_bound_symbol, is_cell_symbol, is_known, is_noted, is_open_kind, item_in, items_by_places}
+use Rattle.py_names.specs.Places.{name_of_place, parent_of_place, parents_in, path_in, places_of, stores_global, symbols_of_place}
+use Rattle.py_names.specs.Places.{typ_of_place, unbound_symbol, unused_symbol}
 use Rattle.py_names.specs.Lines.{table_name}
-use Rattle.py_names.specs.Report.{binds_openly, child_number, findings_at, findings_from, findings_in, is_captured, is_own_name, is_read, is_stored, is_unbound, is_unused, item_of, items_of, path, shadowed_scope, stores_globally}
+use Rattle.py_names.specs.Report.{binds_openly, child_number, findings_at, findings_from, findings_in, is_captured, is_own_name, is_read}
+use Rattle.py_names.specs.Report.{is_stored, is_unbound, is_unused, item_of, items_of, path, shadowed_scope, stores_globally}
 use Rattle.py_names.specs.Trees.{name_of_symbol, names_in_place, names_of}
-use Rattle.py_names.proofs.PreorderLemmas.{around_below, preorder_placed, places_numbered}
+use Rattle.py_names.proofs.PreorderLemmas.{outward_below, preorder_placed, places_numbered}
 use Rattle.py_names.proofs.SymbolUseLemmas as telling
 
 module _ {A : Type 0} (f : A → Bool) where
@@ -72,14 +79,18 @@ placed_at : (rows : List Row) (k : ℕ) (rs : List Row) (ss : List (List Symbol)
     → slice_get (preorder_placed rows k rs ss) i ≡ Some (record { name = r.head.name; typ = r.kind; symbols = ts; parent = r.parent; child = child_number rows (k + i) })
 placed_at rows k [] ss i r ts g h = cc
 placed_at rows k (x ∷ xs) [] i r ts g h = cc
-placed_at rows k (x ∷ xs) (y ∷ ys) zero r ts g h = let e : x ≡ r = unwrapped g in let d : y ≡ ts = unwrapped h in λ j. Some (record { name = (e j).head.name; typ = (e j).kind; symbols = d j; parent = (e j).parent; child = child_number rows (same j) })
+placed_at rows k (x ∷ xs) (y ∷ ys) zero r ts g h = let e : x ≡ r = unwrapped g in let d : y ≡ ts = unwrapped h in λ j.
+    Some (record { name = (e j).head.name; typ = (e j).kind; symbols = d j; parent = (e j).parent; child = child_number rows (same j) })
   where
     unwrapped : {A : Type 0} {a b : A} → Some a ≡ Some b → a ≡ b
     unwrapped h = cc
 
     same : k ≡ k + 0
     same = omega arith
-placed_at rows k (x ∷ xs) (y ∷ ys) (suc i) r ts g h = placed_at rows (suc k) xs ys i r ts g h ∙ (let e : suc k + i ≡ k + suc i = omega arith in ap (λ z. Some (record { name = r.head.name; typ = r.kind; symbols = ts; parent = r.parent; child = child_number rows z })) e)
+placed_at rows k (x ∷ xs) (y ∷ ys) (suc i) r ts g h =
+    placed_at rows (suc k) xs ys i r ts g h
+    ∙ (let e : suc k + i ≡ k + suc i = omega arith in ap
+    (λ z. Some (record { name = r.head.name; typ = r.kind; symbols = ts; parent = r.parent; child = child_number rows z })) e)
 
 placed_none : (rows : List Row) (k : ℕ) (rs : List Row) (ss : List (List Symbol)) (i : ℕ) → slice_get rs i ≡ None → slice_get (preorder_placed rows k rs ss) i ≡ None
 placed_none rows k [] ss i g = refl
@@ -115,7 +126,17 @@ module _ (s : Scanned) (orderly : IsOrderly s) (fine : first_fault s ≡ None) (
   report_told_at k l =
       let r = there_or_not s.rows k l in
       let t = there_or_not report_follows.symbols k (let w = report_follows.whole in omega (arith, w, l)) in
-      record { row = r.0; symbols = t.0; is_row = r.1; is_symbols = t.1; is_place = placed_at s.rows 0 s.rows report_follows.symbols k r.0 t.0 r.1 t.1 ∙ (let e : 0 + k ≡ k = omega arith in ap (λ z. Some (record { name = r.0.head.name; typ = r.0.kind; symbols = t.0; parent = r.0.parent; child = child_number s.rows z })) e) }
+      record {
+        row = r.0;
+        symbols = t.0;
+        is_row = r.1;
+        is_symbols = t.1;
+        is_place =
+            placed_at s.rows 0 s.rows report_follows.symbols k r.0 t.0 r.1 t.1
+            ∙ (let e : 0 + k ≡ k = omega arith in ap
+            (λ z. Some (record { name = r.0.head.name; typ = r.0.kind; symbols = t.0; parent = r.0.parent; child = child_number s.rows z }))
+            e);
+      }
 
   symbols_follow : (k : ℕ) (t : Told k) → SymbolsFollow s.rows k t.symbols
   symbols_follow k t = report_follows.each k t.symbols t.is_symbols
@@ -127,8 +148,8 @@ module _ (s : Scanned) (orderly : IsOrderly s) (fine : first_fault s ≡ None) (
       by None g = ap parent_of_place (placed_none s.rows 0 s.rows report_follows.symbols e g) ∙ sym (ap parent_of g)
       by (Some r) g = let t = report_told_at e (get_within s.rows e r g) in ap parent_of_place t.is_place ∙ sym (ap parent_of t.is_row)
 
-  pub around_is : (k : ℕ) → around_in ps k ≡ around s.rows k
-  around_is k = λ j. enclosing_scopes (λ e. parent_is e j) k
+  pub outward_is : (k : ℕ) → outward_in ps k ≡ outward_scopes s.rows k
+  outward_is k = λ j. enclosing_scopes (λ e. parent_is e j) k
 
   typ_is : (e : ℕ) → typ_of_place (slice_get ps e) ≡ kind_at s.rows e
   typ_is e = by (slice_get s.rows e) refl
@@ -195,13 +216,13 @@ module _ (s : Scanned) (orderly : IsOrderly s) (fine : first_fault s ≡ None) (
       (own_bound n) k
 
   -- walks outward
-  binding_is : (n : Name) (k : ℕ) → binding_around ps k n ≡ shadowed_scope s.rows k n
-  binding_is n k = λ j. find (λ e. not (is_class (typ_is e j)) && bound_told n e j) (around_is k j)
+  binding_is : (n : Name) (k : ℕ) → enclosing_binding ps k n ≡ shadowed_scope s.rows k n
+  binding_is n k = λ j. find (λ e. not (is_class (typ_is e j)) && bound_told n e j) (outward_is k j)
 
-  report_cell_is : (n : Name) (k : ℕ) → needs s.rows k n ≡ true → cell_around ps k n ≡ binder_in s.rows k n
+  report_cell_is : (n : Name) (k : ℕ) → needs s.rows k n ≡ true → enclosing_cell ps k n ≡ binder_in s.rows k n
   report_cell_is n k h =
       let w = walks_end s.rows stood table report_follows k n h in
-      (λ j. find (λ e. (cell_told n e ∙ sym (cell_there s.rows stood table report_follows n e)) j) (around_is k j)) ∙ w.2 ∙ sym w.1
+      (λ j. find (λ e. (cell_told n e ∙ sym (cell_there s.rows stood table report_follows n e)) j) (outward_is k j)) ∙ w.2 ∙ sym w.1
 
   -- the names that are stored as globals
   stored_in : (n : Name) (k : ℕ) → has_any (is_noted false) n (symbols_of_place (slice_get ps k)) ≡ stores_globally s.rows n k
@@ -240,19 +261,24 @@ module _ (s : Scanned) (orderly : IsOrderly s) (fine : first_fault s ≡ None) (
     abbrev captured_by : Option ℕ → Bool → List Finding
     captured_by o b = found_if b (finding Captured k u.name o)
 
-    capture_is : captured_by (cell_around ps k u.name) (captured_symbol u) ≡ captured_by (binder_in s.rows k u.name) (is_captured s.rows k u.name)
+    capture_is : captured_by (enclosing_cell ps k u.name) (captured_symbol u) ≡ captured_by (binder_in s.rows k u.name) (is_captured s.rows k u.name)
     capture_is = by (captured_symbol u) refl ∙ ap (captured_by (binder_in s.rows k u.name)) (telling.captured_told s.rows k (orderly.scanned.fresh k) t.symbols (symbols_follow k t) i u at)
       where
-        by : (b : Bool) → captured_symbol u ≡ b → captured_by (cell_around ps k u.name) b ≡ captured_by (binder_in s.rows k u.name) b
+        by : (b : Bool) → captured_symbol u ≡ b → captured_by (enclosing_cell ps k u.name) b ≡ captured_by (binder_in s.rows k u.name) b
         by true e = ap (λ o. captured_by o true) (report_cell_is u.name k (sym (telling.needed_told s.rows k (orderly.scanned.fresh k) t.symbols (symbols_follow k t) i u at) ∙ e))
         by false e = refl
 
     unbound_is : unbound_symbol ps u ≡ is_unbound s.rows k u.name
-    unbound_is = λ j. telling.unbound_told s.rows k (orderly.scanned.fresh k) t.symbols (symbols_follow k t) i u at j && (is_open_kind (telling.kind_told s.rows k (orderly.scanned.fresh k) t.symbols (symbols_follow k t) i u at j) && not (known_is u.name j))
+    unbound_is = λ j. telling.unbound_told s.rows k (orderly.scanned.fresh k) t.symbols (symbols_follow k t) i u at j &&
+        (is_open_kind (telling.kind_told s.rows k (orderly.scanned.fresh k) t.symbols (symbols_follow k t) i u at j) &&
+        not (known_is u.name j))
 
     report_found_is : found_at ps k u ≡ findings_at s.rows k u.name
     report_found_is =
-        ap (λ typ. found_if (unused_symbol typ u) (finding Unused k u.name None) ++ (found_if (unbound_symbol ps u) (finding Unbound k u.name None) ++ (found_shadowed (is_local_kind u.scope) k u.name (binding_around ps k u.name) ++ captured_by (cell_around ps k u.name) (captured_symbol u)))) (typ_is k)
+        ap (λ typ. found_if (unused_symbol typ u) (finding Unused k u.name None)
+        ++ (found_if (unbound_symbol ps u) (finding Unbound k u.name None)
+        ++ (found_shadowed (is_local_kind u.scope) k u.name (enclosing_binding ps k u.name)
+        ++ captured_by (enclosing_cell ps k u.name) (captured_symbol u)))) (typ_is k)
         ∙ (λ j.
         found_if (telling.unused_told s.rows k (orderly.scanned.fresh k) t.symbols (symbols_follow k t) i u at j) (finding Unused k u.name None)
         ++ (found_if (unbound_is j) (finding Unbound k u.name None)
@@ -260,12 +286,16 @@ module _ (s : Scanned) (orderly : IsOrderly s) (fine : first_fault s ≡ None) (
         ++ capture_is j)))
 
   -- of the symbols of a scope
-  found_of_symbols : (k : ℕ) (us : List Symbol) → ((i : ℕ) (u : Symbol) → slice_get us i ≡ Some u → found_at ps k u ≡ findings_at s.rows k u.name) → found_in ps k us ≡ findings_in s.rows k (map {B = Name} name_of_symbol us)
+  found_of_symbols : (k : ℕ) (us : List Symbol)
+      → ((i : ℕ) (u : Symbol) → slice_get us i ≡ Some u → found_at ps k u ≡ findings_at s.rows k u.name)
+      → found_in ps k us ≡ findings_in s.rows k (map {B = Name} name_of_symbol us)
   found_of_symbols k [] h = refl
   found_of_symbols k (u ∷ us) h = λ j. h 0 u refl j ++ found_of_symbols k us (λ i v. h (suc i) v) j
 
   -- of the scopes from k on
-  found_of_scopes : (k : ℕ) (rest : List Place) → ((i : ℕ) (x : Place) → slice_get rest i ≡ Some x → found_in ps (k + i) x.symbols ≡ findings_in s.rows (k + i) (names_in_place x)) → found_from ps k rest ≡ findings_from s.rows k (map {B = List Name} names_in_place rest)
+  found_of_scopes : (k : ℕ) (rest : List Place)
+      → ((i : ℕ) (x : Place) → slice_get rest i ≡ Some x → found_in ps (k + i) x.symbols ≡ findings_in s.rows (k + i) (names_in_place x))
+      → found_from ps k rest ≡ findings_from s.rows k (map {B = List Name} names_in_place rest)
   found_of_scopes k [] h = refl
   found_of_scopes k (x ∷ rest) h =
       λ j. (ap (λ z. found_in ps z x.symbols) same ∙ h 0 x refl ∙ ap (λ z. findings_in s.rows z (names_in_place x)) (sym same)) j
@@ -287,7 +317,9 @@ module _ (s : Scanned) (orderly : IsOrderly s) (fine : first_fault s ≡ None) (
       by None z = let y : None ≡ Some x = sym (placed_none s.rows 0 s.rows report_follows.symbols i z) ∙ g in cc
       by (Some r) z =
           let t = report_told_at i (get_within s.rows i r z) in
-          subst (λ us. found_in ps i us ≡ findings_in s.rows i (map {B = Name} name_of_symbol us)) (ap (λ (y : Place). y.symbols) (unwrapped (sym t.is_place ∙ g))) (found_of_symbols i t.symbols (λ m u a. report_found_is i t m u a))
+          subst (λ us. found_in ps i us ≡ findings_in s.rows i (map {B = Name} name_of_symbol us))
+          (ap (λ (y : Place). y.symbols) (unwrapped (sym t.is_place ∙ g)))
+          (found_of_symbols i t.symbols (λ m u a. report_found_is i t m u a))
 
   findings_are : found_by_places ps ≡ findings_from s.rows 0 (map {B = List Name} names_in_place ps)
   findings_are = found_of_scopes 0 ps (λ i x g. subst (λ z. found_in ps z x.symbols ≡ findings_in s.rows z (names_in_place x)) (at i) (found_there i x g))

@@ -1,5 +1,6 @@
 -- What the symbols of a table say of its names is what the uses say.
-use Rattle.std.proofs.Common.{◌≡◌, refl, sym, ap, ◌∙◌, subst, ℕ, zero, suc, ◌+◌, ◌<◌, Bool, true, false, ◌||◌, ◌&&◌, not, List, [], ◌∷◌, length, if◌then◌else◌, slice_get, Option, Some, None, ◌⊎◌, inl, inr, arith}
+use Rattle.std.proofs.Common.{◌≡◌, refl, sym, ap, ◌∙◌, subst, ℕ, zero, suc, ◌+◌, ◌<◌, Bool, true, false, ◌||◌, ◌&&◌, not, List, [], ◌∷◌}
+use Rattle.std.proofs.Common.{length, if◌then◌else◌, slice_get, Option, Some, None, ◌⊎◌, inl, inr, arith}
 use Rattle.std.specs.Prelude.{cond, find}
 use Rattle.std.specs.List.{list_any}
 use Rattle.std.specs.Int.RustNames.{bit_or}
@@ -46,9 +47,9 @@ module _ (n : Name) (test : Symbol → Bool) (truth : Bool) where
       (λ g. let w = any_named n test ts g in sym (h w.0 w.1 w.2 w.3) ∙ w.4)
       (λ g. let w = symbol_named n ts (there g) in named_any n test ts w.0 w.1 w.2 w.3 (h w.0 w.1 w.2 w.3 ∙ g))
 
-or_none : (b : Bool) → (b || false) || false ≡ b
-or_none true = refl
-or_none false = refl
+symbol_use_or_none : (b : Bool) → (b || false) || false ≡ b
+symbol_use_or_none true = refl
+symbol_use_or_none false = refl
 
 or_second : (a b : Bool) → (a || b) || false ≡ a || b
 or_second true b = refl
@@ -58,10 +59,14 @@ or_second false false = refl
 module _ (rows : List Row) (k : ℕ) (fresh : IsFresh (slice_get rows k)) where
   -- the flags by parts
   masked : (n : Name) (m : ℕ)
-      → intersects (flags_by_uses rows k n) m ≡ (intersects (bits_of (entry_at rows k n)) m || intersects (if is_held rows k n && is_plain (last_declaration rows k n) then 0x002 else 0) m) || intersects (if hands_through rows k n then 0x100 else 0) m
+      → intersects (flags_by_uses rows k n) m
+      ≡ (intersects (bits_of (entry_at rows k n)) m || intersects
+      (if is_held rows k n && is_plain (last_declaration rows k n) then 0x002 else 0) m) || intersects
+      (if hands_through rows k n then 0x100 else 0) m
   masked n m =
       intersects-or (bit_or (bits_of (entry_at rows k n)) (if is_held rows k n && is_plain (last_declaration rows k n) then 0x002 else 0)) (if hands_through rows k n then 0x100 else 0) m
-      ∙ ap (λ b. b || intersects (if hands_through rows k n then 0x100 else 0) m) (intersects-or (bits_of (entry_at rows k n)) (if is_held rows k n && is_plain (last_declaration rows k n) then 0x002 else 0) m)
+      ∙ ap (λ b. b || intersects (if hands_through rows k n then 0x100 else 0) m)
+      (intersects-or (bits_of (entry_at rows k n)) (if is_held rows k n && is_plain (last_declaration rows k n) then 0x002 else 0) m)
 
   bound_flags : (o : Option Entry) → assigned_opt o ≡ false → intersects (bits_of o) 0x096 ≡ bound_opt o
   bound_flags None h = refl
@@ -69,7 +74,8 @@ module _ (rows : List Row) (k : ℕ) (fresh : IsFresh (slice_get rows k)) where
 
   module _ (n : Name) where
     read_flags : intersects (flags_by_uses rows k n) 0x001 ≡ is_read rows k n
-    read_flags = masked n 0x001 ∙ (λ j. (is_read rows k n || second (is_held rows k n && is_plain (last_declaration rows k n)) j) || third (hands_through rows k n) j) ∙ or_none (is_read rows k n)
+    read_flags = masked n 0x001 ∙ (λ j. (is_read rows k n || second (is_held rows k n && is_plain (last_declaration rows k n)) j) || third
+        (hands_through rows k n) j) ∙ symbol_use_or_none (is_read rows k n)
       where
         second : (b : Bool) → intersects (if b then 0x002 else 0) 0x001 ≡ false
         second true = refl
@@ -80,7 +86,9 @@ module _ (rows : List Row) (k : ℕ) (fresh : IsFresh (slice_get rows k)) where
         third false = refl
 
     parameter_flags : intersects (flags_by_uses rows k n) 0x004 ≡ is_parameter rows k n
-    parameter_flags = masked n 0x004 ∙ (λ j. (is_parameter rows k n || second (is_held rows k n && is_plain (last_declaration rows k n)) j) || third (hands_through rows k n) j) ∙ or_none (is_parameter rows k n)
+    parameter_flags = masked n 0x004
+        ∙ (λ j. (is_parameter rows k n || second (is_held rows k n && is_plain (last_declaration rows k n)) j) || third
+        (hands_through rows k n) j) ∙ symbol_use_or_none (is_parameter rows k n)
       where
         second : (b : Bool) → intersects (if b then 0x002 else 0) 0x004 ≡ false
         second true = refl
@@ -91,7 +99,10 @@ module _ (rows : List Row) (k : ℕ) (fresh : IsFresh (slice_get rows k)) where
         third false = refl
 
     binds_flags : intersects (flags_by_uses rows k n) 0x096 ≡ binds_in rows k n
-    binds_flags = masked n 0x096 ∙ (λ j. (bound_flags (entry_at rows k n) (fresh.unassigned n) j || second (is_held rows k n && is_plain (last_declaration rows k n)) j) || third (hands_through rows k n) j) ∙ or_second (bound_opt (entry_at rows k n)) (is_held rows k n && is_plain (last_declaration rows k n))
+    binds_flags = masked n 0x096 ∙ (λ j.
+        (bound_flags (entry_at rows k n) (fresh.unassigned n) j || second (is_held rows k n && is_plain (last_declaration rows k n)) j) ||
+        third (hands_through rows k n) j) ∙ or_second (bound_opt (entry_at rows k n))
+        (is_held rows k n && is_plain (last_declaration rows k n))
       where
         second : (b : Bool) → intersects (if b then 0x002 else 0) 0x096 ≡ b
         second true = refl

@@ -1,4 +1,4 @@
--- What is told of small programs with classes, comprehensions and type parameters.
+-- What is reported of small programs with classes, comprehensions and type parameters.
 use Rattle.std.specs.Prelude.{◌≡◌, List, [], ◌∷◌, codes}
 use Rattle.py_scope.specs.declared.table_type.SymbolTableType.TheVariants.{Class, Comprehension, Function, TypeParams}
 use Rattle.py_scope.specs.declared.roles.Role.TheVariants.{AnnotatedParameter, Assigned, Iterated, Parameter, Used, Walrus}

@@ -1,4 +1,4 @@
--- What is told of small programs of functions.
+-- What is reported of small programs of functions.
 use Rattle.std.specs.Prelude.{◌≡◌, List, [], ◌∷◌, codes}
 use Rattle.py_scope.specs.declared.table_type.SymbolTableType.TheVariants.{Function}
 use Rattle.py_scope.specs.declared.roles.Role.TheVariants.{AnnotationAssigned, Assigned, Global, Imported, Nonlocal, Parameter, Used}

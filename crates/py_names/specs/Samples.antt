@@ -1,4 +1,4 @@
--- What is told of a small program, written as the calls of its scan.
+-- What is reported of a small program, written as the calls of its scan.
 use Rattle.std.specs.Prelude.{ℕ, List, map}
 use Rattle.py_scope.specs.declared.symbols.Symbol.{Symbol}
 use Rattle.py_scope.specs.Names.{Name}

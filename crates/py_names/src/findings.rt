@@ -1,14 +1,14 @@
-//! What is told of the names of scopes.
+//! What is reported of the names of scopes.
 ghost use Rattle.std.specs.Prelude.{◌≡◌, ◌++◌, ◌∷◌, ◌<◌, [], None, Some, IfOk, OnOk, length, slice_get};
 ghost use Rattle.std.specs.List.{list_any};
 ghost use Rattle.py_scope.specs.Names.{Name, same_name};
 ghost use Rattle.py_scope.specs.Symbols.{is_local_kind};
-ghost use Rattle.py_names.specs.Places.{binding_around, captured_symbol, cell_around, finding, found_at, found_by_places, found_if, found_in, found_shadowed, is_known, is_open_kind, typ_of_place, unbound_by, unused_symbol};
+ghost use Rattle.py_names.specs.Places.{enclosing_binding, captured_symbol, enclosing_cell, finding, found_at, found_by_places, found_if, found_in, found_shadowed, is_known, is_open_kind, typ_of_place, unbound_by, unused_symbol};
 
 use crate::items::{Finding, NameKind};
 use crate::known::known_names;
 use crate::places::Place;
-use crate::walks::{binding_around, cell_around};
+use crate::walks::{enclosing_binding, enclosing_cell};
 use bitflags::Flags;
 use indexmap::IndexSet;
 use py_base::Text;
@@ -26,7 +26,7 @@ fn is_unused(typ: SymbolTableType, symbol: &Symbol) -> bool
         && !symbol.flags.intersects(SymbolFlags::REFERENCED)
 }
 
-/// Whether no scope around binds a name of this kind.
+/// Whether no enclosing scope binds a name of this kind.
 fn is_open(scope: SymbolScope) -> bool
     ensures { result ≡ is_open_kind scope }
 {
@@ -61,7 +61,8 @@ fn push_finding(
     name: &Text,
     other: Option<usize>,
 ) -> Result<(), AllocError>
-    ensures { OnOk result (found.new.items ≡ found.old.items ++ finding kind scope name.now other ∷ []) }
+    ensures { OnOk result (found.new.items ≡ found.old.items ++ finding kind scope name.now other
+        ∷ []) }
 {
     found.push(Finding {
         kind,
@@ -81,7 +82,8 @@ fn push_if(
     scope: usize,
     name: &Text,
 ) -> Result<(), AllocError>
-    ensures { OnOk result (found.new.items ≡ found.old.items ++ found_if is_one (finding kind scope name.now None)) }
+    ensures { OnOk result (found.new.items ≡ found.old.items
+        ++ found_if is_one (finding kind scope name.now None)) }
 {
     if is_one {
         push_finding(alloc, found, kind, scope, name, None)?;
@@ -89,7 +91,7 @@ fn push_if(
     Ok(())
 }
 
-/// Puts last that a name is shadowed, where it is the scope's own and a scope around binds it too.
+/// Puts last that a name is shadowed, where it is the scope's own and an enclosing scope binds it too.
 fn push_shadowed(
     alloc: Global,
     found: &mut Vec<Finding>,
@@ -97,12 +99,14 @@ fn push_shadowed(
     scope: usize,
     symbol: &Symbol,
 ) -> Result<(), AllocError>
-    ensures { OnOk result (found.new.items ≡ found.old.items ++ found_shadowed (is_local_kind symbol.now.scope) scope symbol.now.name (binding_around places.now scope symbol.now.name)) }
+    ensures { OnOk result (found.new.items ≡ found.old.items
+        ++ found_shadowed (is_local_kind symbol.now.scope) scope symbol.now.name
+        (enclosing_binding places.now scope symbol.now.name)) }
 {
     if !symbol.is_local() {
         return Ok(());
     }
-    let other = binding_around(places, scope, &symbol.name);
+    let other = enclosing_binding(places, scope, &symbol.name);
     if other.is_some() {
         push_finding(alloc, found, NameKind::Shadowed, scope, &symbol.name, other)?;
     }
@@ -117,16 +121,19 @@ fn push_captured(
     scope: usize,
     symbol: &Symbol,
 ) -> Result<(), AllocError>
-    ensures { OnOk result (found.new.items ≡ found.old.items ++ found_if (captured_symbol symbol.now) (finding NameKind.Captured scope symbol.now.name (cell_around places.now scope symbol.now.name))) }
+    ensures { OnOk result (found.new.items ≡ found.old.items
+        ++ found_if (captured_symbol symbol.now)
+        (finding NameKind.Captured scope symbol.now.name
+        (enclosing_cell places.now scope symbol.now.name))) }
 {
     if is_captured(symbol) {
-        let other = cell_around(places, scope, &symbol.name);
+        let other = enclosing_cell(places, scope, &symbol.name);
         push_finding(alloc, found, NameKind::Captured, scope, &symbol.name, other)?;
     }
     Ok(())
 }
 
-/// Puts last what is told of one name of a scope.
+/// Puts last what is reported of one name of a scope.
 fn push_symbol(
     alloc: Global,
     found: &mut Vec<Finding>,
@@ -138,7 +145,8 @@ fn push_symbol(
 ) -> Result<(), AllocError>
     requires typ { typ ≡ typ_of_place (slice_get places.now scope) }
     requires known { (n : Name) → list_any (same_name n) known.now.keys ≡ is_known places.now n }
-    ensures { OnOk result (found.new.items ≡ found.old.items ++ found_at places.now scope symbol.now) }
+    ensures { OnOk result (found.new.items ≡ found.old.items
+        ++ found_at places.now scope symbol.now) }
 {
     let unused = is_unused(typ, symbol);
     push_if(alloc, found, unused, NameKind::Unused, scope, &symbol.name)?;
@@ -156,7 +164,7 @@ fn push_symbol(
     Ok(())
 }
 
-/// Puts last what is told of the names of a scope.
+/// Puts last what is reported of the names of a scope.
 pub(crate) fn push_scope(
     alloc: Global,
     found: &mut Vec<Finding>,
@@ -168,7 +176,8 @@ pub(crate) fn push_scope(
 ) -> Result<(), AllocError>
     requires typ { typ ≡ typ_of_place (slice_get places.now scope) }
     requires known { (n : Name) → list_any (same_name n) known.now.keys ≡ is_known places.now n }
-    ensures { OnOk result (found.new.items ≡ found.old.items ++ found_in places.now scope symbols.now) }
+    ensures { OnOk result (found.new.items ≡ found.old.items
+        ++ found_in places.now scope symbols.now) }
 {
     for i in 0..symbols.len() {
         if let Some(symbol) = symbols.get_index(i) {
@@ -178,7 +187,7 @@ pub(crate) fn push_scope(
     Ok(())
 }
 
-/// What is told of the names of these scopes.
+/// What is reported of the names of these scopes.
 pub(crate) fn list_findings(alloc: Global, places: &[Place]) -> Result<Vec<Finding>, AllocError>
     ensures { IfOk result (λ found. found.items ≡ found_by_places places.now) }
 {

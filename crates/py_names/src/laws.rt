@@ -2,7 +2,7 @@
 ghost use Rattle.py_names.specs.FunctionSamples.{ClosureTold, UnboundTold, ShadowedTold, DeclaredAloneTold, DeclaredReadElsewhereTold, StoredElsewhereTold, PassedOnTold, NonlocalTold, NearestIsNoBinderTold, GlobalBetweenTold, DeletedTold, ImportedTold, ParameterUnreadTold, HandlerNameTold, SiblingsTold, ExpressionValueTold};
 ghost use Rattle.py_names.specs.ClassSamples.{WalrusInModuleTold, ClassBindsAndHandsOnTold, ClassHandsOnTold, ClassCellTold, ClassIsNoShadowTold, NestedComprehensionsTold, WalrusInFunctionTold, TypeParameterTold, ClassTypeParameterTold, UnusedInClassTold, FreeOverClassTold, MangledTold};
 
-/// What is told of small programs.
+/// What is reported of small programs.
 pub fn worked_reports()
     ensures closure_told { ClosureTold }
     ensures unbound_told { UnboundTold }

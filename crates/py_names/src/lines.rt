@@ -40,9 +40,9 @@ fn link_of(kind: NameKind) -> &'static str
 fn push_text(out: &mut String, places: &[Place], at: usize) -> Result<(), AllocError>
     ensures { OnOk result (string_bytes out.new ≡ string_bytes out.old ++ text_in places.now at) }
 {
-    let around = parent_of(places, at);
-    if around < at {
-        push_text(out, places, around)?;
+    let parent = parent_of(places, at);
+    if parent < at {
+        push_text(out, places, parent)?;
         out.push_str("/")?;
     }
     push_name(out, places, at)?;
@@ -51,7 +51,8 @@ fn push_text(out: &mut String, places: &[Place], at: usize) -> Result<(), AllocE
 
 /// Appends the name of the scope's own table.
 fn push_name(out: &mut String, places: &[Place], at: usize) -> Result<(), AllocError>
-    ensures { OnOk result (string_bytes out.new ≡ string_bytes out.old ++ name_of_place (slice_get places.now at)) }
+    ensures { OnOk result (string_bytes out.new ≡ string_bytes out.old
+        ++ name_of_place (slice_get places.now at)) }
 {
     match places.get(at) {
         Some(place) => out.push_str(place.name.as_str()),
@@ -66,7 +67,8 @@ fn push_other(
     kind: NameKind,
     other: Option<usize>,
 ) -> Result<(), AllocError>
-    ensures { OnOk result (string_bytes out.new ≡ string_bytes out.old ++ other_in places.now kind other) }
+    ensures { OnOk result (string_bytes out.new ≡ string_bytes out.old
+        ++ other_in places.now kind other) }
 {
     let Some(at) = other else {
         return Ok(());
@@ -81,7 +83,8 @@ pub(crate) fn push_line(
     places: &[Place],
     finding: &Finding,
 ) -> Result<(), AllocError>
-    ensures { OnOk result (string_bytes out.new ≡ string_bytes out.old ++ line_in places.now finding.now) }
+    ensures { OnOk result (string_bytes out.new ≡ string_bytes out.old
+        ++ line_in places.now finding.now) }
 {
     out.push_str(word_of(finding.kind))?;
     push_text(out, places, finding.scope)?;
@@ -116,7 +119,7 @@ fn lines_of_table(alloc: Global, table: SymbolTable) -> Result<List<Text>, Alloc
     list_lines(alloc, &places, &found)
 }
 
-/// The report on a tree, one line for each item: what is told, the names of the tables that lead to the scope, the name, and
+/// The report on a tree, one line for each item: what is reported, the names of the tables that lead to the scope, the name, and
 /// the other scope.
 ///
 /// # Errors

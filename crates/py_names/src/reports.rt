@@ -45,7 +45,7 @@ pub(crate) fn scan_tree(alloc: Global, tree: &Mod) -> Result<SymbolTable, Symbol
     }
 }
 
-/// What is told of the names of a table.
+/// What is reported of the names of a table.
 fn report_table(alloc: Global, table: SymbolTable) -> Result<NameReport, AllocError>
     ensures { IfOk result (λ items. items ≡ items_by_places (places_of table)) }
 {

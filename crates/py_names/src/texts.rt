@@ -22,7 +22,8 @@ use std::alloc::{AllocError, Global};
 
 /// Appends the lines of findings, each with its end.
 fn push_lines(out: &mut String, places: &[Place], found: &[Finding]) -> Result<(), AllocError>
-    ensures { OnOk result (string_bytes out.new ≡ string_bytes out.old ++ found_text places.now found.now) }
+    ensures { OnOk result (string_bytes out.new ≡ string_bytes out.old
+        ++ found_text places.now found.now) }
 {
     for finding in found {
         push_line(out, places, finding)?;
@@ -31,7 +32,7 @@ fn push_lines(out: &mut String, places: &[Place], found: &[Finding]) -> Result<(
     Ok(())
 }
 
-/// Appends the lines of what is told of the names of a scope. The findings are let go before those of the next scope are made.
+/// Appends the lines of what is reported of the names of a scope. The findings are let go before those of the next scope are made.
 fn push_scope_lines(
     alloc: Global,
     out: &mut String,
@@ -43,7 +44,8 @@ fn push_scope_lines(
 ) -> Result<(), AllocError>
     requires typ { typ ≡ typ_of_place (slice_get places.now scope) }
     requires known { (n : Name) → list_any (same_name n) known.now.keys ≡ is_known places.now n }
-    ensures { OnOk result (string_bytes out.new ≡ string_bytes out.old ++ found_text places.now (found_in places.now scope symbols.now)) }
+    ensures { OnOk result (string_bytes out.new ≡ string_bytes out.old
+        ++ found_text places.now (found_in places.now scope symbols.now)) }
 {
     let mut found = Vec::new(alloc);
     push_scope(alloc, &mut found, places, known, scope, typ, symbols)?;

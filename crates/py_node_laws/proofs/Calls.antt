@@ -44,7 +44,9 @@ statement_calls_run (Err x) t before after h few ready loop = tt
 -- one target is the only one of its statement
 pub deletion_calls_run : DeletionCallsRun
 unfolding move with_location
-deletion_calls_run (Ok a) e before after h few ready loop = λ bs tables held. statements_run (deletion_at (state before).location e) few (state before) (state after) ready loop (ap (λ o. go_on o keep) h.goes) bs tables held
+deletion_calls_run (Ok a) e before after h few ready loop = λ bs tables held.
+    statements_run (deletion_at (state before).location e) few (state before) (state after) ready loop
+    (ap (λ o. go_on o keep) h.goes) bs tables held
 deletion_calls_run (Err x) e before after h few ready loop = tt
 
 -- a comprehension by its parts does what the one does that stands there
@@ -59,7 +61,9 @@ comprehension_is gs (element.Generator e) s =
     scope_alike (is_awaited gs own) (name_of own) cs (scope_of cs own) (generator_body cs (as_element (emission (expr_tree e.now)))) s refl
 
 pub comprehension_calls_run : ComprehensionCallsRun
-comprehension_calls_run (Ok a) gs e before after h few ready = λ bs tables held. exprs_run (comprehension_at (state before).location gs e) few (state before) (state after) ready (sym (comprehension_is gs e (state before)) ∙ h.goes) bs tables held
+comprehension_calls_run (Ok a) gs e before after h few ready = λ bs tables held.
+    exprs_run (comprehension_at (state before).location gs e) few (state before) (state after) ready
+    (sym (comprehension_is gs e (state before)) ∙ h.goes) bs tables held
 comprehension_calls_run (Err x) gs e before after h few ready = tt
 
 -- what is called, its arguments and the call are what is emitted of the call
@@ -70,7 +74,9 @@ argument_calls_run (Ok t) func args keywords r s before after pushed h calls few
     let es = elements (all_emissions args) in
     let ks = keyword_emissions keywords in
     let is : run (emission (tree.Call r.location func args keywords)) r ≡ Done s =
-    ap (λ (a : Action). a r) (call_is c es ks) ∙ ap (λ o. go_on o (arguments 0 es ks ▸ call_of_type (is_method c) (taken_type 0 es ks))) pushed ∙ ap (λ o. go_on o (call_of_type (is_method c) (taken_type 0 es ks))) h.goes ∙ calls in
+    ap (λ (a : Action). a r) (call_is c es ks) ∙ ap
+    (λ o. go_on o (arguments 0 es ks ▸ call_of_type (is_method c) (taken_type 0 es ks))) pushed
+    ∙ ap (λ o. go_on o (call_of_type (is_method c) (taken_type 0 es ks))) h.goes ∙ calls in
     λ bs tables held. exprs_run (tree.Call r.location func args keywords) few r s ready is bs tables held
 argument_calls_run (Err x) func args keywords r s before after pushed h calls few ready = tt
 

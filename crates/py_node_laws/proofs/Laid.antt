@@ -55,12 +55,18 @@ module _ (bs : List Blk) where
   stand_items b k [] rest at h = subst (λ n. Stand (coded_blocks bs) rest (Of b n)) (let e : k + 0 ≡ k = omega arith in e) h
   stand_items b k (x ∷ xs) rest at h = (
     ap (slice_get (block_at (coded_blocks bs) b).items) (let e : k ≡ k + 0 = omega arith in e) ∙ at 0,
-    stand_items b (suc k) xs rest (λ j. ap (slice_get (block_at (coded_blocks bs) b).items) (let e : suc k + j ≡ k + suc j = omega arith in e) ∙ at (suc j)) (subst (λ n. Stand (coded_blocks bs) rest (Of b n)) (let e : k + length (x ∷ xs) ≡ suc k + length xs = omega arith in e) h),
+    stand_items b (suc k) xs rest (λ j. ap (slice_get (block_at (coded_blocks bs) b).items)
+        (let e : suc k + j ≡ k + suc j = omega arith in e)
+        ∙ at (suc j)) (subst (λ n. Stand (coded_blocks bs) rest (Of b n))
+        (let e : k + length (x ∷ xs) ≡ suc k + length xs = omega arith in e) h),
   )
 
   stand_block : (b : ℕ) (rest : List Step) → Stand (coded_blocks bs) rest (Of b (length (blk bs b).items)) → Stand (coded_blocks bs) (map step_of (blk bs b).items ++ rest) (Of b 0)
   stand_block b rest h =
-      stand_items b 0 (blk bs b).items rest (λ j. ap (slice_get (block_at (coded_blocks bs) b).items) (zero-add j) ∙ ap (λ (x : coded.Block). slice_get x.items j) (coded_at bs b)) (subst (λ n. Stand (coded_blocks bs) rest (Of b n)) (sym (zero-add (length (blk bs b).items))) h)
+      stand_items b 0 (blk bs b).items rest
+      (λ j. ap (slice_get (block_at (coded_blocks bs) b).items) (zero-add j)
+      ∙ ap (λ (x : coded.Block). slice_get x.items j) (coded_at bs b))
+      (subst (λ n. Stand (coded_blocks bs) rest (Of b n)) (sym (zero-add (length (blk bs b).items))) h)
 
   long_at : (b : ℕ) → length (block_at (coded_blocks bs) b).items ≡ length (blk bs b).items
   long_at b = ap (λ (x : coded.Block). length x.items) (coded_at bs b) ∙ length-map (blk bs b).items coded_item
@@ -71,9 +77,13 @@ module _ (bs : List Blk) where
   -- the steps of a chain from one of its blocks on
   stand_along : (n c : ℕ) (cs : List ℕ) → ChainLeads bs (c ∷ cs) → length (c ∷ cs) ≤ n → Stand (coded_blocks bs) (steps_from bs n c) (Of c 0)
   stand_along zero c cs leads enough = absurd (omega (arith, enough))
-  stand_along (suc n) c [] leads enough = stand_block c (onwards (blk bs c).next (steps_from bs n)) (subst (λ o. Stand (coded_blocks bs) (onwards o (steps_from bs n)) (Of c (length (blk bs c).items))) (sym leads) (long_at c, laid_next_at c None leads))
+  stand_along (suc n) c [] leads enough = stand_block c (onwards (blk bs c).next (steps_from bs n))
+      (subst (λ o. Stand (coded_blocks bs) (onwards o (steps_from bs n)) (Of c (length (blk bs c).items))) (sym leads)
+      (long_at c, laid_next_at c None leads))
   stand_along (suc n) c (d ∷ cs) leads enough =
-      stand_block c (onwards (blk bs c).next (steps_from bs n)) (subst (λ o. Stand (coded_blocks bs) (onwards o (steps_from bs n)) (Of c (length (blk bs c).items))) (sym leads.0) (long_at c, laid_next_at c (Some d) leads.0, stand_along n d cs leads.1 (omega (arith, enough))))
+      stand_block c (onwards (blk bs c).next (steps_from bs n))
+      (subst (λ o. Stand (coded_blocks bs) (onwards o (steps_from bs n)) (Of c (length (blk bs c).items))) (sym leads.0)
+      (long_at c, laid_next_at c (Some d) leads.0, stand_along n d cs leads.1 (omega (arith, enough))))
 
   begins_along : (n c : ℕ) (cs : List ℕ) → ChainLeads bs (c ∷ cs) → length (c ∷ cs) ≤ n → laid_begins (steps_from bs n c) ≡ length cs
   begins_along zero c cs leads enough = absurd (omega (arith, enough))
@@ -81,7 +91,9 @@ module _ (bs : List Blk) where
       begins_joined (map step_of (blk bs c).items) (onwards (blk bs c).next (steps_from bs n)) ∙ (λ j. none_begins (blk bs c).items j + laid_begins (onwards (leads j) (steps_from bs n)))
   begins_along (suc n) c (d ∷ cs) leads enough =
       let h = begins_along n d cs leads.1 (omega (arith, enough)) in
-      begins_joined (map step_of (blk bs c).items) (onwards (blk bs c).next (steps_from bs n)) ∙ (λ j. none_begins (blk bs c).items j + laid_begins (onwards (leads.0 j) (steps_from bs n))) ∙ zero-add (suc (laid_begins (steps_from bs n d))) ∙ ap suc h
+      begins_joined (map step_of (blk bs c).items) (onwards (blk bs c).next (steps_from bs n))
+      ∙ (λ j. none_begins (blk bs c).items j + laid_begins (onwards (leads.0 j) (steps_from bs n)))
+      ∙ zero-add (suc (laid_begins (steps_from bs n d))) ∙ ap suc h
 
   pub stand_in : (cs : List ℕ) → IsChain bs cs → Stand (coded_blocks bs) (steps_in bs) (Of 0 0)
   stand_in cs chain = let l = chain_leads bs cs chain in stand_along (length bs) 0 l.0 l.2 (let x = chain_short bs cs chain.path in let y = ap length l.1 in omega (arith, x, y))
@@ -96,10 +108,10 @@ module _ (bs : List Blk) where
       omega (arith, x, y, z, long)
 
 -- what stands after some steps
-pub stand_behind : (bs : List coded.Block) (xs ys : List Step) (p : Place) → Stand bs (xs ++ ys) p → Stand bs ys (place_after xs p)
-stand_behind bs [] ys p h = h
-stand_behind bs (Put o n to at ∷ xs) ys (Of b k) h = stand_behind bs xs ys (Of b (suc k)) h.1
-stand_behind bs (Begin c ∷ xs) ys (Of b k) h = stand_behind bs xs ys (Of c 0) h.2
+pub stand_after : (bs : List coded.Block) (xs ys : List Step) (p : Place) → Stand bs (xs ++ ys) p → Stand bs ys (place_after xs p)
+stand_after bs [] ys p h = h
+stand_after bs (Put o n to at ∷ xs) ys (Of b k) h = stand_after bs xs ys (Of b (suc k)) h.1
+stand_after bs (Begin c ∷ xs) ys (Of b k) h = stand_after bs xs ys (Of c 0) h.2
 
 pub place_joined : (xs ys : List Step) (p : Place) → place_after (xs ++ ys) p ≡ place_after ys (place_after xs p)
 place_joined [] ys p = refl
@@ -126,7 +138,8 @@ settle_on bs n b k l e f =
 -- a place from which steps stand settles within as many hops as blocks begin after it
 stand_stable : (bs : List coded.Block) (xs : List Step) (p : Place) → Stand bs xs p → Stable bs (laid_begins xs) p
 stand_stable bs [] (Of b k) h = λ n. end_settles bs (0 + n) b k h
-stand_stable bs (Put o n to at ∷ xs) (Of b k) h = let lt = slice_get_within (block_at bs b).items k _ h.0 in λ m. settle_here bs (laid_begins xs + m) b k lt ∙ sym (settle_here bs (laid_begins xs) b k lt)
+stand_stable bs (Put o n to at ∷ xs) (Of b k) h = let lt = slice_get_within (block_at bs b).items k _ h.0 in λ m.
+    settle_here bs (laid_begins xs + m) b k lt ∙ sym (settle_here bs (laid_begins xs) b k lt)
 stand_stable bs (Begin c ∷ xs) (Of b k) h = λ m.
     ap (λ n. settle bs n (Of b k)) (let e : suc (laid_begins xs) + m ≡ suc (laid_begins xs + m) = omega arith in e)
     ∙ settle_on bs (laid_begins xs + m) b k c h.0 h.1 ∙ stand_stable bs xs (Of c 0) h.2 m ∙ sym (settle_on bs (laid_begins xs) b k c h.0 h.1)
@@ -141,7 +154,10 @@ pub stand_lies : (t : Tables) (bs : List coded.Block) (xs ys : List Step) (items
 stand_lies t bs [] ys [] p h r n = (refl, stand_stable bs ys p h)
 stand_lies t bs [] ys (i ∷ items) p h r n = absurd r
 stand_lies t bs (x ∷ xs) ys [] p h r n = absurd r
-stand_lies t bs (Put o m to at ∷ xs) ys (Do i ∷ items) (Of b k) h r n = (subst (λ x. simulation.IsItem t bs x i) (sym h.0) (r.0.1, named_inside bs to n.0), stand_lies t bs xs ys items (Of b (suc k)) h.1 r.1 n.1)
+stand_lies t bs (Put o m to at ∷ xs) ys (Do i ∷ items) (Of b k) h r n = (
+  subst (λ x. simulation.IsItem t bs x i) (sym h.0) (r.0.1, named_inside bs to n.0),
+  stand_lies t bs xs ys items (Of b (suc k)) h.1 r.1 n.1,
+)
 stand_lies t bs (Put o m to at ∷ xs) ys (Label l ∷ items) p h r n = absurd r.0
 stand_lies t bs (Begin c ∷ xs) ys (Do i ∷ items) p h r n = absurd r.0
 stand_lies t bs (Begin c ∷ xs) ys (Label l ∷ items) (Of b k) h r n =

@@ -14,14 +14,14 @@ load_sample_scopes =
     record { typ = kind.Function; symbols = record { name = codes "x"; scope = scope.Cell; flags = record { 0 = 0 } } ∷ []; next = 2 }
     ∷ record { typ = kind.Function; symbols = record { name = codes "x"; scope = scope.Free; flags = record { 0 = 0 } } ∷ []; next = 2 } ∷ []
 
-abbrev load_sample_within : Context
-load_sample_within = record { level = 0; source = []; class = None; path = []; postponed = false; typ = kind.Function; scopes = load_sample_scopes; here = 1; cells = []; frees = codes "x" ∷ [] }
+abbrev load_sample_nested : Context
+load_sample_nested = record { level = 0; source = []; class = None; path = []; postponed = false; typ = kind.Function; scopes = load_sample_scopes; here = 1; cells = []; frees = codes "x" ∷ [] }
 
 abbrev load_sample_inner : Scope
-load_sample_inner = MkScope (head_of load_sample_within) SSkip
+load_sample_inner = MkScope (head_of load_sample_nested) SSkip
 
 abbrev maker : Scope
-maker = MkScope (head_of (record load_sample_within { here = 0; cells = codes "x" ∷ []; frees = [] })) (SReturn (VMake 0 VNone load_sample_inner (codes "f") VNone))
+maker = MkScope (head_of (record load_sample_nested { here = 0; cells = codes "x" ∷ []; frees = [] })) (SReturn (VMake 0 VNone load_sample_inner (codes "f") VNone))
 
 load_sample_one : loads load_sample_scopes (load_sample_inner ∷ []) ≡ 1
 load_sample_one = refl

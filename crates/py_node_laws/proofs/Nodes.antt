@@ -17,7 +17,8 @@ use Rattle.py_emission_proof.proofs.Additions.EmissionSequenceLemmas.{EmissionSe
 use Rattle.py_emission_proof.proofs.Trees.Controls.{InLoop, control_held}
 use Rattle.py_emission_proof.proofs.Trees.ExprAdds.{expr_adds, target_adds}
 use Rattle.py_emission_proof.proofs.Trees.StmtAdds.{stmt_gives, stmts_add}
-use Rattle.py_node_laws.specs.Adding.{Adds, AreItems, AreTables, BeginsReady, BodiesAdd, EntersReady, ExprsAdd, IsChild, IsReady, LoopIsMade, NameBlocks, StatementsAdd, TargetsAdd, TestsAdd, labels_of, form_context}
+use Rattle.py_node_laws.specs.Adding.{Adds, AreItems, AreTables, BeginsReady, BodiesAdd, EntersReady, ExprsAdd, IsChild, IsReady}
+use Rattle.py_node_laws.specs.Adding.{LoopIsMade, NameBlocks, StatementsAdd, TargetsAdd, TestsAdd, labels_of, form_context}
 
 -- steps read as items
 read_so : (t : Tables) (xs : List Step) (is : List (Item Object)) → AllRead t xs is → AreItems t xs is
@@ -51,7 +52,10 @@ tables_so s t h = record {
 children_so : (ground : Ground) (cs : List Const) (d : ℕ → Object) (ps : List (Object × Scope)) → Numbered d ps → AllOf (MadeWhereFew ground) ps
     → AllKnown (objects ps) (codes_in cs) → AllOf (λ x. IsChild ground.1 cs (by_number d x) x) (code_scopes ps)
 children_so ground cs d [] n m k = tt
-children_so ground cs d (p ∷ ps) n m k = (subst (λ o. IsChild ground.1 cs o p.1) (sym n.0) (record { made = λ few. (m.0 (record { down = few })).from; kept = k.0 }), children_so ground cs d ps n.1 m.1 k.1)
+children_so ground cs d (p ∷ ps) n m k = (
+  subst (λ o. IsChild ground.1 cs o p.1) (sym n.0) (record { made = λ few. (m.0 (record { down = few })).from; kept = k.0 }),
+  children_so ground cs d ps n.1 m.1 k.1,
+)
 
 pub adds_so : (s r : State) (is : List (Item Scope)) (m l : ℕ) → adding.Adds s r is m l → Adds s r is m l
 adds_so s r is m l a =
@@ -60,7 +64,8 @@ adds_so s r is m l a =
     let z : Numbered d a.made = all_stand a.made a.counted.apart in
     record {
       child = by_number d;
-      within = subst (λ xs. AllOf (λ x. IsChild s.around.context.scopes r.constants (by_number d x) x) xs) (sym b.codes.loads) (children_so (adding.ground_in s) r.constants d a.made z b.codes.from_scopes b.codes.kept);
+      within = subst (λ xs. AllOf (λ x. IsChild s.node_context.context.scopes r.constants (by_number d x) x) xs) (sym b.codes.loads)
+          (children_so (adding.ground_in s) r.constants d a.made z b.codes.from_scopes b.codes.kept);
       steps = b.steps;
       steps_are = b.steps_are;
       read = λ t h. read_so t b.steps (adding.read_as d is) (b.reads d z t (tables_so r t h));
@@ -70,7 +75,7 @@ adds_so s r is m l a =
       names = (b.names, b.names_are);
       varnames = (b.varnames, b.varnames_are);
       constants = (b.constants, b.constants_are);
-      around = b.around_are;
+      node_context = b.node_contexts_are;
     }
 
 pub begins_ready : BeginsReady
@@ -81,8 +86,8 @@ pub enters_ready : EntersReady
 unfolding inside
 enters_ready typ number c at next = record { cells = refl; frees = refl }
 
-node_stands : (s : State) → IsReady s → EmissionSequenceStands s.around s
-node_stands s h = record { around = refl; settled = record { cells = h.cells; frees = h.frees } }
+node_stands : (s : State) → IsReady s → EmissionSequenceStands s.node_context s
+node_stands s h = record { node_context = refl; settled = record { cells = h.cells; frees = h.frees } }
 
 looped_in : (x : Option LoopBlocks) (n : ℕ) → LoopIsMade x n → InLoop x (labels_of x) n
 looped_in None n h = tt
@@ -93,20 +98,20 @@ node_held_is None = refl
 node_held_is (Some x) = refl
 
 pub exprs_add : ExprsAdd
-exprs_add e few s r ready done = adds_so s r _ _ _ (((expr_adds s.around s.next e few).value s.blocks).does s r refl refl (node_stands s ready) done).0
+exprs_add e few s r ready done = adds_so s r _ _ _ (((expr_adds s.node_context s.next e few).value s.blocks).does s r refl refl (node_stands s ready) done).0
 
 pub tests_add : TestsAdd
-tests_add e few truth block s r ready lt done = adds_so s r _ _ _ (((expr_adds s.around s.next e few).test truth block s.blocks lt).does s r refl refl (node_stands s ready) done).0
+tests_add e few truth block s r ready lt done = adds_so s r _ _ _ (((expr_adds s.node_context s.next e few).test truth block s.blocks lt).does s r refl refl (node_stands s ready) done).0
 
 pub targets_add : TargetsAdd
-targets_add e few s r ready done = adds_so s r _ _ _ (((target_adds s.around s.next e few).alone s.blocks).does s r refl refl (node_stands s ready) done).0
+targets_add e few s r ready done = adds_so s r _ _ _ (((target_adds s.node_context s.next e few).alone s.blocks).does s r refl refl (node_stands s ready) done).0
 
 pub statements_add : StatementsAdd
 statements_add t few s r ready loop done =
-    let d = (stmt_gives t few s.around s.next (labels_of s.around.loops) s.blocks (looped_in s.around.loops s.blocks loop)).does s r refl refl (node_stands s ready) done in
-    (adds_so s r _ _ _ d.0, subst (λ b. Looped b (stmt_form (form_context s) s.next t)) (node_held_is s.around.loops) d.1)
+    let d = (stmt_gives t few s.node_context s.next (labels_of s.node_context.loops) s.blocks (looped_in s.node_context.loops s.blocks loop)).does s r refl refl (node_stands s ready) done in
+    (adds_so s r _ _ _ d.0, subst (λ b. Looped b (stmt_form (form_context s) s.next t)) (node_held_is s.node_context.loops) d.1)
 
 pub bodies_add : BodiesAdd
 bodies_add ts few s r ready loop done =
-    let d = (stmts_add s.around s.next ts few (labels_of s.around.loops) s.blocks (looped_in s.around.loops s.blocks loop)).does s r refl refl (node_stands s ready) done in
-    (adds_so s r _ _ _ d.0, subst (λ b. Looped b (stmts_form (form_context s) s.next ts)) (node_held_is s.around.loops) d.1)
+    let d = (stmts_add s.node_context s.next ts few (labels_of s.node_context.loops) s.blocks (looped_in s.node_context.loops s.blocks loop)).does s r refl refl (node_stands s ready) done in
+    (adds_so s r _ _ _ d.0, subst (λ b. Looped b (stmts_form (form_context s) s.next ts)) (node_held_is s.node_context.loops) d.1)

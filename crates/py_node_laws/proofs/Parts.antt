@@ -10,7 +10,7 @@ use Rattle.py_control.specs.Form.{append_run, drop_run, run_values}
 use Rattle.py_control.specs.Code.{append_code, code_c, code_g, code_h, code_t, code_v, code_vs, count, drop_code, size}
 use Rattle.py_control_proof.proofs.BlockMachine.{block_ground, stands_in_blocks}
 use Rattle.py_control_proof.proofs.Clauses.{LiesBelow, append_follows, yield_follows}
-use Rattle.py_control_proof.proofs.Falls.{live_size}
+use Rattle.py_control_proof.proofs.Falls.{reachable_size}
 use Rattle.py_control_proof.proofs.Handlers.{TailMoves, last_tail, plain_tail}
 use Rattle.py_control_proof.proofs.Ops.{op_as_many}
 use Rattle.py_control_proof.proofs.Program.{clauses_follow, handlers_follow, target_follows, test_follows, value_follows, values_follow}
@@ -47,8 +47,10 @@ pub gathers_simulate : GathersSimulate
 gathers_simulate i t bs hops cs o fs d n p q lies le above c under deep entered slot w fit =
     let is = code_c i cs (append_code i o fs) d n in
     let g = block_ground t bs (size is) in
-    let follows = clauses_follow i g cs (append_code i o fs) (λ k. LiesBelow Place c k) (append_run i o fs c) (λ k it s h. h) (λ k m. append_follows g c o (count fs) k _ (run_values i fs) (op_as_many i fs) (values_follow i g fs m)) d n in
-    let r = follows.by (le_refl (size is)) (settled_place bs p) (settled_place bs q) (stands_in_blocks t bs (size is) hops is p q lies le) (above ++ It c ∷ under) entered slot fit (lies_under above c under d deep) w in
+    let follows = clauses_follow i g cs (append_code i o fs) (λ k. LiesBelow Place c k) (append_run i o fs c) (λ k it s h. h)
+    (λ k m. append_follows g c o (count fs) k _ (run_values i fs) (op_as_many i fs) (values_follow i g fs m)) d n in
+    let r = follows.by (le_refl (size is)) (settled_place bs p) (settled_place bs q) (stands_in_blocks t bs (size is) hops is p q lies le)
+    (above ++ It c ∷ under) entered slot fit (lies_under above c under d deep) w in
     (r.cost, r.bound, r.runs)
 
 pub yields_simulate : YieldsSimulate
@@ -66,7 +68,9 @@ tail t bs weight false s entered after slot h = subst (λ z. TailMoves (block_gr
 tail t bs weight true s [] after slot h = absurd h
 tail t bs weight true s (Loop k ∷ entered) after slot h = absurd h
 tail t bs weight true s (Except k z ∷ entered) after slot h = absurd h
-tail t bs weight true s (Finally k z ∷ entered) after slot h = subst (λ y. TailMoves (block_ground t bs weight) true s (Finally k z ∷ entered) y slot) (sym h) (last_tail (block_ground t bs weight) k z s entered slot)
+tail t bs weight true s (Finally k z ∷ entered) after slot h =
+    subst (λ y. TailMoves (block_ground t bs weight) true s (Finally k z ∷ entered) y slot) (sym h)
+    (last_tail (block_ground t bs weight) k z s entered slot)
 tail t bs weight true s (ExceptHandler k old ∷ entered) after slot h = absurd h
 tail t bs weight true s (FinallyHandler k r old ∷ entered) after slot h = absurd h
 
@@ -74,6 +78,8 @@ pub handlers_simulate : HandlersSimulate
 handlers_simulate i t bs hops hs final l end n p q lies le ok s entered after slot e w fit within done =
     let is = code_h i hs final l end n in
     let g = block_ground t bs (size is) in
-    let least = live_size true is in
-    let r = (handlers_follow i g hs final l end n ok).by least (settled_place bs p) (settled_place bs q) (stands_in_blocks t bs (size is) hops is p q lies le) s entered after slot fit within (tail t bs (size is) final s entered after slot done) e w in
+    let least = reachable_size true is in
+    let r = (handlers_follow i g hs final l end n ok).by least (settled_place bs p) (settled_place bs q)
+    (stands_in_blocks t bs (size is) hops is p q lies le) s entered after slot fit within
+    (tail t bs (size is) final s entered after slot done) e w in
     (r.cost, omega (arith, r.bound, least), r.runs)

@@ -18,7 +18,7 @@ use Rattle.py_meaning.specs.TableStmts.{stmt_form, stmts_form}
 use Rattle.py_node_laws.specs.Adding.{Adds, NameBlocks, loops_in, present, present_interp, form_context}
 use Rattle.py_node_laws.specs.Running.{BodiesRun, ExprsRun, Hold, StatementsRun, TargetsRun, TestsRun, end_of, place_after}
 use Rattle.py_control_proof.proofs.CodeOver.{over_g, over_s, over_t, over_v}
-use Rattle.py_node_laws.proofs.Laid.{laid_begins, few_begin, place_joined, stand_behind, stand_in, stand_lies}
+use Rattle.py_node_laws.proofs.Laid.{laid_begins, few_begin, place_joined, stand_after, stand_in, stand_lies}
 use Rattle.py_node_laws.proofs.Nodes.{bodies_add, exprs_add, statements_add, targets_add, tests_add}
 use Rattle.py_node_laws.proofs.Parts.{targets_simulate, tests_simulate, values_simulate}
 
@@ -52,7 +52,9 @@ lies_there s r is m l bs tables a h =
       hops = laid_begins (xs ++ ys);
       few = let le = fewer s.steps (xs ++ ys) in omega (arith, le, few);
       lies = subst (λ q. Lies tables (coded_blocks bs) (laid_begins (xs ++ ys)) (items_over a.child is) (end_of s) q) (sym ends)
-          (stand_lies tables (coded_blocks bs) xs ys (items_over a.child is) (end_of s) (stand_behind (coded_blocks bs) s.steps (xs ++ ys) (Of 0 0) stood) (a.read tables h.tables_are) (named_more xs r.blocks (length (coded_blocks bs)) (let le = h.more in omega (arith, long, le)) a.named));
+          (stand_lies tables (coded_blocks bs) xs ys (items_over a.child is) (end_of s)
+          (stand_after (coded_blocks bs) s.steps (xs ++ ys) (Of 0 0) stood) (a.read tables h.tables_are)
+          (named_more xs r.blocks (length (coded_blocks bs)) (let le = h.more in omega (arith, long, le)) a.named));
     }
 
 pub exprs_run : ExprsRun
@@ -62,7 +64,12 @@ exprs_run e few s r ready done bs tables h =
     let i : Interp Object = exactly a.child (present s) in
     let z = lies_there s r _ _ _ bs tables a h in
     let lies = subst (λ is. Lies tables (coded_blocks bs) z.hops is (end_of s) (end_of r)) (over_v a.child (present_interp s) f s.blocks).same z.lies in
-    record { child = a.child; within = a.within; runs = λ stack entered slot w fit. values_simulate i tables (coded_blocks bs) z.hops f s.blocks (end_of s) (end_of r) lies z.few stack entered slot w fit }
+    record {
+      child = a.child;
+      within = a.within;
+      runs = λ stack entered slot w fit.
+          values_simulate i tables (coded_blocks bs) z.hops f s.blocks (end_of s) (end_of r) lies z.few stack entered slot w fit;
+    }
 
 pub tests_run : TestsRun
 tests_run e few truth block s r ready lt done bs tables h =
@@ -71,7 +78,12 @@ tests_run e few truth block s r ready lt done bs tables h =
     let i : Interp Object = exactly a.child (present s) in
     let z = lies_there s r _ _ _ bs tables a h in
     let lies = subst (λ is. Lies tables (coded_blocks bs) z.hops is (end_of s) (end_of r)) (over_t a.child (present_interp s) f truth block s.blocks).same z.lies in
-    record { child = a.child; within = a.within; runs = λ stack entered slot w fit. tests_simulate i tables (coded_blocks bs) z.hops f truth block s.blocks (end_of s) (end_of r) lies z.few stack entered slot w fit }
+    record {
+      child = a.child;
+      within = a.within;
+      runs = λ stack entered slot w fit.
+          tests_simulate i tables (coded_blocks bs) z.hops f truth block s.blocks (end_of s) (end_of r) lies z.few stack entered slot w fit;
+    }
 
 pub targets_run : TargetsRun
 targets_run e few s r ready done bs tables h =
@@ -80,7 +92,12 @@ targets_run e few s r ready done bs tables h =
     let i : Interp Object = exactly a.child (present s) in
     let z = lies_there s r _ _ _ bs tables a h in
     let lies = subst (λ is. Lies tables (coded_blocks bs) z.hops is (end_of s) (end_of r)) (over_g a.child (present_interp s) f s.blocks).same z.lies in
-    record { child = a.child; within = a.within; runs = λ v stack entered slot w fit. targets_simulate i tables (coded_blocks bs) z.hops f s.blocks (end_of s) (end_of r) lies z.few v stack entered slot w fit }
+    record {
+      child = a.child;
+      within = a.within;
+      runs = λ v stack entered slot w fit.
+          targets_simulate i tables (coded_blocks bs) z.hops f s.blocks (end_of s) (end_of r) lies z.few v stack entered slot w fit;
+    }
 
 pub statements_run : StatementsRun
 statements_run t few s r ready loop done bs tables h =
@@ -90,7 +107,13 @@ statements_run t few s r ready loop done bs tables h =
     let i : Interp Object = exactly a.child (present s) in
     let z = lies_there s r _ _ _ bs tables a h in
     let lies = subst (λ is. Lies tables (coded_blocks bs) z.hops is (end_of s) (end_of r)) (over_s a.child (present_interp s) f (loops_in s) s.blocks).same z.lies in
-    record { child = a.child; within = a.within; runs = λ stack entered slot w fit within. blocks_simulate i tables (coded_blocks bs) z.hops f (loops_in s) s.blocks (end_of s) (end_of r) lies z.few stack entered slot w fit within d.1 }
+    record {
+      child = a.child;
+      within = a.within;
+      runs = λ stack entered slot w fit within.
+          blocks_simulate i tables (coded_blocks bs) z.hops f (loops_in s) s.blocks (end_of s)
+          (end_of r) lies z.few stack entered slot w fit within d.1;
+    }
 
 pub bodies_run : BodiesRun
 bodies_run ts few s r ready loop done bs tables h =
@@ -100,4 +123,10 @@ bodies_run ts few s r ready loop done bs tables h =
     let i : Interp Object = exactly a.child (present s) in
     let z = lies_there s r _ _ _ bs tables a h in
     let lies = subst (λ is. Lies tables (coded_blocks bs) z.hops is (end_of s) (end_of r)) (over_s a.child (present_interp s) f (loops_in s) s.blocks).same z.lies in
-    record { child = a.child; within = a.within; runs = λ stack entered slot w fit within. blocks_simulate i tables (coded_blocks bs) z.hops f (loops_in s) s.blocks (end_of s) (end_of r) lies z.few stack entered slot w fit within d.1 }
+    record {
+      child = a.child;
+      within = a.within;
+      runs = λ stack entered slot w fit within.
+          blocks_simulate i tables (coded_blocks bs) z.hops f (loops_in s) s.blocks (end_of s)
+          (end_of r) lies z.few stack entered slot w fit within d.1;
+    }

@@ -1,4 +1,4 @@
--- A worked node: the constant None in a file. Each premise of the laws of runs holds of it, and the machine comes to the constant.
+-- A worked node: the constant None in a file. Each premise of the laws of runs holds of it, and the machine reaches the constant.
 use Rattle.std.proofs.Common.{◌≡◌, refl, ◌<◌, List, [], ◌∷◌, None, false, arith}
 use Rattle.std.proofs.lemmas.List.Elements.{All-cons, All-nil}
 use Rattle.py_tree.specs.Tree as tree
@@ -16,7 +16,7 @@ use Rattle.py_scope.specs.declared.table_type.SymbolTableType.TheVariants as kin
 use Rattle.py_control_proof.specs.Blocks.{Comes}
 use Rattle.py_emission_parts.specs.Context.{Context}
 use Rattle.py_emission_parts.specs.Emitting.{Done, Put, State, initial_state, emit_constant, with_location, move, with_constant, with_step}
-use Rattle.py_emission_parts.specs.Running.{put, run}
+use Rattle.py_emission_parts.specs.Running.{put_instruction, run}
 use Rattle.py_emission.specs.Emission.{emission}
 use Rattle.py_node_laws.specs.Adding.{IsReady}
 use Rattle.py_node_laws.specs.Running.{ExprRuns, Hold}
@@ -39,7 +39,7 @@ abbrev sample_after : State
 sample_after = record sample_before { steps = Put op.LoadConst 0 None sample_there ∷ []; constants = const.none ∷ [] }
 
 sample_done : run (emission node) sample_before ≡ Done sample_after
-unfolding move with_location emit_constant with_constant put with_step
+unfolding move with_location emit_constant with_constant put_instruction with_step
 sample_done = refl
 
 sample_ready : IsReady sample_before

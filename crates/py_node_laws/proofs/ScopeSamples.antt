@@ -11,8 +11,8 @@ use Rattle.py_scope.specs.declared.table_type.SymbolTableType.TheVariants as kin
 use Rattle.py_emission_parts.specs.Children.{function_scope}
 use Rattle.py_emission_parts.specs.Context.{Context, head_of, inside}
 use Rattle.py_emission_parts.specs.Emitting.{Done, Put, State, add_constant, initial_state, emit_constant, with_location, move, with_constant, with_step}
-use Rattle.py_emission_parts.specs.Within.{lambda_inside}
-use Rattle.py_emission_parts.specs.Running.{code_head, put, run}
+use Rattle.py_emission_parts.specs.NestedScopes.{lambda_inside}
+use Rattle.py_emission_parts.specs.Running.{code_head, put_instruction, run}
 use Rattle.py_emission.specs.Emission.{emissions}
 use Rattle.py_emission.specs.Parameters.{function_shape, parameters}
 use Rattle.py_meaning.specs.Table.{expr_forms}
@@ -40,7 +40,7 @@ abbrev scope_sample_after : State
 scope_sample_after = record (initial_state scope_sample_inner scope_sample_there 2) { steps = Put op.ReturnConst 0 None scope_sample_there ∷ []; constants = const.none ∷ [] }
 
 scope_sample_done : run (function_scope (parameters scope_sample_params) (emissions node).returned) (initial_state scope_sample_inner scope_sample_there 2) ≡ Done scope_sample_after
-unfolding inside move with_location add_constant emit_constant with_constant put with_step
+unfolding inside move with_location add_constant emit_constant with_constant put_instruction with_step
 scope_sample_done = refl
 
 abbrev scope_sample_own : Scope

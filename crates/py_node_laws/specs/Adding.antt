@@ -35,7 +35,7 @@ pub record AreTables (s : State) (t : Tables) : Type 0 where
   pub names : Begins s.names t.names
   pub varnames : Begins s.varnames t.varnames
   pub constants : Begins s.constants t.constants
-  pub cells : t.cells ≡ s.around.context.cells ++ s.around.context.frees
+  pub cells : t.cells ≡ s.node_context.context.cells ++ s.node_context.context.frees
 
 -- a step is an item of a code: an instruction that its operand and the block that it names read as, or the block that begins where a label is
 abbrev pub IsItem : Tables → Step → Item Object → Type 0
@@ -60,7 +60,7 @@ NameBlocks n [] = Unit {0}
 NameBlocks n (Put o m to at ∷ xs) = IsNamed to n × NameBlocks n xs
 NameBlocks n (Begin b ∷ xs) = (b < n) × NameBlocks n xs
 
--- no code of the scope, and none within it, loads more than 3 * 2^22 cells for the functions that it makes
+-- no code of the scope, and none nested in it, loads more than 3 * 2^22 cells for the functions that it makes
 abbrev pub LoadsFew : List ScopeEntry → Scope → Type 0
 LoadsFew scopes x = (depth : ℕ) → LoadsUpTo scopes (3 * 2 ^ 22) depth x
 
@@ -72,7 +72,7 @@ pub record IsChild (scopes : List ScopeEntry) (constants : List Const) (o : Obje
 -- the second state has these items more than the first, in so many blocks more, and past so many scopes
 pub record Adds (s r : State) (items : List (Item Scope)) (blocks scopes : ℕ) : Type 0 where
   pub child : Scope → Object
-  pub within : AllOf (λ x. IsChild s.around.context.scopes r.constants (child x) x) (children items)
+  pub within : AllOf (λ x. IsChild s.node_context.context.scopes r.constants (child x) x) (children items)
   pub steps : List Step
   pub steps_are : r.steps ≡ s.steps ++ steps
   pub read : (t : Tables) → AreTables r t → AreItems t steps (items_over child items)
@@ -82,12 +82,12 @@ pub record Adds (s r : State) (items : List (Item Scope)) (blocks scopes : ℕ) 
   pub names : Begins s.names r.names
   pub varnames : Begins s.varnames r.varnames
   pub constants : Begins s.constants r.constants
-  pub around : r.around ≡ s.around
+  pub node_context : r.node_context ≡ s.node_context
 
 -- the cells and the free names are those among the symbols of the present scope, as they are outermost and in each scope that is entered
 pub record IsReady (s : State) : Type 0 where
-  pub cells : s.around.context.cells ≡ cells_among (symbols_in s.around.context.scopes s.around.context.here)
-  pub frees : s.around.context.frees ≡ frees_among (symbols_in s.around.context.scopes s.around.context.here)
+  pub cells : s.node_context.context.cells ≡ cells_among (symbols_in s.node_context.context.scopes s.node_context.context.here)
+  pub frees : s.node_context.context.frees ≡ frees_among (symbols_in s.node_context.context.scopes s.node_context.context.here)
 
 -- before anything is emitted outermost, and in a scope that is entered, it is so
 abbrev pub BeginsReady : Type 0
@@ -96,9 +96,9 @@ BeginsReady = (level : ℕ) (source : List ℕ) (scopes : List ScopeEntry) → I
 abbrev pub EntersReady : Type 0
 EntersReady = (typ : SymbolTableType) (number : ℕ) (c : Context) (at : SourceLocation) (next : ℕ) → IsReady (initial_state (inside typ number c) at next)
 
--- what the form of a node is told: its context, but for the path of the source
+-- what the form of a node is reported: its context, but for the path of the source
 abbrev pub form_context : State → Context
-form_context s = record s.around.context { source = [] }
+form_context s = record s.node_context.context { source = [] }
 
 -- the present scope, of which its head alone counts here, as its code sees it
 abbrev pub present : State → Scope
@@ -109,7 +109,7 @@ present_interp s = exactly (λ x. x) (present s)
 
 -- whether annotations are postponed, by which scopes are counted
 abbrev pub is_postponed : State → Bool
-is_postponed s = s.around.context.postponed
+is_postponed s = s.node_context.context.postponed
 
 -- the labels of the innermost loop; without one they are not used
 abbrev pub labels_of : Option LoopBlocks → Loops
@@ -117,7 +117,7 @@ labels_of None = record { inside = false; on_break = 0; on_continue = 0 }
 labels_of (Some x) = record { inside = true; on_break = x.on_break; on_continue = x.on_continue }
 
 abbrev pub loops_in : State → Loops
-loops_in s = labels_of s.around.loops
+loops_in s = labels_of s.node_context.loops
 
 -- its blocks are made
 abbrev pub LoopIsMade : Option LoopBlocks → ℕ → Type 0
@@ -126,7 +126,9 @@ LoopIsMade (Some x) n = (x.on_break < n) × (x.on_continue < n)
 
 -- an expression as a value, as a test and as a target
 abbrev pub ExprsAdd : Type 0
-ExprsAdd = (e : tree.Expr) → expr_size e < 2 ^ 22 → (s r : State) → IsReady s → run (emission e) s ≡ Done r → Adds s r (code_v (present_interp s) (expr_form (form_context s) s.next e) s.blocks) (labels_v (expr_form (form_context s) s.next e)) (scopes_in (is_postponed s) e)
+ExprsAdd = (e : tree.Expr) → expr_size e < 2 ^ 22 → (s r : State) → IsReady s → run (emission e) s ≡ Done r
+    → Adds s r (code_v (present_interp s) (expr_form (form_context s) s.next e) s.blocks) (labels_v (expr_form (form_context s) s.next e))
+    (scopes_in (is_postponed s) e)
 
 abbrev pub TestsAdd : Type 0
 TestsAdd =
@@ -134,15 +136,21 @@ TestsAdd =
     → Adds s r (code_t (present_interp s) (test_form (form_context s) s.next e) truth block s.blocks) (labels_t (test_form (form_context s) s.next e) truth) (scopes_in (is_postponed s) e)
 
 abbrev pub TargetsAdd : Type 0
-TargetsAdd = (e : tree.Expr) → expr_size e < 2 ^ 22 → (s r : State) → IsReady s → run (emission_of_store e) s ≡ Done r → Adds s r (code_g (present_interp s) (target_form (form_context s) s.next e) s.blocks) (labels_g (target_form (form_context s) s.next e)) (scopes_in (is_postponed s) e)
+TargetsAdd = (e : tree.Expr) → expr_size e < 2 ^ 22 → (s r : State) → IsReady s → run (emission_of_store e) s ≡ Done r
+    → Adds s r (code_g (present_interp s) (target_form (form_context s) s.next e) s.blocks)
+    (labels_g (target_form (form_context s) s.next e)) (scopes_in (is_postponed s) e)
 
 -- a statement, and statements: breaks and continues in their form stand in loops, of it or around
 abbrev pub StatementsAdd : Type 0
 StatementsAdd =
-    (t : tree.Stmt) → stmt_size t < 2 ^ 22 → (s r : State) → IsReady s → LoopIsMade s.around.loops s.blocks → run (emission_of_stmt t) s ≡ Done r
-    → Adds s r (code (present_interp s) (stmt_form (form_context s) s.next t) (loops_in s) s.blocks) (labels (stmt_form (form_context s) s.next t)) (scopes_in_stmt (is_postponed s) t) × Looped (loops_in s).inside (stmt_form (form_context s) s.next t)
+    (t : tree.Stmt) → stmt_size t < 2 ^ 22 → (s r : State) → IsReady s → LoopIsMade s.node_context.loops s.blocks → run (emission_of_stmt t) s ≡ Done r
+    → Adds s r (code (present_interp s) (stmt_form (form_context s) s.next t) (loops_in s) s.blocks)
+    (labels (stmt_form (form_context s) s.next t)) (scopes_in_stmt (is_postponed s) t)
+    × Looped (loops_in s).inside (stmt_form (form_context s) s.next t)
 
 abbrev pub BodiesAdd : Type 0
 BodiesAdd =
-    (ts : tree.Stmts) → stmts_size ts < 2 ^ 22 → (s r : State) → IsReady s → LoopIsMade s.around.loops s.blocks → run (emission_of_stmts ts) s ≡ Done r
-    → Adds s r (code (present_interp s) (stmts_form (form_context s) s.next ts) (loops_in s) s.blocks) (labels (stmts_form (form_context s) s.next ts)) (scopes_in_stmts (is_postponed s) ts) × Looped (loops_in s).inside (stmts_form (form_context s) s.next ts)
+    (ts : tree.Stmts) → stmts_size ts < 2 ^ 22 → (s r : State) → IsReady s → LoopIsMade s.node_context.loops s.blocks → run (emission_of_stmts ts) s ≡ Done r
+    → Adds s r (code (present_interp s) (stmts_form (form_context s) s.next ts) (loops_in s) s.blocks)
+    (labels (stmts_form (form_context s) s.next ts)) (scopes_in_stmts (is_postponed s) ts)
+    × Looped (loops_in s).inside (stmts_form (form_context s) s.next ts)

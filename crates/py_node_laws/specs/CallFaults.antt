@@ -21,28 +21,41 @@ TellsFirst (Err e) fs = e.error ≢ error.OutOfMemory → e.error ≢ error.Miss
 -- `compile_expression` and its like, `compile_jump_if`, `compile_store`, `compile_delete`, `compile_deletes`, `compile_statement` and `compile_statements`
 abbrev pub ExpressionCalls : Type 0
 ExpressionCalls =
-    (answer : Result (Unit {0}) (LocatedError CodegenErrorType)) (class : Option (List ℕ)) (e : tree.Expr) (before after : Emitter) → Emits answer (emission e) before after → expr_shapes class e ≡ [] → TellsFirst answer (expr_faults (in_function (state before)) e)
+    (answer : Result (Unit {0}) (LocatedError CodegenErrorType)) (class : Option (List ℕ)) (e : tree.Expr) (before after : Emitter)
+    → Emits answer (emission e) before after → expr_shapes class e ≡ [] → TellsFirst answer (expr_faults (in_function (state before)) e)
 
 abbrev pub TestCalls : Type 0
 TestCalls =
-    (answer : Result (Unit {0}) (LocatedError CodegenErrorType)) (class : Option (List ℕ)) (e : tree.Expr) (truth : Bool) (block : ℕ) (before after : Emitter) → Emits answer (emission_of_test e truth block) before after → expr_shapes class e ≡ [] → TellsFirst answer (expr_faults (in_function (state before)) e)
+    (answer : Result (Unit {0}) (LocatedError CodegenErrorType)) (class : Option (List ℕ)) (e : tree.Expr) (truth : Bool) (block : ℕ)
+    (before after : Emitter) → Emits answer (emission_of_test e truth block) before after → expr_shapes class e ≡ []
+    → TellsFirst answer (expr_faults (in_function (state before)) e)
 
 abbrev pub StoreCalls : Type 0
 StoreCalls =
-    (answer : Result (Unit {0}) (LocatedError CodegenErrorType)) (class : Option (List ℕ)) (e : tree.Expr) (before after : Emitter) → Emits answer (emission_of_store e) before after → expr_shapes class e ≡ [] → TellsFirst answer (faults_to (in_function (state before)) (state before).location e).alone
+    (answer : Result (Unit {0}) (LocatedError CodegenErrorType)) (class : Option (List ℕ)) (e : tree.Expr) (before after : Emitter)
+    → Emits answer (emission_of_store e) before after → expr_shapes class e ≡ []
+    → TellsFirst answer (faults_to (in_function (state before)) (state before).location e).alone
 
 abbrev pub DeletionCalls : Type 0
 DeletionCalls =
-    (answer : Result (Unit {0}) (LocatedError CodegenErrorType)) (class : Option (List ℕ)) (e : tree.Expr) (before after : Emitter) → Emits answer (emission_of_delete e) before after → expr_shapes class e ≡ [] → TellsFirst answer (delete_faults (in_function (state before)) (state before).location e)
+    (answer : Result (Unit {0}) (LocatedError CodegenErrorType)) (class : Option (List ℕ)) (e : tree.Expr) (before after : Emitter)
+    → Emits answer (emission_of_delete e) before after → expr_shapes class e ≡ []
+    → TellsFirst answer (delete_faults (in_function (state before)) (state before).location e)
 
 abbrev pub DeleteCalls : Type 0
 DeleteCalls =
-    (answer : Result (Unit {0}) (LocatedError CodegenErrorType)) (class : Option (List ℕ)) (es : tree.Exprs) (before after : Emitter) → Emits answer (emission_of_deletes es) before after → exprs_shapes class es ≡ [] → TellsFirst answer (deletes_faults (in_function (state before)) (state before).location es)
+    (answer : Result (Unit {0}) (LocatedError CodegenErrorType)) (class : Option (List ℕ)) (es : tree.Exprs) (before after : Emitter)
+    → Emits answer (emission_of_deletes es) before after → exprs_shapes class es ≡ []
+    → TellsFirst answer (deletes_faults (in_function (state before)) (state before).location es)
 
 abbrev pub StatementCalls : Type 0
 StatementCalls =
-    (answer : Result (Unit {0}) (LocatedError CodegenErrorType)) (class : Option (List ℕ)) (t : tree.Stmt) (before after : Emitter) → Emits answer (emission_of_stmt t) before after → stmt_shapes class t ≡ [] → TellsFirst answer (stmt_faults (setting_in (state before)) (in_loop (state before)) t)
+    (answer : Result (Unit {0}) (LocatedError CodegenErrorType)) (class : Option (List ℕ)) (t : tree.Stmt) (before after : Emitter)
+    → Emits answer (emission_of_stmt t) before after → stmt_shapes class t ≡ []
+    → TellsFirst answer (stmt_faults (setting_in (state before)) (in_loop (state before)) t)
 
 abbrev pub BodyCalls : Type 0
 BodyCalls =
-    (answer : Result (Unit {0}) (LocatedError CodegenErrorType)) (class : Option (List ℕ)) (ts : tree.Stmts) (before after : Emitter) → Emits answer (emission_of_stmts ts) before after → stmts_shapes class ts ≡ [] → TellsFirst answer (stmts_faults (setting_in (state before)) (in_loop (state before)) ts)
+    (answer : Result (Unit {0}) (LocatedError CodegenErrorType)) (class : Option (List ℕ)) (ts : tree.Stmts) (before after : Emitter)
+    → Emits answer (emission_of_stmts ts) before after → stmts_shapes class ts ≡ []
+    → TellsFirst answer (stmts_faults (setting_in (state before)) (in_loop (state before)) ts)

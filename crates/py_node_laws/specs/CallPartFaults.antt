@@ -40,19 +40,30 @@ entry_faults b p params = default_faults b params ++ parameter_faults (last_of p
 -- `compile_comprehension`, as an expression that stands where the emitter does
 abbrev pub ComprehensionCalls : Type 0
 ComprehensionCalls =
-    (answer : Result (Unit {0}) (LocatedError CodegenErrorType)) (class : Option (List ℕ)) (gs : tree.Generators) (e : ComprehensionElement) (before after : Emitter) → Emits answer (comprehension_of gs e) before after → expr_shapes class (comprehension_at (state before).location gs e) ≡ [] → TellsFirst answer (expr_faults (in_function (state before)) (comprehension_at (state before).location gs e))
+    (answer : Result (Unit {0}) (LocatedError CodegenErrorType)) (class : Option (List ℕ)) (gs : tree.Generators) (e : ComprehensionElement)
+    (before after : Emitter) → Emits answer (comprehension_of gs e) before after
+    → expr_shapes class (comprehension_at (state before).location gs e) ≡ []
+    → TellsFirst answer (expr_faults (in_function (state before)) (comprehension_at (state before).location gs e))
 
 -- `compile_call_inner`, after as many values as may be
 abbrev pub ArgumentCalls : Type 0
 ArgumentCalls =
-    (answer : Result CallType (LocatedError CodegenErrorType)) (class : Option (List ℕ)) (additional : ℕ) (args : tree.Exprs) (keywords : tree.Keywords) (before after : Emitter) → Emits answer (arguments additional (elements (all_emissions args)) (keyword_emissions keywords)) before after → exprs_shapes class args ≡ [] → keywords_shapes class keywords ≡ [] → TellsFirst answer (argument_faults (in_function (state before)) (state before).location args keywords)
+    (answer : Result CallType (LocatedError CodegenErrorType)) (class : Option (List ℕ)) (additional : ℕ) (args : tree.Exprs)
+    (keywords : tree.Keywords) (before after : Emitter)
+    → Emits answer (arguments additional (elements (all_emissions args)) (keyword_emissions keywords)) before after
+    → exprs_shapes class args ≡ [] → keywords_shapes class keywords ≡ []
+    → TellsFirst answer (argument_faults (in_function (state before)) (state before).location args keywords)
 
 -- `enter_function`, by its clauses `entered` and `refused`
 abbrev pub EnteringCalls : Type 0
 EnteringCalls =
-    (answer : Result MakeFunctionFlags (LocatedError CodegenErrorType)) (class : Option (List ℕ)) (params : tree.Arguments) (name : List ℕ) (before after : Emitter) → OnOk answer (IsEntered params name before after) → IfErr answer (λ e. e.error ≢ error.OutOfMemory → entry params (state before) ≡ Refused e.error e.location) → arguments_shapes class params ≡ [] → TellsFirst answer (entry_faults (in_function (state before)) (state before).location params)
+    (answer : Result MakeFunctionFlags (LocatedError CodegenErrorType)) (class : Option (List ℕ)) (params : tree.Arguments) (name : List ℕ)
+    (before after : Emitter) → OnOk answer (IsEntered params name before after)
+    → IfErr answer (λ e. e.error ≢ error.OutOfMemory → entry params (state before) ≡ Refused e.error e.location)
+    → arguments_shapes class params ≡ [] → TellsFirst answer (entry_faults (in_function (state before)) (state before).location params)
 
 -- `compile_future_features`
 abbrev pub FeatureCalls : Type 0
 FeatureCalls =
-    (answer : Result (Unit {0}) (LocatedError CodegenErrorType)) (names : List Alias) (before after : Emitter) → Emits answer (check_features names) before after → TellsFirst answer (feature_faults (state before).location names)
+    (answer : Result (Unit {0}) (LocatedError CodegenErrorType)) (names : List Alias) (before after : Emitter)
+    → Emits answer (check_features names) before after → TellsFirst answer (feature_faults (state before).location names)

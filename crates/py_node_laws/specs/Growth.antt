@@ -28,4 +28,4 @@ TablesGrow = (a : Emission) (s r : State) → run a s ≡ Done r → Longer s r
 
 -- the context and the loop are those of before
 abbrev pub ContextStays : Type 0
-ContextStays = (a : Emission) (s r : State) → run a s ≡ Done r → r.around ≡ s.around
+ContextStays = (a : Emission) (s r : State) → run a s ≡ Done r → r.node_context ≡ s.node_context

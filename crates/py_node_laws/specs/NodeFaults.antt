@@ -17,41 +17,46 @@ use Rattle.py_meaning.specs.StmtEnds.{Setting, setting_of, stmt_end, stmts_end}
 -- From a state: the refusal is the first of these faults; or there are none, and what is emitted next stands there, with the same around it. Where an
 -- operand is too large, or a cell is not there, nothing is said.
 abbrev pub EndsBy : (before : State) → List Fault → (end : SourceLocation) → Outcome → Type 0
-EndsBy s fs q (Done r) = (fs ≡ []) × (r.location ≡ q) × (r.around ≡ s.around)
+EndsBy s fs q (Done r) = (fs ≡ []) × (r.location ≡ q) × (r.node_context ≡ s.node_context)
 EndsBy s fs q TooWide = Unit {0}
 EndsBy s fs q (Refused e at) = e ≢ error.MissingCell → (rest : List Fault) × (fs ≡ record { error = e; location = at } ∷ rest)
 
 -- whether what is emitted stands in a function, and in a loop of its own scope
 abbrev pub in_function : State → Bool
-in_function s = is_function s.around.context.typ
+in_function s = is_function s.node_context.context.typ
 
 abbrev pub is_loop : Option LoopBlocks → Bool
 is_loop None = false
 is_loop (Some blocks) = true
 
 abbrev pub in_loop : State → Bool
-in_loop s = is_loop s.around.loops
+in_loop s = is_loop s.node_context.loops
 
 abbrev pub setting_in : State → Setting
-setting_in s = setting_of s.around.context
+setting_in s = setting_of s.node_context.context
 
 -- an expression, as a value and as a test
 abbrev pub ExprsEnd : Type 0
 ExprsEnd = (class : Option (List ℕ)) (e : tree.Expr) → expr_shapes class e ≡ [] → (s : State) → EndsBy s (expr_faults (in_function s) e) (expr_end e) (run (emission e) s)
 
 abbrev pub TestsEnd : Type 0
-TestsEnd = (class : Option (List ℕ)) (e : tree.Expr) → expr_shapes class e ≡ [] → (truth : Bool) (block : ℕ) (s : State) → EndsBy s (expr_faults (in_function s) e) (expr_end e) (run (emission_of_test e truth block) s)
+TestsEnd = (class : Option (List ℕ)) (e : tree.Expr) → expr_shapes class e ≡ [] → (truth : Bool) (block : ℕ) (s : State)
+    → EndsBy s (expr_faults (in_function s) e) (expr_end e) (run (emission_of_test e truth block) s)
 
 -- a target, whose faults stand where its store begins, and targets that are deleted
 abbrev pub TargetsEnd : Type 0
-TargetsEnd = (class : Option (List ℕ)) (e : tree.Expr) → expr_shapes class e ≡ [] → (s : State) → EndsBy s (faults_to (in_function s) s.location e).alone (store_end s.location e) (run (emission_of_store e) s)
+TargetsEnd = (class : Option (List ℕ)) (e : tree.Expr) → expr_shapes class e ≡ [] → (s : State)
+    → EndsBy s (faults_to (in_function s) s.location e).alone (store_end s.location e) (run (emission_of_store e) s)
 
 abbrev pub DeletesEnd : Type 0
-DeletesEnd = (class : Option (List ℕ)) (es : tree.Exprs) → exprs_shapes class es ≡ [] → (s : State) → EndsBy s (deletes_faults (in_function s) s.location es) (deletes_end s.location es) (run (emission_of_deletes es) s)
+DeletesEnd = (class : Option (List ℕ)) (es : tree.Exprs) → exprs_shapes class es ≡ [] → (s : State)
+    → EndsBy s (deletes_faults (in_function s) s.location es) (deletes_end s.location es) (run (emission_of_deletes es) s)
 
 -- a statement, and statements
 abbrev pub StatementsEnd : Type 0
-StatementsEnd = (class : Option (List ℕ)) (t : tree.Stmt) → stmt_shapes class t ≡ [] → (s : State) → EndsBy s (stmt_faults (setting_in s) (in_loop s) t) (stmt_end (setting_in s) t) (run (emission_of_stmt t) s)
+StatementsEnd = (class : Option (List ℕ)) (t : tree.Stmt) → stmt_shapes class t ≡ [] → (s : State)
+    → EndsBy s (stmt_faults (setting_in s) (in_loop s) t) (stmt_end (setting_in s) t) (run (emission_of_stmt t) s)
 
 abbrev pub BodiesEnd : Type 0
-BodiesEnd = (class : Option (List ℕ)) (ts : tree.Stmts) → stmts_shapes class ts ≡ [] → (s : State) → EndsBy s (stmts_faults (setting_in s) (in_loop s) ts) (stmts_end (setting_in s) s.location ts) (run (emission_of_stmts ts) s)
+BodiesEnd = (class : Option (List ℕ)) (ts : tree.Stmts) → stmts_shapes class ts ≡ [] → (s : State)
+    → EndsBy s (stmts_faults (setting_in s) (in_loop s) ts) (stmts_end (setting_in s) s.location ts) (run (emission_of_stmts ts) s)

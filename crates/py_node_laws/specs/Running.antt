@@ -65,32 +65,40 @@ pub record Hold (r : State) (bs : List Blk) (tables : Tables) : Type 0 where
 -- the code objects of the nested scopes, and what is so over them
 pub record Over (s r : State) (items : List (Item Scope)) (so : Interp Object → Type 0) : Type 0 where
   pub child : Scope → Object
-  pub within : AllOf (λ x. IsChild s.around.context.scopes r.constants (child x) x) (children items)
+  pub within : AllOf (λ x. IsChild s.node_context.context.scopes r.constants (child x) x) (children items)
   pub runs : so (exactly child (present s))
 
--- from any fit state at the place where s leaves off the machine comes to where r leaves off with the value, or to where the raise arrives
+-- from any fit state at the place where s leaves off the machine reaches where r leaves off with the value, or to where the raise arrives
 abbrev pub ValueRuns : (s r : State) → List Blk → Tables → VForm → Interp Object → Type 0
 ValueRuns s r bs tables f i =
     (stack : List (Entry Object)) (entered : List (Block Object Place)) (slot : Option (Value Object)) (w : World Object) → IsFit stack entered
-    → Comes tables (coded_blocks bs) 0 (size (code_v i f s.blocks)) (At (settled_place (coded_blocks bs) (end_of s)) stack entered slot w) (gave stack entered slot (λ v. settled_place (coded_blocks bs) (end_of r)) (λ v. It v ∷ stack) (run_value i f w))
+    → Comes tables (coded_blocks bs) 0 (size (code_v i f s.blocks)) (At (settled_place (coded_blocks bs) (end_of s)) stack entered slot w)
+    (gave stack entered slot (λ v. settled_place (coded_blocks bs) (end_of r)) (λ v. It v ∷ stack) (run_value i f w))
 
 -- to this block where the truth is this one
 abbrev pub TestRuns : (s r : State) → List Blk → Tables → TForm → Bool → (block : ℕ) → Interp Object → Type 0
 TestRuns s r bs tables f truth block i =
     (stack : List (Entry Object)) (entered : List (Block Object Place)) (slot : Option (Value Object)) (w : World Object) → IsFit stack entered
-    → Comes tables (coded_blocks bs) 0 (size (code_t i f truth block s.blocks)) (At (settled_place (coded_blocks bs) (end_of s)) stack entered slot w) (gave stack entered slot (λ d. meets truth d (settled_place (coded_blocks bs) (Of block 0)) (settled_place (coded_blocks bs) (end_of r))) (λ d. stack) (run_test i f w))
+    → Comes tables (coded_blocks bs) 0 (size (code_t i f truth block s.blocks))
+    (At (settled_place (coded_blocks bs) (end_of s)) stack entered slot w)
+    (gave stack entered slot (λ d. meets truth d (settled_place (coded_blocks bs) (Of block 0))
+    (settled_place (coded_blocks bs) (end_of r))) (λ d. stack) (run_test i f w))
 
 -- without the value on top
 abbrev pub TargetRuns : (s r : State) → List Blk → Tables → Target → Interp Object → Type 0
 TargetRuns s r bs tables f i =
     (v : Value Object) (stack : List (Entry Object)) (entered : List (Block Object Place)) (slot : Option (Value Object)) (w : World Object) → IsFit stack entered
-    → Comes tables (coded_blocks bs) 0 (size (code_g i f s.blocks)) (At (settled_place (coded_blocks bs) (end_of s)) (It v ∷ stack) entered slot w) (gave stack entered slot (λ d. settled_place (coded_blocks bs) (end_of r)) (λ d. stack) (run_target i f v w))
+    → Comes tables (coded_blocks bs) 0 (size (code_g i f s.blocks))
+    (At (settled_place (coded_blocks bs) (end_of s)) (It v ∷ stack) entered slot w)
+    (gave stack entered slot (λ d. settled_place (coded_blocks bs) (end_of r)) (λ d. stack) (run_target i f v w))
 
 -- with the stack, the blocks and the slot as they were, or to where the statement leaves
 abbrev pub StatementRuns : (s r : State) → List Blk → Tables → SForm → Interp Object → Type 0
 StatementRuns s r bs tables f i =
     (stack : List (Entry Object)) (entered : List (Block Object Place)) (slot : Option (Value Object)) (w : World Object) → IsFit stack entered → IsWithin (loops_in s) entered
-    → Comes tables (coded_blocks bs) (size (code i f (loops_in s) s.blocks)) (size (code i f (loops_in s) s.blocks)) (At (settled_place (coded_blocks bs) (end_of s)) stack entered slot w) (ended_at (coded_blocks bs) (loops_in s) (settled_place (coded_blocks bs) (end_of r)) stack entered slot (run i f slot w))
+    → Comes tables (coded_blocks bs) (size (code i f (loops_in s) s.blocks)) (size (code i f (loops_in s) s.blocks))
+    (At (settled_place (coded_blocks bs) (end_of s)) stack entered slot w)
+    (ended_at (coded_blocks bs) (loops_in s) (settled_place (coded_blocks bs) (end_of r)) stack entered slot (run i f slot w))
 
 abbrev pub ExprRuns : tree.Expr → (s r : State) → List Blk → Tables → Type 0
 ExprRuns e s r bs tables = let f = expr_form (form_context s) s.next e in Over s r (code_v (present_interp s) f s.blocks) (ValueRuns s r bs tables f)
@@ -112,16 +120,21 @@ abbrev pub ExprsRun : Type 0
 ExprsRun = (e : tree.Expr) → expr_size e < 2 ^ 22 → (s r : State) → IsReady s → emitting.run (emission e) s ≡ Done r → (bs : List Blk) (tables : Tables) → Hold r bs tables → ExprRuns e s r bs tables
 
 abbrev pub TestsRun : Type 0
-TestsRun = (e : tree.Expr) → expr_size e < 2 ^ 22 → (truth : Bool) (block : ℕ) (s r : State) → IsReady s → block < s.blocks → emitting.run (emission_of_test e truth block) s ≡ Done r → (bs : List Blk) (tables : Tables) → Hold r bs tables → TestExprRuns e truth block s r bs tables
+TestsRun = (e : tree.Expr) → expr_size e < 2 ^ 22 → (truth : Bool) (block : ℕ) (s r : State) → IsReady s → block < s.blocks
+    → emitting.run (emission_of_test e truth block) s ≡ Done r → (bs : List Blk) (tables : Tables) → Hold r bs tables
+    → TestExprRuns e truth block s r bs tables
 
 abbrev pub TargetsRun : Type 0
-TargetsRun = (e : tree.Expr) → expr_size e < 2 ^ 22 → (s r : State) → IsReady s → emitting.run (emission_of_store e) s ≡ Done r → (bs : List Blk) (tables : Tables) → Hold r bs tables → StoreRuns e s r bs tables
+TargetsRun = (e : tree.Expr) → expr_size e < 2 ^ 22 → (s r : State) → IsReady s → emitting.run (emission_of_store e) s ≡ Done r
+    → (bs : List Blk) (tables : Tables) → Hold r bs tables → StoreRuns e s r bs tables
 
 abbrev pub StatementsRun : Type 0
-StatementsRun = (t : tree.Stmt) → stmt_size t < 2 ^ 22 → (s r : State) → IsReady s → LoopIsMade s.around.loops s.blocks → emitting.run (emission_of_stmt t) s ≡ Done r → (bs : List Blk) (tables : Tables) → Hold r bs tables → StmtRuns t s r bs tables
+StatementsRun = (t : tree.Stmt) → stmt_size t < 2 ^ 22 → (s r : State) → IsReady s → LoopIsMade s.node_context.loops s.blocks
+    → emitting.run (emission_of_stmt t) s ≡ Done r → (bs : List Blk) (tables : Tables) → Hold r bs tables → StmtRuns t s r bs tables
 
 abbrev pub BodiesRun : Type 0
-BodiesRun = (ts : tree.Stmts) → stmts_size ts < 2 ^ 22 → (s r : State) → IsReady s → LoopIsMade s.around.loops s.blocks → emitting.run (emission_of_stmts ts) s ≡ Done r → (bs : List Blk) (tables : Tables) → Hold r bs tables → BodyRuns ts s r bs tables
+BodiesRun = (ts : tree.Stmts) → stmts_size ts < 2 ^ 22 → (s r : State) → IsReady s → LoopIsMade s.node_context.loops s.blocks
+    → emitting.run (emission_of_stmts ts) s ≡ Done r → (bs : List Blk) (tables : Tables) → Hold r bs tables → BodyRuns ts s r bs tables
 
 -- the blocks and the tables of an emitter that is finished hold what it has emitted
 abbrev pub FinishedHold : Type 0
@@ -132,37 +145,49 @@ abbrev pub Answer : Type 0
 Answer = Result (Unit {0}) (LocatedError CodegenErrorType)
 
 abbrev pub ExpressionCallsRun : Type 0
-ExpressionCallsRun = (answer : Answer) (e : tree.Expr) (before after : Emitter) → Emits answer (emission e) before after → expr_size e < 2 ^ 22 → IsReady (state before) → OnOk answer ((bs : List Blk) (tables : Tables) → Hold (state after) bs tables → ExprRuns e (state before) (state after) bs tables)
+ExpressionCallsRun = (answer : Answer) (e : tree.Expr) (before after : Emitter) → Emits answer (emission e) before after
+    → expr_size e < 2 ^ 22 → IsReady (state before)
+    → OnOk answer ((bs : List Blk) (tables : Tables) → Hold (state after) bs tables → ExprRuns e (state before) (state after) bs tables)
 
 abbrev pub TestCallsRun : Type 0
 TestCallsRun =
-    (answer : Answer) (e : tree.Expr) (truth : Bool) (block : ℕ) (before after : Emitter) → Emits answer (emission_of_test e truth block) before after → expr_size e < 2 ^ 22 → IsReady (state before) → block < (state before).blocks
+    (answer : Answer) (e : tree.Expr) (truth : Bool) (block : ℕ) (before after : Emitter)
+    → Emits answer (emission_of_test e truth block) before after → expr_size e < 2 ^ 22 → IsReady (state before)
+    → block < (state before).blocks
     → OnOk answer ((bs : List Blk) (tables : Tables) → Hold (state after) bs tables → TestExprRuns e truth block (state before) (state after) bs tables)
 
 abbrev pub StoreCallsRun : Type 0
-StoreCallsRun = (answer : Answer) (e : tree.Expr) (before after : Emitter) → Emits answer (emission_of_store e) before after → expr_size e < 2 ^ 22 → IsReady (state before) → OnOk answer ((bs : List Blk) (tables : Tables) → Hold (state after) bs tables → StoreRuns e (state before) (state after) bs tables)
+StoreCallsRun = (answer : Answer) (e : tree.Expr) (before after : Emitter) → Emits answer (emission_of_store e) before after
+    → expr_size e < 2 ^ 22 → IsReady (state before)
+    → OnOk answer ((bs : List Blk) (tables : Tables) → Hold (state after) bs tables → StoreRuns e (state before) (state after) bs tables)
 
 abbrev pub BodyCallsRun : Type 0
 BodyCallsRun =
-    (answer : Answer) (ts : tree.Stmts) (before after : Emitter) → Emits answer (emission_of_stmts ts) before after → stmts_size ts < 2 ^ 22 → IsReady (state before) → LoopIsMade (state before).around.loops (state before).blocks
+    (answer : Answer) (ts : tree.Stmts) (before after : Emitter) → Emits answer (emission_of_stmts ts) before after → stmts_size ts < 2 ^ 22
+    → IsReady (state before) → LoopIsMade (state before).node_context.loops (state before).blocks
     → OnOk answer ((bs : List Blk) (tables : Tables) → Hold (state after) bs tables → BodyRuns ts (state before) (state after) bs tables)
 
 -- `compile_statement`
 abbrev pub StatementCallsRun : Type 0
 StatementCallsRun =
-    (answer : Answer) (t : tree.Stmt) (before after : Emitter) → Emits answer (emission_of_stmt t) before after → stmt_size t < 2 ^ 22 → IsReady (state before) → LoopIsMade (state before).around.loops (state before).blocks
+    (answer : Answer) (t : tree.Stmt) (before after : Emitter) → Emits answer (emission_of_stmt t) before after → stmt_size t < 2 ^ 22
+    → IsReady (state before) → LoopIsMade (state before).node_context.loops (state before).blocks
     → OnOk answer ((bs : List Blk) (tables : Tables) → Hold (state after) bs tables → StmtRuns t (state before) (state after) bs tables)
 
 -- `compile_delete`, as the statement of this one target that stands where the emitter does
 abbrev pub DeletionCallsRun : Type 0
 DeletionCallsRun =
-    (answer : Answer) (e : tree.Expr) (before after : Emitter) → Emits answer (emission_of_delete e) before after → stmt_size (deletion_at (state before).location e) < 2 ^ 22 → IsReady (state before) → LoopIsMade (state before).around.loops (state before).blocks
+    (answer : Answer) (e : tree.Expr) (before after : Emitter) → Emits answer (emission_of_delete e) before after
+    → stmt_size (deletion_at (state before).location e) < 2 ^ 22 → IsReady (state before)
+    → LoopIsMade (state before).node_context.loops (state before).blocks
     → OnOk answer ((bs : List Blk) (tables : Tables) → Hold (state after) bs tables → StmtRuns (deletion_at (state before).location e) (state before) (state after) bs tables)
 
 -- `compile_comprehension`, as the expression that stands where the emitter does
 abbrev pub ComprehensionCallsRun : Type 0
 ComprehensionCallsRun =
-    (answer : Answer) (gs : tree.Generators) (e : ComprehensionElement) (before after : Emitter) → Emits answer (comprehension_of gs e) before after → expr_size (comprehension_at (state before).location gs e) < 2 ^ 22 → IsReady (state before)
+    (answer : Answer) (gs : tree.Generators) (e : ComprehensionElement) (before after : Emitter)
+    → Emits answer (comprehension_of gs e) before after → expr_size (comprehension_at (state before).location gs e) < 2 ^ 22
+    → IsReady (state before)
     → OnOk answer ((bs : List Blk) (tables : Tables) → Hold (state after) bs tables → ExprRuns (comprehension_at (state before).location gs e) (state before) (state after) bs tables)
 
 -- `compile_call_inner` after what is called, where the instruction of a call comes next, by what is answered: the call that stands where what is called begins

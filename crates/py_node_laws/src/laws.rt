@@ -25,7 +25,7 @@ pub fn emissions_grow()
     ensures context { ContextStays }
 {}
 
-/// What stands around is as the laws of nodes ask it, outermost and in each scope that is entered.
+/// The context is as the laws of nodes ask it, outermost and in each scope that is entered.
 pub fn scopes_begin_ready()
     ensures outermost { BeginsReady }
     ensures within { EntersReady }

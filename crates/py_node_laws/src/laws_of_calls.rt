@@ -24,7 +24,7 @@ pub fn calls_on_parts_refused_first()
     ensures features { FeatureCalls }
 {}
 
-/// Where the present scope is as its table has it, the names that the scopes within the node have from outside are at hand, and
+/// Where the present scope is as its table has it, the free names of the scopes within the node are at hand, and
 /// there is room for the node, no call that emits it answers that a cell is not there. In a tree without faults the names are at
 /// hand.
 pub fn calls_find_cells()

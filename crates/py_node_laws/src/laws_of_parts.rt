@@ -1,7 +1,7 @@
 //! Laws of the parts of forms. Their bodies do nothing.
 ghost use Rattle.py_node_laws.specs.Parts.{GathersSimulate, HandlersSimulate, OperandsSimulate, TargetsSimulate, TestsSimulate, ValuesSimulate, YieldsSimulate};
 
-/// The code of a value, of operands, of a test or of a target that lies in blocks, run from any fit state, comes to the state
+/// The code of a value, of operands, of a test or of a target that lies in blocks, run from any fit state, reaches the state
 /// that its run says, within as many steps as there are instructions.
 pub fn parts_simulate()
     ensures values { ValuesSimulate }

@@ -51,12 +51,12 @@ none_further (b ∷ bs) e = go (none_further bs) (is_dot b) e
     go within false h = ap (λ xs. drop 1 (onto_first b xs)) (segment_parts bs) ∙ within (omega (arith, h))
 
 -- what stands after the first dot is cut in the same way
-pub behind_is : (path behind : List ℕ) → position_or_len is_dot path < length path → behind ≡ after_first is_dot path → further_segments path ≡ package_name behind ∷ further_segments behind
-behind_is path behind lt e = ap (drop 1) (slice_split_first is_dot path 0 lt) ∙ segment_parts (after_first is_dot path) ∙ ap (λ x. package_name x ∷ further_segments x) (sym e)
+pub segment_after_is : (path after : List ℕ) → position_or_len is_dot path < length path → after ≡ after_first is_dot path → further_segments path ≡ package_name after ∷ further_segments after
+segment_after_is path after lt e = ap (drop 1) (slice_split_first is_dot path 0 lt) ∙ segment_parts (after_first is_dot path) ∙ ap (λ x. package_name x ∷ further_segments x) (sym e)
 
 -- and is shorter
-pub is_nearer : (path behind : List ℕ) → position_or_len is_dot path < length path → behind ≡ after_first is_dot path → length behind < length path
-is_nearer path behind lt e = let d = ap length e ∙ length-drop (position_or_len is_dot path + 1) path in omega (arith, d, lt)
+pub is_nearer : (path after : List ℕ) → position_or_len is_dot path < length path → after ≡ after_first is_dot path → length after < length path
+is_nearer path after lt e = let d = ap length e ∙ length-drop (position_or_len is_dot path + 1) path in omega (arith, d, lt)
 
 -- these are all names, where none is left
 pub all_asked : (xs : List Alias) (i : ℕ) (cs : List Const) → length xs ≤ i

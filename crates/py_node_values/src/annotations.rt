@@ -5,7 +5,7 @@ ghost use Rattle.py_emission.specs.Predicates.{any_annotates, annotates};
 
 use py_tree::Stmt;
 
-/// Whether an annotated assignment stands among these statements, or in those within them that are no handlers.
+/// Whether an annotated assignment stands among these statements, or in those nested in them that are no handlers.
 #[cycle(annotations)]
 #[tactic(auto, using(py_tree::proofs::View::trees))]
 pub fn has_annotation(body: &[Stmt]) -> bool

@@ -55,7 +55,8 @@ fn bytes_data(alloc: Global, bytes: &List<u8>) -> Result<ConstantData, AllocErro
 #[cycle(data)]
 #[tactic(auto, using(py_bytecode::proofs::View::views))]
 fn tuple_data(alloc: Global, items: &[Constant]) -> Result<ConstantData, AllocError>
-    ensures { IfOk result (λ c. constant c ≡ object.tuple (constants_of (literal_list literal_of items.now))) }
+    ensures { IfOk result (λ c. constant c
+        ≡ object.tuple (constants_of (literal_list literal_of items.now))) }
 {
     let mut elements = Vec::new(alloc);
     for item in items {

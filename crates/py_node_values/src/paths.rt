@@ -11,13 +11,14 @@ use py_tree::Alias;
 use std::alloc::{AllocError, Global};
 
 /// What stands after the first dot of a path.
-#[tactic(auto, using(crate::proofs::Segments::behind_is, crate::proofs::Segments::none_further, crate::proofs::Segments::is_nearer))]
-pub fn behind_dot(path: &str) -> Option<&str>
-    ensures parts { MatchOption result (further_segments path.now ≡ []) (λ behind. further_segments path.now ≡ package_name behind.now ∷ further_segments behind.now) }
-    ensures nearer { IfSome result (λ behind. length behind.now < length path.now) }
+#[tactic(auto, using(crate::proofs::Segments::after_is, crate::proofs::Segments::none_further, crate::proofs::Segments::is_nearer))]
+pub fn after_dot(path: &str) -> Option<&str>
+    ensures parts { MatchOption result (further_segments path.now ≡ [])
+        (λ after. further_segments path.now ≡ package_name after.now ∷ further_segments after.now) }
+    ensures nearer { IfSome result (λ after. length after.now < length path.now) }
 {
     match path.split_once('.') {
-        Some((_, behind)) => Some(behind),
+        Some((_, after)) => Some(after),
         None => None,
     }
 }

@@ -19,7 +19,8 @@ pub fn doc_and_rest(
     body: &[Stmt],
 ) -> Result<(Option<Text>, usize), AllocError>
     ensures doc { IfOk result (λ r. r.0 ≡ doc_of level (stmts stmt_tree body.now)) }
-    ensures from { IfOk result (λ r. stmts stmt_tree (drop r.1 body.now) ≡ after_doc (stmts stmt_tree body.now)) }
+    ensures from { IfOk result (λ r. stmts stmt_tree (drop r.1 body.now)
+        ≡ after_doc (stmts stmt_tree body.now)) }
     ensures within { IfOk result (λ r. r.1 ≤ length body.now) }
 {
     match text_of_first(alloc, body)? {
@@ -71,7 +72,8 @@ pub fn texts_of(alloc: Global, parts: &[Expr]) -> Result<Option<Text>, AllocErro
 #[cycle(text)]
 #[tactic(auto, using(py_tree::proofs::View::trees))]
 fn push_text(expr: &Expr, text: &mut String) -> Result<bool, AllocError>
-    ensures { IfOk result (λ is_text. Appended is_text (text_of (expr_tree expr.now)) (string_bytes text.old) (string_bytes text.new)) }
+    ensures { IfOk result (λ is_text. Appended is_text (text_of (expr_tree expr.now))
+        (string_bytes text.old) (string_bytes text.new)) }
 {
     match expr {
         Expr::Constant(e) => push_constant(&e.value, text),
@@ -83,7 +85,8 @@ fn push_text(expr: &Expr, text: &mut String) -> Result<bool, AllocError>
 /// Appends the texts of expressions, as far as they have one. Answers whether all have.
 #[cycle(text)]
 fn push_texts(parts: &[Expr], text: &mut String) -> Result<bool, AllocError>
-    ensures { IfOk result (λ is_text. Appended is_text (texts_of (exprs expr_tree parts.now)) (string_bytes text.old) (string_bytes text.new)) }
+    ensures { IfOk result (λ is_text. Appended is_text (texts_of (exprs expr_tree parts.now))
+        (string_bytes text.old) (string_bytes text.new)) }
 {
     for part in parts {
         if !push_text(part, text)? {
@@ -96,7 +99,8 @@ fn push_texts(parts: &[Expr], text: &mut String) -> Result<bool, AllocError>
 /// Appends a constant that is a text. Answers whether it is one.
 #[tactic(auto, using(py_tree::proofs::View::literals))]
 fn push_constant(value: &Constant, text: &mut String) -> Result<bool, AllocError>
-    ensures { IfOk result (λ is_text. Appended is_text (text_in (literal_of value.now)) (string_bytes text.old) (string_bytes text.new)) }
+    ensures { IfOk result (λ is_text. Appended is_text (text_in (literal_of value.now))
+        (string_bytes text.old) (string_bytes text.new)) }
 {
     match value {
         Constant::Str(part) => {

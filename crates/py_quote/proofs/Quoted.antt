@@ -1,5 +1,7 @@
 -- A quoted text byte by byte: what is escaped is one byte, and each byte of a longer character stands for itself.
-use Rattle.std.proofs.Common.{◌≡◌, ℕ, ◌+◌, ◌-◌, ◌<◌, ◌≤◌, Bool, true, false, cond, List, [], ◌∷◌, ◌++◌, length, get_or, take, drop, nat_lt, refl, sym, ap, ◌∙◌, append_assoc, arith, rules, ◌⊎◌, inl, inr, slice_range, if◌then◌else◌, IsUtf8, chars, flat_map, encode_utf8_all}
+use Rattle.std.proofs.Common.{◌≡◌, ℕ, ◌+◌, ◌-◌, ◌<◌, ◌≤◌, Bool, true, false, cond, List, [], ◌∷◌, ◌++◌, length, get_or, take, drop, nat_lt}
+use Rattle.std.proofs.Common.{refl, sym, ap, ◌∙◌, append_assoc, arith, rules, ◌⊎◌, inl, inr, slice_range, if◌then◌else◌, IsUtf8, chars}
+use Rattle.std.proofs.Common.{flat_map, encode_utf8_all}
 use Rattle.std.proofs.lemmas.Grind.{flat_map-append}
 use Rattle.std.proofs.lemmas.List.{take_more, take_all, get_or-drop, length-drop, flat_map_more}
 use Rattle.std.proofs.lemmas.Bool.{cases_lt}
@@ -37,7 +39,8 @@ of_lengths false false false k l m n e f g h = h
 
 encode_high : (c : ℕ) → 128 ≤ c → High (encode_utf8 c)
 unfolding encode_utf8
-encode_high c h = of_lengths (nat_lt c 128) (nat_lt c 2048) (nat_lt c 65536) _ _ _ _ (search rules) (omega arith, (omega arith, tt)) (omega arith, (omega arith, (omega arith, tt))) (omega arith, (omega arith, (omega arith, (omega arith, tt))))
+encode_high c h = of_lengths (nat_lt c 128) (nat_lt c 2048) (nat_lt c 65536) _ _ _ _ (search rules) (omega arith, (omega arith, tt))
+    (omega arith, (omega arith, (omega arith, tt))) (omega arith, (omega arith, (omega arith, (omega arith, tt))))
 
 quoted_append_none : (t : List ℕ) → t ++ [] ≡ t
 quoted_append_none t = search rules

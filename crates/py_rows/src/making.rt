@@ -23,14 +23,15 @@ fn make_program(
     nodes: &mut Nodes,
     row: u32,
 ) -> Result<usize, RowsError>
-    ensures { Gives (λ k. (k, nodes_view nodes.new)) result (make_program row kind (items_view fields.now) (nodes_view nodes.old)) }
+    ensures { Gives (λ k. (k, nodes_view nodes.new)) result
+        (make_program row kind (items_view fields.now) (nodes_view nodes.old)) }
 {
     let node = mod_node(alloc, kind, fields, nodes, row)?;
     set_program(node, nodes)
 }
 
 /// Makes the node of a row of this kind, of the nodes of the rows that its fields name, which are taken, and
-/// tells its place among the nodes of its sort.
+/// gives its place among the nodes of its sort.
 ///
 /// # Errors
 /// `WrongRow` where the fields are not those of the kind, `WideInteger` where an integer is outside the 128 bits of an
@@ -43,7 +44,8 @@ pub(crate) fn make(
     nodes: &mut Nodes,
     row: u32,
 ) -> Result<usize, RowsError>
-    ensures { Gives (λ k. (k, nodes_view nodes.new)) result (make row kind (items_view fields.now) (nodes_view nodes.old)) }
+    ensures { Gives (λ k. (k, nodes_view nodes.new)) result
+        (make row kind (items_view fields.now) (nodes_view nodes.old)) }
 {
     match kind {
         Kind::Mod(kind) => make_program(alloc, kind, fields, nodes, row),

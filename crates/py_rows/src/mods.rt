@@ -20,7 +20,8 @@ pub(crate) fn mod_node(
     nodes: &mut Nodes,
     row: u32,
 ) -> Result<Mod, RowsError>
-    ensures { Gives (λ m. (mod_tree m, nodes_view nodes.new)) result (mod_node row kind (items_view fields.now) (nodes_view nodes.old)) }
+    ensures { Gives (λ m. (mod_tree m, nodes_view nodes.new)) result
+        (mod_node row kind (items_view fields.now) (nodes_view nodes.old)) }
 {
     match kind {
         ModKind::Module => module_node(alloc, fields, nodes, row),

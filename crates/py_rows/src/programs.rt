@@ -19,7 +19,8 @@ pub(crate) fn module_node(
     nodes: &mut Nodes,
     row: u32,
 ) -> Result<Mod, RowsError>
-    ensures { Gives (λ x. (mod_tree x, nodes_view nodes.new)) result (module_node row (items_view fields.now) (nodes_view nodes.old)) }
+    ensures { Gives (λ x. (mod_tree x, nodes_view nodes.new)) result
+        (module_node row (items_view fields.now) (nodes_view nodes.old)) }
 {
     let field = one(fields, row)?;
     let body = take_stmts(alloc, field, nodes, row)?;
@@ -34,7 +35,8 @@ pub(crate) fn interactive_node(
     nodes: &mut Nodes,
     row: u32,
 ) -> Result<Mod, RowsError>
-    ensures { Gives (λ x. (mod_tree x, nodes_view nodes.new)) result (interactive_node row (items_view fields.now) (nodes_view nodes.old)) }
+    ensures { Gives (λ x. (mod_tree x, nodes_view nodes.new)) result
+        (interactive_node row (items_view fields.now) (nodes_view nodes.old)) }
 {
     let field = one(fields, row)?;
     let body = take_stmts(alloc, field, nodes, row)?;
@@ -49,7 +51,8 @@ pub(crate) fn expression_node(
     nodes: &mut Nodes,
     row: u32,
 ) -> Result<Mod, RowsError>
-    ensures { Gives (λ x. (mod_tree x, nodes_view nodes.new)) result (expression_node row (items_view fields.now) (nodes_view nodes.old)) }
+    ensures { Gives (λ x. (mod_tree x, nodes_view nodes.new)) result
+        (expression_node row (items_view fields.now) (nodes_view nodes.old)) }
 {
     let field = one(fields, row)?;
     let body = take_boxed_expr(alloc, field, nodes, row)?;
@@ -64,7 +67,8 @@ pub(crate) fn function_type_node(
     nodes: &mut Nodes,
     row: u32,
 ) -> Result<Mod, RowsError>
-    ensures { Gives (λ x. (mod_tree x, nodes_view nodes.new)) result (function_type_node row (items_view fields.now) (nodes_view nodes.old)) }
+    ensures { Gives (λ x. (mod_tree x, nodes_view nodes.new)) result
+        (function_type_node row (items_view fields.now) (nodes_view nodes.old)) }
 {
     let (argtypes, returns) = two(fields, row)?;
     let argtypes = take_exprs(alloc, argtypes, nodes, row)?;

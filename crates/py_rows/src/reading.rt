@@ -24,7 +24,8 @@ pub(crate) fn read_all(
     nodes: &mut Nodes,
 ) -> Result<(), RowsError>
     requires { length rows.items < 2 ^ 32 }
-    ensures { Gives (λ _. nodes_view nodes.new) result (rows_from 0 (items_view rows.items) (nodes_view nodes.old)) }
+    ensures { Gives (λ _. nodes_view nodes.new) result
+        (rows_from 0 (items_view rows.items) (nodes_view nodes.old)) }
 {
     let mut parts = Vec::new(alloc);
     let mut read = Vec::with_capacity(alloc, rows.len().min(GROUP))?;
@@ -49,7 +50,8 @@ fn read_row(
     parts: &mut Vec<Part>,
     nodes: &mut Nodes,
 ) -> Result<(), RowsError>
-    ensures { Gives (λ _. nodes_view nodes.new) result (row_read number (view row.now) (nodes_view nodes.old)) }
+    ensures { Gives (λ _. nodes_view nodes.new) result
+        (row_read number (view row.now) (nodes_view nodes.old)) }
 {
     let (kind, fields) = outline(row, number, parts, nodes.rows.as_slice())?;
     let index = make(alloc, kind, fields, nodes, number)?;
@@ -64,7 +66,8 @@ fn outline<'a>(
     parts: &mut Vec<Part>,
     rows: &[Row],
 ) -> Result<(Kind, &'a [Value]), RowsError>
-    ensures { Gives (λ t. (t.0, items_view t.1.now, parts.new.items)) result (outline number (view row.now) rows.now) }
+    ensures { Gives (λ t. (t.0, items_view t.1.now, parts.new.items)) result
+        (outline number (view row.now) rows.now) }
 {
     let (kind, fields) = kind_at(row, number)?;
     find_parts(kind, fields, number, parts)?;
@@ -80,7 +83,8 @@ fn add_row(
     nodes: &mut Nodes,
     number: u32,
 ) -> Result<(), RowsError>
-    ensures { Gives (λ _. nodes_view nodes.new) result (add_row number kind index parts.now (nodes_view nodes.old)) }
+    ensures { Gives (λ _. nodes_view nodes.new) result
+        (add_row number kind index parts.now (nodes_view nodes.old)) }
 {
     let depth = whole_depth(kind, parts, nodes.rows.as_slice(), number)?;
     let sort = kind.sort();

@@ -5,13 +5,14 @@ use Rattle.py_base.specs.declared.location.SourceLocation.{SourceLocation}
 use Rattle.py_tree.specs.Tree as tree
 use Rattle.py_rows_fields.specs.declared.kinds.ExprKind.{ExprKind}
 use Rattle.py_rows_fields.specs.declared.kinds.ExprKind.TheVariants as kind
-use Rattle.py_rows_fields.specs.Fields.{behind_place, place_in}
+use Rattle.py_rows_fields.specs.Fields.{after_place, place_in}
 use Rattle.py_rows_fields.specs.Gives.{◌>>=◌}
 use Rattle.py_rows_slots.specs.Nodes.{Nodes}
 use Rattle.py_rows_slots.specs.Slots.{Made}
 use Rattle.py_rows_exprs.specs.Atoms.{attribute_node, constant_expr_node, formatted_value_node, joined_str_node, name_node, slice_node, subscript_node}
 use Rattle.py_rows_exprs.specs.Displays.{dict_comp_node, dict_node, generator_exp_node, list_comp_node, list_node, set_comp_node, set_node, tuple_node}
-use Rattle.py_rows_exprs.specs.Operations.{await_node, bin_op_node, bool_op_node, call_node, compare_node, if_exp_node, lambda_node, named_expr_node, starred_node, unary_op_node, yield_from_node, yield_node}
+use Rattle.py_rows_exprs.specs.Operations.{await_node, bin_op_node, bool_op_node, call_node, compare_node, if_exp_node, lambda_node}
+use Rattle.py_rows_exprs.specs.Operations.{named_expr_node, starred_node, unary_op_node, yield_from_node, yield_node}
 
 abbrev pub expr_of_kind : ℕ → ExprKind → SourceLocation → Items → Nodes → Made tree.Expr
 expr_of_kind n kind.BoolOp at fields nodes = bool_op_node n at fields nodes
@@ -43,4 +44,4 @@ expr_of_kind n kind.Tuple at fields nodes = tuple_node n at fields nodes
 expr_of_kind n kind.Slice at fields nodes = slice_node n at fields nodes
 
 abbrev pub expr_node : ℕ → ExprKind → Items → Nodes → Made tree.Expr
-expr_node n k fields nodes = place_in n fields >>= λ at. behind_place n fields >>= λ own. expr_of_kind n k at own nodes
+expr_node n k fields nodes = place_in n fields >>= λ at. after_place n fields >>= λ own. expr_of_kind n k at own nodes

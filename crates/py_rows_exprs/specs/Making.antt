@@ -3,7 +3,7 @@ use Rattle.std.specs.Prelude.{ℕ}
 use Rattle.serde_json.specs.Data.{Items}
 use Rattle.py_rows_fields.specs.declared.kinds.ConstantKind.{ConstantKind}
 use Rattle.py_rows_fields.specs.declared.kinds.ExprKind.{ExprKind}
-use Rattle.py_rows_fields.specs.Fields.{behind_place, place_in}
+use Rattle.py_rows_fields.specs.Fields.{after_place, place_in}
 use Rattle.py_rows_fields.specs.Gives.{◌>>=◌}
 use Rattle.py_rows_slots.specs.Nodes.{Nodes}
 use Rattle.py_rows_slots.specs.Slots.{Made, add_arg, add_arguments, add_comprehension, add_constant, add_default, add_expr, add_keyword}
@@ -24,7 +24,7 @@ abbrev pub make_default : ℕ → Items → Nodes → Made ℕ
 make_default n fields nodes = default_node n fields nodes >>= λ (node, nodes). add_default node nodes
 
 abbrev pub make_arg : ℕ → Items → Nodes → Made ℕ
-make_arg n fields nodes = place_in n fields >>= λ at. behind_place n fields >>= λ own. arg_node n at own nodes >>= λ (node, nodes). add_arg node nodes
+make_arg n fields nodes = place_in n fields >>= λ at. after_place n fields >>= λ own. arg_node n at own nodes >>= λ (node, nodes). add_arg node nodes
 
 abbrev pub make_keyword : ℕ → Items → Nodes → Made ℕ
 make_keyword n fields nodes = keyword_node n fields nodes >>= λ (node, nodes). add_keyword node nodes

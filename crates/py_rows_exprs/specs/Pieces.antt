@@ -12,7 +12,9 @@ use Rattle.py_rows_slots.specs.Slots.{Made, take_arg, take_defaults, take_expr, 
 
 abbrev pub arguments_node : ℕ → Items → Nodes → Made tree.Arguments
 arguments_node n fields nodes = five n fields >>= λ (posonlyargs, args, vararg, kwonlyargs, kwarg).
-    take_defaults n posonlyargs nodes >>= λ (posonlyargs, nodes). take_defaults n args nodes >>= λ (args, nodes). take_optional_arg n vararg nodes >>= λ (vararg, nodes). take_defaults n kwonlyargs nodes >>= λ (kwonlyargs, nodes). take_optional_arg n kwarg nodes >>= λ (kwarg, nodes).
+    take_defaults n posonlyargs nodes >>= λ (posonlyargs, nodes). take_defaults n args nodes >>= λ (args, nodes).
+    take_optional_arg n vararg nodes >>= λ (vararg, nodes). take_defaults n kwonlyargs nodes >>= λ (kwonlyargs, nodes).
+    take_optional_arg n kwarg nodes >>= λ (kwarg, nodes).
     Ok (tree.arguments posonlyargs args vararg kwonlyargs kwarg, nodes)
 
 abbrev pub default_node : ℕ → Items → Nodes → Made Default

@@ -22,7 +22,8 @@ pub(crate) fn constant_expr_node(
     nodes: &mut Nodes,
     row: u32,
 ) -> Result<Expr, RowsError>
-    ensures { Gives (λ e. (expr_tree e, nodes_view nodes.new)) result (constant_expr_node row location (items_view fields.now) (nodes_view nodes.old)) }
+    ensures { Gives (λ e. (expr_tree e, nodes_view nodes.new)) result
+        (constant_expr_node row location (items_view fields.now) (nodes_view nodes.old)) }
 {
     let field = one(fields, row)?;
     let value = take_constant(field, nodes, row)?;
@@ -38,7 +39,8 @@ pub(crate) fn attribute_node(
     nodes: &mut Nodes,
     row: u32,
 ) -> Result<Expr, RowsError>
-    ensures { Gives (λ e. (expr_tree e, nodes_view nodes.new)) result (attribute_node row location (items_view fields.now) (nodes_view nodes.old)) }
+    ensures { Gives (λ e. (expr_tree e, nodes_view nodes.new)) result
+        (attribute_node row location (items_view fields.now) (nodes_view nodes.old)) }
 {
     let (value, attr) = two(fields, row)?;
     let value = take_boxed_expr(alloc, value, nodes, row)?;
@@ -59,7 +61,8 @@ pub(crate) fn subscript_node(
     nodes: &mut Nodes,
     row: u32,
 ) -> Result<Expr, RowsError>
-    ensures { Gives (λ e. (expr_tree e, nodes_view nodes.new)) result (subscript_node row location (items_view fields.now) (nodes_view nodes.old)) }
+    ensures { Gives (λ e. (expr_tree e, nodes_view nodes.new)) result
+        (subscript_node row location (items_view fields.now) (nodes_view nodes.old)) }
 {
     let (value, slice) = two(fields, row)?;
     let value = take_boxed_expr(alloc, value, nodes, row)?;
@@ -95,7 +98,8 @@ pub(crate) fn slice_node(
     nodes: &mut Nodes,
     row: u32,
 ) -> Result<Expr, RowsError>
-    ensures { Gives (λ e. (expr_tree e, nodes_view nodes.new)) result (slice_node row location (items_view fields.now) (nodes_view nodes.old)) }
+    ensures { Gives (λ e. (expr_tree e, nodes_view nodes.new)) result
+        (slice_node row location (items_view fields.now) (nodes_view nodes.old)) }
 {
     let (lower, upper, step) = three(fields, row)?;
     let lower = take_optional_expr(alloc, lower, nodes, row)?;
@@ -118,7 +122,8 @@ pub(crate) fn formatted_value_node(
     nodes: &mut Nodes,
     row: u32,
 ) -> Result<Expr, RowsError>
-    ensures { Gives (λ e. (expr_tree e, nodes_view nodes.new)) result (formatted_value_node row location (items_view fields.now) (nodes_view nodes.old)) }
+    ensures { Gives (λ e. (expr_tree e, nodes_view nodes.new)) result
+        (formatted_value_node row location (items_view fields.now) (nodes_view nodes.old)) }
 {
     let (value, conversion_field, format_spec) = three(fields, row)?;
     let value = take_boxed_expr(alloc, value, nodes, row)?;
@@ -141,7 +146,8 @@ pub(crate) fn joined_str_node(
     nodes: &mut Nodes,
     row: u32,
 ) -> Result<Expr, RowsError>
-    ensures { Gives (λ e. (expr_tree e, nodes_view nodes.new)) result (joined_str_node row location (items_view fields.now) (nodes_view nodes.old)) }
+    ensures { Gives (λ e. (expr_tree e, nodes_view nodes.new)) result
+        (joined_str_node row location (items_view fields.now) (nodes_view nodes.old)) }
 {
     let field = one(fields, row)?;
     let values = take_exprs(alloc, field, nodes, row)?;

@@ -19,7 +19,8 @@ fn tuple_constant(
     nodes: &mut Nodes,
     row: u32,
 ) -> Result<Constant, RowsError>
-    ensures { Gives (λ x. (literal_of x, nodes_view nodes.new)) result (tuple_constant row (items_view fields.now) (nodes_view nodes.old)) }
+    ensures { Gives (λ x. (literal_of x, nodes_view nodes.new)) result
+        (tuple_constant row (items_view fields.now) (nodes_view nodes.old)) }
 {
     let field = one(fields, row)?;
     let items = take_constants(alloc, field, nodes, row)?;
@@ -58,7 +59,8 @@ pub(crate) fn constant_node(
     nodes: &mut Nodes,
     row: u32,
 ) -> Result<Constant, RowsError>
-    ensures { Gives (λ c. (literal_of c, nodes_view nodes.new)) result (constant_node row kind (items_view fields.now) (nodes_view nodes.old)) }
+    ensures { Gives (λ c. (literal_of c, nodes_view nodes.new)) result
+        (constant_node row kind (items_view fields.now) (nodes_view nodes.old)) }
 {
     match kind {
         ConstantKind::None => {

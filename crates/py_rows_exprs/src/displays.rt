@@ -23,7 +23,8 @@ pub(crate) fn dict_node(
     nodes: &mut Nodes,
     row: u32,
 ) -> Result<Expr, RowsError>
-    ensures { Gives (λ e. (expr_tree e, nodes_view nodes.new)) result (dict_node row location (items_view fields.now) (nodes_view nodes.old)) }
+    ensures { Gives (λ e. (expr_tree e, nodes_view nodes.new)) result
+        (dict_node row location (items_view fields.now) (nodes_view nodes.old)) }
 {
     let (keys, values) = two(fields, row)?;
     let keys = take_optional_exprs(alloc, keys, nodes, row)?;
@@ -43,7 +44,8 @@ fn elements(
     nodes: &mut Nodes,
     row: u32,
 ) -> Result<Exprs, RowsError>
-    ensures { Gives (λ x. (exprs expr_tree x, nodes_view nodes.new)) result (elements row (items_view fields.now) (nodes_view nodes.old)) }
+    ensures { Gives (λ x. (exprs expr_tree x, nodes_view nodes.new)) result
+        (elements row (items_view fields.now) (nodes_view nodes.old)) }
 {
     let field = one(fields, row)?;
     let elts = take_exprs(alloc, field, nodes, row)?;
@@ -59,7 +61,8 @@ pub(crate) fn set_node(
     nodes: &mut Nodes,
     row: u32,
 ) -> Result<Expr, RowsError>
-    ensures { Gives (λ e. (expr_tree e, nodes_view nodes.new)) result (set_node row location (items_view fields.now) (nodes_view nodes.old)) }
+    ensures { Gives (λ e. (expr_tree e, nodes_view nodes.new)) result
+        (set_node row location (items_view fields.now) (nodes_view nodes.old)) }
 {
     let elts = elements(alloc, fields, nodes, row)?;
     Ok(Expr::Set(ExprSet { location, elts }))
@@ -74,7 +77,8 @@ pub(crate) fn list_node(
     nodes: &mut Nodes,
     row: u32,
 ) -> Result<Expr, RowsError>
-    ensures { Gives (λ e. (expr_tree e, nodes_view nodes.new)) result (list_node row location (items_view fields.now) (nodes_view nodes.old)) }
+    ensures { Gives (λ e. (expr_tree e, nodes_view nodes.new)) result
+        (list_node row location (items_view fields.now) (nodes_view nodes.old)) }
 {
     let elts = elements(alloc, fields, nodes, row)?;
     Ok(Expr::List(ExprList { location, elts }))
@@ -89,7 +93,8 @@ pub(crate) fn tuple_node(
     nodes: &mut Nodes,
     row: u32,
 ) -> Result<Expr, RowsError>
-    ensures { Gives (λ e. (expr_tree e, nodes_view nodes.new)) result (tuple_node row location (items_view fields.now) (nodes_view nodes.old)) }
+    ensures { Gives (λ e. (expr_tree e, nodes_view nodes.new)) result
+        (tuple_node row location (items_view fields.now) (nodes_view nodes.old)) }
 {
     let elts = elements(alloc, fields, nodes, row)?;
     Ok(Expr::Tuple(ExprTuple { location, elts }))
@@ -103,7 +108,8 @@ fn element_and_clauses(
     nodes: &mut Nodes,
     row: u32,
 ) -> Result<(Box<Expr>, List<Comprehension>), RowsError>
-    ensures { Gives (λ x. ((expr_tree x.0.value, generators expr_tree x.1), nodes_view nodes.new)) result (element_and_clauses row (items_view fields.now) (nodes_view nodes.old)) }
+    ensures { Gives (λ x. ((expr_tree x.0.value, generators expr_tree x.1), nodes_view nodes.new))
+        result (element_and_clauses row (items_view fields.now) (nodes_view nodes.old)) }
 {
     let (elt, generators) = two(fields, row)?;
     let elt = take_boxed_expr(alloc, elt, nodes, row)?;
@@ -120,7 +126,8 @@ pub(crate) fn list_comp_node(
     nodes: &mut Nodes,
     row: u32,
 ) -> Result<Expr, RowsError>
-    ensures { Gives (λ e. (expr_tree e, nodes_view nodes.new)) result (list_comp_node row location (items_view fields.now) (nodes_view nodes.old)) }
+    ensures { Gives (λ e. (expr_tree e, nodes_view nodes.new)) result
+        (list_comp_node row location (items_view fields.now) (nodes_view nodes.old)) }
 {
     let (elt, generators) = element_and_clauses(alloc, fields, nodes, row)?;
     Ok(Expr::ListComp(ExprListComp {
@@ -139,7 +146,8 @@ pub(crate) fn set_comp_node(
     nodes: &mut Nodes,
     row: u32,
 ) -> Result<Expr, RowsError>
-    ensures { Gives (λ e. (expr_tree e, nodes_view nodes.new)) result (set_comp_node row location (items_view fields.now) (nodes_view nodes.old)) }
+    ensures { Gives (λ e. (expr_tree e, nodes_view nodes.new)) result
+        (set_comp_node row location (items_view fields.now) (nodes_view nodes.old)) }
 {
     let (elt, generators) = element_and_clauses(alloc, fields, nodes, row)?;
     Ok(Expr::SetComp(ExprSetComp {
@@ -158,7 +166,8 @@ pub(crate) fn generator_exp_node(
     nodes: &mut Nodes,
     row: u32,
 ) -> Result<Expr, RowsError>
-    ensures { Gives (λ e. (expr_tree e, nodes_view nodes.new)) result (generator_exp_node row location (items_view fields.now) (nodes_view nodes.old)) }
+    ensures { Gives (λ e. (expr_tree e, nodes_view nodes.new)) result
+        (generator_exp_node row location (items_view fields.now) (nodes_view nodes.old)) }
 {
     let (elt, generators) = element_and_clauses(alloc, fields, nodes, row)?;
     Ok(Expr::GeneratorExp(ExprGeneratorExp {
@@ -177,7 +186,8 @@ pub(crate) fn dict_comp_node(
     nodes: &mut Nodes,
     row: u32,
 ) -> Result<Expr, RowsError>
-    ensures { Gives (λ e. (expr_tree e, nodes_view nodes.new)) result (dict_comp_node row location (items_view fields.now) (nodes_view nodes.old)) }
+    ensures { Gives (λ e. (expr_tree e, nodes_view nodes.new)) result
+        (dict_comp_node row location (items_view fields.now) (nodes_view nodes.old)) }
 {
     let (key, value, generators) = three(fields, row)?;
     let key = take_boxed_expr(alloc, key, nodes, row)?;

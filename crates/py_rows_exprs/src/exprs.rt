@@ -17,7 +17,7 @@ use crate::operations::{
     await_node, bin_op_node, bool_op_node, call_node, compare_node, if_exp_node, lambda_node,
     named_expr_node, starred_node, unary_op_node, yield_from_node, yield_node,
 };
-use py_rows_fields::{ExprKind, RowsError, behind_place, place};
+use py_rows_fields::{ExprKind, RowsError, after_place, place};
 use py_rows_slots::Nodes;
 use py_tree::{Expr, SourceLocation};
 use serde_json::Value;
@@ -32,7 +32,8 @@ fn expr_of_kind(
     nodes: &mut Nodes,
     row: u32,
 ) -> Result<Expr, RowsError>
-    ensures { Gives (λ e. (expr_tree e, nodes_view nodes.new)) result (expr_of_kind row kind location (items_view fields.now) (nodes_view nodes.old)) }
+    ensures { Gives (λ e. (expr_tree e, nodes_view nodes.new)) result
+        (expr_of_kind row kind location (items_view fields.now) (nodes_view nodes.old)) }
 {
     match kind {
         ExprKind::BoolOp => bool_op_node(alloc, location, fields, nodes, row),
@@ -73,9 +74,10 @@ pub(crate) fn expr_node(
     nodes: &mut Nodes,
     row: u32,
 ) -> Result<Expr, RowsError>
-    ensures { Gives (λ e. (expr_tree e, nodes_view nodes.new)) result (expr_node row kind (items_view fields.now) (nodes_view nodes.old)) }
+    ensures { Gives (λ e. (expr_tree e, nodes_view nodes.new)) result
+        (expr_node row kind (items_view fields.now) (nodes_view nodes.old)) }
 {
     let location = place(fields, row)?;
-    let own = behind_place(fields, row)?;
+    let own = after_place(fields, row)?;
     expr_of_kind(alloc, kind, location, own, nodes, row)
 }

@@ -7,7 +7,7 @@ ghost use Rattle.py_rows_slots.specs.Nodes.{nodes_view};
 use crate::constants::constant_node;
 use crate::exprs::expr_node;
 use crate::pieces::{arg_node, arguments_node, comprehension_node, default_node, keyword_node};
-use py_rows_fields::{ConstantKind, ExprKind, RowsError, behind_place, place};
+use py_rows_fields::{ConstantKind, ExprKind, RowsError, after_place, place};
 use py_rows_slots::{
     Nodes, add_arg, add_arguments, add_comprehension, add_constant, add_default, add_expr,
     add_keyword,
@@ -16,7 +16,7 @@ use serde_json::Value;
 use std::alloc::Global;
 
 /// Makes the expression of a row of this kind, of the nodes of the rows that its fields name, which are taken, and
-/// tells its place among the expressions.
+/// gives its place among the expressions.
 ///
 /// # Errors
 /// `WrongRow` where the fields are not those of the kind, `LaterRow` where one names no earlier row, `NamedTwice`
@@ -28,13 +28,14 @@ pub fn make_expr(
     nodes: &mut Nodes,
     row: u32,
 ) -> Result<usize, RowsError>
-    ensures { Gives (λ k. (k, nodes_view nodes.new)) result (make_expr row kind (items_view fields.now) (nodes_view nodes.old)) }
+    ensures { Gives (λ k. (k, nodes_view nodes.new)) result
+        (make_expr row kind (items_view fields.now) (nodes_view nodes.old)) }
 {
     let node = expr_node(alloc, kind, fields, nodes, row)?;
     add_expr(node, nodes)
 }
 
-/// Makes the constant of a row of this kind, of the constants that a tuple names, which are taken, and tells its
+/// Makes the constant of a row of this kind, of the constants that a tuple names, which are taken, and gives its
 /// place among the constants.
 ///
 /// # Errors
@@ -48,13 +49,14 @@ pub fn make_constant(
     nodes: &mut Nodes,
     row: u32,
 ) -> Result<usize, RowsError>
-    ensures { Gives (λ k. (k, nodes_view nodes.new)) result (make_constant row kind (items_view fields.now) (nodes_view nodes.old)) }
+    ensures { Gives (λ k. (k, nodes_view nodes.new)) result
+        (make_constant row kind (items_view fields.now) (nodes_view nodes.old)) }
 {
     let node = constant_node(alloc, kind, fields, nodes, row)?;
     add_constant(node, nodes)
 }
 
-/// Makes the parameters of a function or a lambda, of those that the fields name, which are taken, and tells their
+/// Makes the parameters of a function or a lambda, of those that the fields name, which are taken, and gives their
 /// place among the lists of parameters.
 ///
 /// # Errors
@@ -66,13 +68,14 @@ pub fn make_arguments(
     nodes: &mut Nodes,
     row: u32,
 ) -> Result<usize, RowsError>
-    ensures { Gives (λ k. (k, nodes_view nodes.new)) result (make_arguments row (items_view fields.now) (nodes_view nodes.old)) }
+    ensures { Gives (λ k. (k, nodes_view nodes.new)) result
+        (make_arguments row (items_view fields.now) (nodes_view nodes.old)) }
 {
     let node = arguments_node(alloc, fields, nodes, row)?;
     add_arguments(node, nodes)
 }
 
-/// Makes a parameter with its default, of the nodes that the fields name, which are taken, and tells its place among
+/// Makes a parameter with its default, of the nodes that the fields name, which are taken, and gives its place among
 /// them.
 ///
 /// # Errors
@@ -84,13 +87,14 @@ pub fn make_default(
     nodes: &mut Nodes,
     row: u32,
 ) -> Result<usize, RowsError>
-    ensures { Gives (λ k. (k, nodes_view nodes.new)) result (make_default row (items_view fields.now) (nodes_view nodes.old)) }
+    ensures { Gives (λ k. (k, nodes_view nodes.new)) result
+        (make_default row (items_view fields.now) (nodes_view nodes.old)) }
 {
     let node = default_node(alloc, fields, nodes, row)?;
     add_default(node, nodes)
 }
 
-/// Makes a parameter, with the annotation that a field names, which is taken, and tells its place among the
+/// Makes a parameter, with the annotation that a field names, which is taken, and gives its place among the
 /// parameters.
 ///
 /// # Errors
@@ -102,15 +106,16 @@ pub fn make_arg(
     nodes: &mut Nodes,
     row: u32,
 ) -> Result<usize, RowsError>
-    ensures { Gives (λ k. (k, nodes_view nodes.new)) result (make_arg row (items_view fields.now) (nodes_view nodes.old)) }
+    ensures { Gives (λ k. (k, nodes_view nodes.new)) result
+        (make_arg row (items_view fields.now) (nodes_view nodes.old)) }
 {
     let location = place(fields, row)?;
-    let own = behind_place(fields, row)?;
+    let own = after_place(fields, row)?;
     let node = arg_node(alloc, location, own, nodes, row)?;
     add_arg(node, nodes)
 }
 
-/// Makes a keyword of a call or a class, with the value that a field names, which is taken, and tells its place among
+/// Makes a keyword of a call or a class, with the value that a field names, which is taken, and gives its place among
 /// the keywords.
 ///
 /// # Errors
@@ -122,13 +127,14 @@ pub fn make_keyword(
     nodes: &mut Nodes,
     row: u32,
 ) -> Result<usize, RowsError>
-    ensures { Gives (λ k. (k, nodes_view nodes.new)) result (make_keyword row (items_view fields.now) (nodes_view nodes.old)) }
+    ensures { Gives (λ k. (k, nodes_view nodes.new)) result
+        (make_keyword row (items_view fields.now) (nodes_view nodes.old)) }
 {
     let node = keyword_node(alloc, fields, nodes, row)?;
     add_keyword(node, nodes)
 }
 
-/// Makes a `for` clause of a comprehension, of the expressions that the fields name, which are taken, and tells its
+/// Makes a `for` clause of a comprehension, of the expressions that the fields name, which are taken, and gives its
 /// place among the clauses.
 ///
 /// # Errors
@@ -140,7 +146,8 @@ pub fn make_comprehension(
     nodes: &mut Nodes,
     row: u32,
 ) -> Result<usize, RowsError>
-    ensures { Gives (λ k. (k, nodes_view nodes.new)) result (make_comprehension row (items_view fields.now) (nodes_view nodes.old)) }
+    ensures { Gives (λ k. (k, nodes_view nodes.new)) result
+        (make_comprehension row (items_view fields.now) (nodes_view nodes.old)) }
 {
     let node = comprehension_node(alloc, fields, nodes, row)?;
     add_comprehension(node, nodes)

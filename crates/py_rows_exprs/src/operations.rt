@@ -27,7 +27,8 @@ pub(crate) fn bool_op_node(
     nodes: &mut Nodes,
     row: u32,
 ) -> Result<Expr, RowsError>
-    ensures { Gives (λ e. (expr_tree e, nodes_view nodes.new)) result (bool_op_node row location (items_view fields.now) (nodes_view nodes.old)) }
+    ensures { Gives (λ e. (expr_tree e, nodes_view nodes.new)) result
+        (bool_op_node row location (items_view fields.now) (nodes_view nodes.old)) }
 {
     let (op, values) = two(fields, row)?;
     let op = bool_operator(op, row)?;
@@ -48,7 +49,8 @@ pub(crate) fn named_expr_node(
     nodes: &mut Nodes,
     row: u32,
 ) -> Result<Expr, RowsError>
-    ensures { Gives (λ e. (expr_tree e, nodes_view nodes.new)) result (named_expr_node row location (items_view fields.now) (nodes_view nodes.old)) }
+    ensures { Gives (λ e. (expr_tree e, nodes_view nodes.new)) result
+        (named_expr_node row location (items_view fields.now) (nodes_view nodes.old)) }
 {
     let (target, value) = two(fields, row)?;
     let target = take_boxed_expr(alloc, target, nodes, row)?;
@@ -69,7 +71,8 @@ pub(crate) fn bin_op_node(
     nodes: &mut Nodes,
     row: u32,
 ) -> Result<Expr, RowsError>
-    ensures { Gives (λ e. (expr_tree e, nodes_view nodes.new)) result (bin_op_node row location (items_view fields.now) (nodes_view nodes.old)) }
+    ensures { Gives (λ e. (expr_tree e, nodes_view nodes.new)) result
+        (bin_op_node row location (items_view fields.now) (nodes_view nodes.old)) }
 {
     let (left, op, right) = three(fields, row)?;
     let left = take_boxed_expr(alloc, left, nodes, row)?;
@@ -92,7 +95,8 @@ pub(crate) fn unary_op_node(
     nodes: &mut Nodes,
     row: u32,
 ) -> Result<Expr, RowsError>
-    ensures { Gives (λ e. (expr_tree e, nodes_view nodes.new)) result (unary_op_node row location (items_view fields.now) (nodes_view nodes.old)) }
+    ensures { Gives (λ e. (expr_tree e, nodes_view nodes.new)) result
+        (unary_op_node row location (items_view fields.now) (nodes_view nodes.old)) }
 {
     let (op, operand) = two(fields, row)?;
     let op = unary_operator(op, row)?;
@@ -113,7 +117,8 @@ pub(crate) fn if_exp_node(
     nodes: &mut Nodes,
     row: u32,
 ) -> Result<Expr, RowsError>
-    ensures { Gives (λ e. (expr_tree e, nodes_view nodes.new)) result (if_exp_node row location (items_view fields.now) (nodes_view nodes.old)) }
+    ensures { Gives (λ e. (expr_tree e, nodes_view nodes.new)) result
+        (if_exp_node row location (items_view fields.now) (nodes_view nodes.old)) }
 {
     let (test, body, orelse) = three(fields, row)?;
     let test = take_boxed_expr(alloc, test, nodes, row)?;
@@ -136,7 +141,8 @@ pub(crate) fn compare_node(
     nodes: &mut Nodes,
     row: u32,
 ) -> Result<Expr, RowsError>
-    ensures { Gives (λ e. (expr_tree e, nodes_view nodes.new)) result (compare_node row location (items_view fields.now) (nodes_view nodes.old)) }
+    ensures { Gives (λ e. (expr_tree e, nodes_view nodes.new)) result
+        (compare_node row location (items_view fields.now) (nodes_view nodes.old)) }
 {
     let (left, ops, comparators) = three(fields, row)?;
     let left = take_boxed_expr(alloc, left, nodes, row)?;
@@ -159,7 +165,8 @@ pub(crate) fn call_node(
     nodes: &mut Nodes,
     row: u32,
 ) -> Result<Expr, RowsError>
-    ensures { Gives (λ e. (expr_tree e, nodes_view nodes.new)) result (call_node row location (items_view fields.now) (nodes_view nodes.old)) }
+    ensures { Gives (λ e. (expr_tree e, nodes_view nodes.new)) result
+        (call_node row location (items_view fields.now) (nodes_view nodes.old)) }
 {
     let (func, args, keywords) = three(fields, row)?;
     let func = take_boxed_expr(alloc, func, nodes, row)?;
@@ -182,7 +189,8 @@ pub(crate) fn lambda_node(
     nodes: &mut Nodes,
     row: u32,
 ) -> Result<Expr, RowsError>
-    ensures { Gives (λ e. (expr_tree e, nodes_view nodes.new)) result (lambda_node row location (items_view fields.now) (nodes_view nodes.old)) }
+    ensures { Gives (λ e. (expr_tree e, nodes_view nodes.new)) result
+        (lambda_node row location (items_view fields.now) (nodes_view nodes.old)) }
 {
     let (args, body) = two(fields, row)?;
     let args = take_arguments(alloc, args, nodes, row)?;
@@ -203,7 +211,8 @@ pub(crate) fn yield_node(
     nodes: &mut Nodes,
     row: u32,
 ) -> Result<Expr, RowsError>
-    ensures { Gives (λ e. (expr_tree e, nodes_view nodes.new)) result (yield_node row location (items_view fields.now) (nodes_view nodes.old)) }
+    ensures { Gives (λ e. (expr_tree e, nodes_view nodes.new)) result
+        (yield_node row location (items_view fields.now) (nodes_view nodes.old)) }
 {
     let field = one(fields, row)?;
     let value = take_optional_expr(alloc, field, nodes, row)?;
@@ -218,7 +227,8 @@ fn operand(
     nodes: &mut Nodes,
     row: u32,
 ) -> Result<Box<Expr>, RowsError>
-    ensures { Gives (λ x. (expr_tree x.value, nodes_view nodes.new)) result (operand row (items_view fields.now) (nodes_view nodes.old)) }
+    ensures { Gives (λ x. (expr_tree x.value, nodes_view nodes.new)) result
+        (operand row (items_view fields.now) (nodes_view nodes.old)) }
 {
     let field = one(fields, row)?;
     let value = take_boxed_expr(alloc, field, nodes, row)?;
@@ -234,7 +244,8 @@ pub(crate) fn await_node(
     nodes: &mut Nodes,
     row: u32,
 ) -> Result<Expr, RowsError>
-    ensures { Gives (λ e. (expr_tree e, nodes_view nodes.new)) result (await_node row location (items_view fields.now) (nodes_view nodes.old)) }
+    ensures { Gives (λ e. (expr_tree e, nodes_view nodes.new)) result
+        (await_node row location (items_view fields.now) (nodes_view nodes.old)) }
 {
     let value = operand(alloc, fields, nodes, row)?;
     Ok(Expr::Await(ExprAwait { location, value }))
@@ -249,7 +260,8 @@ pub(crate) fn yield_from_node(
     nodes: &mut Nodes,
     row: u32,
 ) -> Result<Expr, RowsError>
-    ensures { Gives (λ e. (expr_tree e, nodes_view nodes.new)) result (yield_from_node row location (items_view fields.now) (nodes_view nodes.old)) }
+    ensures { Gives (λ e. (expr_tree e, nodes_view nodes.new)) result
+        (yield_from_node row location (items_view fields.now) (nodes_view nodes.old)) }
 {
     let value = operand(alloc, fields, nodes, row)?;
     Ok(Expr::YieldFrom(ExprYieldFrom { location, value }))
@@ -264,7 +276,8 @@ pub(crate) fn starred_node(
     nodes: &mut Nodes,
     row: u32,
 ) -> Result<Expr, RowsError>
-    ensures { Gives (λ e. (expr_tree e, nodes_view nodes.new)) result (starred_node row location (items_view fields.now) (nodes_view nodes.old)) }
+    ensures { Gives (λ e. (expr_tree e, nodes_view nodes.new)) result
+        (starred_node row location (items_view fields.now) (nodes_view nodes.old)) }
 {
     let value = operand(alloc, fields, nodes, row)?;
     Ok(Expr::Starred(ExprStarred { location, value }))

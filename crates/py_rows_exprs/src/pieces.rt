@@ -23,7 +23,8 @@ pub(crate) fn arguments_node(
     nodes: &mut Nodes,
     row: u32,
 ) -> Result<Arguments, RowsError>
-    ensures { Gives (λ x. (arguments expr_tree x, nodes_view nodes.new)) result (arguments_node row (items_view fields.now) (nodes_view nodes.old)) }
+    ensures { Gives (λ x. (arguments expr_tree x, nodes_view nodes.new)) result
+        (arguments_node row (items_view fields.now) (nodes_view nodes.old)) }
 {
     let (posonlyargs, args, vararg, kwonlyargs, kwarg) = five(fields, row)?;
     let posonlyargs = take_defaults(alloc, posonlyargs, nodes, row)?;
@@ -48,7 +49,8 @@ pub(crate) fn default_node(
     nodes: &mut Nodes,
     row: u32,
 ) -> Result<ArgWithDefault, RowsError>
-    ensures { Gives (λ x. (default_view x, nodes_view nodes.new)) result (default_node row (items_view fields.now) (nodes_view nodes.old)) }
+    ensures { Gives (λ x. (default_view x, nodes_view nodes.new)) result
+        (default_node row (items_view fields.now) (nodes_view nodes.old)) }
 {
     let (def, default) = two(fields, row)?;
     let def = take_arg(def, nodes, row)?;
@@ -65,7 +67,8 @@ pub(crate) fn arg_node(
     nodes: &mut Nodes,
     row: u32,
 ) -> Result<Arg, RowsError>
-    ensures { Gives (λ x. (arg expr_tree x, nodes_view nodes.new)) result (arg_node row location (items_view fields.now) (nodes_view nodes.old)) }
+    ensures { Gives (λ x. (arg expr_tree x, nodes_view nodes.new)) result
+        (arg_node row location (items_view fields.now) (nodes_view nodes.old)) }
 {
     let (arg, annotation) = two(fields, row)?;
     let arg = text(alloc, arg, row)?;
@@ -85,7 +88,8 @@ pub(crate) fn keyword_node(
     nodes: &mut Nodes,
     row: u32,
 ) -> Result<Keyword, RowsError>
-    ensures { Gives (λ x. (keyword_view x, nodes_view nodes.new)) result (keyword_node row (items_view fields.now) (nodes_view nodes.old)) }
+    ensures { Gives (λ x. (keyword_view x, nodes_view nodes.new)) result
+        (keyword_node row (items_view fields.now) (nodes_view nodes.old)) }
 {
     let (arg, value) = two(fields, row)?;
     let arg = optional_text(alloc, arg, row)?;
@@ -101,7 +105,8 @@ pub(crate) fn comprehension_node(
     nodes: &mut Nodes,
     row: u32,
 ) -> Result<Comprehension, RowsError>
-    ensures { Gives (λ x. (comprehension_view x, nodes_view nodes.new)) result (comprehension_node row (items_view fields.now) (nodes_view nodes.old)) }
+    ensures { Gives (λ x. (comprehension_view x, nodes_view nodes.new)) result
+        (comprehension_node row (items_view fields.now) (nodes_view nodes.old)) }
 {
     let (target, iter, ifs, is_async) = four(fields, row)?;
     let target = take_boxed_expr(alloc, target, nodes, row)?;

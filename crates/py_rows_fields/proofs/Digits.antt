@@ -24,7 +24,11 @@ digit_tells : IsDigitsTest (λ ds. list_all is_ascii_digit ds ≡ true)
 digit_tells = search rules
 
 numeral : (ds : List ℕ) → is_digits ds ≡ true → IsNumeral 10 ds
-numeral ds e = (grind (arith, nat_tests, digit_first_of (nat_lt 0 (length ds)) (list_all is_ascii_digit ds) e), (numerals_by_value (λ xs. list_all is_ascii_digit xs ≡ true) digit_tells).to ds (second_of (nat_lt 0 (length ds)) (list_all is_ascii_digit ds) e))
+numeral ds e = (
+  grind (arith, nat_tests, digit_first_of (nat_lt 0 (length ds)) (list_all is_ascii_digit ds) e),
+  (numerals_by_value (λ xs. list_all is_ascii_digit xs ≡ true) digit_tells).to ds
+      (second_of (nat_lt 0 (length ds)) (list_all is_ascii_digit ds) e),
+)
 
 digit_plain : (bs : List ℕ) → IsNumeral 10 bs → without_leading_plus bs ≡ bs
 digit_plain bs n = without_leading_plus_none bs (λ e. let r = digit_at bs 0 n.1 n.0 in omega (arith, r))

@@ -1,7 +1,9 @@
 -- There are no more rows than bytes.
 use Rattle.std.proofs.Common.{◌≡◌, ℕ, zero, suc, ◌≤◌, List, [], ◌∷◌, length, Bool, true, false, Option, Some, None, refl, ap, ◌∙◌, arith, option_map, option_and_then, subst}
 use Rattle.json.specs.Token.{Token, begin_object, end_object, begin_array, end_array, key, string, number, boolean, null, bad}
-use Rattle.json.specs.Lex.{Lexeme, token, comma, colon, Class, Mode, between, in_word, in_string, in_escape, quote, backslash, operator, space, other, class, lex, lex_byte, Place, fresh, after_value, after_comma, after_key, if_allowed, place_token, begins_colon, may_begin, may_close, punctuate, tokens}
+use Rattle.json.specs.Lex.{Lexeme, token, comma, colon, Class, Mode, between, in_word, in_string, in_escape, quote, backslash, operator}
+use Rattle.json.specs.Lex.{space, other, class, lex, lex_byte, Place, fresh, after_value, after_comma, after_key, if_allowed, place_token}
+use Rattle.json.specs.Lex.{begins_colon, may_begin, may_close, punctuate, tokens}
 use Rattle.json.specs.Json.{Json, items, value, after_end_array, items_step, parse_map, if_last}
 use Rattle.json.specs.Json as json
 use Rattle.serde_json.specs.Data as tree

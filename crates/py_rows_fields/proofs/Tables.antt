@@ -5,7 +5,7 @@ use Rattle.serde_json.specs.declared.value.Value.{Value}
 use Rattle.py_rows_fields.specs.declared.error.RowsError.TheVariants.{WrongRow}
 use Rattle.py_rows_fields.specs.declared.parts.Part.{Part}
 use Rattle.py_rows_fields.specs.declared.table.Field.{Field}
-use Rattle.py_rows_fields.specs.Fields.{behind_place, no_field, place_in}
+use Rattle.py_rows_fields.specs.Fields.{after_place, no_field, place_in}
 use Rattle.py_rows_fields.specs.Parts.{parts_by}
 
 pub missing : (n : ℕ) (table : List Field) (i : ℕ) (vs : List Value) (before : List Part) → i < length table → length vs ≡ 0 → parts_by n (drop i table) (items_view vs) before ≡ Err (WrongRow n)
@@ -26,10 +26,10 @@ no_place n [] h = refl
 no_place n (a ∷ []) h = refl
 no_place n (a ∷ b ∷ vs) h = absurd (omega arith)
 
-pub not_behind : (n : ℕ) (vs : List Value) → length vs < 2 → behind_place n (items_view vs) ≡ Err (WrongRow n)
-not_behind n [] h = refl
-not_behind n (a ∷ []) h = refl
-not_behind n (a ∷ b ∷ vs) h = absurd (omega arith)
+pub not_after : (n : ℕ) (vs : List Value) → length vs < 2 → after_place n (items_view vs) ≡ Err (WrongRow n)
+not_after n [] h = refl
+not_after n (a ∷ []) h = refl
+not_after n (a ∷ b ∷ vs) h = absurd (omega arith)
 
 pub some_field : (n : ℕ) (vs : List Value) → 0 < length vs → no_field n (items_view vs) ≡ Err (WrongRow n)
 some_field n [] h = absurd (omega arith)

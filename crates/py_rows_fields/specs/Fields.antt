@@ -62,10 +62,10 @@ place_in n (item line no_items) = Err (WrongRow n)
 place_in n (item line (item column fields)) = or_fault (WrongRow n) (both (one_indexed line) (one_indexed column))
 
 -- the fields after it
-abbrev pub behind_place : ℕ → Items → Result Items RowsError
-behind_place n no_items = Err (WrongRow n)
-behind_place n (item line no_items) = Err (WrongRow n)
-behind_place n (item line (item column fields)) = Ok fields
+abbrev pub after_place : ℕ → Items → Result Items RowsError
+after_place n no_items = Err (WrongRow n)
+after_place n (item line no_items) = Err (WrongRow n)
+after_place n (item line (item column fields)) = Ok fields
 
 -- the number of a row, named by row n
 abbrev pub number_at : ℕ → Data → Result ℕ RowsError

@@ -9,7 +9,7 @@ use Rattle.py_rows_fields.specs.declared.kinds.Sort.{Sort}
 use Rattle.py_rows_fields.specs.declared.parts.Part.{Part}
 use Rattle.py_rows_fields.specs.declared.table.Field.{Field}
 use Rattle.py_rows_fields.specs.declared.table.Field.TheVariants as field
-use Rattle.py_rows_fields.specs.Fields.{behind_place, entries_at, number_at, place_in}
+use Rattle.py_rows_fields.specs.Fields.{after_place, entries_at, number_at, place_in}
 use Rattle.py_rows_fields.specs.Gives.{or_fault, ◌>>=◌}
 use Rattle.py_rows_fields.specs.Kinds.{kind_of}
 use Rattle.py_rows_fields.specs.Plain.{plain_at}
@@ -48,7 +48,7 @@ parts_by n (f ∷ fs) (item d ds) before = field_parts n f d before >>= parts_by
 
 -- the fields after the place
 abbrev pub own_fields : ℕ → Kind → Items → Result Items RowsError
-own_fields n k fields = if is_located (sort_of k) then (place_in n fields >>= λ _. behind_place n fields) else Ok fields
+own_fields n k fields = if is_located (sort_of k) then (place_in n fields >>= λ _. after_place n fields) else Ok fields
 
 -- the rows that row n names, where it has the fields of its kind
 abbrev pub parts_of : ℕ → Kind → Items → Result (List Part) RowsError

@@ -2,7 +2,7 @@
 ghost use Rattle.std.specs.Prelude.{◌≡◌};
 ghost use Rattle.serde_json.specs.View.{view, items_view};
 ghost use Rattle.py_rows_fields.specs.Gives.{Gives};
-ghost use Rattle.py_rows_fields.specs.Fields.{no_field, one, two, three, four, five, six, one_indexed, place_in, behind_place, number_at, entries_at, text_at, optional_text_at, texts_at, boolean_at, level_at};
+ghost use Rattle.py_rows_fields.specs.Fields.{no_field, one, two, three, four, five, six, one_indexed, place_in, after_place, number_at, entries_at, text_at, optional_text_at, texts_at, boolean_at, level_at};
 
 use crate::error::RowsError;
 use py_base::{List, Names, OneIndexed, SourceLocation, Text};
@@ -61,7 +61,8 @@ pub fn two(fields: &[Value], row: u32) -> Result<(&Value, &Value), RowsError>
 /// # Errors
 /// `WrongRow` where the field has not this form; there may be no memory.
 pub fn three(fields: &[Value], row: u32) -> Result<(&Value, &Value, &Value), RowsError>
-    ensures { Gives (λ t. (view t.0.now, view t.1.now, view t.2.now)) result (three row (items_view fields.now)) }
+    ensures { Gives (λ t. (view t.0.now, view t.1.now, view t.2.now)) result
+        (three row (items_view fields.now)) }
 {
     if fields.len() != 3 {
         return Err(RowsError::WrongRow { row });
@@ -74,7 +75,8 @@ pub fn three(fields: &[Value], row: u32) -> Result<(&Value, &Value, &Value), Row
 /// # Errors
 /// `WrongRow` where the field has not this form; there may be no memory.
 pub fn four(fields: &[Value], row: u32) -> Result<(&Value, &Value, &Value, &Value), RowsError>
-    ensures { Gives (λ t. (view t.0.now, view t.1.now, view t.2.now, view t.3.now)) result (four row (items_view fields.now)) }
+    ensures { Gives (λ t. (view t.0.now, view t.1.now, view t.2.now, view t.3.now)) result
+        (four row (items_view fields.now)) }
 {
     if fields.len() != 4 {
         return Err(RowsError::WrongRow { row });
@@ -90,7 +92,8 @@ pub fn five(
     fields: &[Value],
     row: u32,
 ) -> Result<(&Value, &Value, &Value, &Value, &Value), RowsError>
-    ensures { Gives (λ t. (view t.0.now, view t.1.now, view t.2.now, view t.3.now, view t.4.now)) result (five row (items_view fields.now)) }
+    ensures { Gives (λ t. (view t.0.now, view t.1.now, view t.2.now, view t.3.now, view t.4.now))
+        result (five row (items_view fields.now)) }
 {
     if fields.len() != 5 {
         return Err(RowsError::WrongRow { row });
@@ -106,7 +109,9 @@ pub fn six(
     fields: &[Value],
     row: u32,
 ) -> Result<(&Value, &Value, &Value, &Value, &Value, &Value), RowsError>
-    ensures { Gives (λ t. (view t.0.now, view t.1.now, view t.2.now, view t.3.now, view t.4.now, view t.5.now)) result (six row (items_view fields.now)) }
+    ensures { Gives
+        (λ t. (view t.0.now, view t.1.now, view t.2.now, view t.3.now, view t.4.now, view t.5.now))
+        result (six row (items_view fields.now)) }
 {
     if fields.len() != 6 {
         return Err(RowsError::WrongRow { row });
@@ -136,8 +141,8 @@ pub fn place(fields: &[Value], row: u32) -> Result<SourceLocation, RowsError>
 ///
 /// # Errors
 /// `WrongRow` where the field has not this form; there may be no memory.
-pub fn behind_place(fields: &[Value], row: u32) -> Result<&[Value], RowsError>
-    ensures { Gives (λ v. items_view v.now) result (behind_place row (items_view fields.now)) }
+pub fn after_place(fields: &[Value], row: u32) -> Result<&[Value], RowsError>
+    ensures { Gives (λ v. items_view v.now) result (after_place row (items_view fields.now)) }
 {
     if fields.len() < 2 {
         return Err(RowsError::WrongRow { row });

@@ -16,7 +16,7 @@ mod words;
 
 pub use error::RowsError;
 pub use fields::{
-    behind_place, boolean, entries, five, four, level, no_field, number, one, optional_text, place,
+    after_place, boolean, entries, five, four, level, no_field, number, one, optional_text, place,
     six, text, texts, three, two, word,
 };
 pub use hexadecimal::bytes;

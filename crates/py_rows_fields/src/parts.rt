@@ -7,7 +7,7 @@ ghost use Rattle.py_rows_fields.specs.Sorts.{is_located};
 ghost use Rattle.std.specs.Prelude.{◌≡◌};
 
 use crate::error::RowsError;
-use crate::fields::{behind_place, entries, number, place};
+use crate::fields::{after_place, entries, number, place};
 use crate::kinds::{Kind, Sort, kind_of};
 use crate::plain::check_plain;
 use crate::table::{Field, fields_of};
@@ -62,7 +62,7 @@ fn own_fields(kind: Kind, fields: &[Value], row: u32) -> Result<&[Value], RowsEr
         return Ok(fields);
     }
     place(fields, row)?;
-    behind_place(fields, row)
+    after_place(fields, row)
 }
 
 /// Whether rows have a row and a column of the source before their fields.
@@ -93,7 +93,8 @@ fn add_fields(
     row: u32,
     parts: &mut Vec<Part>,
 ) -> Result<(), RowsError>
-    ensures { Gives (λ _. parts.new.items) result (parts_by row table.now (items_view fields.now) parts.old.items) }
+    ensures { Gives (λ _. parts.new.items) result
+        (parts_by row table.now (items_view fields.now) parts.old.items) }
 {
     let mut rest = fields;
     for field in table {
@@ -111,7 +112,8 @@ fn add_fields(
 }
 
 fn add_field(field: Field, value: &Value, row: u32, parts: &mut Vec<Part>) -> Result<(), RowsError>
-    ensures { Gives (λ _. parts.new.items) result (field_parts row field (view value.now) parts.old.items) }
+    ensures { Gives (λ _. parts.new.items) result
+        (field_parts row field (view value.now) parts.old.items) }
 {
     match field {
         Field::Node(sort) => add_node(sort, value, row, parts),
@@ -123,7 +125,8 @@ fn add_field(field: Field, value: &Value, row: u32, parts: &mut Vec<Part>) -> Re
 }
 
 fn add_node(sort: Sort, value: &Value, row: u32, parts: &mut Vec<Part>) -> Result<(), RowsError>
-    ensures { Gives (λ _. parts.new.items) result (node_part row sort (view value.now) parts.old.items) }
+    ensures { Gives (λ _. parts.new.items) result
+        (node_part row sort (view value.now) parts.old.items) }
 {
     let number = number(value, row)?;
     parts.push(Part { sort, number })?;
@@ -131,7 +134,8 @@ fn add_node(sort: Sort, value: &Value, row: u32, parts: &mut Vec<Part>) -> Resul
 }
 
 fn add_maybe(sort: Sort, value: &Value, row: u32, parts: &mut Vec<Part>) -> Result<(), RowsError>
-    ensures { Gives (λ _. parts.new.items) result (maybe_part row sort (view value.now) parts.old.items) }
+    ensures { Gives (λ _. parts.new.items) result
+        (maybe_part row sort (view value.now) parts.old.items) }
 {
     if value.is_null() {
         return Ok(());
@@ -140,7 +144,8 @@ fn add_maybe(sort: Sort, value: &Value, row: u32, parts: &mut Vec<Part>) -> Resu
 }
 
 fn add_nodes(sort: Sort, value: &Value, row: u32, parts: &mut Vec<Part>) -> Result<(), RowsError>
-    ensures { Gives (λ _. parts.new.items) result (field_parts row (Nodes sort) (view value.now) parts.old.items) }
+    ensures { Gives (λ _. parts.new.items) result
+        (field_parts row (Nodes sort) (view value.now) parts.old.items) }
 {
     for entry in entries(value, row)? {
         add_node(sort, entry, row, parts)?;
@@ -154,7 +159,8 @@ fn add_maybe_nodes(
     row: u32,
     parts: &mut Vec<Part>,
 ) -> Result<(), RowsError>
-    ensures { Gives (λ _. parts.new.items) result (field_parts row (MaybeNodes sort) (view value.now) parts.old.items) }
+    ensures { Gives (λ _. parts.new.items) result
+        (field_parts row (MaybeNodes sort) (view value.now) parts.old.items) }
 {
     for entry in entries(value, row)? {
         add_maybe(sort, entry, row, parts)?;

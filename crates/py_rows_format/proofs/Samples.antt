@@ -179,8 +179,8 @@ tried_is : tree_of tried ≡ Ok (tree.Module (tree.more_stmts (tree.Try (at 1 1)
 tried_is = refl
 
 -- [x for x in y if not z if 1 < 2 <= 3]
-abbrev comprehended : Data
-comprehended =
+abbrev sample_comprehension : Data
+sample_comprehension =
     a
     (a (t "Name" ∷ k 1 ∷ k 2 ∷ t "x" ∷ [])
     ∷ a (t "Name" ∷ k 1 ∷ k 8 ∷ t "x" ∷ [])
@@ -199,7 +199,7 @@ comprehended =
     ∷ a (t "Expression" ∷ k 13 ∷ [])
     ∷ [])
 
-comprehended_is : tree_of comprehended ≡ Ok (tree.Expression (tree.ListComp (at 1 1) (tree.Name (at
+comprehended_is : tree_of sample_comprehension ≡ Ok (tree.Expression (tree.ListComp (at 1 1) (tree.Name (at
     1 2) (codes "x")) (tree.more_generators (tree.Name (at 1 8) (codes "x")) (tree.Name (at 1 13)
     (codes "y")) (tree.more_exprs (tree.UnaryOp (at 1 18) unary.Not (tree.Name (at 1 22) (codes
     "z"))) (tree.more_exprs (tree.Compare (at 1 27) (tree.Constant (at 1 27) (literal.Int (pos 1)))
@@ -209,8 +209,8 @@ comprehended_is : tree_of comprehended ≡ Ok (tree.Expression (tree.ListComp (a
 comprehended_is = refl
 
 -- f'{a!r:>{w}}' and lambda *b, c=1, **d: (yield)
-abbrev formatted : Data
-formatted =
+abbrev sample_formatted : Data
+sample_formatted =
     a
     (a (t "Name" ∷ k 1 ∷ k 4 ∷ t "a" ∷ [])
     ∷ a (t "str" ∷ t ">" ∷ [])
@@ -233,7 +233,7 @@ formatted =
     ∷ a (t "Expression" ∷ k 17 ∷ [])
     ∷ [])
 
-formatted_is : tree_of formatted ≡ Ok (tree.Expression (tree.BoolOp (at 1 1) joining.And
+formatted_is : tree_of sample_formatted ≡ Ok (tree.Expression (tree.BoolOp (at 1 1) joining.And
     (tree.more_exprs (tree.JoinedStr (at 1 1) (tree.more_exprs (tree.FormattedValue (at 1 3)
     (tree.Name (at 1 4) (codes "a")) converting.Repr (tree.some_expr (tree.JoinedStr (at 1 7)
     (tree.more_exprs (tree.Constant (at 1 7) (literal.Str (codes ">"))) (tree.more_exprs
@@ -415,15 +415,15 @@ wide_is : tree_of wide ≡ Err (WideInteger 0)
 wide_is = refl
 
 -- -2^127, with zeros before
-abbrev narrow : Data
-narrow =
+abbrev sample_narrow : Data
+sample_narrow =
     a
     (a (t "int" ∷ t "-00170141183460469231731687303715884105728" ∷ [])
     ∷ a (t "Constant" ∷ k 1 ∷ k 1 ∷ k 0 ∷ [])
     ∷ a (t "Expression" ∷ k 1 ∷ [])
     ∷ [])
 
-narrow_is : tree_of narrow ≡ Ok (tree.Expression (tree.Constant (at 1 1) (literal.Int (negsuc
+narrow_is : tree_of sample_narrow ≡ Ok (tree.Expression (tree.Constant (at 1 1) (literal.Int (negsuc
     170141183460469231731687303715884105727))))
 narrow_is = refl
 
@@ -541,10 +541,10 @@ deep depth = record { sort = Expr; made = tree.Name (at 1 1) (codes "a"); depth 
 too_deep : with_row (deep 1023 ∷ []) (a (t "Expr" ∷ k 1 ∷ k 1 ∷ k 0 ∷ [])) ≡ Err (TooDeep 1)
 too_deep = refl
 
-abbrev over : Made
+abbrev sample_over : Made
 over = record { sort = Stmt; made = tree.StmtExpr (at 1 1) (tree.Name (at 1 1) (codes "a")); depth = 1023; names = 0 ∷ [] }
 
-deep_enough : with_row (deep 1022 ∷ []) (a (t "Expr" ∷ k 1 ∷ k 1 ∷ k 0 ∷ [])) ≡ Ok (deep 1022 ∷ over ∷ [])
+deep_enough : with_row (deep 1022 ∷ []) (a (t "Expr" ∷ k 1 ∷ k 1 ∷ k 0 ∷ [])) ≡ Ok (deep 1022 ∷ sample_over ∷ [])
 deep_enough = refl
 
 -- ---- from the bytes

@@ -1,5 +1,6 @@
 -- Rows one by one: what each says, the rows that it names, and the node that is made of them.
-use Rattle.std.specs.Prelude.{ℕ, ◌+◌, ◌^◌, ◌==◌, ◌&&◌, nat_lt, max, Bool, true, false, not, List, [], ◌∷◌, ◌++◌, find, flat_map, Option, Some, None, option_map, is_some, count_by, if◌then◌else◌, codes}
+use Rattle.std.specs.Prelude.{ℕ, ◌+◌, ◌^◌, ◌==◌, ◌&&◌, nat_lt, max, Bool, true, false, not, List, [], ◌∷◌, ◌++◌, find, flat_map, Option}
+use Rattle.std.specs.Prelude.{Some, None, option_map, is_some, count_by, if◌then◌else◌, codes}
 use Rattle.std.specs.Int.Signed.{mag}
 use Rattle.std.specs.List.{slice_get, list_any}
 use Rattle.std.specs.Option.{option_map_or}

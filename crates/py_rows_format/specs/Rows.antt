@@ -46,8 +46,8 @@ program_of None = None
 program_of (Some m) = node_as Sort.Mod m.sort m.made
 
 -- the lowest row before the last that no row names
-abbrev pub unnamed : List Made → Option ℕ
-unnamed rows = find (λ k. not (is_among k (all_names rows))) (range_with_len 0 (length rows - 1))
+abbrev pub first_unnamed : List Made → Option ℕ
+first_unnamed rows = find (λ k. not (is_among k (all_names rows))) (range_with_len 0 (length rows - 1))
 
 abbrev pub check_named : Option ℕ → Result (Unit {0}) RowsError
 check_named None = Ok tt
@@ -56,7 +56,7 @@ check_named (Some k) = Err (NotNamed k)
 abbrev pub program : List Made → Result tree.Mod RowsError
 program rows = do
   t ← ok_or (program_of (last_or None rows)) NoMod
-  _ ← check_named (unnamed rows)
+  _ ← check_named (first_unnamed rows)
   Ok t
 
 -- an array that is not empty

@@ -1,4 +1,4 @@
--- Later rows, wrong kinds and nesting are told alike, where the rows before are alike.
+-- Later rows, wrong kinds and nesting are reported alike, where the rows before are alike.
 use Rattle.std.proofs.Common.{◌≡◌, refl, sym, ◌∙◌, ℕ, ◌==◌, nat_lt, List, [], ◌∷◌, map, Bool, true, false, ◌&&◌, flat_map, slice_get, is_some, Option, Some, None, option_map}
 use Rattle.std.specs.List.{list_all}
 use Rattle.std.specs.Option.{option_map_or}
@@ -8,7 +8,8 @@ use Rattle.py_rows_fields.specs.declared.outline.Row.{Row}
 use Rattle.py_rows_fields.specs.declared.parts.Part.{Part}
 use Rattle.py_rows_fields.specs.Outline as reader
 use Rattle.py_rows_fields.specs.Sorts.{sort_number}
-use Rattle.py_rows_format.specs.Fields.{◌>>=◌, Content, Contents, Entry, Field, FieldValue, Letter, Node, Sort, optional, several, one, maybe, many, keys, text, truth, small, integer, bytes, operator, node}
+use Rattle.py_rows_format.specs.Fields.{◌>>=◌, Content, Contents, Entry, Field, FieldValue, Letter, Node, Sort, optional, several, one}
+use Rattle.py_rows_format.specs.Fields.{maybe, many, keys, text, truth, small, integer, bytes, operator, node}
 use Rattle.py_rows_format.specs.Making.{Made, all_of, deepest, depth_at, field_value, keys_of, made_of, names_as, names_by, names_in, names_or_none, node_as, node_at, one_or_none}
 use Rattle.py_rows_format.specs.Table.{Of}
 use Rattle.py_rows_law.proofs.FormLemmas.{part, parts_as, parts_in, parts_of, parts_or_none}
@@ -107,22 +108,22 @@ module _ (made : List Made) (rows : List Row) (alike : AreAlike made rows) where
   abbrev fit : List Part → Bool
   fit = list_all (reader.fits rows)
 
-  entry_there : (s : Sort) (k : ℕ) → fit (part s k ∷ []) ≡ is_some (node_at made s k)
-  entry_there s k = and_true (reader.fits rows (part s k)) ∙ node_fits made rows alike s k
+  check_entry_there : (s : Sort) (k : ℕ) → fit (part s k ∷ []) ≡ is_some (node_at made s k)
+  check_entry_there s k = and_true (reader.fits rows (part s k)) ∙ node_fits made rows alike s k
 
   maybe_there : (s : Sort) (x : Option ℕ) → fit (parts_or_none (node s) x) ≡ is_some (one_or_none (node_at made s) x)
   maybe_there s None = refl
-  maybe_there s (Some k) = entry_there s k ∙ sym (some_map Some (node_at made s k))
+  maybe_there s (Some k) = check_entry_there s k ∙ sym (some_map Some (node_at made s k))
 
   many_there : (s : Sort) (xs : List ℕ) → fit (flat_map (parts_as (node s)) xs) ≡ is_some (all_of (node_at made s) xs)
-  many_there s = all_there (parts_as (node s)) (node_at made s) (reader.fits rows) (entry_there s)
+  many_there s = all_there (parts_as (node s)) (node_at made s) (reader.fits rows) (check_entry_there s)
 
   none_there : (l : Letter) → ((x : Entry l) → parts_as l x ≡ []) → (xs : List (Entry l)) → fit (flat_map (parts_as l) xs) ≡ true
   none_there l e [] = refl
   none_there l e (x ∷ xs) = rw (e x) (none_there l e xs)
 
   field_there : (f : Field) (x : Content f) → fit (parts_of f x) ≡ is_some (field_value made f x)
-  field_there (one (node s)) k = entry_there s k
+  field_there (one (node s)) k = check_entry_there s k
   field_there (one l) x = refl
   field_there (maybe (node s)) x = maybe_there s x ∙ sym (some_map (optional s) (one_or_none (node_at made s) x))
   field_there (maybe text) None = refl
@@ -144,7 +145,8 @@ module _ (made : List Made) (rows : List Row) (alike : AreAlike made rows) where
   field_there (many integer) xs = none_there integer (λ x. refl) xs
   field_there (many bytes) xs = none_there bytes (λ x. refl) xs
   field_there (many (operator o)) xs = none_there (operator o) (λ x. refl) xs
-  field_there keys xs = all_there (parts_or_none (node Sort.Expr)) (one_or_none (node_at made Sort.Expr)) (reader.fits rows) (maybe_there Sort.Expr) xs ∙ sym (some_map keys_of (all_of (one_or_none (node_at made Sort.Expr)) xs))
+  field_there keys xs = all_there (parts_or_none (node Sort.Expr)) (one_or_none (node_at made Sort.Expr)) (reader.fits rows)
+      (maybe_there Sort.Expr) xs ∙ sym (some_map keys_of (all_of (one_or_none (node_at made Sort.Expr)) xs))
 
   pub kinds_alike : (A : Type 0) (fs : List Field) (g : Of fs A) (xs : Contents fs) → reader.all_fit rows (parts_in fs xs) ≡ is_some (made_of made fs g xs)
   kinds_alike A [] g xs = refl

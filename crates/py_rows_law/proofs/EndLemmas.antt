@@ -1,5 +1,6 @@
 -- The last row, and the rows that none names.
-use Rattle.std.proofs.Common.{◌≡◌, refl, sym, ap, ◌∙◌, subst, ℕ, zero, suc, ◌+◌, ◌-◌, ◌==◌, ◌≤◌, List, [], ◌∷◌, length, take, Bool, true, false, true≢false, not, cond, arith, slice_get, is_some, find, Option, Some, None, option_and_then, Ok}
+use Rattle.std.proofs.Common.{◌≡◌, refl, sym, ap, ◌∙◌, subst, ℕ, zero, suc, ◌+◌, ◌-◌, ◌==◌, ◌≤◌, List, [], ◌∷◌, length, take, Bool, true}
+use Rattle.std.proofs.Common.{false, true≢false, not, cond, arith, slice_get, is_some, find, Option, Some, None, option_and_then, Ok}
 use Rattle.std.specs.Prelude.{if◌then◌else◌, ok_or}
 use Rattle.std.specs.List.{last_or, position_from, range_with_len}
 use Rattle.std.specs.Option.{option_map_or}
@@ -17,7 +18,7 @@ use Rattle.py_rows_slots.specs.Taking.{is_left_at}
 use Rattle.py_rows_law.proofs.CheckLemmas.{Alike, fits_as}
 use Rattle.py_rows_law.proofs.FormLemmas.{is_part}
 use Rattle.py_rows_law.proofs.StepLemmas.{SoFar}
-use Rattle.py_rows_law.proofs.TieLemmas.{Ties, list_of, number}
+use Rattle.py_rows_law.proofs.TieLemmas.{Ties, list_of, number_of_sort}
 use Rattle.py_rows_law.proofs.TableLemmas.{sort_as}
 
 -- ---- the last row
@@ -30,7 +31,7 @@ last_at : {A : Type 0} (xs : List A) → last_or None xs ≡ slice_get xs (lengt
 last_at [] = refl
 last_at (x ∷ xs) = last_get x xs ∙ ap (slice_get (x ∷ xs)) (let e : length xs ≡ length (x ∷ xs) - 1 = omega arith in e)
 
-program_number : (s : Sort) → reader.is_program (sort_as s) ≡ (number s == 0)
+program_number : (s : Sort) → reader.is_program (sort_as s) ≡ (number_of_sort s == 0)
 program_number Sort.Mod = refl
 program_number s = refl
 
@@ -82,7 +83,7 @@ left_run p q (suc m) i (r ∷ rs) h l =
     let here : p r ≡ q i = h 0 r refl ∙ ap q (let e : i + 0 ≡ i = omega arith in e) in
     rw here (ap (cond (q i) (Some i)) (left_run p q m (i + 1) rs (λ k s e. h (suc k) s e ∙ ap q (let f : i + suc k ≡ i + 1 + k = omega arith in f)) (omega arith)))
 
-first_alike : (rows : List Made) (nodes : Nodes) → Ties (all_names rows) rows nodes → reader.first_left nodes ≡ law.unnamed rows
+first_alike : (rows : List Made) (nodes : Nodes) → Ties (all_names rows) rows nodes → reader.first_left nodes ≡ law.first_unnamed rows
 first_alike rows nodes ties =
     let counted : length nodes.rows ≡ length rows = ties.same.counted in
     position_from-zero (λ (r : Row). is_left r.sort r.index nodes) (take (length nodes.rows - 1) nodes.rows)
@@ -100,6 +101,8 @@ end_alike rows nodes (ties, program) = rw (ends rows nodes ties, first_alike row
     none (Some k) p t e = refl
 
     by : (o : Option tree.Mod) → ((t : tree.Mod) → o ≡ Some t → nodes.program ≡ Some t)
-        → (ok_or o NoMod >>= λ t. law.check_named (law.unnamed rows) >>= λ _. Ok t) ≡ (where_holds {A = Unit {0}} (is_some o) NoMod tt >>= λ _. reader.none_left (law.unnamed rows) >>= λ _. or_fault NoMod nodes.program)
+        → (ok_or o NoMod >>= λ t. law.check_named (law.first_unnamed rows) >>= λ _. Ok t)
+        ≡ (where_holds {A = Unit {0}} (is_some o) NoMod tt >>= λ _. reader.none_left (law.first_unnamed rows) >>= λ _.
+        or_fault NoMod nodes.program)
     by None h = refl
-    by (Some t) h = none (law.unnamed rows) nodes.program t (h t refl)
+    by (Some t) h = none (law.first_unnamed rows) nodes.program t (h t refl)

@@ -1,5 +1,6 @@
--- Filling the fields of a node, one after another, as each of the reader's functions does: it makes what the table makes of the rows, or tells a row that was named before.
-use Rattle.std.proofs.Common.{◌≡◌, refl, sym, ◌∙◌, subst, ℕ, ◌==◌, ◌<◌, le-ltb, List, [], ◌∷◌, ◌++◌, length, Bool, true, false, true≢false, ◌||◌, arith, flat_map, Option, Some, None, option_map, option_and_then, Result, Ok, Err}
+-- Filling the fields of a node, one after another, as each of the reader's functions does: it makes what the table makes of the rows, or gives a row that was named before.
+use Rattle.std.proofs.Common.{◌≡◌, refl, sym, ◌∙◌, subst, ℕ, ◌==◌, ◌<◌, le-ltb, List, [], ◌∷◌, ◌++◌, length, Bool, true, false, true≢false}
+use Rattle.std.proofs.Common.{◌||◌, arith, flat_map, Option, Some, None, option_map, option_and_then, Result, Ok, Err}
 use Rattle.std.specs.Prelude.{◌^◌}
 use Rattle.std.proofs.lemmas.Bool.Decides.{nat_tests}
 use Rattle.serde_json.specs.Data.{Data, Items, unsigned, negative, float, number as a_number, no_items, item}
@@ -22,7 +23,8 @@ use Rattle.py_rows_slots.specs.Slots.{Made}
 use Rattle.py_rows_slots.specs.Taking as list
 use Rattle.py_rows_law.proofs.FormLemmas.{is_part}
 use Rattle.py_rows_law.proofs.TakingLemmas.{EachPair, Gives, GivesMaybe, Reads, ReadsMaybe}
-use Rattle.py_rows_law.proofs.TieLemmas.{Same, Tied, Ties, among_behind, behind, list_of, list_with, number, other_list, other_row, part_number, rows_with, same_sort, tied_other, with_list, within}
+use Rattle.py_rows_law.proofs.TieLemmas.{Same, Tied, Ties, among_after, numbers_after, list_of, list_with, number, other_list, other_row}
+use Rattle.py_rows_law.proofs.TieLemmas.{part_number, rows_with, same_sort, tied_other, with_list, within}
 
 -- ---- a field, and then the rest
 
@@ -50,9 +52,9 @@ abbrev pub Datas : List Field → Type 0
 Datas [] = Unit {0}
 Datas (f ∷ fs) = Data × Datas fs
 
-abbrev pub filled : {A : Type 0} → (n : ℕ) (fs : List Field) → Of fs A → Datas fs → Nodes → Made A
-filled n [] g ds nodes = Ok (g, nodes)
-filled n (f ∷ fs) g ds nodes = with_field n f ds.0 nodes (λ x nodes. filled n fs (g x) ds.1 nodes)
+abbrev pub filled_row : {A : Type 0} → (n : ℕ) (fs : List Field) → Of fs A → Datas fs → Nodes → Made A
+filled_row n [] g ds nodes = Ok (g, nodes)
+filled_row n (f ∷ fs) g ds nodes = with_field n f ds.0 nodes (λ x nodes. filled_row n fs (g x) ds.1 nodes)
 
 -- ---- what is there
 
@@ -116,10 +118,10 @@ are_of_each_maybe s made [] vs g = tt
 are_of_each_maybe s made (o ∷ os) [] g = absurd g
 are_of_each_maybe s made (o ∷ os) (v ∷ vs) g = are_of-append s made (names_or_none (node s) o) (flat_map (names_or_none (node s)) os) (are_of_maybe s made o v g.0) (are_of_each_maybe s made os vs g.1)
 
-tied_behind : (s t : Sort) (made : List format.Made) (rows : List Row) (xs : List (Option (Node t))) → (number s == number t) ≡ false → (ks names : List ℕ)
-    → AreOf s made ks → Tied t names made rows xs → Tied t (behind ks names) made rows xs
-tied_behind s t made rows xs other [] names a tied = tied
-tied_behind s t made rows xs other (k ∷ ks) names a tied = tied_behind s t made rows xs other ks (k ∷ names) a.1 (tied_other s t names made rows xs other tied k a.0.0 a.0.1)
+tied_after : (s t : Sort) (made : List format.Made) (rows : List Row) (xs : List (Option (Node t))) → (number s == number t) ≡ false → (ks names : List ℕ)
+    → AreOf s made ks → Tied t names made rows xs → Tied t (numbers_after ks names) made rows xs
+tied_after s t made rows xs other [] names a tied = tied
+tied_after s t made rows xs other (k ∷ ks) names a tied = tied_after s t made rows xs other ks (k ∷ names) a.1 (tied_other s t names made rows xs other tied k a.0.0 a.0.1)
 
 either_true : (a b : Bool) → a || b ≡ true → {C : Type 0} → (a ≡ true → C) → (b ≡ true → C) → C
 either_true true b e f g = f refl
@@ -137,14 +139,15 @@ not_among s made (k ∷ ks) a part j x e = rw (other_row made s Sort.Mod j k a.0
 
 -- the nodes with the list that is left
 pub ties_with : (s : Sort) → is_part s ≡ true → (made : List format.Made) (nodes : Nodes) (names ks : List ℕ) (rest : List (Option (Node s))) → Ties names made nodes → AreOf s made ks
-    → Tied s (behind ks names) made nodes.rows rest → Ties (behind ks names) made (with_list s rest nodes)
+    → Tied s (numbers_after ks names) made nodes.rows rest → Ties (numbers_after ks names) made (with_list s rest nodes)
 ties_with s part made nodes names ks rest ties are tied = record {
   same = subst (Same made) (sym (rows_with s rest nodes)) ties.same;
-  earlier = λ k e. either_true (is_among k ks) (is_among k names) (sym (among_behind k ks names) ∙ e) (among_within s made ks are k) (ties.earlier k);
-  unnamed = λ k x e. among_behind k ks names ∙ rw (not_among s made ks are part k x e) (ties.unnamed k x e);
-  lists = λ t pt. subst (λ rows. Tied t (behind ks names) made rows (list_of t (with_list s rest nodes))) (sym (rows_with s rest nodes)) (by t pt (number s == number t) refl);
+  earlier = λ k e. either_true (is_among k ks) (is_among k names) (sym (among_after k ks names) ∙ e) (among_within s made ks are k) (ties.earlier k);
+  unnamed = λ k x e. among_after k ks names ∙ rw (not_among s made ks are part k x e) (ties.unnamed k x e);
+  lists = λ t pt. subst (λ rows. Tied t (numbers_after ks names) made rows (list_of t (with_list s rest nodes))) (sym (rows_with s rest nodes)) (by t pt (number s == number t) refl);
 }
   where
-    by : (t : Sort) → is_part t ≡ true → (b : Bool) → (number s == number t) ≡ b → Tied t (behind ks names) made nodes.rows (list_of t (with_list s rest nodes))
-    by t pt true e = subst (λ t. Tied t (behind ks names) made nodes.rows (list_of t (with_list s rest nodes))) (same_sort s t e) (subst (Tied s (behind ks names) made nodes.rows) (sym (list_with s rest nodes part)) tied)
-    by t pt false e = subst (Tied t (behind ks names) made nodes.rows) (sym (other_list s t rest nodes e)) (tied_behind s t made nodes.rows (list_of t nodes) e ks names are (ties.lists t pt))
+    by : (t : Sort) → is_part t ≡ true → (b : Bool) → (number s == number t) ≡ b → Tied t (numbers_after ks names) made nodes.rows (list_of t (with_list s rest nodes))
+    by t pt true e = subst (λ t. Tied t (numbers_after ks names) made nodes.rows (list_of t (with_list s rest nodes))) (same_sort s t e)
+        (subst (Tied s (numbers_after ks names) made nodes.rows) (sym (list_with s rest nodes part)) tied)
+    by t pt false e = subst (Tied t (numbers_after ks names) made nodes.rows) (sym (other_list s t rest nodes e)) (tied_after s t made nodes.rows (list_of t nodes) e ks names are (ties.lists t pt))

@@ -1,5 +1,6 @@
 -- The rows with one more: the reader's are tied to what all rows made.
-use Rattle.std.proofs.Common.{◌≡◌, refl, sym, ap, ◌∙◌, subst, ℕ, zero, suc, ◌+◌, ◌==◌, ◌<◌, List, [], ◌∷◌, ◌++◌, length, append-nil, Bool, true, false, true≢false, ◌||◌, cond, arith, slice_get, Option, Some, None}
+use Rattle.std.proofs.Common.{◌≡◌, refl, sym, ap, ◌∙◌, subst, ℕ, zero, suc, ◌+◌, ◌==◌, ◌<◌, List, [], ◌∷◌, ◌++◌, length, append-nil, Bool}
+use Rattle.std.proofs.Common.{true, false, true≢false, ◌||◌, cond, arith, slice_get, Option, Some, None}
 use Rattle.std.specs.Prelude.{if◌then◌else◌}
 use Rattle.std.specs.List.{last_or}
 use Rattle.std.proofs.lemmas.Bool.Decides.{nat_tests}
@@ -16,7 +17,7 @@ use Rattle.py_rows_format.specs.Rows.{program_of}
 use Rattle.py_rows_slots.specs.Nodes.{Nodes}
 use Rattle.py_rows_law.proofs.CheckLemmas.{Alike, AreAlike}
 use Rattle.py_rows_law.proofs.FormLemmas.{is_part}
-use Rattle.py_rows_law.proofs.TieLemmas.{Same, Tied, Ties, among_behind, behind, list_of, number, other_list, same_sort, sort_found, with_list}
+use Rattle.py_rows_law.proofs.TieLemmas.{Same, Tied, Ties, among_after, numbers_after, list_of, number_of_sort, other_list, same_sort, sort_found, with_list}
 use Rattle.py_rows_law.proofs.TableLemmas.{sort_as}
 
 -- ---- one more element
@@ -64,7 +65,7 @@ list_node : (s : Sort) (x : Node s) (nodes : Nodes) → is_part s ≡ true → l
 list_node Sort.Mod x nodes e = absurd (true≢false (sym e))
 list_node s x nodes e = refl
 
-other_node : (s t : Sort) (x : Node s) (nodes : Nodes) → (number s == number t) ≡ false → list_of t (with_node s x nodes) ≡ list_of t nodes
+other_node : (s t : Sort) (x : Node s) (nodes : Nodes) → (number_of_sort s == number_of_sort t) ≡ false → list_of t (with_node s x nodes) ≡ list_of t nodes
 other_node Sort.Mod Sort.Mod x nodes e = refl
 other_node Sort.Mod t x nodes e = refl
 other_node Sort.Stmt t x nodes e = other_list Sort.Stmt t (nodes.stmts ++ Some x ∷ []) nodes e
@@ -78,7 +79,7 @@ node_same : (s : Sort) (x : Node s) → node_as s s x ≡ Some x
 node_same Sort.Mod x = refl
 node_same s x = refl
 
-part_sort : (s : Sort) → (number s == 0) ≡ false → is_part s ≡ true
+part_sort : (s : Sort) → (number_of_sort s == 0) ≡ false → is_part s ≡ true
 part_sort Sort.Mod e = absurd (true≢false e)
 part_sort s e = refl
 
@@ -95,7 +96,7 @@ made_at made rows alike s k r e f = by (slice_get made k) (slice_get rows k) ref
     by (Some m) (Some q) g a e =
         let qr : q ≡ r = cc in
         let h : sort_as m.sort ≡ sort_as s = sym a.0 ∙ ap (λ (q : Row). q.sort) qr ∙ f in
-        let i : (number m.sort == number s) ≡ true = rw h (grind (arith, nat_tests)) in
+        let i : (number_of_sort m.sort == number_of_sort s) ≡ true = rw h (grind (arith, nat_tests)) in
         let x = node m (same_sort m.sort s i) in
         (x.0, rw g (x.1))
 
@@ -114,10 +115,10 @@ module _ (made : List Made) (left : Nodes) (s : Sort) (y : Node s) (depth : ℕ)
   abbrev pub grown : Nodes
   grown = with_row (with_node s y left) last_row
 
-  among_more : (k : ℕ) → is_among k (all_names more) ≡ is_among k (behind names (all_names made))
+  among_more : (k : ℕ) → is_among k (all_names more) ≡ is_among k (numbers_after names (all_names made))
   among_more k =
       ap (is_among k) (flat_map-append (λ (m : Made). m.names) made (last ∷ [])) ∙ ap (λ ns. is_among k (all_names made ++ ns)) (append-nil names)
-      ∙ list_any-append (λ j. j == k) (all_names made) names ∙ swap (is_among k (all_names made)) (is_among k names) ∙ sym (among_behind k names (all_names made))
+      ∙ list_any-append (λ j. j == k) (all_names made) names ∙ swap (is_among k (all_names made)) (is_among k names) ∙ sym (among_after k names (all_names made))
     where
       swap : (a b : Bool) → a || b ≡ b || a
       swap true true = refl
@@ -137,26 +138,26 @@ module _ (made : List Made) (left : Nodes) (s : Sort) (y : Node s) (depth : ℕ)
 
   -- a list of the nodes has what it had
   list_keeps : (t : Sort) (k : ℕ) (o : Option (Node t)) → slice_get (list_of t left) k ≡ Some o → slice_get (list_of t grown) k ≡ Some o
-  list_keeps t k o e = rw (list_row t (with_node s y left) last_row) (by (number s == number t) refl)
+  list_keeps t k o e = rw (list_row t (with_node s y left) last_row) (by (number_of_sort s == number_of_sort t) refl)
     where
       part : (t : Sort) (o : Option (Node t)) → slice_get (list_of t left) k ≡ Some o → is_part t ≡ true
       part Sort.Mod o e = absurd (cc)
       part t o e = refl
 
-      by : (b : Bool) → (number s == number t) ≡ b → slice_get (list_of t (with_node s y left)) k ≡ Some o
+      by : (b : Bool) → (number_of_sort s == number_of_sort t) ≡ b → slice_get (list_of t (with_node s y left)) k ≡ Some o
       by false f = rw (other_node s t y left f) e
       by true f =
           subst (λ t. (o : Option (Node t)) → slice_get (list_of t left) k ≡ Some o → slice_get (list_of t (with_node s y left)) k ≡ Some o) (same_sort s t f)
           (λ o e. rw (list_node s y left (part s o e)) (get_front (list_of s left) (Some y ∷ []) k o e)) o e
 
-  module _ (ties : Ties (behind names (all_names made)) made left) where
+  module _ (ties : Ties (numbers_after names (all_names made)) made left) where
     counted : length left.rows ≡ length made
     counted = ties.same.counted
 
-    no_last : is_among (length made) (behind names (all_names made)) ≡ false
-    no_last = by (is_among (length made) (behind names (all_names made))) refl
+    no_last : is_among (length made) (numbers_after names (all_names made)) ≡ false
+    no_last = by (is_among (length made) (numbers_after names (all_names made))) refl
       where
-        by : (b : Bool) → is_among (length made) (behind names (all_names made)) ≡ b → b ≡ false
+        by : (b : Bool) → is_among (length made) (numbers_after names (all_names made)) ≡ b → b ≡ false
         by false e = refl
         by true e = absurd (let h : length made < length made = ties.earlier (length made) e in omega arith)
 
@@ -172,7 +173,7 @@ module _ (made : List Made) (left : Nodes) (s : Sort) (y : Node s) (depth : ℕ)
       where
         new : (k : ℕ) (p q : Row) → last_row ≡ p → slice_get left.rows k ≡ Some q → p.sort ≡ q.sort → (sort_number p.sort == 0) ≡ false → p.index ≡ q.index → ⊥
         new k p q e h f part g =
-            let at : (number s == 0) ≡ false = ap (λ (r : Row). sort_number r.sort == 0) e ∙ part in
+            let at : (number_of_sort s == 0) ≡ false = ap (λ (r : Row). sort_number r.sort == 0) e ∙ part in
             let of : q.sort ≡ sort_as s = sym f ∙ sym (ap (λ (r : Row). r.sort) e) in
             let lt : q.index < index_for s left = new_place k q h of (part_sort s at) in
             let same : index_for s left ≡ q.index = ap (λ (r : Row). r.index) e ∙ g in
@@ -213,7 +214,7 @@ module _ (made : List Made) (left : Nodes) (s : Sort) (y : Node s) (depth : ℕ)
             part x e
 
         by : (b : Bool) → (k == length made) ≡ b → cond b (node_as t s y) (node_at made t k) ≡ Some x → cond b (Some last_row) (slice_get left.rows k) ≡ Some r
-            → slice_get (list_of t grown) r.index ≡ Some (if is_among k (behind names (all_names made)) then None else Some x)
+            → slice_get (list_of t grown) r.index ≡ Some (if is_among k (numbers_after names (all_names made)) then None else Some x)
         by true h e f =
             let at : k ≡ length made = grind (arith, nat_tests) in
             let lr : last_row ≡ r = cc in
@@ -228,7 +229,7 @@ module _ (made : List Made) (left : Nodes) (s : Sort) (y : Node s) (depth : ℕ)
       lists = λ t part. subst (λ rows. Tied t (all_names more) more (rows ++ last_row ∷ []) (list_of t grown)) (sym (rows_node s y left)) (grown_list t part);
     }
       where
-        by : (k : ℕ) (x : tree.Mod) (b : Bool) → (k == length made) ≡ b → cond b (node_as Sort.Mod s y) (node_at made Sort.Mod k) ≡ Some x → is_among k (behind names (all_names made)) ≡ false
+        by : (k : ℕ) (x : tree.Mod) (b : Bool) → (k == length made) ≡ b → cond b (node_as Sort.Mod s y) (node_at made Sort.Mod k) ≡ Some x → is_among k (numbers_after names (all_names made)) ≡ false
         by k x true h e = let at : k ≡ length made = grind (arith, nat_tests) in rw at no_last
         by k x false h e = ties.unnamed k x e
 

@@ -1,5 +1,7 @@
 -- Integers and bytes, as texts of digits, are read alike.
-use Rattle.std.proofs.Common.{◌≡◌, refl, sym, ap, ◌∙◌, ℕ, zero, suc, ◌+◌, ◌-◌, ◌*◌, ◌==◌, ◌%◌, nat_lt, nat_le, ℤ, pos, neg_ℤ, List, [], ◌∷◌, ◌++◌, length, drop, Bool, true, false, true≢false, ◌&&◌, ◌||◌, cond, arith, Option, Some, None, option_map, Result, Ok, Err}
+use Rattle.std.proofs.Common.{◌≡◌, refl, sym, ap, ◌∙◌, ℕ, zero, suc, ◌+◌, ◌-◌, ◌*◌, ◌==◌, ◌%◌, nat_lt, nat_le, ℤ, pos, neg_ℤ, List, [], ◌∷◌}
+use Rattle.std.proofs.Common.{◌++◌, length, drop, Bool, true, false, true≢false, ◌&&◌, ◌||◌, cond, arith, Option, Some, None, option_map}
+use Rattle.std.proofs.Common.{Result, Ok, Err}
 use Rattle.std.specs.Prelude.{if◌then◌else◌, position}
 use Rattle.std.specs.Char.{digit_value, is_ascii_digit, is_ascii_uppercase}
 use Rattle.std.specs.List.{list_all, list_any, position_from, range_with_len}
@@ -22,8 +24,10 @@ in_run c i a zero ys = let e : (nat_le a c && nat_lt c (a + 0)) ≡ false = grin
 in_run c i a (suc n) ys = by (a == c) refl (in_run c (i + 1) (a + 1) n ys)
   where
     by : (b : Bool) → (a == c) ≡ b
-        → position_from (λ d. d == c) (i + 1) (range_with_len (a + 1) n ++ ys) ≡ cond (nat_le (a + 1) c && nat_lt c (a + 1 + n)) (Some (i + 1 + (c - (a + 1)))) (position_from (λ d. d == c) (i + 1 + n) ys)
-        → cond b (Some i) (position_from (λ d. d == c) (i + 1) (range_with_len (a + 1) n ++ ys)) ≡ cond (nat_le a c && nat_lt c (a + suc n)) (Some (i + (c - a))) (position_from (λ d. d == c) (i + suc n) ys)
+        → position_from (λ d. d == c) (i + 1) (range_with_len (a + 1) n ++ ys)
+        ≡ cond (nat_le (a + 1) c && nat_lt c (a + 1 + n)) (Some (i + 1 + (c - (a + 1)))) (position_from (λ d. d == c) (i + 1 + n) ys)
+        → cond b (Some i) (position_from (λ d. d == c) (i + 1) (range_with_len (a + 1) n ++ ys))
+        ≡ cond (nat_le a c && nat_lt c (a + suc n)) (Some (i + (c - a))) (position_from (λ d. d == c) (i + suc n) ys)
     by true e rest =
         let in_it : (nat_le a c && nat_lt c (a + suc n)) ≡ true = grind (arith, nat_tests) in
         let at : i ≡ i + (c - a) = grind (arith, nat_tests) in
@@ -31,7 +35,8 @@ in_run c i a (suc n) ys = by (a == c) refl (in_run c (i + 1) (a + 1) n ys)
     by false e rest = rest ∙ of (nat_le (a + 1) c && nat_lt c (a + 1 + n)) refl
       where
         of : (t : Bool) → (nat_le (a + 1) c && nat_lt c (a + 1 + n)) ≡ t
-            → cond t (Some (i + 1 + (c - (a + 1)))) (position_from (λ d. d == c) (i + 1 + n) ys) ≡ cond (nat_le a c && nat_lt c (a + suc n)) (Some (i + (c - a))) (position_from (λ d. d == c) (i + suc n) ys)
+            → cond t (Some (i + 1 + (c - (a + 1)))) (position_from (λ d. d == c) (i + 1 + n) ys)
+            ≡ cond (nat_le a c && nat_lt c (a + suc n)) (Some (i + (c - a))) (position_from (λ d. d == c) (i + suc n) ys)
         of true f =
             let in_it : (nat_le a c && nat_lt c (a + suc n)) ≡ true = grind (arith, nat_tests) in
             let at : i + 1 + (c - (a + 1)) ≡ i + (c - a) = grind (arith, nat_tests) in
@@ -93,14 +98,18 @@ integer_as (c ∷ cs) = by (c == 45)
     positive false e = refl
 
     by : (b : Bool) → (if b then option_map (λ n. neg_ℤ (pos n)) (digits cs) else option_map pos (digits (c ∷ cs)))
-        ≡ cond (is_digits (if b then cs else c ∷ cs)) (Some (cond b (neg_ℤ (pos (digits_value 10 (cond b cs (without_leading_plus (c ∷ cs)))))) (pos (digits_value 10 (cond b cs (without_leading_plus (c ∷ cs))))))) None
+        ≡ cond (is_digits (if b then cs else c ∷ cs))
+        (Some (cond b (neg_ℤ (pos (digits_value 10 (cond b cs (without_leading_plus (c ∷ cs))))))
+        (pos (digits_value 10 (cond b cs (without_leading_plus (c ∷ cs))))))) None
     by true = ap (option_map (λ n. neg_ℤ (pos n))) (digits_as cs) ∙ of (λ n. neg_ℤ (pos n)) (is_digits cs) (digits_value 10 cs)
     by false = ap (option_map pos) (digits_as (c ∷ cs)) ∙ of pos (is_digits (c ∷ cs)) (digits_value 10 (c ∷ cs)) ∙ positive (is_digits (c ∷ cs)) refl
 
 -- ---- bytes
 
 hexadecimal : (c : ℕ) → hexadecimal_digit c ≡ cond (is_ascii_uppercase c) None (hex_digit_value c)
-hexadecimal c = position_from-zero (λ d. d == c) (range_with_len 48 10 ++ (range_with_len 97 6 ++ [])) ∙ in_run c 0 48 10 (range_with_len 97 6 ++ []) ∙ ap (cond (nat_le 48 c && nat_lt c (48 + 10)) (Some (0 + (c - 48)))) (in_run c (0 + 10) 97 6 []) ∙ by (nat_le 48 c && nat_lt c (48 + 10)) (nat_le 97 c && nat_lt c (97 + 6)) refl refl
+hexadecimal c = position_from-zero (λ d. d == c) (range_with_len 48 10 ++ (range_with_len 97 6 ++ []))
+    ∙ in_run c 0 48 10 (range_with_len 97 6 ++ []) ∙ ap (cond (nat_le 48 c && nat_lt c (48 + 10)) (Some (0 + (c - 48))))
+    (in_run c (0 + 10) 97 6 []) ∙ by (nat_le 48 c && nat_lt c (48 + 10)) (nat_le 97 c && nat_lt c (97 + 6)) refl refl
   where
     letter : (b : Bool) → (nat_le 48 c && nat_lt c (48 + 10)) ≡ false → (nat_le 97 c && nat_lt c (97 + 6)) ≡ false → is_ascii_uppercase c ≡ b → None ≡ cond b None (hex_digit_value c)
     letter true e f g = refl
@@ -125,25 +134,25 @@ hexadecimal c = position_from-zero (λ d. d == c) (range_with_len 48 10 ++ (rang
         rw (u, a, b) (ap Some (let z : 0 + 10 + (c - 97) ≡ c - 87 = grind (arith, nat_tests) in z))
     by false false e f = letter (is_ascii_uppercase c) e f refl
 
-abbrev decoded : ℕ → Result (List ℕ) FromHexError → Result (List ℕ) RowsError
-decoded n (Ok bytes) = Ok bytes
-decoded n (Err e) = Err (WrongRow n)
+abbrev decoded_numeral : ℕ → Result (List ℕ) FromHexError → Result (List ℕ) RowsError
+decoded_numeral n (Ok bytes) = Ok bytes
+decoded_numeral n (Err e) = Err (WrongRow n)
 
--- an odd number of digits is told either way
-odd : (n i : ℕ) (w : List ℕ) → (length w % 2 == 1) ≡ true → decoded n (decode_pairs i w) ≡ Err (WrongRow n)
+-- an odd number of digits is reported either way
+odd : (n i : ℕ) (w : List ℕ) → (length w % 2 == 1) ≡ true → decoded_numeral n (decode_pairs i w) ≡ Err (WrongRow n)
 unfolding decode_pairs
 odd n i [] e = cc
 odd n i (c ∷ []) e = refl
 odd n i (c ∷ d ∷ rest) e = by (hex_digit_value c) (hex_digit_value d) (decode_pairs (i + 2) rest) (odd n (i + 2) rest (grind (arith, nat_tests)))
   where
-    by : (a b : Option ℕ) (r : Result (List ℕ) FromHexError) → decoded n r ≡ Err (WrongRow n)
-        → decoded n ((digit_or_error c i a >>>= λ h. digit_or_error d (i + 1) b >>>= λ l. Ok (h * 16 + l)) >>>= λ byte. r >>>= λ bytes. Ok (byte ∷ bytes)) ≡ Err (WrongRow n)
+    by : (a b : Option ℕ) (r : Result (List ℕ) FromHexError) → decoded_numeral n r ≡ Err (WrongRow n)
+        → decoded_numeral n ((digit_or_error c i a >>>= λ h. digit_or_error d (i + 1) b >>>= λ l. Ok (h * 16 + l)) >>>= λ byte. r >>>= λ bytes. Ok (byte ∷ bytes)) ≡ Err (WrongRow n)
     by None b r h = refl
     by (Some x) None r h = refl
     by (Some x) (Some y) (Ok bytes) h = cc
     by (Some x) (Some y) (Err f) h = refl
 
-pairs : (n i : ℕ) (w : List ℕ) → (if list_any is_ascii_uppercase w then Err (WrongRow n) else decoded n (decode_pairs i w)) ≡ or_fault (WrongRow n) (bytes_of w)
+pairs : (n i : ℕ) (w : List ℕ) → (if list_any is_ascii_uppercase w then Err (WrongRow n) else decoded_numeral n (decode_pairs i w)) ≡ or_fault (WrongRow n) (bytes_of w)
 unfolding decode_pairs
 pairs n i [] = refl
 pairs n i (c ∷ []) = by (is_ascii_uppercase c || false)
@@ -151,10 +160,14 @@ pairs n i (c ∷ []) = by (is_ascii_uppercase c || false)
     by : (b : Bool) → (if b then Err (WrongRow n) else Err (WrongRow n)) ≡ or_fault {A = List ℕ} (WrongRow n) None
     by true = refl
     by false = refl
-pairs n i (c ∷ d ∷ rest) = rw (hexadecimal c, hexadecimal d) (by (is_ascii_uppercase c) (is_ascii_uppercase d) (hex_digit_value c) (hex_digit_value d) (list_any is_ascii_uppercase rest) (decode_pairs (i + 2) rest) (bytes_of rest) (pairs n (i + 2) rest))
+pairs n i (c ∷ d ∷ rest) = rw (hexadecimal c, hexadecimal d)
+    (by (is_ascii_uppercase c) (is_ascii_uppercase d) (hex_digit_value c) (hex_digit_value d) (list_any is_ascii_uppercase rest)
+    (decode_pairs (i + 2) rest) (bytes_of rest) (pairs n (i + 2) rest))
   where
-    by : (u v : Bool) (a b : Option ℕ) (w : Bool) (r : Result (List ℕ) FromHexError) (o : Option (List ℕ)) → (if w then Err (WrongRow n) else decoded n r) ≡ or_fault (WrongRow n) o
-        → (if u || (v || w) then Err (WrongRow n) else decoded n ((digit_or_error c i a >>>= λ h. digit_or_error d (i + 1) b >>>= λ l. Ok (h * 16 + l)) >>>= λ byte. r >>>= λ bytes. Ok (byte ∷ bytes)))
+    by : (u v : Bool) (a b : Option ℕ) (w : Bool) (r : Result (List ℕ) FromHexError) (o : Option (List ℕ)) → (if w then Err (WrongRow n) else decoded_numeral n r) ≡ or_fault (WrongRow n) o
+        → (if u || (v || w) then Err (WrongRow n) else decoded_numeral n
+        ((digit_or_error c i a >>>= λ h. digit_or_error d (i + 1) b >>>= λ l. Ok (h * 16 + l)) >>>= λ byte. r >>>= λ bytes.
+        Ok (byte ∷ bytes)))
         ≡ or_fault (WrongRow n) (cond u None a >>= λ high. cond v None b >>= λ low. option_map (λ more. (high * 16 + low) ∷ more) o)
     by true v a b w r o h = refl
     by false true None b w r o h = refl
@@ -174,6 +187,6 @@ pub bytes_as : (n : ℕ) (w : List ℕ) → bytes_at n w ≡ or_fault (WrongRow 
 bytes_as n w = by (length w % 2 == 1) refl
   where
     by : (b : Bool) → (length w % 2 == 1) ≡ b
-        → (if list_any is_ascii_uppercase w then Err (WrongRow n) else decoded n (if b then Err OddLength else decode_pairs 0 w)) ≡ or_fault (WrongRow n) (bytes_of w)
+        → (if list_any is_ascii_uppercase w then Err (WrongRow n) else decoded_numeral n (if b then Err OddLength else decode_pairs 0 w)) ≡ or_fault (WrongRow n) (bytes_of w)
     by false e = pairs n 0 w
     by true e = ap (λ r. if list_any is_ascii_uppercase w then Err (WrongRow n) else r) (sym (odd n 0 w e)) ∙ pairs n 0 w

@@ -11,7 +11,7 @@ use Rattle.py_rows_format.specs.Fields.{◌>>=◌ as ◌>>>◌, Node, Sort, each
 use Rattle.py_rows_format.specs.Making.{Made, all_of, are_new, is_among, names_as, names_or_none, node_at, one_or_none}
 use Rattle.py_rows_slots.specs.Taking as list
 use Rattle.py_rows_law.proofs.FormLemmas.{is_part}
-use Rattle.py_rows_law.proofs.TieLemmas.{Same, Tied, are_new-append, behind, behind-append, row_at, tied_without}
+use Rattle.py_rows_law.proofs.TieLemmas.{Same, Tied, are_new-append, numbers_after, numbers_after-append, tie_row_at, tied_without}
 use Rattle.py_rows_law.proofs.TableLemmas.{sort_as}
 
 -- ---- what each item says, and what each number stands for
@@ -26,10 +26,10 @@ Gives f [] [] = Unit {0}
 Gives f (x ∷ xs) (y ∷ ys) = (f x ≡ Some y) × Gives f xs ys
 Gives f xs ys = ⊥
 
-pub reads : {A : Type 0} (f : Data → Option A) (ds : Items) (xs : List A) → each_of f ds ≡ Some xs → Reads f ds xs
-reads f no_items [] e = tt
-reads f no_items (x ∷ xs) e = absurd (cc)
-reads {A = A} f (item d ds) xs e = by (f d) (each_of f ds) xs refl e (reads f ds)
+pub taking_reads : {A : Type 0} (f : Data → Option A) (ds : Items) (xs : List A) → each_of f ds ≡ Some xs → Reads f ds xs
+taking_reads f no_items [] e = tt
+taking_reads f no_items (x ∷ xs) e = absurd (cc)
+taking_reads {A = A} f (item d ds) xs e = by (f d) (each_of f ds) xs refl e (taking_reads f ds)
   where
     by : (o : Option A) (p : Option (List A)) (xs : List A) → f d ≡ o → (o >>> λ y. option_map (λ ys. y ∷ ys) p) ≡ Some xs → ((ys : List A) → p ≡ Some ys → Reads f ds ys) → Reads f (item d ds) xs
     by None p xs g e rest = absurd (cc)
@@ -85,17 +85,17 @@ gives_maybe {B = B} f (Some x) p e = by (f x) p refl e
 
 -- items that each satisfy a fact of what they say
 
-abbrev pub Each : {A : Type 0} → (Data → A → Type 0) → Items → List A → Type 0
-Each P no_items [] = Unit {0}
-Each P (item d ds) (x ∷ xs) = P d x × Each P ds xs
-Each P ds xs = ⊥
+abbrev pub EachData : {A : Type 0} → (Data → A → Type 0) → Items → List A → Type 0
+EachData P no_items [] = Unit {0}
+EachData P (item d ds) (x ∷ xs) = P d x × EachData P ds xs
+EachData P ds xs = ⊥
 
 abbrev pub EachPair : {A B : Type 0} → (A → B → Type 0) → List A → List B → Type 0
 EachPair P [] [] = Unit {0}
 EachPair P (x ∷ xs) (y ∷ ys) = P x y × EachPair P xs ys
 EachPair P xs ys = ⊥
 
-pub each_reads : {A : Type 0} (f : Data → Option A) (P : Data → A → Type 0) → ((d : Data) (x : A) → f d ≡ Some x → P d x) → (ds : Items) (xs : List A) → Reads f ds xs → Each P ds xs
+pub each_reads : {A : Type 0} (f : Data → Option A) (P : Data → A → Type 0) → ((d : Data) (x : A) → f d ≡ Some x → P d x) → (ds : Items) (xs : List A) → Reads f ds xs → EachData P ds xs
 each_reads f P h no_items [] r = tt
 each_reads f P h no_items (x ∷ xs) r = absurd r
 each_reads f P h (item d ds) [] r = absurd r
@@ -129,7 +129,7 @@ module _ (made : List Made) (rows : List Row) (same : Same made rows) (s : Sort)
 
   pub took_one : (names : List ℕ) (xs : Nodes) → Tied s names made rows xs → (d : Data) (k : ℕ) (x : Node s) → entry_of (node s) d ≡ Some k
       → node_at made s k ≡ Some x → Took (k ∷ names) x (list.take n d rows xs) (are_new names (k ∷ []))
-  took_one names xs tied d k x e f = by (row_at made rows same.alike s k x f)
+  took_one names xs tied d k x e f = by (tie_row_at made rows same.alike s k x f)
     where
       of : (r : Row) (b : Bool) → slice_get xs r.index ≡ Some (if b then None else Some x) → Tied s (k ∷ names) made rows (list.emptied_nodes r.index xs)
           → Took (k ∷ names) x (list.taken_node n r.index xs) (not b && true)
@@ -140,38 +140,38 @@ module _ (made : List Made) (rows : List Row) (same : Same made rows) (s : Sort)
       by (r, g, h) = rw (e, g) (of r (is_among k names) (tied k x r f g) (tied_without s part names made rows same xs tied k x r f g h))
 
   pub took_each : (names : List ℕ) (xs : Nodes) → Tied s names made rows xs → (ds : Items) (ks : List ℕ) (ys : List (Node s)) → Reads (entry_of (node s)) ds ks → Gives (node_at made s) ks ys
-      → Took (behind (flat_map (names_as (node s)) ks) names) ys (list.take_each n ds rows xs) (are_new names (flat_map (names_as (node s)) ks))
+      → Took (numbers_after (flat_map (names_as (node s)) ks) names) ys (list.take_each n ds rows xs) (are_new names (flat_map (names_as (node s)) ks))
   took_each names xs tied no_items [] [] r g = (xs, refl, tied)
   took_each names xs tied no_items [] (y ∷ ys) r g = absurd g
   took_each names xs tied no_items (k ∷ ks) ys r g = absurd r
   took_each names xs tied (item d ds) [] ys r g = absurd r
   took_each names xs tied (item d ds) (k ∷ ks) [] r g = absurd g
   took_each names xs tied (item d ds) (k ∷ ks) (y ∷ ys) r g =
-      let after : List ℕ = behind (flat_map (names_as (node s)) ks) (k ∷ names) in
+      let after : List ℕ = numbers_after (flat_map (names_as (node s)) ks) (k ∷ names) in
       rw (are_new-append (k ∷ []) (flat_map (names_as (node s)) ks) names)
       (took_then (k ∷ names) after y (y ∷ ys) (list.take n d rows xs) (λ y rest. list.take_each n ds rows rest >>= λ (ys, rest). Ok (y ∷ ys, rest)) _ _
       (took_one names xs tied d k y r.0 g.0)
       (λ rest t. took_as after ys (list.take_each n ds rows rest) (λ ys. y ∷ ys) _ (took_each (k ∷ names) rest t ds ks ys r.1 g.1)))
 
   pub took_maybe : (names : List ℕ) (xs : Nodes) → Tied s names made rows xs → (d : Data) (o : Option ℕ) (v : Option (Node s)) → ReadsMaybe (entry_of (node s)) d o → GivesMaybe (node_at made s) o v
-      → Took (behind (names_or_none (node s) o) names) v (list.take_optional n d rows xs) (are_new names (names_or_none (node s) o))
+      → Took (numbers_after (names_or_none (node s) o) names) v (list.take_optional n d rows xs) (are_new names (names_or_none (node s) o))
   took_maybe names xs tied d None None r g = rw r (xs, refl, tied)
   took_maybe names xs tied d None (Some y) r g = absurd g
   took_maybe names xs tied d (Some k) None r g = absurd g
   took_maybe names xs tied d (Some k) (Some x) r g = rw (r.0) (took_as (k ∷ names) x (list.take n d rows xs) Some _ (took_one names xs tied d k x r.1 g))
 
   pub took_each_maybe : (names : List ℕ) (xs : Nodes) → Tied s names made rows xs → (ds : Items) (os : List (Option ℕ)) (vs : List (Option (Node s)))
-      → Each (ReadsMaybe (entry_of (node s))) ds os → EachPair (GivesMaybe (node_at made s)) os vs
-      → Took (behind (flat_map (names_or_none (node s)) os) names) vs (list.take_each_optional n ds rows xs) (are_new names (flat_map (names_or_none (node s)) os))
+      → EachData (ReadsMaybe (entry_of (node s))) ds os → EachPair (GivesMaybe (node_at made s)) os vs
+      → Took (numbers_after (flat_map (names_or_none (node s)) os) names) vs (list.take_each_optional n ds rows xs) (are_new names (flat_map (names_or_none (node s)) os))
   took_each_maybe names xs tied no_items [] [] r g = (xs, refl, tied)
   took_each_maybe names xs tied no_items [] (v ∷ vs) r g = absurd g
   took_each_maybe names xs tied no_items (o ∷ os) vs r g = absurd r
   took_each_maybe names xs tied (item d ds) [] vs r g = absurd r
   took_each_maybe names xs tied (item d ds) (o ∷ os) [] r g = absurd g
   took_each_maybe names xs tied (item d ds) (o ∷ os) (v ∷ vs) r g =
-      let first : List ℕ = behind (names_or_none (node s) o) names in
-      let after : List ℕ = behind (flat_map (names_or_none (node s)) os) first in
-      rw (are_new-append (names_or_none (node s) o) (flat_map (names_or_none (node s)) os) names, behind-append (names_or_none (node s) o) (flat_map (names_or_none (node s)) os) names)
+      let first : List ℕ = numbers_after (names_or_none (node s) o) names in
+      let after : List ℕ = numbers_after (flat_map (names_or_none (node s)) os) first in
+      rw (are_new-append (names_or_none (node s) o) (flat_map (names_or_none (node s)) os) names, numbers_after-append (names_or_none (node s) o) (flat_map (names_or_none (node s)) os) names)
       (took_then first after v (v ∷ vs) (list.take_optional n d rows xs) (λ v rest. list.take_each_optional n ds rows rest >>= λ (vs, rest). Ok (v ∷ vs, rest)) _ _
       (took_maybe names xs tied d o v r.0 g.0)
       (λ rest t. took_as after vs (list.take_each_optional n ds rows rest) (λ vs. v ∷ vs) _ (took_each_maybe first rest t ds os vs r.1 g.1)))

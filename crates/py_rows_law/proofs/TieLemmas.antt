@@ -1,5 +1,6 @@
 -- What the reader keeps of the rows before, tied to what these made.
-use Rattle.std.proofs.Common.{◌≡◌, refl, sym, ap, ◌∙◌, subst, ℕ, zero, suc, ◌==◌, ◌<◌, List, [], ◌∷◌, ◌++◌, length, Bool, true, false, true≢false, not, ◌&&◌, ◌||◌, arith, get_or, slice_get, is_some, Option, Some, None}
+use Rattle.std.proofs.Common.{◌≡◌, refl, sym, ap, ◌∙◌, subst, ℕ, zero, suc, ◌==◌, ◌<◌, List, [], ◌∷◌, ◌++◌, length, Bool, true, false}
+use Rattle.std.proofs.Common.{true≢false, not, ◌&&◌, ◌||◌, arith, get_or, slice_get, is_some, Option, Some, None}
 use Rattle.std.specs.Prelude.{if◌then◌else◌}
 use Rattle.std.proofs.lemmas.Bool.Decides.{nat_tests}
 use Rattle.std.proofs.lemmas.Option.{slice_get_within}
@@ -48,14 +49,14 @@ with_list Sort.Comprehension xs nodes = record nodes { comprehensions = xs }
 with_list Sort.MatchCase xs nodes = record nodes { cases = xs }
 with_list Sort.TypeParam xs nodes = record nodes { type_params = xs }
 
-abbrev pub number : Sort → ℕ
-number s = sort_number (sort_as s)
+abbrev pub number_of_sort : Sort → ℕ
+number_of_sort s = sort_number (sort_as s)
 
 pub list_with : (s : Sort) (xs : List (Option (Node s))) (nodes : Nodes) → is_part s ≡ true → list_of s (with_list s xs nodes) ≡ xs
 list_with Sort.Mod xs nodes e = absurd (true≢false (sym e))
 list_with s xs nodes e = refl
 
-pub other_list : (s t : Sort) (xs : List (Option (Node s))) (nodes : Nodes) → (number s == number t) ≡ false → list_of t (with_list s xs nodes) ≡ list_of t nodes
+pub other_list : (s t : Sort) (xs : List (Option (Node s))) (nodes : Nodes) → (number_of_sort s == number_of_sort t) ≡ false → list_of t (with_list s xs nodes) ≡ list_of t nodes
 other_list Sort.Mod Sort.Mod xs nodes e = absurd (true≢false e)
 other_list Sort.Stmt Sort.Stmt xs nodes e = absurd (true≢false e)
 other_list Sort.Expr Sort.Expr xs nodes e = absurd (true≢false e)
@@ -77,38 +78,40 @@ rows_with Sort.Mod xs nodes = refl
 rows_with s xs nodes = refl
 
 sorts : List Sort
-sorts = Sort.Mod ∷ Sort.Stmt ∷ Sort.Expr ∷ Sort.Constant ∷ Sort.TypeParam ∷ Sort.Arguments ∷ Sort.ArgWithDefault ∷ Sort.Arg ∷ Sort.Keyword ∷ Sort.Alias ∷ Sort.WithItem ∷ Sort.ExceptHandler ∷ Sort.Comprehension ∷ Sort.MatchCase ∷ []
+sorts = Sort.Mod ∷ Sort.Stmt ∷ Sort.Expr ∷ Sort.Constant ∷ Sort.TypeParam ∷ Sort.Arguments ∷ Sort.ArgWithDefault ∷ Sort.Arg ∷ Sort.Keyword
+    ∷ Sort.Alias ∷ Sort.WithItem ∷ Sort.ExceptHandler ∷ Sort.Comprehension ∷ Sort.MatchCase ∷ []
 
-sort_at : (s : Sort) → get_or sorts (number s) Sort.Mod ≡ s
+sort_at : (s : Sort) → get_or sorts (number_of_sort s) Sort.Mod ≡ s
 unfolding sorts
 sort_at Sort.Mod = refl
 sort_at s = refl
 
-pub same_sort : (s t : Sort) → (number s == number t) ≡ true → s ≡ t
-same_sort s t e = let f : number s ≡ number t = grind (arith, nat_tests) in sym (sort_at s) ∙ ap (λ k. get_or sorts k Sort.Mod) f ∙ sort_at t
+pub same_sort : (s t : Sort) → (number_of_sort s == number_of_sort t) ≡ true → s ≡ t
+same_sort s t e = let f : number_of_sort s ≡ number_of_sort t = grind (arith, nat_tests) in sym (sort_at s) ∙ ap (λ k. get_or sorts k Sort.Mod) f ∙ sort_at t
 
-pub part_number : (s : Sort) → is_part s ≡ true → (number s == 0) ≡ false
+pub part_number : (s : Sort) → is_part s ≡ true → (number_of_sort s == 0) ≡ false
 part_number Sort.Mod e = absurd (true≢false (sym e))
 part_number s e = refl
 
 -- ---- names
 
 -- numbers after others, the last first
-abbrev pub behind : List ℕ → List ℕ → List ℕ
-behind [] names = names
-behind (k ∷ ks) names = behind ks (k ∷ names)
+abbrev pub numbers_after : List ℕ → List ℕ → List ℕ
+numbers_after [] names = names
+numbers_after (k ∷ ks) names = numbers_after ks (k ∷ names)
 
-pub behind-append : (js ks names : List ℕ) → behind (js ++ ks) names ≡ behind ks (behind js names)
-behind-append [] ks names = refl
-behind-append (j ∷ js) ks names = behind-append js ks (j ∷ names)
+pub numbers_after-append : (js ks names : List ℕ) → numbers_after (js ++ ks) names ≡ numbers_after ks (numbers_after js names)
+numbers_after-append [] ks names = refl
+numbers_after-append (j ∷ js) ks names = numbers_after-append js ks (j ∷ names)
 
 pub and_assoc : (a b c : Bool) → a && (b && c) ≡ a && b && c
 and_assoc true b c = refl
 and_assoc false b c = refl
 
-pub are_new-append : (js ks names : List ℕ) → are_new names (js ++ ks) ≡ are_new names js && are_new (behind js names) ks
+pub are_new-append : (js ks names : List ℕ) → are_new names (js ++ ks) ≡ are_new names js && are_new (numbers_after js names) ks
 are_new-append [] ks names = refl
-are_new-append (j ∷ js) ks names = ap (λ b. not (is_among j names) && b) (are_new-append js ks (j ∷ names)) ∙ and_assoc (not (is_among j names)) (are_new (j ∷ names) js) (are_new (behind js (j ∷ names)) ks)
+are_new-append (j ∷ js) ks names = ap (λ b. not (is_among j names) && b) (are_new-append js ks (j ∷ names))
+    ∙ and_assoc (not (is_among j names)) (are_new (j ∷ names) js) (are_new (numbers_after js (j ∷ names)) ks)
 
 or_swap : (a b c : Bool) → b || (a || c) ≡ a || b || c
 or_swap true true c = refl
@@ -116,9 +119,9 @@ or_swap true false c = refl
 or_swap false true c = refl
 or_swap false false c = refl
 
-pub among_behind : (k : ℕ) (ks names : List ℕ) → is_among k (behind ks names) ≡ is_among k ks || is_among k names
-among_behind k [] names = refl
-among_behind k (j ∷ ks) names = among_behind k ks (j ∷ names) ∙ or_swap (j == k) (is_among k ks) (is_among k names)
+pub among_after : (k : ℕ) (ks names : List ℕ) → is_among k (numbers_after ks names) ≡ is_among k ks || is_among k names
+among_after k [] names = refl
+among_after k (j ∷ ks) names = among_after k ks (j ∷ names) ∙ or_swap (j == k) (is_among k ks) (is_among k names)
 
 -- ---- rows that are alike, and stand at places of their own
 
@@ -141,8 +144,9 @@ pub sort_found : (s t : Sort) (x : Node t) (y : Node s) → node_as s t x ≡ So
 sort_found s t x y e = same_sort t s (sym (fits_as s t x) ∙ ap is_some e)
 
 -- a row that makes a node of a sort
-pub row_at : (made : List Made) (rows : List Row) → AreAlike made rows → (s : Sort) (k : ℕ) (x : Node s) → node_at made s k ≡ Some x → (r : Row) × (slice_get rows k ≡ Some r) × (r.sort ≡ sort_as s)
-row_at made rows alike s k x e = by (slice_get made k) (slice_get rows k) refl (alike k) e
+pub tie_row_at : (made : List Made) (rows : List Row) → AreAlike made rows → (s : Sort) (k : ℕ) (x : Node s) → node_at made s k ≡ Some x
+    → (r : Row) × (slice_get rows k ≡ Some r) × (r.sort ≡ sort_as s)
+tie_row_at made rows alike s k x e = by (slice_get made k) (slice_get rows k) refl (alike k) e
   where
     by : (m : Option Made) (r : Option Row) → slice_get rows k ≡ r → Alike m r → (m >>= λ m. node_as s m.sort m.made) ≡ Some x → (r : Row) × (slice_get rows k ≡ Some r) × (r.sort ≡ sort_as s)
     by None r f a e = absurd (cc)
@@ -157,15 +161,16 @@ within made s k x e = by (slice_get made k) refl e
     by (Some m) f e = slice_get_within made k m f
 
 -- a row has one sort
-pub other_row : (made : List Made) (s t : Sort) (j k : ℕ) (x : Node s) (y : Node t) → (number s == number t) ≡ false → node_at made s k ≡ Some x → node_at made t j ≡ Some y → (k == j) ≡ false
+pub other_row : (made : List Made) (s t : Sort) (j k : ℕ) (x : Node s) (y : Node t) → (number_of_sort s == number_of_sort t) ≡ false
+    → node_at made s k ≡ Some x → node_at made t j ≡ Some y → (k == j) ≡ false
 other_row made s t j k x y other e f = by (k == j) refl
   where
     at : (m : Option Made) → (m >>= λ m. node_as s m.sort m.made) ≡ Some x → (m >>= λ m. node_as t m.sort m.made) ≡ Some y → ⊥
     at None e f = absurd (cc)
     at (Some m) e f =
         let g : s ≡ t = sym (sort_found s m.sort m.made x e) ∙ sort_found t m.sort m.made y f in
-        let h : (number s == number s) ≡ true = grind (arith, nat_tests) in
-        true≢false (sym h ∙ ap (λ t. number s == number t) g ∙ other)
+        let h : (number_of_sort s == number_of_sort s) ≡ true = grind (arith, nat_tests) in
+        true≢false (sym h ∙ ap (λ t. number_of_sort s == number_of_sort t) g ∙ other)
 
     by : (b : Bool) → (k == j) ≡ b → b ≡ false
     by false e = refl
@@ -199,7 +204,7 @@ tied_without s part names made rows same xs tied k x r e f g j y q ej fj = by (k
         subst (λ (q : Row). slice_get (emptied_nodes r.index xs) q.index ≡ Some None) i (emptied_at r.index xs _ (tied k x r e f))
     by false h =
         let off : r.index ≡ q.index → ⊥ = λ i.
-        let qs = row_at made rows same.alike s j y ej in
+        let qs = tie_row_at made rows same.alike s j y ej in
         let qq : Some q ≡ Some qs.0 = sym fj ∙ qs.1 in
         let q0 : q ≡ qs.0 = cc in
         let kj : k ≡ j = same.apart k j r q f fj (g ∙ sym (ap (λ (q : Row). q.sort) q0 ∙ qs.2)) (ap (λ s. sort_number s == 0) g ∙ part_number s part) i in
@@ -208,6 +213,6 @@ tied_without s part names made rows same xs tied k x r e f g j y q ej fj = by (k
         emptied_off r.index q.index xs off ∙ tied j y q ej fj
 
 -- another list is as it was
-pub tied_other : (s t : Sort) (names : List ℕ) (made : List Made) (rows : List Row) (xs : List (Option (Node t))) → (number s == number t) ≡ false
+pub tied_other : (s t : Sort) (names : List ℕ) (made : List Made) (rows : List Row) (xs : List (Option (Node t))) → (number_of_sort s == number_of_sort t) ≡ false
     → Tied t names made rows xs → (k : ℕ) (x : Node s) → node_at made s k ≡ Some x → Tied t (k ∷ names) made rows xs
 tied_other s t names made rows xs other tied k x e j y q ej fj = rw (other_row made s t j k x y other e ej) (tied j y q ej fj)

@@ -4,7 +4,8 @@ use Rattle.std.specs.declared.alloc.Global.{Global}
 use Rattle.std.specs.declared.boxed.Box.{Box}
 use Rattle.py_base.specs.Literal as literal
 use Rattle.py_tree.specs.Tree as tree
-use Rattle.py_tree.specs.View.{arg, args, cases, expr_tree, exprs, generators, handlers, keywords, literal_list, literal_of, opt_arg, opt_box, opt_expr, opt_exprs, stmt_tree, stmts, type_param_tree, type_params, with_items}
+use Rattle.py_tree.specs.View.{arg, args, cases, expr_tree, exprs, generators, handlers, keywords, literal_list, literal_of, opt_arg}
+use Rattle.py_tree.specs.View.{opt_box, opt_expr, opt_exprs, stmt_tree, stmts, type_param_tree, type_params, with_items}
 use Rattle.py_tree.specs.declared.expressions.ArgOf.{ArgOf}
 use Rattle.py_tree.specs.declared.expressions.ArgWithDefaultOf.{ArgWithDefaultOf}
 use Rattle.py_tree.specs.declared.expressions.ComprehensionOf.{ComprehensionOf}
@@ -16,7 +17,9 @@ use Rattle.py_tree.specs.declared.statements.MatchCaseOf.{MatchCaseOf}
 use Rattle.py_tree.specs.declared.statements.Stmt.{Stmt}
 use Rattle.py_tree.specs.declared.statements.TypeParam.{TypeParam}
 use Rattle.py_tree.specs.declared.statements.WithItemOf.{WithItemOf}
-use Rattle.py_rows_slots.specs.Lists.{args_of, case_view, cases_of, comprehension_view, default_view, exprs_of, generators_of, handler_view, handlers_of, item_view, items_of, keyword_view, keywords_of, opt_arg_of, opt_of, opts_of, stmts_of, type_params_of}
+use Rattle.py_rows_slots.specs.Lists.{args_of, case_view, cases_of, comprehension_view, default_view, exprs_of, generators_of, handler_view}
+use Rattle.py_rows_slots.specs.Lists.{handlers_of, item_view, items_of, keyword_view, keywords_of, opt_arg_of, opt_of, opts_of, stmts_of}
+use Rattle.py_rows_slots.specs.Lists.{type_params_of}
 
 pub exprs_same : (xs : List Expr) → exprs_of (map expr_tree xs) ≡ exprs expr_tree xs
 exprs_same [] = refl
@@ -79,4 +82,19 @@ lists_of_plain_same [] = refl
 lists_of_plain_same {A} (x ∷ xs) = ap (λ (ys : List A). x ∷ ys) (lists_of_plain_same xs)
 
 -- a list of nodes is the same list both ways
-pub ruleset lists_of_same = (exprs_same, opt_same, opts_same, stmts_same, constants_same, type_params_same, args_same, opt_arg_same, keywords_same, items_same, handlers_same, generators_same, cases_same, lists_of_plain_same)
+pub ruleset lists_of_same = (
+  exprs_same,
+  opt_same,
+  opts_same,
+  stmts_same,
+  constants_same,
+  type_params_same,
+  args_same,
+  opt_arg_same,
+  keywords_same,
+  items_same,
+  handlers_same,
+  generators_same,
+  cases_same,
+  lists_of_plain_same,
+)

@@ -7,7 +7,8 @@ use Rattle.py_tree.specs.View.{literal_list}
 use Rattle.py_tree.specs.declared.statements.Alias.{Alias}
 use Rattle.py_rows_fields.specs.declared.error.RowsError.{RowsError}
 use Rattle.py_rows_fields.specs.Gives.{◌>>=◌}
-use Rattle.py_rows_slots.specs.Lists.{Clause, Default, Handler, Item, Keyword, args_of, cases_of, exprs_of, generators_of, handlers_of, items_of, keywords_of, opt_arg_of, opt_of, opts_of, stmts_of, type_params_of}
+use Rattle.py_rows_slots.specs.Lists.{Clause, Default, Handler, Item, Keyword, args_of, cases_of, exprs_of, generators_of, handlers_of}
+use Rattle.py_rows_slots.specs.Lists.{items_of, keywords_of, opt_arg_of, opt_of, opts_of, stmts_of, type_params_of}
 use Rattle.py_rows_slots.specs.Nodes.{Nodes}
 use Rattle.py_rows_slots.specs.Taking as list
 

@@ -18,138 +18,152 @@ use py_tree::{
 /// # Errors
 /// There is no memory for it.
 pub fn set_program(node: Mod, nodes: &mut Nodes) -> Result<usize, RowsError>
-    ensures { Gives (λ k. (k, nodes_view nodes.new)) result (set_program (mod_tree node) (nodes_view nodes.old)) }
+    ensures { Gives (λ k. (k, nodes_view nodes.new)) result
+        (set_program (mod_tree node) (nodes_view nodes.old)) }
 {
     nodes.program = Some(node);
     Ok(0)
 }
 
-/// Adds a statement, and tells its place among those of its sort.
+/// Adds a statement, and gives its place among those of its sort.
 ///
 /// # Errors
 /// There is no memory for it.
 pub fn add_stmt(node: Stmt, nodes: &mut Nodes) -> Result<usize, RowsError>
-    ensures { Gives (λ k. (k, nodes_view nodes.new)) result (add_stmt (stmt_tree node) (nodes_view nodes.old)) }
+    ensures { Gives (λ k. (k, nodes_view nodes.new)) result
+        (add_stmt (stmt_tree node) (nodes_view nodes.old)) }
 {
     add(&mut nodes.stmts, node)
 }
 
-/// Adds an expression, and tells its place among those of its sort.
+/// Adds an expression, and gives its place among those of its sort.
 ///
 /// # Errors
 /// There is no memory for it.
 pub fn add_expr(node: Expr, nodes: &mut Nodes) -> Result<usize, RowsError>
-    ensures { Gives (λ k. (k, nodes_view nodes.new)) result (add_expr (expr_tree node) (nodes_view nodes.old)) }
+    ensures { Gives (λ k. (k, nodes_view nodes.new)) result
+        (add_expr (expr_tree node) (nodes_view nodes.old)) }
 {
     add(&mut nodes.exprs, node)
 }
 
-/// Adds a constant, and tells its place among those of its sort.
+/// Adds a constant, and gives its place among those of its sort.
 ///
 /// # Errors
 /// There is no memory for it.
 pub fn add_constant(node: Constant, nodes: &mut Nodes) -> Result<usize, RowsError>
-    ensures { Gives (λ k. (k, nodes_view nodes.new)) result (add_constant (literal_of node) (nodes_view nodes.old)) }
+    ensures { Gives (λ k. (k, nodes_view nodes.new)) result
+        (add_constant (literal_of node) (nodes_view nodes.old)) }
 {
     add(&mut nodes.constants, node)
 }
 
-/// Adds a type parameter, and tells its place among those of its sort.
+/// Adds a type parameter, and gives its place among those of its sort.
 ///
 /// # Errors
 /// There is no memory for it.
 pub fn add_type_param(node: TypeParam, nodes: &mut Nodes) -> Result<usize, RowsError>
-    ensures { Gives (λ k. (k, nodes_view nodes.new)) result (add_type_param (type_param_tree node) (nodes_view nodes.old)) }
+    ensures { Gives (λ k. (k, nodes_view nodes.new)) result
+        (add_type_param (type_param_tree node) (nodes_view nodes.old)) }
 {
     add(&mut nodes.type_params, node)
 }
 
-/// Adds parameters, and tells its place among those of its sort.
+/// Adds parameters, and gives its place among those of its sort.
 ///
 /// # Errors
 /// There is no memory for it.
 pub fn add_arguments(node: Arguments, nodes: &mut Nodes) -> Result<usize, RowsError>
-    ensures { Gives (λ k. (k, nodes_view nodes.new)) result (add_arguments (arguments expr_tree node) (nodes_view nodes.old)) }
+    ensures { Gives (λ k. (k, nodes_view nodes.new)) result
+        (add_arguments (arguments expr_tree node) (nodes_view nodes.old)) }
 {
     add(&mut nodes.arguments, node)
 }
 
-/// Adds a parameter with its default, and tells its place among those of its sort.
+/// Adds a parameter with its default, and gives its place among those of its sort.
 ///
 /// # Errors
 /// There is no memory for it.
 pub fn add_default(node: ArgWithDefault, nodes: &mut Nodes) -> Result<usize, RowsError>
-    ensures { Gives (λ k. (k, nodes_view nodes.new)) result (add_default (default_view node) (nodes_view nodes.old)) }
+    ensures { Gives (λ k. (k, nodes_view nodes.new)) result
+        (add_default (default_view node) (nodes_view nodes.old)) }
 {
     add(&mut nodes.defaults, node)
 }
 
-/// Adds a parameter, and tells its place among those of its sort.
+/// Adds a parameter, and gives its place among those of its sort.
 ///
 /// # Errors
 /// There is no memory for it.
 pub fn add_arg(node: Arg, nodes: &mut Nodes) -> Result<usize, RowsError>
-    ensures { Gives (λ k. (k, nodes_view nodes.new)) result (add_arg (arg expr_tree node) (nodes_view nodes.old)) }
+    ensures { Gives (λ k. (k, nodes_view nodes.new)) result
+        (add_arg (arg expr_tree node) (nodes_view nodes.old)) }
 {
     add(&mut nodes.args, node)
 }
 
-/// Adds a keyword, and tells its place among those of its sort.
+/// Adds a keyword, and gives its place among those of its sort.
 ///
 /// # Errors
 /// There is no memory for it.
 pub fn add_keyword(node: Keyword, nodes: &mut Nodes) -> Result<usize, RowsError>
-    ensures { Gives (λ k. (k, nodes_view nodes.new)) result (add_keyword (keyword_view node) (nodes_view nodes.old)) }
+    ensures { Gives (λ k. (k, nodes_view nodes.new)) result
+        (add_keyword (keyword_view node) (nodes_view nodes.old)) }
 {
     add(&mut nodes.keywords, node)
 }
 
-/// Adds an alias, and tells its place among those of its sort.
+/// Adds an alias, and gives its place among those of its sort.
 ///
 /// # Errors
 /// There is no memory for it.
 pub fn add_alias(node: Alias, nodes: &mut Nodes) -> Result<usize, RowsError>
-    ensures { Gives (λ k. (k, nodes_view nodes.new)) result (add_alias node (nodes_view nodes.old)) }
+    ensures { Gives (λ k. (k, nodes_view nodes.new)) result
+        (add_alias node (nodes_view nodes.old)) }
 {
     add(&mut nodes.aliases, node)
 }
 
-/// Adds an item of a `with`, and tells its place among those of its sort.
+/// Adds an item of a `with`, and gives its place among those of its sort.
 ///
 /// # Errors
 /// There is no memory for it.
 pub fn add_item(node: WithItem, nodes: &mut Nodes) -> Result<usize, RowsError>
-    ensures { Gives (λ k. (k, nodes_view nodes.new)) result (add_item (item_view node) (nodes_view nodes.old)) }
+    ensures { Gives (λ k. (k, nodes_view nodes.new)) result
+        (add_item (item_view node) (nodes_view nodes.old)) }
 {
     add(&mut nodes.items, node)
 }
 
-/// Adds a handler, and tells its place among those of its sort.
+/// Adds a handler, and gives its place among those of its sort.
 ///
 /// # Errors
 /// There is no memory for it.
 pub fn add_handler(node: ExceptHandler, nodes: &mut Nodes) -> Result<usize, RowsError>
-    ensures { Gives (λ k. (k, nodes_view nodes.new)) result (add_handler (handler_view node) (nodes_view nodes.old)) }
+    ensures { Gives (λ k. (k, nodes_view nodes.new)) result
+        (add_handler (handler_view node) (nodes_view nodes.old)) }
 {
     add(&mut nodes.handlers, node)
 }
 
-/// Adds a `for` clause, and tells its place among those of its sort.
+/// Adds a `for` clause, and gives its place among those of its sort.
 ///
 /// # Errors
 /// There is no memory for it.
 pub fn add_comprehension(node: Comprehension, nodes: &mut Nodes) -> Result<usize, RowsError>
-    ensures { Gives (λ k. (k, nodes_view nodes.new)) result (add_comprehension (comprehension_view node) (nodes_view nodes.old)) }
+    ensures { Gives (λ k. (k, nodes_view nodes.new)) result
+        (add_comprehension (comprehension_view node) (nodes_view nodes.old)) }
 {
     add(&mut nodes.comprehensions, node)
 }
 
-/// Adds a case of a `match`, and tells its place among those of its sort.
+/// Adds a case of a `match`, and gives its place among those of its sort.
 ///
 /// # Errors
 /// There is no memory for it.
 pub fn add_case(node: MatchCase, nodes: &mut Nodes) -> Result<usize, RowsError>
-    ensures { Gives (λ k. (k, nodes_view nodes.new)) result (add_case (case_view node) (nodes_view nodes.old)) }
+    ensures { Gives (λ k. (k, nodes_view nodes.new)) result
+        (add_case (case_view node) (nodes_view nodes.old)) }
 {
     add(&mut nodes.cases, node)
 }

@@ -22,7 +22,8 @@ use std::alloc::Global;
 /// `WrongRow` where the field is no number of a row or no list of them, `LaterRow` where it names no row before, and
 /// `NamedTwice` where a row took the node before; there may be no memory.
 pub fn take_expr(field: &Value, nodes: &mut Nodes, row: u32) -> Result<Expr, RowsError>
-    ensures { Gives (λ x. (expr_tree x, nodes_view nodes.new)) result (take_expr row (view field.now) (nodes_view nodes.old)) }
+    ensures { Gives (λ x. (expr_tree x, nodes_view nodes.new)) result
+        (take_expr row (view field.now) (nodes_view nodes.old)) }
 {
     take(field, nodes.rows.as_slice(), &mut nodes.exprs, row)
 }
@@ -38,7 +39,8 @@ pub fn take_boxed_expr(
     nodes: &mut Nodes,
     row: u32,
 ) -> Result<Box<Expr>, RowsError>
-    ensures { Gives (λ b. (expr_tree b.value, nodes_view nodes.new)) result (take_expr row (view field.now) (nodes_view nodes.old)) }
+    ensures { Gives (λ b. (expr_tree b.value, nodes_view nodes.new)) result
+        (take_expr row (view field.now) (nodes_view nodes.old)) }
 {
     take_boxed(alloc, field, nodes.rows.as_slice(), &mut nodes.exprs, row)
 }
@@ -54,7 +56,8 @@ pub fn take_optional_expr(
     nodes: &mut Nodes,
     row: u32,
 ) -> Result<Option<Box<Expr>>, RowsError>
-    ensures { Gives (λ x. (opt_box expr_tree x, nodes_view nodes.new)) result (take_optional_expr row (view field.now) (nodes_view nodes.old)) }
+    ensures { Gives (λ x. (opt_box expr_tree x, nodes_view nodes.new)) result
+        (take_optional_expr row (view field.now) (nodes_view nodes.old)) }
 {
     take_optional_boxed(alloc, field, nodes.rows.as_slice(), &mut nodes.exprs, row)
 }
@@ -70,7 +73,8 @@ pub fn take_exprs(
     nodes: &mut Nodes,
     row: u32,
 ) -> Result<Exprs, RowsError>
-    ensures { Gives (λ x. (exprs expr_tree x, nodes_view nodes.new)) result (take_exprs row (view field.now) (nodes_view nodes.old)) }
+    ensures { Gives (λ x. (exprs expr_tree x, nodes_view nodes.new)) result
+        (take_exprs row (view field.now) (nodes_view nodes.old)) }
 {
     take_list(alloc, field, nodes.rows.as_slice(), &mut nodes.exprs, row)
 }
@@ -86,7 +90,8 @@ pub fn take_optional_exprs(
     nodes: &mut Nodes,
     row: u32,
 ) -> Result<List<Option<Expr>>, RowsError>
-    ensures { Gives (λ x. (opt_exprs expr_tree x, nodes_view nodes.new)) result (take_optional_exprs row (view field.now) (nodes_view nodes.old)) }
+    ensures { Gives (λ x. (opt_exprs expr_tree x, nodes_view nodes.new)) result
+        (take_optional_exprs row (view field.now) (nodes_view nodes.old)) }
 {
     take_optionals(alloc, field, nodes.rows.as_slice(), &mut nodes.exprs, row)
 }
@@ -102,7 +107,8 @@ pub fn take_stmts(
     nodes: &mut Nodes,
     row: u32,
 ) -> Result<Stmts, RowsError>
-    ensures { Gives (λ x. (stmts stmt_tree x, nodes_view nodes.new)) result (take_stmts row (view field.now) (nodes_view nodes.old)) }
+    ensures { Gives (λ x. (stmts stmt_tree x, nodes_view nodes.new)) result
+        (take_stmts row (view field.now) (nodes_view nodes.old)) }
 {
     take_list(alloc, field, nodes.rows.as_slice(), &mut nodes.stmts, row)
 }
@@ -113,7 +119,8 @@ pub fn take_stmts(
 /// `WrongRow` where the field is no number of a row or no list of them, `LaterRow` where it names no row before, and
 /// `NamedTwice` where a row took the node before; there may be no memory.
 pub fn take_constant(field: &Value, nodes: &mut Nodes, row: u32) -> Result<Constant, RowsError>
-    ensures { Gives (λ x. (literal_of x, nodes_view nodes.new)) result (take_constant row (view field.now) (nodes_view nodes.old)) }
+    ensures { Gives (λ x. (literal_of x, nodes_view nodes.new)) result
+        (take_constant row (view field.now) (nodes_view nodes.old)) }
 {
     take(field, nodes.rows.as_slice(), &mut nodes.constants, row)
 }
@@ -129,7 +136,8 @@ pub fn take_constants(
     nodes: &mut Nodes,
     row: u32,
 ) -> Result<List<Constant>, RowsError>
-    ensures { Gives (λ x. (literal_list literal_of x, nodes_view nodes.new)) result (take_constants row (view field.now) (nodes_view nodes.old)) }
+    ensures { Gives (λ x. (literal_list literal_of x, nodes_view nodes.new)) result
+        (take_constants row (view field.now) (nodes_view nodes.old)) }
 {
     take_list(
         alloc,
@@ -151,7 +159,8 @@ pub fn take_type_params(
     nodes: &mut Nodes,
     row: u32,
 ) -> Result<List<TypeParam>, RowsError>
-    ensures { Gives (λ x. (type_params x, nodes_view nodes.new)) result (take_type_params row (view field.now) (nodes_view nodes.old)) }
+    ensures { Gives (λ x. (type_params x, nodes_view nodes.new)) result
+        (take_type_params row (view field.now) (nodes_view nodes.old)) }
 {
     take_list(
         alloc,
@@ -173,7 +182,8 @@ pub fn take_arguments(
     nodes: &mut Nodes,
     row: u32,
 ) -> Result<Box<Arguments>, RowsError>
-    ensures { Gives (λ b. (arguments expr_tree b.value, nodes_view nodes.new)) result (take_arguments row (view field.now) (nodes_view nodes.old)) }
+    ensures { Gives (λ b. (arguments expr_tree b.value, nodes_view nodes.new)) result
+        (take_arguments row (view field.now) (nodes_view nodes.old)) }
 {
     take_boxed(
         alloc,
@@ -195,7 +205,8 @@ pub fn take_defaults(
     nodes: &mut Nodes,
     row: u32,
 ) -> Result<List<ArgWithDefault>, RowsError>
-    ensures { Gives (λ x. (args expr_tree x, nodes_view nodes.new)) result (take_defaults row (view field.now) (nodes_view nodes.old)) }
+    ensures { Gives (λ x. (args expr_tree x, nodes_view nodes.new)) result
+        (take_defaults row (view field.now) (nodes_view nodes.old)) }
 {
     take_list(
         alloc,
@@ -212,7 +223,8 @@ pub fn take_defaults(
 /// `WrongRow` where the field is no number of a row or no list of them, `LaterRow` where it names no row before, and
 /// `NamedTwice` where a row took the node before; there may be no memory.
 pub fn take_arg(field: &Value, nodes: &mut Nodes, row: u32) -> Result<Arg, RowsError>
-    ensures { Gives (λ x. (arg expr_tree x, nodes_view nodes.new)) result (take_arg row (view field.now) (nodes_view nodes.old)) }
+    ensures { Gives (λ x. (arg expr_tree x, nodes_view nodes.new)) result
+        (take_arg row (view field.now) (nodes_view nodes.old)) }
 {
     take(field, nodes.rows.as_slice(), &mut nodes.args, row)
 }
@@ -228,7 +240,8 @@ pub fn take_optional_arg(
     nodes: &mut Nodes,
     row: u32,
 ) -> Result<Option<Box<Arg>>, RowsError>
-    ensures { Gives (λ x. (opt_arg expr_tree x, nodes_view nodes.new)) result (take_optional_arg row (view field.now) (nodes_view nodes.old)) }
+    ensures { Gives (λ x. (opt_arg expr_tree x, nodes_view nodes.new)) result
+        (take_optional_arg row (view field.now) (nodes_view nodes.old)) }
 {
     take_optional_boxed(alloc, field, nodes.rows.as_slice(), &mut nodes.args, row)
 }
@@ -244,7 +257,8 @@ pub fn take_keywords(
     nodes: &mut Nodes,
     row: u32,
 ) -> Result<List<Keyword>, RowsError>
-    ensures { Gives (λ x. (keywords expr_tree x, nodes_view nodes.new)) result (take_keywords row (view field.now) (nodes_view nodes.old)) }
+    ensures { Gives (λ x. (keywords expr_tree x, nodes_view nodes.new)) result
+        (take_keywords row (view field.now) (nodes_view nodes.old)) }
 {
     take_list(
         alloc,
@@ -266,7 +280,8 @@ pub fn take_aliases(
     nodes: &mut Nodes,
     row: u32,
 ) -> Result<List<Alias>, RowsError>
-    ensures { Gives (λ x. (x, nodes_view nodes.new)) result (take_aliases row (view field.now) (nodes_view nodes.old)) }
+    ensures { Gives (λ x. (x, nodes_view nodes.new)) result
+        (take_aliases row (view field.now) (nodes_view nodes.old)) }
 {
     take_list(alloc, field, nodes.rows.as_slice(), &mut nodes.aliases, row)
 }
@@ -282,7 +297,8 @@ pub fn take_items(
     nodes: &mut Nodes,
     row: u32,
 ) -> Result<List<WithItem>, RowsError>
-    ensures { Gives (λ x. (with_items x, nodes_view nodes.new)) result (take_items row (view field.now) (nodes_view nodes.old)) }
+    ensures { Gives (λ x. (with_items x, nodes_view nodes.new)) result
+        (take_items row (view field.now) (nodes_view nodes.old)) }
 {
     take_list(alloc, field, nodes.rows.as_slice(), &mut nodes.items, row)
 }
@@ -298,7 +314,8 @@ pub fn take_handlers(
     nodes: &mut Nodes,
     row: u32,
 ) -> Result<List<ExceptHandler>, RowsError>
-    ensures { Gives (λ x. (handlers stmt_tree x, nodes_view nodes.new)) result (take_handlers row (view field.now) (nodes_view nodes.old)) }
+    ensures { Gives (λ x. (handlers stmt_tree x, nodes_view nodes.new)) result
+        (take_handlers row (view field.now) (nodes_view nodes.old)) }
 {
     take_list(
         alloc,
@@ -320,7 +337,8 @@ pub fn take_comprehensions(
     nodes: &mut Nodes,
     row: u32,
 ) -> Result<List<Comprehension>, RowsError>
-    ensures { Gives (λ x. (generators expr_tree x, nodes_view nodes.new)) result (take_comprehensions row (view field.now) (nodes_view nodes.old)) }
+    ensures { Gives (λ x. (generators expr_tree x, nodes_view nodes.new)) result
+        (take_comprehensions row (view field.now) (nodes_view nodes.old)) }
 {
     take_list(
         alloc,
@@ -342,7 +360,8 @@ pub fn take_cases(
     nodes: &mut Nodes,
     row: u32,
 ) -> Result<List<MatchCase>, RowsError>
-    ensures { Gives (λ x. (cases stmt_tree x, nodes_view nodes.new)) result (take_cases row (view field.now) (nodes_view nodes.old)) }
+    ensures { Gives (λ x. (cases stmt_tree x, nodes_view nodes.new)) result
+        (take_cases row (view field.now) (nodes_view nodes.old)) }
 {
     take_list(alloc, field, nodes.rows.as_slice(), &mut nodes.cases, row)
 }

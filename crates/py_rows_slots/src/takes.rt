@@ -23,7 +23,8 @@ fn index_at(field: &Value, rows: &[Row], row: u32) -> Result<usize, RowsError>
 
 /// The node at a place, which is left empty. `NamedTwice` where a row took it before.
 fn take_at<T: Made + Drop>(nodes: &mut [Option<T>], index: usize, row: u32) -> Result<T, RowsError>
-    ensures { Gives (λ x. (T.seen x, map (option_map T.seen) nodes.new)) result (taken_node row index (map (option_map T.seen) nodes.old)) }
+    ensures { Gives (λ x. (T.seen x, map (option_map T.seen) nodes.new)) result
+        (taken_node row index (map (option_map T.seen) nodes.old)) }
 {
     if index >= nodes.len() {
         return Err(RowsError::NamedTwice { row });
@@ -42,7 +43,8 @@ pub(crate) fn take<T: Made + Drop>(
     nodes: &mut Vec<Option<T>>,
     row: u32,
 ) -> Result<T, RowsError>
-    ensures { Gives (λ x. (T.seen x, map (option_map T.seen) nodes.new.items)) result (take row (view field.now) rows.now (map (option_map T.seen) nodes.old.items)) }
+    ensures { Gives (λ x. (T.seen x, map (option_map T.seen) nodes.new.items)) result
+        (take row (view field.now) rows.now (map (option_map T.seen) nodes.old.items)) }
 {
     let index = index_at(field, rows, row)?;
     take_at(nodes.as_mut_slice(), index, row)
@@ -56,7 +58,8 @@ pub(crate) fn take_boxed<T: Made + Drop>(
     nodes: &mut Vec<Option<T>>,
     row: u32,
 ) -> Result<Box<T>, RowsError>
-    ensures { Gives (λ b. (T.seen b.value, map (option_map T.seen) nodes.new.items)) result (take row (view field.now) rows.now (map (option_map T.seen) nodes.old.items)) }
+    ensures { Gives (λ b. (T.seen b.value, map (option_map T.seen) nodes.new.items)) result
+        (take row (view field.now) rows.now (map (option_map T.seen) nodes.old.items)) }
 {
     let node = take(field, rows, nodes, row)?;
     Ok(Box::new(alloc, node)?)
@@ -70,7 +73,9 @@ pub(crate) fn take_optional_boxed<T: Made + Drop>(
     nodes: &mut Vec<Option<T>>,
     row: u32,
 ) -> Result<Option<Box<T>>, RowsError>
-    ensures { Gives (λ o. (option_map (λ b. T.seen b.value) o, map (option_map T.seen) nodes.new.items)) result (take_optional row (view field.now) rows.now (map (option_map T.seen) nodes.old.items)) }
+    ensures { Gives
+        (λ o. (option_map (λ b. T.seen b.value) o, map (option_map T.seen) nodes.new.items)) result
+        (take_optional row (view field.now) rows.now (map (option_map T.seen) nodes.old.items)) }
 {
     if field.is_null() {
         return Ok(None);
@@ -86,7 +91,8 @@ fn take_optional<T: Made + Drop>(
     nodes: &mut Vec<Option<T>>,
     row: u32,
 ) -> Result<Option<T>, RowsError>
-    ensures { Gives (λ o. (option_map T.seen o, map (option_map T.seen) nodes.new.items)) result (take_optional row (view field.now) rows.now (map (option_map T.seen) nodes.old.items)) }
+    ensures { Gives (λ o. (option_map T.seen o, map (option_map T.seen) nodes.new.items)) result
+        (take_optional row (view field.now) rows.now (map (option_map T.seen) nodes.old.items)) }
 {
     if field.is_null() {
         return Ok(None);
@@ -103,7 +109,8 @@ pub(crate) fn take_list<T: Made + Drop>(
     nodes: &mut Vec<Option<T>>,
     row: u32,
 ) -> Result<List<T>, RowsError>
-    ensures { Gives (λ xs. (map T.seen xs, map (option_map T.seen) nodes.new.items)) result (take_list row (view field.now) rows.now (map (option_map T.seen) nodes.old.items)) }
+    ensures { Gives (λ xs. (map T.seen xs, map (option_map T.seen) nodes.new.items)) result
+        (take_list row (view field.now) rows.now (map (option_map T.seen) nodes.old.items)) }
 {
     let entries = entries(field, row)?;
     let mut found = Vec::with_capacity(alloc, entries.len())?;
@@ -121,7 +128,9 @@ pub(crate) fn take_optionals<T: Made + Drop>(
     nodes: &mut Vec<Option<T>>,
     row: u32,
 ) -> Result<List<Option<T>>, RowsError>
-    ensures { Gives (λ xs. (map (option_map T.seen) xs, map (option_map T.seen) nodes.new.items)) result (take_optionals row (view field.now) rows.now (map (option_map T.seen) nodes.old.items)) }
+    ensures { Gives (λ xs. (map (option_map T.seen) xs, map (option_map T.seen) nodes.new.items))
+        result (take_optionals row (view field.now) rows.now
+        (map (option_map T.seen) nodes.old.items)) }
 {
     let entries = entries(field, row)?;
     let mut found = Vec::with_capacity(alloc, entries.len())?;
@@ -131,9 +140,10 @@ pub(crate) fn take_optionals<T: Made + Drop>(
     Ok(List::from_vec(found))
 }
 
-/// Adds a node, and tells its place.
+/// Adds a node, and gives its place.
 pub(crate) fn add<T: Made + Drop>(nodes: &mut Vec<Option<T>>, node: T) -> Result<usize, RowsError>
-    ensures { Gives (λ k. (k, map (option_map T.seen) nodes.new.items)) result (added_node (T.seen node) (map (option_map T.seen) nodes.old.items)) }
+    ensures { Gives (λ k. (k, map (option_map T.seen) nodes.new.items)) result
+        (added_node (T.seen node) (map (option_map T.seen) nodes.old.items)) }
 {
     let index = nodes.len();
     nodes.push(Some(node))?;

@@ -48,7 +48,8 @@ match_node n at fields nodes = two n fields >>= λ (subject, cases).
 
 abbrev pub try_parts : ℕ → Items → Nodes → Made (tree.Stmts × tree.Handlers × tree.Stmts × tree.Stmts)
 try_parts n fields nodes = four n fields >>= λ (body, handlers, orelse, finalbody).
-    take_stmts n body nodes >>= λ (body, nodes). take_handlers n handlers nodes >>= λ (handlers, nodes). take_stmts n orelse nodes >>= λ (orelse, nodes). take_stmts n finalbody nodes >>= λ (finalbody, nodes).
+    take_stmts n body nodes >>= λ (body, nodes). take_handlers n handlers nodes >>= λ (handlers, nodes).
+    take_stmts n orelse nodes >>= λ (orelse, nodes). take_stmts n finalbody nodes >>= λ (finalbody, nodes).
     Ok ((body, handlers, orelse, finalbody), nodes)
 
 abbrev pub try_node : ℕ → SourceLocation → Items → Nodes → Made tree.Stmt

@@ -13,7 +13,8 @@ function_head n name args body nodes = text_at n name >>= λ name. take_argument
     Ok ((name, args, body), nodes)
 
 abbrev pub function_tail : ℕ → (decorator_list returns type_params : Data) → Nodes → Made (tree.Exprs × tree.OptExpr × tree.TypeParams)
-function_tail n decorator_list returns type_params nodes = take_exprs n decorator_list nodes >>= λ (decorator_list, nodes). take_optional_expr n returns nodes >>= λ (returns, nodes). take_type_params n type_params nodes >>= λ (type_params, nodes).
+function_tail n decorator_list returns type_params nodes = take_exprs n decorator_list nodes >>= λ (decorator_list, nodes).
+    take_optional_expr n returns nodes >>= λ (returns, nodes). take_type_params n type_params nodes >>= λ (type_params, nodes).
     Ok ((decorator_list, returns, type_params), nodes)
 
 abbrev pub class_head : ℕ → (name bases keywords : Data) → Nodes → Made (List ℕ × tree.Exprs × tree.Keywords)
@@ -21,7 +22,8 @@ class_head n name bases keywords nodes = text_at n name >>= λ name. take_exprs 
     Ok ((name, bases, keywords), nodes)
 
 abbrev pub class_tail : ℕ → (body decorator_list type_params : Data) → Nodes → Made (tree.Stmts × tree.Exprs × tree.TypeParams)
-class_tail n body decorator_list type_params nodes = take_stmts n body nodes >>= λ (body, nodes). take_exprs n decorator_list nodes >>= λ (decorator_list, nodes). take_type_params n type_params nodes >>= λ (type_params, nodes).
+class_tail n body decorator_list type_params nodes = take_stmts n body nodes >>= λ (body, nodes).
+    take_exprs n decorator_list nodes >>= λ (decorator_list, nodes). take_type_params n type_params nodes >>= λ (type_params, nodes).
     Ok ((body, decorator_list, type_params), nodes)
 
 abbrev pub function_def_node : ℕ → SourceLocation → Items → Nodes → Made tree.Stmt

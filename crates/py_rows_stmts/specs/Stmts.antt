@@ -5,13 +5,15 @@ use Rattle.py_base.specs.declared.location.SourceLocation.{SourceLocation}
 use Rattle.py_tree.specs.Tree as tree
 use Rattle.py_rows_fields.specs.declared.kinds.StmtKind.{StmtKind}
 use Rattle.py_rows_fields.specs.declared.kinds.StmtKind.TheVariants as kind
-use Rattle.py_rows_fields.specs.Fields.{behind_place, place_in}
+use Rattle.py_rows_fields.specs.Fields.{after_place, place_in}
 use Rattle.py_rows_fields.specs.Gives.{◌>>=◌}
 use Rattle.py_rows_slots.specs.Nodes.{Nodes}
 use Rattle.py_rows_slots.specs.Slots.{Made}
 use Rattle.py_rows_stmts.specs.Compound.{async_for_node, async_with_node, for_node, if_node, match_node, try_node, try_star_node, while_node, with_node}
 use Rattle.py_rows_stmts.specs.Definitions.{async_function_def_node, class_def_node, function_def_node}
-use Rattle.py_rows_stmts.specs.Simple.{ann_assign_node, assert_node, assign_node, aug_assign_node, break_node, continue_node, delete_node, expr_stmt_node, global_node, import_from_node, import_node, nonlocal_node, pass_node, raise_node, return_node, type_alias_node}
+use Rattle.py_rows_stmts.specs.Simple.{ann_assign_node, assert_node, assign_node, aug_assign_node, break_node, continue_node, delete_node}
+use Rattle.py_rows_stmts.specs.Simple.{expr_stmt_node, global_node, import_from_node, import_node, nonlocal_node, pass_node, raise_node}
+use Rattle.py_rows_stmts.specs.Simple.{return_node, type_alias_node}
 
 abbrev pub stmt_of_kind : ℕ → StmtKind → SourceLocation → Items → Nodes → Made tree.Stmt
 stmt_of_kind n kind.FunctionDef at fields nodes = function_def_node n at fields nodes
@@ -44,4 +46,4 @@ stmt_of_kind n kind.Break at fields nodes = break_node n at fields >>= λ x. Ok 
 stmt_of_kind n kind.Continue at fields nodes = continue_node n at fields >>= λ x. Ok (x, nodes)
 
 abbrev pub stmt_node : ℕ → StmtKind → Items → Nodes → Made tree.Stmt
-stmt_node n k fields nodes = place_in n fields >>= λ at. behind_place n fields >>= λ own. stmt_of_kind n k at own nodes
+stmt_node n k fields nodes = place_in n fields >>= λ at. after_place n fields >>= λ own. stmt_of_kind n k at own nodes

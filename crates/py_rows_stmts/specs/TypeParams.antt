@@ -5,7 +5,7 @@ use Rattle.py_base.specs.declared.location.SourceLocation.{SourceLocation}
 use Rattle.py_tree.specs.Tree as tree
 use Rattle.py_rows_fields.specs.declared.kinds.TypeParamKind.{TypeParamKind}
 use Rattle.py_rows_fields.specs.declared.kinds.TypeParamKind.TheVariants as kind
-use Rattle.py_rows_fields.specs.Fields.{behind_place, place_in}
+use Rattle.py_rows_fields.specs.Fields.{after_place, place_in}
 use Rattle.py_rows_fields.specs.Gives.{◌>>=◌}
 use Rattle.py_rows_slots.specs.Nodes.{Nodes}
 use Rattle.py_rows_slots.specs.Slots.{Made}
@@ -17,4 +17,4 @@ type_param_of_kind n kind.ParamSpec at fields nodes = param_spec_node n at field
 type_param_of_kind n kind.TypeVarTuple at fields nodes = type_var_tuple_node n at fields >>= λ x. Ok (x, nodes)
 
 abbrev pub type_param_node : ℕ → TypeParamKind → Items → Nodes → Made tree.TypeParam
-type_param_node n k fields nodes = place_in n fields >>= λ at. behind_place n fields >>= λ own. type_param_of_kind n k at own nodes
+type_param_node n k fields nodes = place_in n fields >>= λ at. after_place n fields >>= λ own. type_param_of_kind n k at own nodes

@@ -22,7 +22,12 @@ fn loop_parts(
     nodes: &mut Nodes,
     row: u32,
 ) -> Result<(Box<Expr>, Box<Expr>, Stmts, Stmts), RowsError>
-    ensures { Gives (λ x. ((expr_tree x.0.value, expr_tree x.1.value, stmts stmt_tree x.2, stmts stmt_tree x.3), nodes_view nodes.new)) result (loop_parts row (items_view fields.now) (nodes_view nodes.old)) }
+    ensures { Gives
+        (λ x. (
+          (expr_tree x.0.value, expr_tree x.1.value, stmts stmt_tree x.2, stmts stmt_tree x.3),
+          nodes_view nodes.new,
+        )) result (loop_parts row (items_view fields.now)
+        (nodes_view nodes.old)) }
 {
     let (target, iter, body, orelse) = four(fields, row)?;
     let target = take_boxed_expr(alloc, target, nodes, row)?;
@@ -41,7 +46,8 @@ pub(crate) fn for_node(
     nodes: &mut Nodes,
     row: u32,
 ) -> Result<Stmt, RowsError>
-    ensures { Gives (λ s. (stmt_tree s, nodes_view nodes.new)) result (for_node row location (items_view fields.now) (nodes_view nodes.old)) }
+    ensures { Gives (λ s. (stmt_tree s, nodes_view nodes.new)) result
+        (for_node row location (items_view fields.now) (nodes_view nodes.old)) }
 {
     let (target, iter, body, orelse) = loop_parts(alloc, fields, nodes, row)?;
     Ok(Stmt::For(StmtFor {
@@ -62,7 +68,8 @@ pub(crate) fn async_for_node(
     nodes: &mut Nodes,
     row: u32,
 ) -> Result<Stmt, RowsError>
-    ensures { Gives (λ s. (stmt_tree s, nodes_view nodes.new)) result (async_for_node row location (items_view fields.now) (nodes_view nodes.old)) }
+    ensures { Gives (λ s. (stmt_tree s, nodes_view nodes.new)) result
+        (async_for_node row location (items_view fields.now) (nodes_view nodes.old)) }
 {
     let (target, iter, body, orelse) = loop_parts(alloc, fields, nodes, row)?;
     Ok(Stmt::AsyncFor(StmtAsyncFor {
@@ -82,7 +89,12 @@ fn branches(
     nodes: &mut Nodes,
     row: u32,
 ) -> Result<(Box<Expr>, Stmts, Stmts), RowsError>
-    ensures { Gives (λ x. ((expr_tree x.0.value, stmts stmt_tree x.1, stmts stmt_tree x.2), nodes_view nodes.new)) result (branches row (items_view fields.now) (nodes_view nodes.old)) }
+    ensures { Gives
+        (λ x. (
+          (expr_tree x.0.value, stmts stmt_tree x.1, stmts stmt_tree x.2),
+          nodes_view nodes.new,
+        )) result (branches row (items_view fields.now)
+        (nodes_view nodes.old)) }
 {
     let (test, body, orelse) = three(fields, row)?;
     let test = take_boxed_expr(alloc, test, nodes, row)?;
@@ -100,7 +112,8 @@ pub(crate) fn while_node(
     nodes: &mut Nodes,
     row: u32,
 ) -> Result<Stmt, RowsError>
-    ensures { Gives (λ s. (stmt_tree s, nodes_view nodes.new)) result (while_node row location (items_view fields.now) (nodes_view nodes.old)) }
+    ensures { Gives (λ s. (stmt_tree s, nodes_view nodes.new)) result
+        (while_node row location (items_view fields.now) (nodes_view nodes.old)) }
 {
     let (test, body, orelse) = branches(alloc, fields, nodes, row)?;
     Ok(Stmt::While(StmtWhile {
@@ -120,7 +133,8 @@ pub(crate) fn if_node(
     nodes: &mut Nodes,
     row: u32,
 ) -> Result<Stmt, RowsError>
-    ensures { Gives (λ s. (stmt_tree s, nodes_view nodes.new)) result (if_node row location (items_view fields.now) (nodes_view nodes.old)) }
+    ensures { Gives (λ s. (stmt_tree s, nodes_view nodes.new)) result
+        (if_node row location (items_view fields.now) (nodes_view nodes.old)) }
 {
     let (test, body, orelse) = branches(alloc, fields, nodes, row)?;
     Ok(Stmt::If(StmtIf {
@@ -139,7 +153,8 @@ fn with_parts(
     nodes: &mut Nodes,
     row: u32,
 ) -> Result<(List<WithItem>, Stmts), RowsError>
-    ensures { Gives (λ x. ((with_items x.0, stmts stmt_tree x.1), nodes_view nodes.new)) result (with_parts row (items_view fields.now) (nodes_view nodes.old)) }
+    ensures { Gives (λ x. ((with_items x.0, stmts stmt_tree x.1), nodes_view nodes.new)) result
+        (with_parts row (items_view fields.now) (nodes_view nodes.old)) }
 {
     let (items, body) = two(fields, row)?;
     let items = take_items(alloc, items, nodes, row)?;
@@ -156,7 +171,8 @@ pub(crate) fn with_node(
     nodes: &mut Nodes,
     row: u32,
 ) -> Result<Stmt, RowsError>
-    ensures { Gives (λ s. (stmt_tree s, nodes_view nodes.new)) result (with_node row location (items_view fields.now) (nodes_view nodes.old)) }
+    ensures { Gives (λ s. (stmt_tree s, nodes_view nodes.new)) result
+        (with_node row location (items_view fields.now) (nodes_view nodes.old)) }
 {
     let (items, body) = with_parts(alloc, fields, nodes, row)?;
     Ok(Stmt::With(StmtWith {
@@ -175,7 +191,8 @@ pub(crate) fn async_with_node(
     nodes: &mut Nodes,
     row: u32,
 ) -> Result<Stmt, RowsError>
-    ensures { Gives (λ s. (stmt_tree s, nodes_view nodes.new)) result (async_with_node row location (items_view fields.now) (nodes_view nodes.old)) }
+    ensures { Gives (λ s. (stmt_tree s, nodes_view nodes.new)) result
+        (async_with_node row location (items_view fields.now) (nodes_view nodes.old)) }
 {
     let (items, body) = with_parts(alloc, fields, nodes, row)?;
     Ok(Stmt::AsyncWith(StmtAsyncWith {
@@ -194,7 +211,8 @@ pub(crate) fn match_node(
     nodes: &mut Nodes,
     row: u32,
 ) -> Result<Stmt, RowsError>
-    ensures { Gives (λ s. (stmt_tree s, nodes_view nodes.new)) result (match_node row location (items_view fields.now) (nodes_view nodes.old)) }
+    ensures { Gives (λ s. (stmt_tree s, nodes_view nodes.new)) result
+        (match_node row location (items_view fields.now) (nodes_view nodes.old)) }
 {
     let (subject, cases) = two(fields, row)?;
     let subject = take_boxed_expr(alloc, subject, nodes, row)?;
@@ -214,7 +232,17 @@ fn try_parts(
     nodes: &mut Nodes,
     row: u32,
 ) -> Result<(Stmts, List<ExceptHandler>, Stmts, Stmts), RowsError>
-    ensures { Gives (λ x. ((stmts stmt_tree x.0, handlers stmt_tree x.1, stmts stmt_tree x.2, stmts stmt_tree x.3), nodes_view nodes.new)) result (try_parts row (items_view fields.now) (nodes_view nodes.old)) }
+    ensures { Gives
+        (λ x. (
+          (
+            stmts stmt_tree x.0,
+            handlers stmt_tree x.1,
+            stmts stmt_tree x.2,
+            stmts stmt_tree x.3,
+          ),
+          nodes_view nodes.new,
+        )) result
+        (try_parts row (items_view fields.now) (nodes_view nodes.old)) }
 {
     let (body, handlers, orelse, finalbody) = four(fields, row)?;
     let body = take_stmts(alloc, body, nodes, row)?;
@@ -233,7 +261,8 @@ pub(crate) fn try_node(
     nodes: &mut Nodes,
     row: u32,
 ) -> Result<Stmt, RowsError>
-    ensures { Gives (λ s. (stmt_tree s, nodes_view nodes.new)) result (try_node row location (items_view fields.now) (nodes_view nodes.old)) }
+    ensures { Gives (λ s. (stmt_tree s, nodes_view nodes.new)) result
+        (try_node row location (items_view fields.now) (nodes_view nodes.old)) }
 {
     let (body, handlers, orelse, finalbody) = try_parts(alloc, fields, nodes, row)?;
     Ok(Stmt::Try(StmtTry {
@@ -254,7 +283,8 @@ pub(crate) fn try_star_node(
     nodes: &mut Nodes,
     row: u32,
 ) -> Result<Stmt, RowsError>
-    ensures { Gives (λ s. (stmt_tree s, nodes_view nodes.new)) result (try_star_node row location (items_view fields.now) (nodes_view nodes.old)) }
+    ensures { Gives (λ s. (stmt_tree s, nodes_view nodes.new)) result
+        (try_star_node row location (items_view fields.now) (nodes_view nodes.old)) }
 {
     let (body, handlers, orelse, finalbody) = try_parts(alloc, fields, nodes, row)?;
     Ok(Stmt::TryStar(StmtTryStar {

@@ -26,7 +26,10 @@ fn function_head(
     nodes: &mut Nodes,
     row: u32,
 ) -> Result<(Text, Box<Arguments>, Stmts), RowsError>
-    ensures { Gives (λ x. ((x.0, arguments expr_tree x.1.value, stmts stmt_tree x.2), nodes_view nodes.new)) result (function_head row (view name_field.now) (view args_field.now) (view body_field.now) (nodes_view nodes.old)) }
+    ensures { Gives
+        (λ x. ((x.0, arguments expr_tree x.1.value, stmts stmt_tree x.2), nodes_view nodes.new))
+        result (function_head row (view name_field.now) (view args_field.now) (view body_field.now)
+        (nodes_view nodes.old)) }
 {
     let name = text(alloc, name_field, row)?;
     let args = take_arguments(alloc, args_field, nodes, row)?;
@@ -43,7 +46,10 @@ fn function_tail(
     nodes: &mut Nodes,
     row: u32,
 ) -> Result<(Exprs, Option<Box<Expr>>, List<TypeParam>), RowsError>
-    ensures { Gives (λ x. ((exprs expr_tree x.0, opt_box expr_tree x.1, type_params x.2), nodes_view nodes.new)) result (function_tail row (view decorator_list_field.now) (view returns_field.now) (view type_params_field.now) (nodes_view nodes.old)) }
+    ensures { Gives
+        (λ x. ((exprs expr_tree x.0, opt_box expr_tree x.1, type_params x.2), nodes_view nodes.new))
+        result (function_tail row (view decorator_list_field.now) (view returns_field.now)
+        (view type_params_field.now) (nodes_view nodes.old)) }
 {
     let decorator_list = take_exprs(alloc, decorator_list_field, nodes, row)?;
     let returns = take_optional_expr(alloc, returns_field, nodes, row)?;
@@ -60,7 +66,10 @@ fn class_head(
     nodes: &mut Nodes,
     row: u32,
 ) -> Result<(Text, Exprs, List<Keyword>), RowsError>
-    ensures { Gives (λ x. ((x.0, exprs expr_tree x.1, keywords expr_tree x.2), nodes_view nodes.new)) result (class_head row (view name_field.now) (view bases_field.now) (view keywords_field.now) (nodes_view nodes.old)) }
+    ensures { Gives
+        (λ x. ((x.0, exprs expr_tree x.1, keywords expr_tree x.2), nodes_view nodes.new)) result
+        (class_head row (view name_field.now) (view bases_field.now) (view keywords_field.now)
+        (nodes_view nodes.old)) }
 {
     let name = text(alloc, name_field, row)?;
     let bases = take_exprs(alloc, bases_field, nodes, row)?;
@@ -77,7 +86,10 @@ fn class_tail(
     nodes: &mut Nodes,
     row: u32,
 ) -> Result<(Stmts, Exprs, List<TypeParam>), RowsError>
-    ensures { Gives (λ x. ((stmts stmt_tree x.0, exprs expr_tree x.1, type_params x.2), nodes_view nodes.new)) result (class_tail row (view body_field.now) (view decorator_list_field.now) (view type_params_field.now) (nodes_view nodes.old)) }
+    ensures { Gives
+        (λ x. ((stmts stmt_tree x.0, exprs expr_tree x.1, type_params x.2), nodes_view nodes.new))
+        result (class_tail row (view body_field.now) (view decorator_list_field.now)
+        (view type_params_field.now) (nodes_view nodes.old)) }
 {
     let body = take_stmts(alloc, body_field, nodes, row)?;
     let decorator_list = take_exprs(alloc, decorator_list_field, nodes, row)?;
@@ -94,7 +106,8 @@ pub(crate) fn function_def_node(
     nodes: &mut Nodes,
     row: u32,
 ) -> Result<Stmt, RowsError>
-    ensures { Gives (λ s. (stmt_tree s, nodes_view nodes.new)) result (function_def_node row location (items_view fields.now) (nodes_view nodes.old)) }
+    ensures { Gives (λ s. (stmt_tree s, nodes_view nodes.new)) result
+        (function_def_node row location (items_view fields.now) (nodes_view nodes.old)) }
 {
     let (name, args, body, decorator_list, returns, type_params) = six(fields, row)?;
     let (name, args, body) = function_head(alloc, name, args, body, nodes, row)?;
@@ -126,7 +139,8 @@ pub(crate) fn async_function_def_node(
     nodes: &mut Nodes,
     row: u32,
 ) -> Result<Stmt, RowsError>
-    ensures { Gives (λ s. (stmt_tree s, nodes_view nodes.new)) result (async_function_def_node row location (items_view fields.now) (nodes_view nodes.old)) }
+    ensures { Gives (λ s. (stmt_tree s, nodes_view nodes.new)) result
+        (async_function_def_node row location (items_view fields.now) (nodes_view nodes.old)) }
 {
     let (name, args, body, decorator_list, returns, type_params) = six(fields, row)?;
     let (name, args, body) = function_head(alloc, name, args, body, nodes, row)?;
@@ -158,7 +172,8 @@ pub(crate) fn class_def_node(
     nodes: &mut Nodes,
     row: u32,
 ) -> Result<Stmt, RowsError>
-    ensures { Gives (λ s. (stmt_tree s, nodes_view nodes.new)) result (class_def_node row location (items_view fields.now) (nodes_view nodes.old)) }
+    ensures { Gives (λ s. (stmt_tree s, nodes_view nodes.new)) result
+        (class_def_node row location (items_view fields.now) (nodes_view nodes.old)) }
 {
     let (name, bases, keywords, body, decorator_list, type_params) = six(fields, row)?;
     let (name, bases, keywords) = class_head(alloc, name, bases, keywords, nodes, row)?;

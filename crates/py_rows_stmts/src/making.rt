@@ -13,7 +13,7 @@ use serde_json::Value;
 use std::alloc::Global;
 
 /// Makes the statement of a row of this kind, of the nodes of the rows that its fields name, which are taken, and
-/// tells its place among the statements.
+/// gives its place among the statements.
 ///
 /// # Errors
 /// `WrongRow` where the fields are not those of the kind, `LaterRow` where one names no earlier row, `NamedTwice`
@@ -25,13 +25,14 @@ pub fn make_stmt(
     nodes: &mut Nodes,
     row: u32,
 ) -> Result<usize, RowsError>
-    ensures { Gives (λ k. (k, nodes_view nodes.new)) result (make_stmt row kind (items_view fields.now) (nodes_view nodes.old)) }
+    ensures { Gives (λ k. (k, nodes_view nodes.new)) result
+        (make_stmt row kind (items_view fields.now) (nodes_view nodes.old)) }
 {
     let node = stmt_node(alloc, kind, fields, nodes, row)?;
     add_stmt(node, nodes)
 }
 
-/// Makes the type parameter of a row of this kind, with the bound that a field names, which is taken, and tells its
+/// Makes the type parameter of a row of this kind, with the bound that a field names, which is taken, and gives its
 /// place among the type parameters.
 ///
 /// # Errors
@@ -44,13 +45,14 @@ pub fn make_type_param(
     nodes: &mut Nodes,
     row: u32,
 ) -> Result<usize, RowsError>
-    ensures { Gives (λ k. (k, nodes_view nodes.new)) result (make_type_param row kind (items_view fields.now) (nodes_view nodes.old)) }
+    ensures { Gives (λ k. (k, nodes_view nodes.new)) result
+        (make_type_param row kind (items_view fields.now) (nodes_view nodes.old)) }
 {
     let node = type_param_node(alloc, kind, fields, nodes, row)?;
     add_type_param(node, nodes)
 }
 
-/// Makes the alias of an import, and tells its place among the aliases.
+/// Makes the alias of an import, and gives its place among the aliases.
 ///
 /// # Errors
 /// `WrongRow` where the fields are not those of an alias, `OutOfMemory`.
@@ -60,13 +62,14 @@ pub fn make_alias(
     nodes: &mut Nodes,
     row: u32,
 ) -> Result<usize, RowsError>
-    ensures { Gives (λ k. (k, nodes_view nodes.new)) result (make_alias row (items_view fields.now) (nodes_view nodes.old)) }
+    ensures { Gives (λ k. (k, nodes_view nodes.new)) result
+        (make_alias row (items_view fields.now) (nodes_view nodes.old)) }
 {
     let node = alias_node(alloc, fields, row)?;
     add_alias(node, nodes)
 }
 
-/// Makes an item of a `with`, of the expressions that the fields name, which are taken, and tells its place among the
+/// Makes an item of a `with`, of the expressions that the fields name, which are taken, and gives its place among the
 /// items.
 ///
 /// # Errors
@@ -78,13 +81,14 @@ pub fn make_item(
     nodes: &mut Nodes,
     row: u32,
 ) -> Result<usize, RowsError>
-    ensures { Gives (λ k. (k, nodes_view nodes.new)) result (make_item row (items_view fields.now) (nodes_view nodes.old)) }
+    ensures { Gives (λ k. (k, nodes_view nodes.new)) result
+        (make_item row (items_view fields.now) (nodes_view nodes.old)) }
 {
     let node = item_node(alloc, fields, nodes, row)?;
     add_item(node, nodes)
 }
 
-/// Makes a handler of a `try`, of the nodes that the fields name, which are taken, and tells its place among the
+/// Makes a handler of a `try`, of the nodes that the fields name, which are taken, and gives its place among the
 /// handlers.
 ///
 /// # Errors
@@ -96,13 +100,14 @@ pub fn make_handler(
     nodes: &mut Nodes,
     row: u32,
 ) -> Result<usize, RowsError>
-    ensures { Gives (λ k. (k, nodes_view nodes.new)) result (make_handler row (items_view fields.now) (nodes_view nodes.old)) }
+    ensures { Gives (λ k. (k, nodes_view nodes.new)) result
+        (make_handler row (items_view fields.now) (nodes_view nodes.old)) }
 {
     let node = handler_node(alloc, fields, nodes, row)?;
     add_handler(node, nodes)
 }
 
-/// Makes a case of a `match`, of the statements that the field names, which are taken, and tells its place among the
+/// Makes a case of a `match`, of the statements that the field names, which are taken, and gives its place among the
 /// cases.
 ///
 /// # Errors
@@ -114,7 +119,8 @@ pub fn make_case(
     nodes: &mut Nodes,
     row: u32,
 ) -> Result<usize, RowsError>
-    ensures { Gives (λ k. (k, nodes_view nodes.new)) result (make_case row (items_view fields.now) (nodes_view nodes.old)) }
+    ensures { Gives (λ k. (k, nodes_view nodes.new)) result
+        (make_case row (items_view fields.now) (nodes_view nodes.old)) }
 {
     let node = case_node(alloc, fields, nodes, row)?;
     add_case(node, nodes)

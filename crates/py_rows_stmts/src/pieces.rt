@@ -34,7 +34,8 @@ pub(crate) fn item_node(
     nodes: &mut Nodes,
     row: u32,
 ) -> Result<WithItem, RowsError>
-    ensures { Gives (λ x. (item_view x, nodes_view nodes.new)) result (item_node row (items_view fields.now) (nodes_view nodes.old)) }
+    ensures { Gives (λ x. (item_view x, nodes_view nodes.new)) result
+        (item_node row (items_view fields.now) (nodes_view nodes.old)) }
 {
     let (context_expr, optional_vars) = two(fields, row)?;
     let context_expr = take_boxed_expr(alloc, context_expr, nodes, row)?;
@@ -53,7 +54,8 @@ pub(crate) fn handler_node(
     nodes: &mut Nodes,
     row: u32,
 ) -> Result<ExceptHandler, RowsError>
-    ensures { Gives (λ x. (handler_view x, nodes_view nodes.new)) result (handler_node row (items_view fields.now) (nodes_view nodes.old)) }
+    ensures { Gives (λ x. (handler_view x, nodes_view nodes.new)) result
+        (handler_node row (items_view fields.now) (nodes_view nodes.old)) }
 {
     let (type_, name, body) = three(fields, row)?;
     let type_ = take_optional_expr(alloc, type_, nodes, row)?;
@@ -70,7 +72,8 @@ pub(crate) fn case_node(
     nodes: &mut Nodes,
     row: u32,
 ) -> Result<MatchCase, RowsError>
-    ensures { Gives (λ x. (case_view x, nodes_view nodes.new)) result (case_node row (items_view fields.now) (nodes_view nodes.old)) }
+    ensures { Gives (λ x. (case_view x, nodes_view nodes.new)) result
+        (case_node row (items_view fields.now) (nodes_view nodes.old)) }
 {
     let field = one(fields, row)?;
     let body = take_stmts(alloc, field, nodes, row)?;
@@ -86,7 +89,8 @@ pub(crate) fn type_var_node(
     nodes: &mut Nodes,
     row: u32,
 ) -> Result<TypeParam, RowsError>
-    ensures { Gives (λ x. (type_param_tree x, nodes_view nodes.new)) result (type_var_node row location (items_view fields.now) (nodes_view nodes.old)) }
+    ensures { Gives (λ x. (type_param_tree x, nodes_view nodes.new)) result
+        (type_var_node row location (items_view fields.now) (nodes_view nodes.old)) }
 {
     let (name, bound) = two(fields, row)?;
     let name = text(alloc, name, row)?;
@@ -106,7 +110,8 @@ pub(crate) fn param_spec_node(
     fields: &[Value],
     row: u32,
 ) -> Result<TypeParam, RowsError>
-    ensures { Gives (λ x. type_param_tree x) result (param_spec_node row location (items_view fields.now)) }
+    ensures { Gives (λ x. type_param_tree x) result
+        (param_spec_node row location (items_view fields.now)) }
 {
     let field = one(fields, row)?;
     let name = text(alloc, field, row)?;
@@ -121,7 +126,8 @@ pub(crate) fn type_var_tuple_node(
     fields: &[Value],
     row: u32,
 ) -> Result<TypeParam, RowsError>
-    ensures { Gives (λ x. type_param_tree x) result (type_var_tuple_node row location (items_view fields.now)) }
+    ensures { Gives (λ x. type_param_tree x) result
+        (type_var_tuple_node row location (items_view fields.now)) }
 {
     let field = one(fields, row)?;
     let name = text(alloc, field, row)?;

@@ -28,7 +28,8 @@ pub(crate) fn return_node(
     nodes: &mut Nodes,
     row: u32,
 ) -> Result<Stmt, RowsError>
-    ensures { Gives (λ s. (stmt_tree s, nodes_view nodes.new)) result (return_node row location (items_view fields.now) (nodes_view nodes.old)) }
+    ensures { Gives (λ s. (stmt_tree s, nodes_view nodes.new)) result
+        (return_node row location (items_view fields.now) (nodes_view nodes.old)) }
 {
     let field = one(fields, row)?;
     let value = take_optional_expr(alloc, field, nodes, row)?;
@@ -44,7 +45,8 @@ pub(crate) fn delete_node(
     nodes: &mut Nodes,
     row: u32,
 ) -> Result<Stmt, RowsError>
-    ensures { Gives (λ s. (stmt_tree s, nodes_view nodes.new)) result (delete_node row location (items_view fields.now) (nodes_view nodes.old)) }
+    ensures { Gives (λ s. (stmt_tree s, nodes_view nodes.new)) result
+        (delete_node row location (items_view fields.now) (nodes_view nodes.old)) }
 {
     let field = one(fields, row)?;
     let targets = take_exprs(alloc, field, nodes, row)?;
@@ -60,7 +62,8 @@ pub(crate) fn assign_node(
     nodes: &mut Nodes,
     row: u32,
 ) -> Result<Stmt, RowsError>
-    ensures { Gives (λ s. (stmt_tree s, nodes_view nodes.new)) result (assign_node row location (items_view fields.now) (nodes_view nodes.old)) }
+    ensures { Gives (λ s. (stmt_tree s, nodes_view nodes.new)) result
+        (assign_node row location (items_view fields.now) (nodes_view nodes.old)) }
 {
     let (targets, value) = two(fields, row)?;
     let targets = take_exprs(alloc, targets, nodes, row)?;
@@ -81,7 +84,8 @@ pub(crate) fn type_alias_node(
     nodes: &mut Nodes,
     row: u32,
 ) -> Result<Stmt, RowsError>
-    ensures { Gives (λ s. (stmt_tree s, nodes_view nodes.new)) result (type_alias_node row location (items_view fields.now) (nodes_view nodes.old)) }
+    ensures { Gives (λ s. (stmt_tree s, nodes_view nodes.new)) result
+        (type_alias_node row location (items_view fields.now) (nodes_view nodes.old)) }
 {
     let (name, type_params, value) = three(fields, row)?;
     let name = take_boxed_expr(alloc, name, nodes, row)?;
@@ -104,7 +108,8 @@ pub(crate) fn aug_assign_node(
     nodes: &mut Nodes,
     row: u32,
 ) -> Result<Stmt, RowsError>
-    ensures { Gives (λ s. (stmt_tree s, nodes_view nodes.new)) result (aug_assign_node row location (items_view fields.now) (nodes_view nodes.old)) }
+    ensures { Gives (λ s. (stmt_tree s, nodes_view nodes.new)) result
+        (aug_assign_node row location (items_view fields.now) (nodes_view nodes.old)) }
 {
     let (target, op, value) = three(fields, row)?;
     let target = take_boxed_expr(alloc, target, nodes, row)?;
@@ -127,7 +132,8 @@ pub(crate) fn ann_assign_node(
     nodes: &mut Nodes,
     row: u32,
 ) -> Result<Stmt, RowsError>
-    ensures { Gives (λ s. (stmt_tree s, nodes_view nodes.new)) result (ann_assign_node row location (items_view fields.now) (nodes_view nodes.old)) }
+    ensures { Gives (λ s. (stmt_tree s, nodes_view nodes.new)) result
+        (ann_assign_node row location (items_view fields.now) (nodes_view nodes.old)) }
 {
     let (target, annotation, value, simple) = four(fields, row)?;
     let target = take_boxed_expr(alloc, target, nodes, row)?;
@@ -152,7 +158,8 @@ pub(crate) fn raise_node(
     nodes: &mut Nodes,
     row: u32,
 ) -> Result<Stmt, RowsError>
-    ensures { Gives (λ s. (stmt_tree s, nodes_view nodes.new)) result (raise_node row location (items_view fields.now) (nodes_view nodes.old)) }
+    ensures { Gives (λ s. (stmt_tree s, nodes_view nodes.new)) result
+        (raise_node row location (items_view fields.now) (nodes_view nodes.old)) }
 {
     let (exc, cause) = two(fields, row)?;
     let exc = take_optional_expr(alloc, exc, nodes, row)?;
@@ -173,7 +180,8 @@ pub(crate) fn assert_node(
     nodes: &mut Nodes,
     row: u32,
 ) -> Result<Stmt, RowsError>
-    ensures { Gives (λ s. (stmt_tree s, nodes_view nodes.new)) result (assert_node row location (items_view fields.now) (nodes_view nodes.old)) }
+    ensures { Gives (λ s. (stmt_tree s, nodes_view nodes.new)) result
+        (assert_node row location (items_view fields.now) (nodes_view nodes.old)) }
 {
     let (test, msg) = two(fields, row)?;
     let test = take_boxed_expr(alloc, test, nodes, row)?;
@@ -194,7 +202,8 @@ pub(crate) fn import_node(
     nodes: &mut Nodes,
     row: u32,
 ) -> Result<Stmt, RowsError>
-    ensures { Gives (λ s. (stmt_tree s, nodes_view nodes.new)) result (import_node row location (items_view fields.now) (nodes_view nodes.old)) }
+    ensures { Gives (λ s. (stmt_tree s, nodes_view nodes.new)) result
+        (import_node row location (items_view fields.now) (nodes_view nodes.old)) }
 {
     let field = one(fields, row)?;
     let names = take_aliases(alloc, field, nodes, row)?;
@@ -210,7 +219,8 @@ pub(crate) fn import_from_node(
     nodes: &mut Nodes,
     row: u32,
 ) -> Result<Stmt, RowsError>
-    ensures { Gives (λ s. (stmt_tree s, nodes_view nodes.new)) result (import_from_node row location (items_view fields.now) (nodes_view nodes.old)) }
+    ensures { Gives (λ s. (stmt_tree s, nodes_view nodes.new)) result
+        (import_from_node row location (items_view fields.now) (nodes_view nodes.old)) }
 {
     let (module, names, level_field) = three(fields, row)?;
     let module = optional_text(alloc, module, row)?;
@@ -263,7 +273,8 @@ pub(crate) fn expr_stmt_node(
     nodes: &mut Nodes,
     row: u32,
 ) -> Result<Stmt, RowsError>
-    ensures { Gives (λ s. (stmt_tree s, nodes_view nodes.new)) result (expr_stmt_node row location (items_view fields.now) (nodes_view nodes.old)) }
+    ensures { Gives (λ s. (stmt_tree s, nodes_view nodes.new)) result
+        (expr_stmt_node row location (items_view fields.now) (nodes_view nodes.old)) }
 {
     let field = one(fields, row)?;
     let value = take_boxed_expr(alloc, field, nodes, row)?;

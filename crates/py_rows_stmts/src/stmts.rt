@@ -15,7 +15,7 @@ use crate::simple::{
     delete_node, expr_stmt_node, global_node, import_from_node, import_node, nonlocal_node,
     pass_node, raise_node, return_node, type_alias_node,
 };
-use py_rows_fields::{RowsError, StmtKind, behind_place, place};
+use py_rows_fields::{RowsError, StmtKind, after_place, place};
 use py_rows_slots::Nodes;
 use py_tree::{SourceLocation, Stmt};
 use serde_json::Value;
@@ -30,7 +30,8 @@ fn stmt_of_kind(
     nodes: &mut Nodes,
     row: u32,
 ) -> Result<Stmt, RowsError>
-    ensures { Gives (λ s. (stmt_tree s, nodes_view nodes.new)) result (stmt_of_kind row kind location (items_view fields.now) (nodes_view nodes.old)) }
+    ensures { Gives (λ s. (stmt_tree s, nodes_view nodes.new)) result
+        (stmt_of_kind row kind location (items_view fields.now) (nodes_view nodes.old)) }
 {
     match kind {
         StmtKind::FunctionDef => function_def_node(alloc, location, fields, nodes, row),
@@ -72,9 +73,10 @@ pub(crate) fn stmt_node(
     nodes: &mut Nodes,
     row: u32,
 ) -> Result<Stmt, RowsError>
-    ensures { Gives (λ s. (stmt_tree s, nodes_view nodes.new)) result (stmt_node row kind (items_view fields.now) (nodes_view nodes.old)) }
+    ensures { Gives (λ s. (stmt_tree s, nodes_view nodes.new)) result
+        (stmt_node row kind (items_view fields.now) (nodes_view nodes.old)) }
 {
     let location = place(fields, row)?;
-    let own = behind_place(fields, row)?;
+    let own = after_place(fields, row)?;
     stmt_of_kind(alloc, kind, location, own, nodes, row)
 }

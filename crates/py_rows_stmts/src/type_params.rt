@@ -6,7 +6,7 @@ ghost use Rattle.py_rows_stmts.specs.TypeParams.{type_param_node, type_param_of_
 ghost use Rattle.py_rows_slots.specs.Nodes.{nodes_view};
 
 use crate::pieces::{param_spec_node, type_var_node, type_var_tuple_node};
-use py_rows_fields::{RowsError, TypeParamKind, behind_place, place};
+use py_rows_fields::{RowsError, TypeParamKind, after_place, place};
 use py_rows_slots::Nodes;
 use py_tree::{SourceLocation, TypeParam};
 use serde_json::Value;
@@ -21,7 +21,8 @@ fn type_param_of_kind(
     nodes: &mut Nodes,
     row: u32,
 ) -> Result<TypeParam, RowsError>
-    ensures { Gives (λ x. (type_param_tree x, nodes_view nodes.new)) result (type_param_of_kind row kind location (items_view fields.now) (nodes_view nodes.old)) }
+    ensures { Gives (λ x. (type_param_tree x, nodes_view nodes.new)) result
+        (type_param_of_kind row kind location (items_view fields.now) (nodes_view nodes.old)) }
 {
     match kind {
         TypeParamKind::TypeVar => type_var_node(alloc, location, fields, nodes, row),
@@ -38,9 +39,10 @@ pub(crate) fn type_param_node(
     nodes: &mut Nodes,
     row: u32,
 ) -> Result<TypeParam, RowsError>
-    ensures { Gives (λ x. (type_param_tree x, nodes_view nodes.new)) result (type_param_node row kind (items_view fields.now) (nodes_view nodes.old)) }
+    ensures { Gives (λ x. (type_param_tree x, nodes_view nodes.new)) result
+        (type_param_node row kind (items_view fields.now) (nodes_view nodes.old)) }
 {
     let location = place(fields, row)?;
-    let own = behind_place(fields, row)?;
+    let own = after_place(fields, row)?;
     type_param_of_kind(alloc, kind, location, own, nodes, row)
 }

@@ -76,7 +76,7 @@ pub line_is : (o : Option Due) (line : List ℕ) (P : List ℕ → Type 0) → I
 line_is None line P h p = tt
 line_is (Some d) line P h p = subst P (sym h.is) p
 
--- where a line is due it stands on the sink of errors; or the bytes are not told
+-- where a line is due it stands on the sink of errors; or the bytes are not reported
 pub line_side : (form : Option Command) (o : Option Due) (line : List ℕ) (P : Written → Type 0) → IfSome o (LineDue line) → P Line → P Either → P (side form None o)
 line_side None o line P h p q = p
 line_side (Some (Compile c)) o line P h p q = p
@@ -142,7 +142,7 @@ told_text_is None o text P h p = tt
 told_text_is (Some c) None text P h p = tt
 told_text_is (Some c) (Some d) text P h p = let Q : Due → Type 0 = λ e. P (told_text e) in subst Q (sym h) p
 
--- the text of a report on names stands on the sink of texts; or the bytes are not told
+-- the text of a report on names stands on the sink of texts; or the bytes are not reported
 pub told_side_is : (form : Option Command) (o : Option Due) (text : List ℕ) (P : Written → Type 0) → form ≡ Some Names → IfSome o (λ d. d ≡ Told text) → P Text → P Either → P (side form None o)
 told_side_is form o text P e h p q = let Q : Option Command → Type 0 = λ f. P (side f None o) in subst Q (sym e) (told_in o text P h p q)
   where

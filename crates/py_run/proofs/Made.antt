@@ -81,7 +81,9 @@ misread_rows e p rows k h t c f = subst (λ r. Readies c p (by_rows f r)) (sym (
 pub compiled_due : (code : CodeObject) (c : Compilation) (t : tree.Mod) → IsCompiled (Ok code) t c.path c.mode c.level → IsCodeOf (due_code c t) code
 compiled_due code c t h = subst (λ fs. IsCodeOf (unless_refused (Compiled c t) fs) code) (sym h.clean) h
 
-pub refused_due : (e : LocatedError CodegenErrorType) (c : Compilation) (t : tree.Mod) (p : Prepared) → e.error ≢ error.OutOfMemory → IsFirst e (faults t c.mode c.level) → RefusesTree p (record { error = e.error; location = e.location }) → Compiles (Err p) (due_code c t)
+pub refused_due : (e : LocatedError CodegenErrorType) (c : Compilation) (t : tree.Mod) (p : Prepared) → e.error ≢ error.OutOfMemory
+    → IsFirst e (faults t c.mode c.level) → RefusesTree p (record { error = e.error; location = e.location })
+    → Compiles (Err p) (due_code c t)
 refused_due e c t p k h r = λ command takes.
     let first = h k in
     subst (λ fs. Readies command p (unless_refused (Compiled c t) fs)) (sym first.1) (refuses command p _ takes r)

@@ -26,7 +26,8 @@ pub room_done : (room : Option ℕ) (text : List ℕ) (before now : ℕ) (r : Re
 room_done None text before now r h = tt
 room_done (Some n) text before now r h = λ l. (refl, (h l).1)
 
-pub no_room : (room : Option ℕ) (text : List ℕ) (s : Status) (before now : ℕ) (e : WriteFailed) → IfSome room (λ n. length text ≤ n → IsOk {T = Unit {0}} {E = WriteFailed} (Err e) × (now ≡ before)) → HasRoom s room before now text
+pub no_room : (room : Option ℕ) (text : List ℕ) (s : Status) (before now : ℕ) (e : WriteFailed)
+    → IfSome room (λ n. length text ≤ n → IsOk {T = Unit {0}} {E = WriteFailed} (Err e) × (now ≡ before)) → HasRoom s room before now text
 no_room None text s before now e h = tt
 no_room (Some n) text s before now e h = λ l. absurd (not_ok e (h l).0)
 
@@ -35,7 +36,9 @@ pub room_for : (room : Option ℕ) (line : List ℕ) (s : Status) (before now : 
 room_for None line s before now r d h = tt
 room_for (Some n) line s before now r d h = λ l. (d, (h l).1)
 
-pub no_room_for : (room : Option ℕ) (line : List ℕ) (before now : ℕ) (e : WriteFailed) → IfSome room (λ n. length line ≤ n → IsOk {T = Unit {0}} {E = WriteFailed} (Err e) × (now ≡ before)) → HasLineRoom status.WriteFault room before now line
+pub no_room_for : (room : Option ℕ) (line : List ℕ) (before now : ℕ) (e : WriteFailed)
+    → IfSome room (λ n. length line ≤ n → IsOk {T = Unit {0}} {E = WriteFailed} (Err e) × (now ≡ before))
+    → HasLineRoom status.WriteFault room before now line
 no_room_for None line before now e h = tt
 no_room_for (Some n) line before now e h = λ l. absurd (not_ok e (h l).0)
 

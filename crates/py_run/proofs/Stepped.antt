@@ -1,4 +1,4 @@
--- Both runs over a script are told alike, and stand in the text that is due.
+-- Both runs over a script are reported alike, and stand in the text that is due.
 use Rattle.std.proofs.Common.{◌≡◌, ◌∙◌, sym, ap, ℕ, List, [], ◌∷◌, Option, None, Some, IfSome, Ok}
 use Rattle.py_tree.specs.Tree as tree
 use Rattle.py_bytecode.specs.View.{object}
@@ -10,7 +10,7 @@ use Rattle.py_answers.specs.declared.answers.Answer.{Answer}
 use Rattle.py_answers.specs.Scripts.{answers_of}
 use Rattle.py_step.proofs.Told.{agreement_told_alike}
 use Rattle.py_step.specs.Reports.{report_text}
-use Rattle.py_interp.proofs.Walked.{meanings_walk}
+use Rattle.py_interp.proofs.InterpreterLemmas.{interprets_meanings}
 use Rattle.py_interp.specs.Statements.{tree_run}
 use Rattle.codegen.specs.Calls.{IsCompiled}
 use Rattle.py_run.specs.Prepared.{IsTextOf}
@@ -36,7 +36,7 @@ means c script Misuse code h = tt
 means c script (Misread text) code h = tt
 means c script (Refused f) code h = tt
 means c script (Compiled k t) code h = λ scopes.
-    sym (agreement_told_alike (object code) (scopes_of t) t k.mode k.level h.agrees (answers_of script) ∙ meanings_walk scopes t k.mode k.level (answers_of script))
+    sym (agreement_told_alike (object code) (scopes_of t) t k.mode k.level h.agrees (answers_of script) ∙ interprets_meanings scopes t k.mode k.level (answers_of script))
 means c script (Spelled bytes o) code h = tt
 means c script (Told text) code h = tt
 

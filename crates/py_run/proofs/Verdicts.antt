@@ -65,8 +65,8 @@ pub fault_form : (words : List (List ℕ)) (c : Command) → words_form words �
 fault_form words c w t = formed words c made.ReadFault w t
 
 -- where there is input, some is read
-pub reads : {A : Type 0} (words : List (List ℕ)) (c : Command) → words_form words ≡ Some c → takes_input c ≡ true → reads_input (words_form words) ≡ false → A
-reads words c w t none = absurd (true≢false (sym t ∙ sym (ap reads_input w) ∙ none))
+pub verdict_reads : {A : Type 0} (words : List (List ℕ)) (c : Command) → words_form words ≡ Some c → takes_input c ≡ true → reads_input (words_form words) ≡ false → A
+verdict_reads words c w t none = absurd (true≢false (sym t ∙ sym (ap reads_input w) ∙ none))
 
 pub alone_form : (words : List (List ℕ)) (c : Command) (p : Prepared) → words_form words ≡ Some c → takes_input c ≡ false → Readies c p (due_answer c []) → HasForm p (words_form words)
 alone_form words c p w t h = formed words c p w (fits_alone c p t h)
@@ -102,6 +102,8 @@ all_read words c (Some xs) (Some ys) bytes p w t l h e r =
     rw (w, t, same) (unless_failed c p (due c bytes) (subst (Readies c p) (short_due c bytes l) r))
 
 -- too much was left
-pub too_long : (words : List (List ℕ)) (c : Command) (left : Option (List ℕ)) (p : Prepared) → words_form words ≡ Some c → takes_input c ≡ true → IfSome left (λ xs. 2 ^ 26 ≤ length xs) → Readies c p (Misread (codes "too long")) → IfSome (due_of words left) (Prepares p)
+pub too_long : (words : List (List ℕ)) (c : Command) (left : Option (List ℕ)) (p : Prepared) → words_form words ≡ Some c
+    → takes_input c ≡ true → IfSome left (λ xs. 2 ^ 26 ≤ length xs) → Readies c p (Misread (codes "too long"))
+    → IfSome (due_of words left) (Prepares p)
 too_long words c None p w t l r = rw (w, t) tt
 too_long words c (Some xs) p w t l r = rw (w, t) (unless_failed c p (due c xs) (subst (Readies c p) (long_due c xs l) r))

@@ -73,7 +73,7 @@ Readies c made.Memory d = Unit {0}
 
 -- ---- steps on the way
 
--- a line that tells what is wrong with the input, unless memory ran out
+-- a line that says what is wrong with the input, unless memory ran out
 abbrev pub TellsFault : Prepared → (text : List ℕ) → Type 0
 TellsFault (made.Misread line) text = string_bytes line ≡ input_line text
 TellsFault made.Memory text = Unit {0}

@@ -119,7 +119,7 @@ abbrev pub due_by : Option Command → Option (List ℕ) → Option Due
 due_by None left = Some Misuse
 due_by (Some c) left = if takes_input c then option_map (due c) left else Some (due_answer c [])
 
--- so it is known where the words need no bytes, or the bytes are told
+-- so it is known where the words need no bytes, or the bytes are reported
 abbrev pub due_of : List (List ℕ) → Option (List ℕ) → Option Due
 due_of words left = due_by (words_form words) left
 
@@ -134,7 +134,7 @@ IsCodeOf (Compiled c t) code = IsCompiled (Ok code) t c.path c.mode c.level
 IsCodeOf (Spelled bytes o) code = (object code ≡ o) × Spells bytes o × Flawless o
 IsCodeOf (Told text) code = ⊥
 
--- the run of a code over some answers, as it is told
+-- the run of a code over some answers, as it is reported
 abbrev pub code_run : Object → List values.Answer → values.Ran Known
 code_run o answers = short (machine o answers)
 
@@ -147,7 +147,7 @@ code_text Unpack o = listing o
 code_text Names o = []
 code_text (Sample count level) o = summary count o
 
--- what is so of that code whatever the source tells; the report on names reports no code
+-- what is so of that code whatever the source gives; the report on names reports no code
 abbrev pub IsReported : Command → Object → Type 0
 IsReported (Compile c) o = Unit {0}
 IsReported (Pack c) o = Spells (file_spelling o) o
@@ -156,7 +156,7 @@ IsReported Unpack o = Flawless o
 IsReported Names o = ⊥
 IsReported (Sample count level) o = Unit {0}
 
--- over the script, the tree that is due means what the code does, as both runs are told
+-- over the script, the tree that is due means what the code does, as both runs are reported
 abbrev pub MeansAlike : Option Command → Due → CodeObject → Type 0
 MeansAlike (Some (Step c script)) (Compiled k t) code =
     (scopes : List ScopeEntry) → short (meaning (body scopes t k.mode k.level) (answers_of script)) ≡ short (machine (object code) (answers_of script))

@@ -72,20 +72,20 @@ IsFit asked_for.Names = Unit {0}
 IsFit (asked_for.Sample s) = s.count < 2 ^ 17
 
 -- the number that decimal digits say after a number
-abbrev pub number_behind : (high : ℕ) → List ℕ → ℕ
-number_behind high [] = high
-number_behind high (c ∷ cs) = number_behind (high * 10 + (c - 48)) cs
+abbrev pub number_after : (high : ℕ) → List ℕ → ℕ
+number_after high [] = high
+number_after high (c ∷ cs) = number_after (high * 10 + (c - 48)) cs
 
 -- one digit after a number, and digits alone, where the number stays below 2 ^ 17
 abbrev pub with_digit : (high byte : ℕ) → Option ℕ
 with_digit high byte = if is_ascii_digit byte && nat_lt (high * 10 + (byte - 48)) (2 ^ 17) then Some (high * 10 + (byte - 48)) else None
 
-abbrev pub count_behind : (high : ℕ) → List ℕ → Option ℕ
-count_behind high word = if list_all is_ascii_digit word && nat_lt (number_behind high word) (2 ^ 17) then Some (number_behind high word) else None
+abbrev pub count_after : (high : ℕ) → List ℕ → Option ℕ
+count_after high word = if list_all is_ascii_digit word && nat_lt (number_after high word) (2 ^ 17) then Some (number_after high word) else None
 
 -- one digit or more, whose number is below 2 ^ 17
 abbrev pub count_of : List ℕ → Option ℕ
-count_of word = if length word == 0 then None else count_behind 0 word
+count_of word = if length word == 0 then None else count_after 0 word
 
 -- a mode, a level and any path
 abbrev pub compilation_of : (mode level path : List ℕ) → Option Compilation

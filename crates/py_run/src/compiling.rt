@@ -21,7 +21,8 @@ use std::alloc::Global;
 /// The code of the rows with its listing, or why there is none.
 pub fn compiled(alloc: Global, compilation: &Compilation<'_>, bytes: &[u8]) -> Prepared
     requires { length bytes.now < 2 ^ 26 }
-    ensures { Readies (Compile (compilation_view compilation.now)) result (by_rows (due_code (compilation_view compilation.now)) (rows_tree bytes.now)) }
+    ensures { Readies (Compile (compilation_view compilation.now)) result
+        (by_rows (due_code (compilation_view compilation.now)) (rows_tree bytes.now)) }
 {
     match code_of(alloc, compilation, bytes) {
         Ok(code) => listed(alloc, code),
@@ -32,7 +33,8 @@ pub fn compiled(alloc: Global, compilation: &Compilation<'_>, bytes: &[u8]) -> P
 /// The code of the rows with its file, or why there is none.
 pub fn packed(alloc: Global, compilation: &Compilation<'_>, bytes: &[u8]) -> Prepared
     requires { length bytes.now < 2 ^ 26 }
-    ensures { Readies (Pack (compilation_view compilation.now)) result (by_rows (due_code (compilation_view compilation.now)) (rows_tree bytes.now)) }
+    ensures { Readies (Pack (compilation_view compilation.now)) result
+        (by_rows (due_code (compilation_view compilation.now)) (rows_tree bytes.now)) }
 {
     match code_of(alloc, compilation, bytes) {
         Ok(code) => in_file(alloc, code),
@@ -50,7 +52,8 @@ fn code_of(
     bytes: &[u8],
 ) -> Result<CodeObject, Prepared>
     requires { length bytes.now < 2 ^ 26 }
-    ensures { Compiles result (by_rows (due_code (compilation_view compilation.now)) (rows_tree bytes.now)) }
+    ensures { Compiles result (by_rows (due_code (compilation_view compilation.now))
+        (rows_tree bytes.now)) }
 {
     let tree = tree_of(alloc, bytes)?;
     let code = code_of_tree(alloc, compilation, &tree);

@@ -1,6 +1,6 @@
 //! Numbers among the words.
 ghost use Rattle.std.specs.Prelude.{◌≡◌, ◌<◌, ◌^◌, IfSome};
-ghost use Rattle.py_run.specs.Words.{count_behind, count_of, with_digit};
+ghost use Rattle.py_run.specs.Words.{count_after, count_of, with_digit};
 
 /// A sample has fewer statements.
 const COUNT_LIMIT: u32 = 1 << 17;
@@ -19,7 +19,7 @@ pub(crate) fn count_of(word: &str) -> Option<u32>
 /// The number that the digits say.
 #[tactic(auto, using(crate::proofs::WordNumberLemmas::word_number_counting))]
 fn count_in(digits: &[u8]) -> Option<u32>
-    ensures value { result ≡ count_behind 0 digits.now }
+    ensures value { result ≡ count_after 0 digits.now }
     ensures few { IfSome result (λ n. n < 2 ^ 17) }
 {
     let mut count = 0;

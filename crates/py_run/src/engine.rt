@@ -31,7 +31,8 @@ pub fn run<S: Source, O: Sink, E: Sink>(
     ensures form { FitsForm result.status (words_form words.now) }
     ensures due { IfSome (due_of words.now (S.left source.old)) (IsDue result.status) }
     ensures read { ReadCause result.status (S.faults source.old) (S.faults source.new) }
-    ensures write { WriteCause result.status (written_sides words.now (S.left source.old) result) (O.faults out.old) (O.faults out.new) (E.faults err.old) (E.faults err.new) }
+    ensures write { WriteCause result.status (written_sides words.now (S.left source.old) result)
+        (O.faults out.old) (O.faults out.new) (E.faults err.old) (E.faults err.new) }
 
     // Which code is reported: the one that is due, and one that is as the command asks.
     ensures reported { Reports result.status (words_form words.now) result.code }
@@ -44,22 +45,30 @@ pub fn run<S: Source, O: Sink, E: Sink>(
         (λ code. IfSome (due_of words.now (S.left source.old)) (λ d. MeansAlike (words_form words.now) d code)) }
 
     // What is written: the text that is due, or the line.
-    ensures out { OutGets (written_sides words.now (S.left source.old) result) result.status (text_of words.now (S.left source.old) result.code) (O.held out.old) (O.held out.new) }
-    ensures err { ErrGets (written_sides words.now (S.left source.old) result) result.status (line_of words.now (S.left source.old)) (E.held err.old) (E.held err.new) }
+    ensures out { OutGets (written_sides words.now (S.left source.old) result) result.status
+        (text_of words.now (S.left source.old) result.code) (O.held out.old) (O.held out.new) }
+    ensures err { ErrGets (written_sides words.now (S.left source.old) result) result.status
+        (line_of words.now (S.left source.old)) (E.held err.old) (E.held err.new) }
 
     // Nothing else is touched.
     ensures unread { reads_input (words_form words.now) ≡ false → source.new ≡ source.old }
-    ensures no_text { IsTextless (written_sides words.now (S.left source.old) result) → out.new ≡ out.old }
-    ensures no_line { IsLineless (written_sides words.now (S.left source.old) result) → err.new ≡ err.old }
+    ensures no_text { IsTextless (written_sides words.now (S.left source.old) result)
+        → out.new ≡ out.old }
+    ensures no_line { IsLineless (written_sides words.now (S.left source.old) result)
+        → err.new ≡ err.old }
 
     // Reading ends at the first of a read that gives no byte, a failed read and 2^26 bytes.
     ensures in_time { S.ended source.old ≡ false → S.late source.new ≡ S.late source.old }
-    ensures taken { TakesFew (S.left source.old) (S.left source.new) (S.ended source.old) (S.ended source.new) }
+    ensures taken { TakesFew (S.left source.old) (S.left source.new) (S.ended source.old)
+        (S.ended source.new) }
 
     // Always where a call failed.
-    ensures reads { NoReadFailed result.status S.counts_failures (S.faults source.old) (S.faults source.new) }
-    ensures writes { NoWriteFailed result.status O.counts_failures (O.faults out.old) (O.faults out.new) }
-    ensures lines { NoWriteFailed result.status E.counts_failures (E.faults err.old) (E.faults err.new) }
+    ensures reads { NoReadFailed result.status S.counts_failures (S.faults source.old)
+        (S.faults source.new) }
+    ensures writes { NoWriteFailed result.status O.counts_failures (O.faults out.old)
+        (O.faults out.new) }
+    ensures lines { NoWriteFailed result.status E.counts_failures (E.faults err.old)
+        (E.faults err.new) }
 
     // A sink whose said room holds what is written on it takes it whole, and counts no fault.
     ensures room { written_sides words.now (S.left source.old) result ≡ Text → IfSome (text_of words.now (S.left source.old) result.code)

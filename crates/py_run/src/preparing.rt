@@ -50,7 +50,8 @@ pub fn prepare<S: Source>(alloc: Global, words: &Words, source: &mut S) -> Prepa
     ensures due { IfSome (due_of words.now (S.left source.old)) (Prepares result) }
     ensures reads { ReadsOf result S.counts_failures (S.faults source.old) (S.faults source.new) }
     ensures in_time { S.ended source.old ≡ false → S.late source.new ≡ S.late source.old }
-    ensures taken { TakesFew (S.left source.old) (S.left source.new) (S.ended source.old) (S.ended source.new) }
+    ensures taken { TakesFew (S.left source.old) (S.left source.new) (S.ended source.old)
+        (S.ended source.new) }
     ensures unread { reads_input (words_form words.now) ≡ false → source.new ≡ source.old }
 {
     let Some(command) = parse(words) else {
@@ -70,7 +71,8 @@ pub fn prepare<S: Source>(alloc: Global, words: &Words, source: &mut S) -> Prepa
 fn answered(alloc: Global, command: &Command<'_>, bytes: &[u8]) -> Prepared
     requires short { length bytes.now < 2 ^ 26 }
     requires fit { IsFit command.now }
-    ensures { Readies (command_view command.now) result (due_answer (command_view command.now) bytes.now) }
+    ensures { Readies (command_view command.now) result
+        (due_answer (command_view command.now) bytes.now) }
 {
     match command {
         Command::Compile(compilation) => compiled(alloc, compilation, bytes),

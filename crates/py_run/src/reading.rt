@@ -43,12 +43,16 @@ pub fn read_all<S: Source>(alloc: Global, source: &mut S) -> Result<Vec<u8>, Rea
     ensures whole { IfOk result (λ v. Consumes (S.left source.old) (S.left source.new) v.items) }
     ensures end { OnOk result (IsAtEnd (S.left source.new)) }
     ensures short { IfOk result (λ v. length v.items < 2 ^ 26) }
-    ensures long { IsErrOf result ReadError.TooLong → IfSome (S.left source.old) (λ xs. 2 ^ 26 ≤ length xs) }
-    ensures fault { IsErrOf result ReadError.Failed → Rose (S.faults source.old) (S.faults source.new) }
+    ensures long { IsErrOf result ReadError.TooLong
+        → IfSome (S.left source.old) (λ xs. 2 ^ 26 ≤ length xs) }
+    ensures fault { IsErrOf result ReadError.Failed
+        → Rose (S.faults source.old) (S.faults source.new) }
     ensures later { S.faults source.old ≤ S.faults source.new }
-    ensures still { ReadsStill S.counts_failures (S.faults source.old) (S.faults source.new) result }
+    ensures still { ReadsStill S.counts_failures (S.faults source.old)
+        (S.faults source.new) result }
     ensures in_time { S.ended source.old ≡ false → S.late source.new ≡ S.late source.old }
-    ensures taken { TakesFew (S.left source.old) (S.left source.new) (S.ended source.old) (S.ended source.new) }
+    ensures taken { TakesFew (S.left source.old) (S.left source.new) (S.ended source.old)
+        (S.ended source.new) }
 {
     let mut found = Vec::new(alloc);
     let mut buf = [0u8; PIECE];

@@ -28,7 +28,9 @@ pub fn stepped(
 ) -> Prepared
     requires script { is_some (script_in script.now) ≡ true }
     requires short { length bytes.now < 2 ^ 26 }
-    ensures { Readies (Step (compilation_view compilation.now) (answers_or_none (script_in script.now))) result (by_rows (due_code (compilation_view compilation.now)) (rows_tree bytes.now)) }
+    ensures { Readies (Step (compilation_view compilation.now)
+        (answers_or_none (script_in script.now))) result
+        (by_rows (due_code (compilation_view compilation.now)) (rows_tree bytes.now)) }
 {
     let script = match Script::parse(alloc, script.as_str()) {
         Ok(Some(script)) => script,
@@ -47,7 +49,8 @@ pub fn stepped(
 
 /// The code of a tree with the lines of both runs.
 fn run_both(alloc: Global, compilation: &Compilation<'_>, script: &Script, tree: &Mod) -> Prepared
-    ensures { Readies (Step (compilation_view compilation.now) script.now.answers) result (due_code (compilation_view compilation.now) (mod_tree tree.now)) }
+    ensures { Readies (Step (compilation_view compilation.now) script.now.answers) result
+        (due_code (compilation_view compilation.now) (mod_tree tree.now)) }
 {
     match code_of_tree(alloc, compilation, tree) {
         Ok(code) => match step_lines(alloc, &code, compilation, script, tree) {
@@ -69,7 +72,10 @@ fn step_lines(
     script: &Script,
     tree: &Mod,
 ) -> Result<String, AllocError>
-    ensures { IfOk result (λ s. string_bytes s ≡ report_text (code_run (object code.now) (answers_of script.now.answers)) (tree_run (mod_tree tree.now) compilation.now.mode compilation.now.level (answers_of script.now.answers))) }
+    ensures { IfOk result (λ s. string_bytes s
+        ≡ report_text (code_run (object code.now) (answers_of script.now.answers))
+        (tree_run (mod_tree tree.now) compilation.now.mode compilation.now.level
+        (answers_of script.now.answers))) }
 {
     let report = run_script(
         alloc,

@@ -124,7 +124,8 @@ fn step_of<'a>(
     path: &'a Text,
     script: &'a Text,
 ) -> Option<Command<'a>>
-    ensures form { option_map command_view result ≡ step_of word.now mode.now level.now path.now script.now }
+    ensures form { option_map command_view result
+        ≡ step_of word.now mode.now level.now path.now script.now }
     ensures fit { IfSome result IsFit }
 {
     if word.as_str() == "step" && is_script(script.as_str()) {

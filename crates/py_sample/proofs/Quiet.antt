@@ -17,7 +17,7 @@ use Rattle.py_scope.specs.Checks.{entries_of, first_by, first_wrong, hides, is_t
 use Rattle.py_scope.specs.Declarations.{bits_of, refused_plain, refused_use}
 use Rattle.py_scope.specs.Lifts.{first_of_two, first_refusal, kind_of, lifted_all, lifts, or_absent, walruses, walruses_of}
 use Rattle.py_scope.specs.Marks.{from_scope, is_class}
-use Rattle.py_scope.specs.Names.{Name, class_cell, lookup, put, same_name}
+use Rattle.py_scope.specs.Names.{Name, class_cell, lookup, put_value, same_name}
 use Rattle.py_scope.specs.Outward.{look_from, parents}
 use Rattle.py_scope.specs.Resolved.{each_row, first_fault_of, lifted_rows}
 use Rattle.py_scope.specs.Roles.{bound_opt, declares, flags_of, register, with_role}
@@ -58,7 +58,13 @@ no_bits a f m e g = intersects-or a f m ∙ (λ j. e j || g j)
 
 with_role_quiet : (r : Role) → IsUse r → (o : Option Entry) → IfSome o IsQuietEntry → IsQuietEntry (with_role r (or_absent o))
 with_role_quiet r u None q = record { holds = u.keeps Plain; unstored = no_bits 0 (flags_of r) 0x040 refl u.unstored; uniterated = no_bits 0 (flags_of r) 0x080 refl u.uniterated }
-with_role_quiet r u (Some e) q = record { holds = u.keeps e.holds ∙ q.holds; unstored = no_bits e.roles.0 (flags_of r) 0x040 q.unstored u.unstored; uniterated = no_bits e.roles.0 (flags_of r) 0x080 q.uniterated u.uniterated }
+with_role_quiet r u (Some e) q =
+    record {
+      holds = u.keeps e.holds ∙ q.holds;
+      unstored = no_bits e.roles.0 (flags_of r) 0x040 q.unstored u.unstored;
+      uniterated =
+          no_bits e.roles.0 (flags_of r) 0x080 q.uniterated u.uniterated;
+    }
 
 uniterated_opt : (o : Option Entry) → IfSome o IsQuietEntry → intersects (bits_of o) 0x080 ≡ false
 uniterated_opt None q = refl
@@ -72,11 +78,11 @@ lookup_quiet n (e ∷ es) q = by (same_name n e.0) (lookup_quiet n es q.1)
     by true h = q.0
     by false h = h
 
-put_quiet : (n : Name) (v : Entry) → IsQuietEntry v → (es : List (Name × Entry)) → AreQuiet es → AreQuiet (put es n v)
+put_quiet : (n : Name) (v : Entry) → IsQuietEntry v → (es : List (Name × Entry)) → AreQuiet es → AreQuiet (put_value es n v)
 put_quiet n v h [] q = (h, tt)
 put_quiet n v h (e ∷ es) q = by (same_name n e.0) (put_quiet n v h es q.1)
   where
-    by : (b : Bool) → AreQuiet (put es n v) → AreQuiet (if b then (e.0, v) ∷ es else e ∷ put es n v)
+    by : (b : Bool) → AreQuiet (put_value es n v) → AreQuiet (if b then (e.0, v) ∷ es else e ∷ put_value es n v)
     by true k = (h, q.1)
     by false k = (q.0, k)
 
@@ -105,7 +111,9 @@ quiet_allowed r u n None q = refl
 quiet_allowed r u n (Some row) q =
     ap (refused_use row.kind (lookup n row.entries) n) (u.same row.kind)
     ∙ u.plain row.kind (lookup n row.entries) n
-    ∙ ap (λ b. if b && intersects (bit_or (bits_of (lookup n row.entries)) (flags_of r)) 0x002 then Some refusal.IteratedAndAssigned else None) (no_bits (bits_of (lookup n row.entries)) (flags_of r) 0x080 (uniterated_opt (lookup n row.entries) (lookup_quiet n row.entries q.entries)) u.uniterated)
+    ∙ ap (λ b. if b && intersects (bit_or (bits_of (lookup n row.entries)) (flags_of r)) 0x002 then Some refusal.IteratedAndAssigned
+    else None) (no_bits (bits_of (lookup n row.entries)) (flags_of r) 0x080
+    (uniterated_opt (lookup n row.entries) (lookup_quiet n row.entries q.entries)) u.uniterated)
 
 pub changed_quiet : (f : Row → Row) → ((row : Row) → IsQuietRow row → IsQuietRow (f row)) → (i : ℕ) (rows : List Row) → AllOf IsQuietRow rows → AllOf IsQuietRow (changed_at f i rows)
 changed_quiet f h i [] q = tt
@@ -133,7 +141,7 @@ kind_quiet (Some row) q = q.kind
 
 quiet_shown : (kind : SymbolTableType) (o : Option Row) (n : Name) (e : Entry) → is_type_params kind ≡ false → hides kind o n e ≡ false
 quiet_shown kind None n e h = refl
-quiet_shown kind (Some around) n e h = ap (λ b. (b && is_class around.kind) && ((not (is_bound e) && bound_opt (lookup n around.entries)) && not (same_name n class_cell))) h
+quiet_shown kind (Some enclosing) n e h = ap (λ b. (b && is_class enclosing.kind) && ((not (is_bound e) && bound_opt (lookup n enclosing.entries)) && not (same_name n class_cell))) h
 
 module _ (rows : List Row) (q : AllOf IsQuietRow rows) where
   unwalrused : (o : Option Row) → IfSome o IsQuietRow → walruses_of o ≡ []
@@ -147,7 +155,9 @@ module _ (rows : List Row) (q : AllOf IsQuietRow rows) where
   entry_right : (s : ℕ) (p : Name × Entry) → IsQuietEntry p.1 → wrong_entry rows s p ≡ None
   entry_right s p h =
       let class_right : wrong_class_name rows s p.0 p.1 ≡ None =
-      ap (λ b. if b then Some (refusal.ClassName p.0) else None) (quiet_shown (kind_of (slice_get rows s)) (slice_get rows (parents rows s)) p.0 p.1 (kind_quiet (slice_get rows s) (get_quiet rows s q))) in
+      ap (λ b. if b then Some (refusal.ClassName p.0) else None)
+      (quiet_shown (kind_of (slice_get rows s)) (slice_get rows (parents rows s)) p.0 p.1
+      (kind_quiet (slice_get rows s) (get_quiet rows s q))) in
       let nonlocal_right : wrong_nonlocal s p.0 (look_from rows s p.0) p.1.holds ≡ None = ap (wrong_nonlocal s p.0 (look_from rows s p.0)) h.holds in
       λ j. first_of_two (class_right j) (nonlocal_right j)
 

@@ -14,7 +14,8 @@ use Rattle.py_symbol_tables.specs.Tables.{body_faults, fault_of, faults_of}
 use Rattle.py_tree.specs.Tree as tree
 use Rattle.py_name_uses.specs.declared.usage.Usage.TheVariants.{Load, Store}
 use Rattle.py_name_uses.specs.Parts.{in_type_params, use_parameters}
-use Rattle.py_name_uses.specs.Steps.{State, Outcome, Done, Refused, Step, ◌▸◌, begun_state, enter, go_on, inside, leave, noted_use, nothing, super_cell, unless_postponed, unless_refused, use_as, use_name, when, with_scopes, written_name}
+use Rattle.py_name_uses.specs.Steps.{State, Outcome, Done, Refused, Step, ◌▸◌, begun_state, enter, go_on, inside, leave, noted_use, nothing}
+use Rattle.py_name_uses.specs.Steps.{super_cell, unless_postponed, unless_refused, use_as, use_name, when, with_scopes, written_name}
 use Rattle.py_sample.specs.Sample.{a_call, a_choice, a_function, a_lambda, a_loop, a_return, a_sum, an_assignment, no_parameters, one_expr, one_parameter, one_stmt, statement, statements}
 use Rattle.py_sample.proofs.Quiet.{IsQuietRow, IsUse, added_quiet, quiet_allowed, quiet_assigned, changed_quiet, get_quiet, nothing_wrong, quiet_parameter, quiet_used, used_quiet}
 use Rattle.py_sample.proofs.Turns.{every}
@@ -46,7 +47,8 @@ uses : (r : Role) → IsUse r → (n : Name) (at : SourceLocation) → Quiets (u
 uses r u n at s h =
     let m = written_name s n in
     let P : Option Refusal → Type 0 = λ o. EndsQuiet (go_on (unless_refused o at s) (λ t. Done (with_scopes (with_use t.scopes m r) t))) in
-    subst P (sym (quiet_allowed r u m (slice_get s.scopes.rows s.scopes.current) (get_quiet s.scopes.rows s.scopes.current h))) (changed_quiet (used_in m r) (used_quiet r u m) s.scopes.current s.scopes.rows h)
+    subst P (sym (quiet_allowed r u m (slice_get s.scopes.rows s.scopes.current) (get_quiet s.scopes.rows s.scopes.current h)))
+    (changed_quiet (used_in m r) (used_quiet r u m) s.scopes.current s.scopes.rows h)
 
 supers : (n : Name) (at : SourceLocation) → Quiets (super_cell n at)
 supers n at s h = by (same_name n (codes "super") && is_function (kind_here s.scopes))
@@ -128,7 +130,8 @@ loop_quiet at = scan_before (use_as Load (codes "v") at) nothing (scan_loads (co
 
 program_quiet : (n i : ℕ) → Quiets (scan_stmts (statements n i))
 program_quiet zero i = scan_stays
-program_quiet (suc n) i = scan_before (scan_stmt (statement i)) (scan_stmts (statements n (suc i))) (every (λ t. Quiets (scan_stmt t)) assignment_quiet choice_quiet function_quiet loop_quiet i) (program_quiet n (suc i))
+program_quiet (suc n) i = scan_before (scan_stmt (statement i)) (scan_stmts (statements n (suc i)))
+    (every (λ t. Quiets (scan_stmt t)) assignment_quiet choice_quiet function_quiet loop_quiet i) (program_quiet n (suc i))
 
 scan_unrefused : (o : Outcome) → EndsQuiet o → faults_of o ≡ []
 scan_unrefused (Done s) h = ap fault_of (nothing_wrong s.scopes.rows h (order_of s.scopes))

@@ -12,25 +12,25 @@ use Rattle.py_tree.specs.declared.statements.Stmt.{Stmt}
 use Rattle.py_sample.specs.Sample.{a_choice, a_function, a_loop, an_assignment, by_turn, place, statement, statements}
 
 -- these statements and one more
-abbrev turn_behind : tree.Stmts → tree.Stmt → tree.Stmts
-turn_behind tree.no_stmts t = tree.more_stmts t tree.no_stmts
-turn_behind (tree.more_stmts s ss) t = tree.more_stmts s (turn_behind ss t)
+abbrev turn_after : tree.Stmts → tree.Stmt → tree.Stmts
+turn_after tree.no_stmts t = tree.more_stmts t tree.no_stmts
+turn_after (tree.more_stmts s ss) t = tree.more_stmts s (turn_after ss t)
 
-pushed : (xs : List Stmt) (x : Stmt) → stmts stmt_tree (xs ++ x ∷ []) ≡ turn_behind (stmts stmt_tree xs) (stmt_tree x)
+pushed : (xs : List Stmt) (x : Stmt) → stmts stmt_tree (xs ++ x ∷ []) ≡ turn_after (stmts stmt_tree xs) (stmt_tree x)
 pushed [] x = refl
 pushed (y ∷ ys) x = ap (tree.more_stmts (stmt_tree y)) (pushed ys x)
 
-turn_goes_on : (n i : ℕ) → turn_behind (statements n i) (statement (n + i)) ≡ statements (suc n) i
+turn_goes_on : (n i : ℕ) → turn_after (statements n i) (statement (n + i)) ≡ statements (suc n) i
 turn_goes_on zero i = let e : 0 + i ≡ i = omega arith in ap (λ k. tree.more_stmts (statement k) tree.no_stmts) e
 turn_goes_on (suc n) i =
     let e : suc n + i ≡ n + suc i = omega arith in
-    ap (tree.more_stmts (statement i)) (ap (λ k. turn_behind (statements n (suc i)) (statement k)) e ∙ turn_goes_on n (suc i))
+    ap (tree.more_stmts (statement i)) (ap (λ k. turn_after (statements n (suc i)) (statement k)) e ∙ turn_goes_on n (suc i))
 
 pub turn_one_more : (xs : List Stmt) (x : Stmt) (n : ℕ) → stmts stmt_tree xs ≡ statements n 0 → stmt_tree x ≡ statement n → stmts stmt_tree (xs ++ x ∷ []) ≡ statements (n + 1) 0
 turn_one_more xs x n e h =
     let same : n ≡ n + 0 = omega arith in
     let more : suc n ≡ n + 1 = omega arith in
-    pushed xs x ∙ (λ j. turn_behind (e j) (h j)) ∙ ap (λ k. turn_behind (statements n 0) (statement k)) same ∙ turn_goes_on n 0 ∙ ap (λ k. statements k 0) more
+    pushed xs x ∙ (λ j. turn_after (e j) (h j)) ∙ ap (λ k. turn_after (statements n 0) (statement k)) same ∙ turn_goes_on n 0 ∙ ap (λ k. statements k 0) more
 
 -- ---- the four by turns
 
@@ -51,7 +51,9 @@ turn_last (suc (suc (suc t))) i h = refl
 
 pub ruleset turns = (turn_zero, turn_one, turn_two, turn_last)
 
-module _ (P : tree.Stmt → Type 0) (assigned : (at : SourceLocation) (i : ℕ) → P (an_assignment at i)) (chosen : (at : SourceLocation) → P (a_choice at)) (defined : (at : SourceLocation) → P (a_function at)) (looped : (at : SourceLocation) → P (a_loop at)) where
+module _ (P : tree.Stmt → Type 0) (assigned : (at : SourceLocation) (i : ℕ) → P (an_assignment at i))
+    (chosen : (at : SourceLocation) → P (a_choice at)) (defined : (at : SourceLocation) → P (a_function at))
+    (looped : (at : SourceLocation) → P (a_loop at)) where
   by_turns : (t i : ℕ) → P (by_turn t i)
   by_turns zero i = assigned (place i) i
   by_turns (suc zero) i = chosen (place i)

@@ -1,4 +1,4 @@
--- What is told of a code object in numbers.
+-- What is reported of a code object in numbers.
 use Rattle.std.specs.Prelude.{ℕ, ◌+◌, List, ◌++◌, codes, decimal, length, max}
 use Rattle.py_bytecode.specs.Objects as obj
 use Rattle.py_bytecode.specs.Objects.{Const, Consts, Head, Object}
@@ -31,6 +31,6 @@ lines statements n constants =
     codes "statements " ++ decimal statements ++ codes "\ncodes " ++ decimal n.codes ++ codes "\nunits " ++ decimal n.units
     ++ codes "\nconstants " ++ decimal constants ++ codes "\ndepth " ++ decimal n.depth ++ codes "\n"
 
--- of the constants those of the outermost code are told
+-- of the constants those of the outermost code are reported
 abbrev pub summary : (statements : ℕ) → Object → List ℕ
 summary statements o = lines statements (counts o) (length (obj.constants o))

@@ -1,4 +1,4 @@
-//! What is told of a code object in numbers.
+//! What is reported of a code object in numbers.
 ghost use Rattle.std.specs.Prelude.{◌≡◌, IfOk, IfSome, length, string_bytes};
 ghost use Rattle.py_bytecode.specs.Objects.{constants};
 ghost use Rattle.py_bytecode.specs.View.{constant, constants_of, head_of, object};
@@ -61,7 +61,7 @@ fn lines(
     )
 }
 
-/// With the counts of a code object and of those within it. None only where there are too many.
+/// With the counts of a code object and of those nested in it. None only where there are too many.
 #[cycle(summary)]
 #[tactic(auto, using(py_bytecode::proofs::View::views))]
 fn with_code(before: Counts, code: &CodeObject) -> Option<Counts>

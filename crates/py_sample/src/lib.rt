@@ -1,4 +1,4 @@
-//! A program of any number of statements, and what is told of its code in numbers.
+//! A program of any number of statements, and what is reported of its code in numbers.
 #![tactic(auto)]
 
 mod counting;

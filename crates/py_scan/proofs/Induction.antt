@@ -14,10 +14,14 @@ use Rattle.py_scope.specs.Names.{Name, class_cell}
 use Rattle.py_name_uses.specs.declared.usage.Usage.{Usage}
 use Rattle.py_name_uses.specs.declared.usage.Usage.TheVariants.{Load, Iterable, Store, Delete, Target, Walrus}
 use Rattle.py_name_uses.specs.Parts.{passed_on, plain_name, use_opt_parameter, use_parameter, use_parameters, use_parameters_in, walrus_target, role_of_parameter}
-use Rattle.py_scan.specs.Scan.{all_steps, comprehension, key_steps, pairwise, scan_annotation, scan_annotations, scan_annotations_in, scan_clauses, scan_defaults, scan_defaults_in, scan_expr, scan_exprs, scan_inner_clauses, scan_keywords, scan_opt, scan_opt_annotation, scan_outermost}
+use Rattle.py_scan.specs.Scan.{all_steps, comprehension, key_steps, pairwise, scan_annotation, scan_annotations, scan_annotations_in}
+use Rattle.py_scan.specs.Scan.{scan_clauses, scan_defaults, scan_defaults_in, scan_expr, scan_exprs, scan_inner_clauses, scan_keywords}
+use Rattle.py_scan.specs.Scan.{scan_opt, scan_opt_annotation, scan_outermost}
 use Rattle.py_scope.specs.Names.{same_name}
 use Rattle.py_scope.specs.Scanned.{holder_here, is_function, kind_here}
-use Rattle.py_name_uses.specs.Steps.{State, Outcome, Done, Refused, Step, ◌▸◌, go_on, check_holder, check_iterable, check_yield, in_class, inside, is_type_params, nothing, postpone, refuse, refuse_if, super_cell, unless_postponed, use_as, use_name}
+use Rattle.py_name_uses.specs.Steps.{State, Outcome, Done, Refused, Step, ◌▸◌, go_on, check_holder, check_iterable, check_yield, in_class}
+use Rattle.py_name_uses.specs.Steps.{inside, is_type_params, nothing, postpone, refuse, refuse_if, super_cell, unless_postponed, use_as}
+use Rattle.py_name_uses.specs.Steps.{use_name}
 
 -- a property of steps that those have which a scan is made of
 pub record Closed (P : Step → Type 0) : Type 0 where
@@ -95,7 +99,9 @@ module _ {P : Step → Type 0} (c : Closed P) where
   pairwise_closed (f ∷ fs) (g ∷ gs) a b = c.sequence f (g ▸ pairwise fs gs) a.0 (c.sequence g (pairwise fs gs) b.0 (pairwise_closed fs gs a.1 b.1))
 
   comprehension_closed : (at : SourceLocation) (f g h : Step) → P f → P g → P h → P (comprehension at f g h)
-  comprehension_closed at f g h a b d = c.sequence _ h (c.within scope.Comprehension (codes "genexpr") at _ (c.sequence (use_name role.Parameter (codes ".0") at) _ (c.used role.Parameter (codes ".0") at) (c.sequence f g a b))) d
+  comprehension_closed at f g h a b d = c.sequence _ h
+      (c.within scope.Comprehension (codes "genexpr") at
+      _ (c.sequence (use_name role.Parameter (codes ".0") at) _ (c.used role.Parameter (codes ".0") at) (c.sequence f g a b))) d
 
   mutual
     pub expr_closed : (u : Usage) (e : tree.Expr) → P (scan_expr u e)
@@ -108,20 +114,33 @@ module _ {P : Step → Type 0} (c : Closed P) where
     expr_closed u (tree.UnaryOp at o operand) = expr_closed u operand
     expr_closed u (tree.Lambda at params body) =
         c.sequence (scan_defaults params) _ (defaults_closed params)
-        (c.sequence _ (scan_annotations params) (c.within scope.Function (codes "lambda") at _ (c.sequence (use_parameters params) _ (parameters_closed params) (expr_closed (passed_on u) body))) (annotations_closed params))
-    expr_closed u (tree.IfExp at test body orelse) = c.sequence (scan_expr Load test) _ (expr_closed Load test) (c.sequence (scan_expr Load body) (scan_expr Load orelse) (expr_closed Load body) (expr_closed Load orelse))
+        (c.sequence _ (scan_annotations params)
+        (c.within scope.Function (codes "lambda") at
+        _ (c.sequence (use_parameters params) _ (parameters_closed params) (expr_closed (passed_on u) body)))
+        (annotations_closed params))
+    expr_closed u (tree.IfExp at test body orelse) =
+        c.sequence (scan_expr Load test) _ (expr_closed Load test)
+        (c.sequence (scan_expr Load body) (scan_expr Load orelse) (expr_closed Load body) (expr_closed Load orelse))
     expr_closed u (tree.Dict at keys values) = pairwise_closed (key_steps u keys) (all_steps u values) (keys_closed u keys) (all_closed u values)
     expr_closed u (tree.Set at elts) = exprs_closed u elts
-    expr_closed u (tree.ListComp at elt clauses) = comprehension_closed at (scan_clauses clauses) (scan_expr Load elt) (scan_outermost clauses) (clauses_closed clauses) (expr_closed Load elt) (outermost_closed clauses)
-    expr_closed u (tree.SetComp at elt clauses) = comprehension_closed at (scan_clauses clauses) (scan_expr Load elt) (scan_outermost clauses) (clauses_closed clauses) (expr_closed Load elt) (outermost_closed clauses)
+    expr_closed u (tree.ListComp at elt clauses) = comprehension_closed at (scan_clauses clauses) (scan_expr Load elt)
+        (scan_outermost clauses) (clauses_closed clauses) (expr_closed Load elt) (outermost_closed clauses)
+    expr_closed u (tree.SetComp at elt clauses) = comprehension_closed at (scan_clauses clauses) (scan_expr Load elt)
+        (scan_outermost clauses) (clauses_closed clauses) (expr_closed Load elt) (outermost_closed clauses)
     expr_closed u (tree.DictComp at key value clauses) =
-        comprehension_closed at (scan_clauses clauses) (scan_expr Load key ▸ scan_expr Load value) (scan_outermost clauses) (clauses_closed clauses) (c.sequence (scan_expr Load key) (scan_expr Load value) (expr_closed Load key) (expr_closed Load value)) (outermost_closed clauses)
-    expr_closed u (tree.GeneratorExp at elt clauses) = comprehension_closed at (scan_clauses clauses) (scan_expr Load elt) (scan_outermost clauses) (clauses_closed clauses) (expr_closed Load elt) (outermost_closed clauses)
+        comprehension_closed at (scan_clauses clauses) (scan_expr Load key ▸ scan_expr Load value) (scan_outermost clauses)
+        (clauses_closed clauses) (c.sequence (scan_expr Load key) (scan_expr Load value) (expr_closed Load key)
+        (expr_closed Load value)) (outermost_closed clauses)
+    expr_closed u (tree.GeneratorExp at elt clauses) =
+        comprehension_closed at (scan_clauses clauses) (scan_expr Load elt) (scan_outermost clauses) (clauses_closed clauses)
+        (expr_closed Load elt) (outermost_closed clauses)
     expr_closed u (tree.Await at value) = expr_closed u value
     expr_closed u (tree.Yield at value) = c.sequence (check_yield at) (scan_opt u value) (check_yield_closed at) (opt_closed u value)
     expr_closed u (tree.YieldFrom at value) = c.sequence (check_yield at) (scan_expr u value) (check_yield_closed at) (expr_closed u value)
     expr_closed u (tree.Compare at left ops comparators) = c.sequence (scan_expr u left) (scan_exprs u comparators) (expr_closed u left) (exprs_closed u comparators)
-    expr_closed u (tree.Call at func params named) = c.sequence (scan_expr (passed_on u) func) _ (expr_closed (passed_on u) func) (c.sequence (scan_exprs Load params) (scan_keywords named) (exprs_closed Load params) (keywords_closed named))
+    expr_closed u (tree.Call at func params named) =
+        c.sequence (scan_expr (passed_on u) func) _ (expr_closed (passed_on u) func)
+        (c.sequence (scan_exprs Load params) (scan_keywords named) (exprs_closed Load params) (keywords_closed named))
     expr_closed u (tree.FormattedValue at value conversion format_spec) = c.sequence (scan_expr Load value) (scan_opt Load format_spec) (expr_closed Load value) (opt_closed Load format_spec)
     expr_closed u (tree.JoinedStr at values) = exprs_closed Load values
     expr_closed u (tree.Constant at value) = c.idle
@@ -159,7 +178,9 @@ module _ {P : Step → Type 0} (c : Closed P) where
 
     pub clauses_closed : (gs : tree.Generators) → P (scan_clauses gs)
     clauses_closed tree.no_generators = c.idle
-    clauses_closed (tree.more_generators target iter ifs is_async gs) = c.sequence (scan_expr Target target) _ (expr_closed Target target) (c.sequence (scan_exprs Load ifs) (scan_inner_clauses gs) (exprs_closed Load ifs) (inner_clauses_closed gs))
+    clauses_closed (tree.more_generators target iter ifs is_async gs) =
+        c.sequence (scan_expr Target target) _ (expr_closed Target target)
+        (c.sequence (scan_exprs Load ifs) (scan_inner_clauses gs) (exprs_closed Load ifs) (inner_clauses_closed gs))
 
     inner_clauses_closed : (gs : tree.Generators) → P (scan_inner_clauses gs)
     inner_clauses_closed tree.no_generators = c.idle
@@ -172,7 +193,8 @@ module _ {P : Step → Type 0} (c : Closed P) where
     defaults_in_closed (tree.more_args a default more) = c.sequence (scan_opt Load default) (scan_defaults_in more) (opt_closed Load default) (defaults_in_closed more)
 
     pub defaults_closed : (a : tree.Arguments) → P (scan_defaults a)
-    defaults_closed (tree.arguments p a v k w) = c.sequence (scan_defaults_in p) _ (defaults_in_closed p) (c.sequence (scan_defaults_in a) (scan_defaults_in k) (defaults_in_closed a) (defaults_in_closed k))
+    defaults_closed (tree.arguments p a v k w) = c.sequence (scan_defaults_in p) _ (defaults_in_closed p)
+        (c.sequence (scan_defaults_in a) (scan_defaults_in k) (defaults_in_closed a) (defaults_in_closed k))
 
     annotation_closed : (a : tree.Arg) → P (scan_annotation a)
     annotation_closed (tree.arg at n annotation) = opt_closed Load annotation

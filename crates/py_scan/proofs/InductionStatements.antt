@@ -12,8 +12,12 @@ use Rattle.py_scope.specs.declared.roles.Role.TheVariants as role
 use Rattle.py_scope.specs.declared.table_type.SymbolTableType.TheVariants as scope
 use Rattle.py_scope.specs.Names.{Name, class_cell}
 use Rattle.py_name_uses.specs.declared.usage.Usage.TheVariants.{Load, Store, Delete}
-use Rattle.py_name_uses.specs.Parts.{alias_name, annotated_target, bound_name, check_future, check_new, check_type_params, generic_name, has_default, in_type_params, is_among, is_generic, plain_name, type_name, use_aliases, use_each, use_first_names, use_handed_defaults, use_opt_name, use_parameters}
-use Rattle.py_scan.specs.Scan.{scan_annotations, scan_class, scan_class_scope, scan_defaults, scan_expr, scan_exprs, scan_class_parts, scan_function, scan_function_scope, scan_handed_function, scan_handlers, scan_items, scan_keywords, scan_opt, scan_stmt, scan_stmts, scan_type_param, scan_type_params}
+use Rattle.py_name_uses.specs.Parts.{alias_name, annotated_target, bound_name, check_future, check_new, check_type_params, generic_name}
+use Rattle.py_name_uses.specs.Parts.{has_default, in_type_params, is_among, is_generic, plain_name, type_name, use_aliases, use_each}
+use Rattle.py_name_uses.specs.Parts.{use_first_names, use_handed_defaults, use_opt_name, use_parameters}
+use Rattle.py_scan.specs.Scan.{scan_annotations, scan_class, scan_class_scope, scan_defaults, scan_expr, scan_exprs, scan_class_parts}
+use Rattle.py_scan.specs.Scan.{scan_function, scan_function_scope, scan_handed_function, scan_handlers, scan_items, scan_keywords, scan_opt}
+use Rattle.py_scan.specs.Scan.{scan_stmt, scan_stmts, scan_type_param, scan_type_params}
 use Rattle.py_name_uses.specs.Steps.{Step, ◌▸◌, in_class, inside, leave, nothing, postpone, refuse, set_class, unless_postponed, use_name, when, written_name}
 use Rattle.py_scan.proofs.Induction.{Closed, annotations_closed, defaults_closed, expr_closed, exprs_closed, keywords_closed, opt_closed, parameters_closed, refuse_if_closed, unless_postponed_closed}
 
@@ -32,7 +36,8 @@ module _ {P : Step → Type 0} (c : Closed P) where
 
   aliases_closed : (xs : List Alias) (at : SourceLocation) → P (use_aliases xs at)
   aliases_closed [] at = c.idle
-  aliases_closed (a ∷ more) at = c.sequence (use_name role.Imported (bound_name a.asname a.name) at) (use_aliases more at) (c.used role.Imported (bound_name a.asname a.name) at) (aliases_closed more at)
+  aliases_closed (a ∷ more) at = c.sequence (use_name role.Imported (bound_name a.asname a.name) at) (use_aliases more at)
+      (c.used role.Imported (bound_name a.asname a.name) at) (aliases_closed more at)
 
   pub first_names_closed : (at : SourceLocation) → P (use_first_names at)
   first_names_closed at =
@@ -53,13 +58,16 @@ module _ {P : Step → Type 0} (c : Closed P) where
   pub param_closed : (earlier : List Name) (p : tree.TypeParam) → P (scan_type_param earlier p)
   param_closed earlier (tree.TypeVar at n bound) =
       c.sequence (scan_opt Load bound) _ (opt_closed c Load bound)
-      (c.sequence (check_new earlier n at) (use_name role.Assigned n at) (refuse_if_closed c (λ s. is_among s earlier n) (λ s. refusal.SameTypeParam (written_name s n)) at) (c.used role.Assigned n at))
+      (c.sequence (check_new earlier n at) (use_name role.Assigned n at)
+      (refuse_if_closed c (λ s. is_among s earlier n) (λ s. refusal.SameTypeParam (written_name s n)) at) (c.used role.Assigned n at))
   param_closed earlier (tree.ParamSpec at n) = c.idle
   param_closed earlier (tree.TypeVarTuple at n) = c.idle
 
   pub params_closed : (earlier : List Name) (ps : tree.TypeParams) → P (scan_type_params earlier ps)
   params_closed earlier tree.no_type_params = c.idle
-  params_closed earlier (tree.more_type_params p ps) = c.sequence (scan_type_param earlier p) (scan_type_params (earlier ++ type_name p ∷ []) ps) (param_closed earlier p) (params_closed (earlier ++ type_name p ∷ []) ps)
+  params_closed earlier (tree.more_type_params p ps) =
+      c.sequence (scan_type_param earlier p) (scan_type_params (earlier ++ type_name p ∷ []) ps) (param_closed earlier p)
+      (params_closed (earlier ++ type_name p ∷ []) ps)
 
   handed_closed : (a : tree.Arguments) (at : SourceLocation) → P (use_handed_defaults a at)
   handed_closed (tree.arguments p a v k w) at =
@@ -103,7 +111,8 @@ module _ {P : Step → Type 0} (c : Closed P) where
   class_def_closed at n bases ks body ds ps b =
       c.sequence (check_type_params ps) _ (check_params_closed ps)
       (c.sequence (scan_exprs Load ds) _ (exprs_closed c Load ds)
-      (c.sequence (in_type_params (is_generic ps) n at _) (use_name role.Assigned n at) (generic_closed (is_generic ps) n at _ (class_parts_closed at n bases ks body ps b)) (c.used role.Assigned n at)))
+      (c.sequence (in_type_params (is_generic ps) n at _) (use_name role.Assigned n at)
+      (generic_closed (is_generic ps) n at _ (class_parts_closed at n bases ks body ps b)) (c.used role.Assigned n at)))
 
   -- and in that of an alias
   pub alias_value_closed : (ps : tree.TypeParams) (value : tree.Expr) → P (scan_type_params [] ps ▸ scan_expr Load value)
@@ -120,7 +129,8 @@ module _ {P : Step → Type 0} (c : Closed P) where
 
   for_closed : (target iter : tree.Expr) (body orelse : tree.Stmts) → P (scan_stmts body) → P (scan_stmts orelse)
       → P (scan_expr Load iter ▸ scan_expr Store target ▸ scan_stmts body ▸ scan_stmts orelse)
-  for_closed target iter body orelse a b = c.sequence (scan_expr Load iter) _ (expr_closed c Load iter) (c.sequence (scan_expr Store target) _ (expr_closed c Store target) (c.sequence (scan_stmts body) (scan_stmts orelse) a b))
+  for_closed target iter body orelse a b = c.sequence (scan_expr Load iter) _ (expr_closed c Load iter)
+      (c.sequence (scan_expr Store target) _ (expr_closed c Store target) (c.sequence (scan_stmts body) (scan_stmts orelse) a b))
 
   mutual
     pub stmt_closed : (x : tree.Stmt) → P (scan_stmt x)
@@ -132,21 +142,33 @@ module _ {P : Step → Type 0} (c : Closed P) where
     stmt_closed (tree.Assign at targets value) = c.sequence (scan_expr Load value) (scan_exprs Store targets) (expr_closed c Load value) (exprs_closed c Store targets)
     stmt_closed (tree.TypeAlias at name generic value) =
         c.sequence (check_type_params generic) _ (check_params_closed generic)
-        (c.sequence (in_type_params (is_generic generic) (alias_name (plain_name name)) at _) (scan_expr Store name) (generic_closed (is_generic generic) (alias_name (plain_name name)) at _ (alias_value_closed generic value)) (expr_closed c Store name))
+        (c.sequence (in_type_params (is_generic generic) (alias_name (plain_name name)) at _) (scan_expr Store name)
+        (generic_closed (is_generic generic) (alias_name (plain_name name)) at _ (alias_value_closed generic value))
+        (expr_closed c Store name))
     stmt_closed (tree.AugAssign at target o value) = c.sequence (scan_expr Store target) (scan_expr Load value) (expr_closed c Store target) (expr_closed c Load value)
     stmt_closed (tree.AnnAssign at target annotation value simple) =
         c.sequence (scan_opt Load value) _ (opt_closed c Load value)
-        (c.sequence (annotated_target simple (plain_name target) at (scan_expr Store target)) (unless_postponed (scan_expr Load annotation)) (annotated_closed simple (plain_name target) at (scan_expr Store target) (expr_closed c Store target)) (unless_postponed_closed c (scan_expr Load annotation) (expr_closed c Load annotation)))
+        (c.sequence (annotated_target simple (plain_name target) at (scan_expr Store target)) (unless_postponed (scan_expr Load annotation))
+        (annotated_closed simple (plain_name target) at (scan_expr Store target) (expr_closed c Store target))
+        (unless_postponed_closed c (scan_expr Load annotation) (expr_closed c Load annotation)))
     stmt_closed (tree.For at target iter body orelse) = for_closed target iter body orelse (stmts_closed body) (stmts_closed orelse)
     stmt_closed (tree.AsyncFor at target iter body orelse) = for_closed target iter body orelse (stmts_closed body) (stmts_closed orelse)
-    stmt_closed (tree.While at test body orelse) = c.sequence (scan_expr Load test) _ (expr_closed c Load test) (c.sequence (scan_stmts body) (scan_stmts orelse) (stmts_closed body) (stmts_closed orelse))
-    stmt_closed (tree.If at test body orelse) = c.sequence (scan_expr Load test) _ (expr_closed c Load test) (c.sequence (scan_stmts body) (scan_stmts orelse) (stmts_closed body) (stmts_closed orelse))
+    stmt_closed (tree.While at test body orelse) = c.sequence (scan_expr Load test) _ (expr_closed c Load test)
+        (c.sequence (scan_stmts body) (scan_stmts orelse) (stmts_closed body) (stmts_closed orelse))
+    stmt_closed (tree.If at test body orelse) = c.sequence (scan_expr Load test) _ (expr_closed c Load test)
+        (c.sequence (scan_stmts body) (scan_stmts orelse) (stmts_closed body) (stmts_closed orelse))
     stmt_closed (tree.With at items body) = c.sequence (scan_items items) (scan_stmts body) (items_closed items) (stmts_closed body)
     stmt_closed (tree.AsyncWith at items body) = c.sequence (scan_items items) (scan_stmts body) (items_closed items) (stmts_closed body)
     stmt_closed (tree.Match at subject branches) = c.refused (λ s. refusal.Match) (expr_location subject)
     stmt_closed (tree.Raise at exc cause) = c.sequence (scan_opt Load exc) (scan_opt Load cause) (opt_closed c Load exc) (opt_closed c Load cause)
-    stmt_closed (tree.Try at body excepts orelse finalbody) = c.sequence (scan_stmts body) _ (stmts_closed body) (c.sequence (scan_handlers at excepts) _ (handlers_closed at excepts) (c.sequence (scan_stmts orelse) (scan_stmts finalbody) (stmts_closed orelse) (stmts_closed finalbody)))
-    stmt_closed (tree.TryStar at body excepts orelse finalbody) = c.sequence (scan_stmts body) _ (stmts_closed body) (c.sequence (scan_handlers at excepts) _ (handlers_closed at excepts) (c.sequence (scan_stmts orelse) (scan_stmts finalbody) (stmts_closed orelse) (stmts_closed finalbody)))
+    stmt_closed (tree.Try at body excepts orelse finalbody) =
+        c.sequence (scan_stmts body) _ (stmts_closed body)
+        (c.sequence (scan_handlers at excepts) _ (handlers_closed at excepts)
+        (c.sequence (scan_stmts orelse) (scan_stmts finalbody) (stmts_closed orelse) (stmts_closed finalbody)))
+    stmt_closed (tree.TryStar at body excepts orelse finalbody) =
+        c.sequence (scan_stmts body) _ (stmts_closed body)
+        (c.sequence (scan_handlers at excepts) _ (handlers_closed at excepts)
+        (c.sequence (scan_stmts orelse) (scan_stmts finalbody) (stmts_closed orelse) (stmts_closed finalbody)))
     stmt_closed (tree.Assert at test msg) = c.sequence (scan_expr Load test) (scan_opt Load msg) (expr_closed c Load test) (opt_closed c Load msg)
     stmt_closed (tree.Import at names) = aliases_closed names at
     stmt_closed (tree.ImportFrom at path names level) = c.sequence (check_future path names) (use_aliases names at) (when_closed _ postpone c.postponing) (aliases_closed names at)

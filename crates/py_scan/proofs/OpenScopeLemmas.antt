@@ -1,5 +1,6 @@
 -- A scan leaves the scope open that was open, below those that it has entered.
-use Rattle.std.proofs.Common.{◌≡◌, refl, sym, ap, ◌∙◌, subst, ℕ, zero, suc, ◌<◌, ◌≤◌, Bool, true, false, List, [], ◌∷◌, ◌++◌, length, Option, Some, None, nat_eq, if◌then◌else◌, slice_get, option_map, arith}
+use Rattle.std.proofs.Common.{◌≡◌, refl, sym, ap, ◌∙◌, subst, ℕ, zero, suc, ◌<◌, ◌≤◌, Bool, true, false, List, [], ◌∷◌, ◌++◌, length}
+use Rattle.std.proofs.Common.{Option, Some, None, nat_eq, if◌then◌else◌, slice_get, option_map, arith}
 use Rattle.py_base.specs.declared.location.SourceLocation.{SourceLocation}
 use Rattle.py_tree.specs.Tree as tree
 use Rattle.py_scope.specs.declared.refusal.Refusal.{Refusal}
@@ -11,7 +12,8 @@ use Rattle.py_scope.specs.Outward.{parents, parent_of}
 use Rattle.py_scope.specs.Scanned.{Scanned, changed_at, entered_scan, entered_row, gone_out, refused_here, used_in, with_use, IsWithin}
 use Rattle.py_scope.proofs.ScanCallLemmas.{get_changed, get_push_new, get_push_old, length_changed, length_push}
 use Rattle.py_name_uses.specs.declared.usage.Usage.{Usage}
-use Rattle.py_name_uses.specs.Steps.{State, Outcome, Done, Refused, Step, ◌▸◌, go_on, enter, in_class, inside, leave, nothing, noted_use, postpone, refuse, set_class, unless_refused, use_name, when, written_name}
+use Rattle.py_name_uses.specs.Steps.{State, Outcome, Done, Refused, Step, ◌▸◌, go_on, enter, in_class, inside, leave, nothing, noted_use}
+use Rattle.py_name_uses.specs.Steps.{postpone, refuse, set_class, unless_refused, use_name, when, written_name}
 use Rattle.py_name_uses.specs.Parts.{use_first_names, use_parameters}
 use Rattle.py_name_uses.specs.Goes.{IsOpen}
 use Rattle.py_scan.proofs.Induction.{Closed, clauses_closed, expr_closed, parameters_closed}

@@ -9,8 +9,11 @@ use Rattle.py_scope.specs.declared.table_type.SymbolTableType.TheVariants as sco
 use Rattle.py_scope.specs.Names.{Name}
 use Rattle.py_name_uses.specs.declared.usage.Usage.{Usage}
 use Rattle.py_name_uses.specs.declared.usage.Usage.TheVariants.{Load, Iterable, Store, Delete, Target, Walrus}
-use Rattle.py_name_uses.specs.Steps.{State, Outcome, Done, Step, ◌▸◌, begun_state, check_holder, check_iterable, check_yield, enter, in_class, inside, nothing, refuse, unless_postponed, use_as, use_name, when}
-use Rattle.py_name_uses.specs.Parts.{alias_name, annotated_target, check_future, check_new, check_type_params, in_type_params, is_generic, passed_on, plain_name, type_name, use_aliases, use_each, use_first_names, use_handed_defaults, use_opt_name, use_parameters, walrus_target}
+use Rattle.py_name_uses.specs.Steps.{State, Outcome, Done, Step, ◌▸◌, begun_state, check_holder, check_iterable, check_yield, enter}
+use Rattle.py_name_uses.specs.Steps.{in_class, inside, nothing, refuse, unless_postponed, use_as, use_name, when}
+use Rattle.py_name_uses.specs.Parts.{alias_name, annotated_target, check_future, check_new, check_type_params, in_type_params, is_generic}
+use Rattle.py_name_uses.specs.Parts.{passed_on, plain_name, type_name, use_aliases, use_each, use_first_names, use_handed_defaults}
+use Rattle.py_name_uses.specs.Parts.{use_opt_name, use_parameters, walrus_target}
 
 -- a comprehension is a scope, whose parameter is its first iterable, which stands outside
 abbrev pub comprehension : SourceLocation → (clauses element outermost : Step) → Step
@@ -169,9 +172,13 @@ abbrev mutual
   scan_stmt (tree.Return at value) = scan_opt Load value
   scan_stmt (tree.Delete at targets) = scan_exprs Delete targets
   scan_stmt (tree.Assign at targets value) = scan_expr Load value ▸ scan_exprs Store targets
-  scan_stmt (tree.TypeAlias at name generic value) = check_type_params generic ▸ in_type_params (is_generic generic) (alias_name (plain_name name)) at (scan_type_params [] generic ▸ scan_expr Load value) ▸ scan_expr Store name
+  scan_stmt (tree.TypeAlias at name generic value) =
+      check_type_params generic ▸ in_type_params (is_generic generic) (alias_name (plain_name name)) at
+      (scan_type_params [] generic ▸ scan_expr Load value) ▸ scan_expr Store name
   scan_stmt (tree.AugAssign at target o value) = scan_expr Store target ▸ scan_expr Load value
-  scan_stmt (tree.AnnAssign at target annotation value simple) = scan_opt Load value ▸ annotated_target simple (plain_name target) at (scan_expr Store target) ▸ unless_postponed (scan_expr Load annotation)
+  scan_stmt (tree.AnnAssign at target annotation value simple) =
+      scan_opt Load value ▸ annotated_target simple (plain_name target) at (scan_expr Store target)
+      ▸ unless_postponed (scan_expr Load annotation)
   scan_stmt (tree.For at target iter body orelse) = scan_expr Load iter ▸ scan_expr Store target ▸ scan_stmts body ▸ scan_stmts orelse
   scan_stmt (tree.AsyncFor at target iter body orelse) = scan_expr Load iter ▸ scan_expr Store target ▸ scan_stmts body ▸ scan_stmts orelse
   scan_stmt (tree.While at test body orelse) = scan_expr Load test ▸ scan_stmts body ▸ scan_stmts orelse

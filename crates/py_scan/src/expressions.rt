@@ -25,7 +25,8 @@ use py_tree::{
 #[cycle(scan)]
 #[tactic(auto, using(py_tree::proofs::View::trees))]
 pub fn scan_expr(scan: &mut Scan, usage: Usage, expr: &Expr) -> Result<(), SymbolTableError>
-    ensures goes { Goes result (state scan.new) (scan_expr usage (expr_tree expr.now) (state scan.old)) }
+    ensures goes { Goes result (state scan.new)
+        (scan_expr usage (expr_tree expr.now) (state scan.old)) }
     ensures told { IfErr result IsTextOrMemory }
 {
     match expr {
@@ -65,7 +66,8 @@ pub fn scan_expr(scan: &mut Scan, usage: Usage, expr: &Expr) -> Result<(), Symbo
 /// The first fault of the scan, at its place; or OutOfMemory.
 #[cycle(scan)]
 pub fn scan_exprs(scan: &mut Scan, usage: Usage, items: &[Expr]) -> Result<(), SymbolTableError>
-    ensures goes { Goes result (state scan.new) (scan_exprs usage (exprs expr_tree items.now) (state scan.old)) }
+    ensures goes { Goes result (state scan.new)
+        (scan_exprs usage (exprs expr_tree items.now) (state scan.old)) }
     ensures told { IfErr result IsTextOrMemory }
 {
     for item in items {
@@ -84,7 +86,8 @@ pub fn scan_opt(
     usage: Usage,
     value: &Option<Box<Expr>>,
 ) -> Result<(), SymbolTableError>
-    ensures goes { Goes result (state scan.new) (scan_opt usage (opt_box expr_tree value.now) (state scan.old)) }
+    ensures goes { Goes result (state scan.new)
+        (scan_opt usage (opt_box expr_tree value.now) (state scan.old)) }
     ensures told { IfErr result IsTextOrMemory }
 {
     match value {
@@ -96,7 +99,8 @@ pub fn scan_opt(
 /// A walrus is refused in iterables and in scopes of type parameters.
 #[cycle(scan)]
 fn scan_named_expr(scan: &mut Scan, usage: Usage, e: &ExprNamedExpr) -> Result<(), SymbolTableError>
-    ensures goes { Goes result (state scan.new) (scan_expr usage (named_expr_tree e.now) (state scan.old)) }
+    ensures goes { Goes result (state scan.new)
+        (scan_expr usage (named_expr_tree e.now) (state scan.old)) }
     ensures told { IfErr result IsTextOrMemory }
 {
     scan.check_iterable(usage, e.target.location())?;
@@ -109,7 +113,9 @@ fn scan_named_expr(scan: &mut Scan, usage: Usage, e: &ExprNamedExpr) -> Result<(
 #[cycle(scan)]
 #[tactic(auto, using(py_tree::proofs::View::trees))]
 fn scan_walrus_target(scan: &mut Scan, e: &ExprNamedExpr) -> Result<(), SymbolTableError>
-    ensures goes { Goes result (state scan.new) (walrus_target (plain_name (expr_tree e.now.target.value)) e.now.location (scan_expr Walrus (expr_tree e.now.target.value)) (state scan.old)) }
+    ensures goes { Goes result (state scan.new)
+        (walrus_target (plain_name (expr_tree e.now.target.value)) e.now.location
+        (scan_expr Walrus (expr_tree e.now.target.value)) (state scan.old)) }
     ensures told { IfErr result IsTextOrMemory }
 {
     match &*e.target {
@@ -120,7 +126,8 @@ fn scan_walrus_target(scan: &mut Scan, e: &ExprNamedExpr) -> Result<(), SymbolTa
 
 #[cycle(scan)]
 fn scan_bin_op(scan: &mut Scan, usage: Usage, e: &ExprBinOp) -> Result<(), SymbolTableError>
-    ensures goes { Goes result (state scan.new) (scan_expr usage (bin_op_tree e.now) (state scan.old)) }
+    ensures goes { Goes result (state scan.new)
+        (scan_expr usage (bin_op_tree e.now) (state scan.old)) }
     ensures told { IfErr result IsTextOrMemory }
 {
     scan_expr(scan, usage, &e.left)?;
@@ -140,7 +147,8 @@ fn passed_on(usage: Usage) -> Usage
 /// A lambda is a scope; its defaults and annotations stand outside.
 #[cycle(scan)]
 fn scan_lambda(scan: &mut Scan, usage: Usage, e: &ExprLambda) -> Result<(), SymbolTableError>
-    ensures goes { Goes result (state scan.new) (scan_expr usage (lambda_tree e.now) (state scan.old)) }
+    ensures goes { Goes result (state scan.new)
+        (scan_expr usage (lambda_tree e.now) (state scan.old)) }
     ensures told { IfErr result IsTextOrMemory }
 {
     scan_defaults(scan, &e.args)?;
@@ -153,7 +161,8 @@ fn scan_lambda(scan: &mut Scan, usage: Usage, e: &ExprLambda) -> Result<(), Symb
 
 #[cycle(scan)]
 fn scan_if_exp(scan: &mut Scan, e: &ExprIfExp) -> Result<(), SymbolTableError>
-    ensures goes { Goes result (state scan.new) (scan_expr Load (if_exp_tree e.now) (state scan.old)) }
+    ensures goes { Goes result (state scan.new)
+        (scan_expr Load (if_exp_tree e.now) (state scan.old)) }
     ensures told { IfErr result IsTextOrMemory }
 {
     scan_expr(scan, Usage::Load, &e.test)?;
@@ -164,7 +173,8 @@ fn scan_if_exp(scan: &mut Scan, e: &ExprIfExp) -> Result<(), SymbolTableError>
 /// Scans each key before its value.
 #[cycle(scan)]
 fn scan_dict(scan: &mut Scan, usage: Usage, e: &ExprDict) -> Result<(), SymbolTableError>
-    ensures goes { Goes result (state scan.new) (scan_expr usage (dict_tree e.now) (state scan.old)) }
+    ensures goes { Goes result (state scan.new)
+        (scan_expr usage (dict_tree e.now) (state scan.old)) }
     ensures told { IfErr result IsTextOrMemory }
 {
     let keys = e.keys.as_slice();
@@ -180,7 +190,8 @@ fn scan_dict(scan: &mut Scan, usage: Usage, e: &ExprDict) -> Result<(), SymbolTa
 
 #[cycle(scan)]
 fn scan_key(scan: &mut Scan, usage: Usage, key: &Option<Expr>) -> Result<(), SymbolTableError>
-    ensures goes { Goes result (state scan.new) (scan_opt usage (opt_expr expr_tree key.now) (state scan.old)) }
+    ensures goes { Goes result (state scan.new)
+        (scan_opt usage (opt_expr expr_tree key.now) (state scan.old)) }
     ensures told { IfErr result IsTextOrMemory }
 {
     match key {
@@ -197,7 +208,10 @@ fn scan_comprehension(
     elt: &Expr,
     generators: &List<Comprehension>,
 ) -> Result<(), SymbolTableError>
-    ensures goes { Goes result (state scan.new) (comprehension at (scan_clauses (clause_trees expr_tree generators.now)) (scan_expr Load (expr_tree elt.now)) (scan_outermost (clause_trees expr_tree generators.now)) (state scan.old)) }
+    ensures goes { Goes result (state scan.new)
+        (comprehension at (scan_clauses (clause_trees expr_tree generators.now))
+        (scan_expr Load (expr_tree elt.now))
+        (scan_outermost (clause_trees expr_tree generators.now)) (state scan.old)) }
     ensures told { IfErr result IsTextOrMemory }
 {
     begin_comprehension(scan, at)?;
@@ -209,7 +223,8 @@ fn scan_comprehension(
 
 #[cycle(scan)]
 fn scan_dict_comp(scan: &mut Scan, e: &ExprDictComp) -> Result<(), SymbolTableError>
-    ensures goes { Goes result (state scan.new) (scan_expr Load (dict_comp_tree e.now) (state scan.old)) }
+    ensures goes { Goes result (state scan.new)
+        (scan_expr Load (dict_comp_tree e.now) (state scan.old)) }
     ensures told { IfErr result IsTextOrMemory }
 {
     begin_comprehension(scan, e.location)?;
@@ -235,7 +250,8 @@ fn begin_comprehension(scan: &mut Scan, at: SourceLocation) -> Result<(), Symbol
 /// The first iterable stands outside the comprehension.
 #[cycle(scan)]
 fn scan_outermost(scan: &mut Scan, clauses: &[Comprehension]) -> Result<(), SymbolTableError>
-    ensures goes { Goes result (state scan.new) (scan_outermost (clause_trees expr_tree clauses.now) (state scan.old)) }
+    ensures goes { Goes result (state scan.new)
+        (scan_outermost (clause_trees expr_tree clauses.now) (state scan.old)) }
     ensures told { IfErr result IsTextOrMemory }
 {
     match clauses {
@@ -247,7 +263,8 @@ fn scan_outermost(scan: &mut Scan, clauses: &[Comprehension]) -> Result<(), Symb
 /// Scans the clauses without the first iterable.
 #[cycle(scan)]
 fn scan_clauses(scan: &mut Scan, clauses: &[Comprehension]) -> Result<(), SymbolTableError>
-    ensures goes { Goes result (state scan.new) (scan_clauses (clause_trees expr_tree clauses.now) (state scan.old)) }
+    ensures goes { Goes result (state scan.new)
+        (scan_clauses (clause_trees expr_tree clauses.now) (state scan.old)) }
     ensures told { IfErr result IsTextOrMemory }
 {
     match clauses {
@@ -262,7 +279,9 @@ fn scan_clauses(scan: &mut Scan, clauses: &[Comprehension]) -> Result<(), Symbol
 /// The target of a clause and its conditions.
 #[cycle(scan)]
 fn scan_clause(scan: &mut Scan, clause: &Comprehension) -> Result<(), SymbolTableError>
-    ensures goes { Goes result (state scan.new) ((scan_expr Target (expr_tree clause.now.target.value) ▸ scan_exprs Load (exprs expr_tree clause.now.ifs)) (state scan.old)) }
+    ensures goes { Goes result (state scan.new)
+        ((scan_expr Target (expr_tree clause.now.target.value)
+        ▸ scan_exprs Load (exprs expr_tree clause.now.ifs)) (state scan.old)) }
     ensures told { IfErr result IsTextOrMemory }
 {
     scan_expr(scan, Usage::Target, &clause.target)?;
@@ -271,7 +290,8 @@ fn scan_clause(scan: &mut Scan, clause: &Comprehension) -> Result<(), SymbolTabl
 
 #[cycle(scan)]
 fn scan_inner_clauses(scan: &mut Scan, clauses: &[Comprehension]) -> Result<(), SymbolTableError>
-    ensures goes { Goes result (state scan.new) (scan_inner_clauses (clause_trees expr_tree clauses.now) (state scan.old)) }
+    ensures goes { Goes result (state scan.new)
+        (scan_inner_clauses (clause_trees expr_tree clauses.now) (state scan.old)) }
     ensures told { IfErr result IsTextOrMemory }
 {
     for clause in clauses {
@@ -283,7 +303,8 @@ fn scan_inner_clauses(scan: &mut Scan, clauses: &[Comprehension]) -> Result<(), 
 
 #[cycle(scan)]
 fn scan_yield(scan: &mut Scan, usage: Usage, e: &ExprYield) -> Result<(), SymbolTableError>
-    ensures goes { Goes result (state scan.new) (scan_expr usage (yield_tree e.now) (state scan.old)) }
+    ensures goes { Goes result (state scan.new)
+        (scan_expr usage (yield_tree e.now) (state scan.old)) }
     ensures told { IfErr result IsTextOrMemory }
 {
     scan.check_yield(e.location)?;
@@ -292,7 +313,8 @@ fn scan_yield(scan: &mut Scan, usage: Usage, e: &ExprYield) -> Result<(), Symbol
 
 #[cycle(scan)]
 fn scan_yield_from(scan: &mut Scan, usage: Usage, e: &ExprYieldFrom) -> Result<(), SymbolTableError>
-    ensures goes { Goes result (state scan.new) (scan_expr usage (yield_from_tree e.now) (state scan.old)) }
+    ensures goes { Goes result (state scan.new)
+        (scan_expr usage (yield_from_tree e.now) (state scan.old)) }
     ensures told { IfErr result IsTextOrMemory }
 {
     scan.check_yield(e.location)?;
@@ -301,7 +323,8 @@ fn scan_yield_from(scan: &mut Scan, usage: Usage, e: &ExprYieldFrom) -> Result<(
 
 #[cycle(scan)]
 fn scan_compare(scan: &mut Scan, usage: Usage, e: &ExprCompare) -> Result<(), SymbolTableError>
-    ensures goes { Goes result (state scan.new) (scan_expr usage (compare_tree e.now) (state scan.old)) }
+    ensures goes { Goes result (state scan.new)
+        (scan_expr usage (compare_tree e.now) (state scan.old)) }
     ensures told { IfErr result IsTextOrMemory }
 {
     scan_expr(scan, usage, &e.left)?;
@@ -310,7 +333,8 @@ fn scan_compare(scan: &mut Scan, usage: Usage, e: &ExprCompare) -> Result<(), Sy
 
 #[cycle(scan)]
 fn scan_call(scan: &mut Scan, usage: Usage, e: &ExprCall) -> Result<(), SymbolTableError>
-    ensures goes { Goes result (state scan.new) (scan_expr usage (call_tree e.now) (state scan.old)) }
+    ensures goes { Goes result (state scan.new)
+        (scan_expr usage (call_tree e.now) (state scan.old)) }
     ensures told { IfErr result IsTextOrMemory }
 {
     scan_expr(scan, passed_on(usage), &e.func)?;
@@ -324,7 +348,8 @@ fn scan_call(scan: &mut Scan, usage: Usage, e: &ExprCall) -> Result<(), SymbolTa
 /// The first fault of the scan, at its place; or OutOfMemory.
 #[cycle(scan)]
 pub fn scan_keywords(scan: &mut Scan, items: &[Keyword]) -> Result<(), SymbolTableError>
-    ensures goes { Goes result (state scan.new) (scan_keywords (keywords expr_tree items.now) (state scan.old)) }
+    ensures goes { Goes result (state scan.new)
+        (scan_keywords (keywords expr_tree items.now) (state scan.old)) }
     ensures told { IfErr result IsTextOrMemory }
 {
     for keyword in items {
@@ -335,7 +360,8 @@ pub fn scan_keywords(scan: &mut Scan, items: &[Keyword]) -> Result<(), SymbolTab
 
 #[cycle(scan)]
 fn scan_formatted_value(scan: &mut Scan, e: &ExprFormattedValue) -> Result<(), SymbolTableError>
-    ensures goes { Goes result (state scan.new) (scan_expr Load (formatted_value_tree e.now) (state scan.old)) }
+    ensures goes { Goes result (state scan.new)
+        (scan_expr Load (formatted_value_tree e.now) (state scan.old)) }
     ensures told { IfErr result IsTextOrMemory }
 {
     scan_expr(scan, Usage::Load, &e.value)?;
@@ -344,7 +370,8 @@ fn scan_formatted_value(scan: &mut Scan, e: &ExprFormattedValue) -> Result<(), S
 
 #[cycle(scan)]
 fn scan_subscript(scan: &mut Scan, e: &ExprSubscript) -> Result<(), SymbolTableError>
-    ensures goes { Goes result (state scan.new) (scan_expr Load (subscript_tree e.now) (state scan.old)) }
+    ensures goes { Goes result (state scan.new)
+        (scan_expr Load (subscript_tree e.now) (state scan.old)) }
     ensures told { IfErr result IsTextOrMemory }
 {
     scan_expr(scan, Usage::Load, &e.value)?;
@@ -353,7 +380,8 @@ fn scan_subscript(scan: &mut Scan, e: &ExprSubscript) -> Result<(), SymbolTableE
 
 #[cycle(scan)]
 fn scan_slice(scan: &mut Scan, usage: Usage, e: &ExprSlice) -> Result<(), SymbolTableError>
-    ensures goes { Goes result (state scan.new) (scan_expr usage (slice_tree e.now) (state scan.old)) }
+    ensures goes { Goes result (state scan.new)
+        (scan_expr usage (slice_tree e.now) (state scan.old)) }
     ensures told { IfErr result IsTextOrMemory }
 {
     scan_opt(scan, usage, &e.lower)?;
@@ -367,7 +395,8 @@ fn scan_slice(scan: &mut Scan, usage: Usage, e: &ExprSlice) -> Result<(), Symbol
 /// The first fault of the scan, at its place; or OutOfMemory.
 #[cycle(scan)]
 pub fn scan_defaults(scan: &mut Scan, params: &Arguments) -> Result<(), SymbolTableError>
-    ensures goes { Goes result (state scan.new) (scan_defaults (arguments expr_tree params.now) (state scan.old)) }
+    ensures goes { Goes result (state scan.new)
+        (scan_defaults (arguments expr_tree params.now) (state scan.old)) }
     ensures told { IfErr result IsTextOrMemory }
 {
     scan_defaults_in(scan, params.posonlyargs.as_slice())?;
@@ -377,7 +406,8 @@ pub fn scan_defaults(scan: &mut Scan, params: &Arguments) -> Result<(), SymbolTa
 
 #[cycle(scan)]
 fn scan_defaults_in(scan: &mut Scan, params: &[ArgWithDefault]) -> Result<(), SymbolTableError>
-    ensures goes { Goes result (state scan.new) (scan_defaults_in (args expr_tree params.now) (state scan.old)) }
+    ensures goes { Goes result (state scan.new)
+        (scan_defaults_in (args expr_tree params.now) (state scan.old)) }
     ensures told { IfErr result IsTextOrMemory }
 {
     for param in params {
@@ -392,7 +422,8 @@ fn scan_defaults_in(scan: &mut Scan, params: &[ArgWithDefault]) -> Result<(), Sy
 /// The first fault of the scan, at its place; or OutOfMemory.
 #[cycle(scan)]
 pub fn scan_annotations(scan: &mut Scan, params: &Arguments) -> Result<(), SymbolTableError>
-    ensures goes { Goes result (state scan.new) (scan_annotations (arguments expr_tree params.now) (state scan.old)) }
+    ensures goes { Goes result (state scan.new)
+        (scan_annotations (arguments expr_tree params.now) (state scan.old)) }
     ensures told { IfErr result IsTextOrMemory }
 {
     if scan.postponed {
@@ -407,7 +438,8 @@ pub fn scan_annotations(scan: &mut Scan, params: &Arguments) -> Result<(), Symbo
 
 #[cycle(scan)]
 fn scan_annotations_in(scan: &mut Scan, params: &[ArgWithDefault]) -> Result<(), SymbolTableError>
-    ensures goes { Goes result (state scan.new) (scan_annotations_in (args expr_tree params.now) (state scan.old)) }
+    ensures goes { Goes result (state scan.new)
+        (scan_annotations_in (args expr_tree params.now) (state scan.old)) }
     ensures told { IfErr result IsTextOrMemory }
 {
     for param in params {
@@ -418,7 +450,8 @@ fn scan_annotations_in(scan: &mut Scan, params: &[ArgWithDefault]) -> Result<(),
 
 #[cycle(scan)]
 fn scan_opt_annotation(scan: &mut Scan, param: &Option<Box<Arg>>) -> Result<(), SymbolTableError>
-    ensures goes { Goes result (state scan.new) (scan_opt_annotation (opt_arg expr_tree param.now) (state scan.old)) }
+    ensures goes { Goes result (state scan.new)
+        (scan_opt_annotation (opt_arg expr_tree param.now) (state scan.old)) }
     ensures told { IfErr result IsTextOrMemory }
 {
     match param {

@@ -26,7 +26,8 @@ pub(crate) fn scan_defaults_if(
     there: bool,
     params: &Arguments,
 ) -> Result<(), SymbolTableError>
-    ensures goes { Goes result (state scan.new) (when there (scan_defaults (arguments expr_tree params.now)) (state scan.old)) }
+    ensures goes { Goes result (state scan.new)
+        (when there (scan_defaults (arguments expr_tree params.now)) (state scan.old)) }
     ensures told { IfErr result IsTextOrMemory }
 {
     if there {
@@ -41,7 +42,8 @@ pub(crate) fn scan_returns(
     scan: &mut Scan,
     returns: &Option<Box<Expr>>,
 ) -> Result<(), SymbolTableError>
-    ensures goes { Goes result (state scan.new) (unless_postponed (scan_opt Load (opt_box expr_tree returns.now)) (state scan.old)) }
+    ensures goes { Goes result (state scan.new)
+        (unless_postponed (scan_opt Load (opt_box expr_tree returns.now)) (state scan.old)) }
     ensures told { IfErr result IsTextOrMemory }
 {
     if scan.postponed {
@@ -59,7 +61,8 @@ pub(crate) fn scan_assign(scan: &mut Scan, s: &StmtAssign) -> Result<(), SymbolT
 }
 
 pub(crate) fn scan_type_alias(scan: &mut Scan, s: &StmtTypeAlias) -> Result<(), SymbolTableError>
-    ensures goes { Goes result (state scan.new) (scan_stmt (type_alias_tree s.now) (state scan.old)) }
+    ensures goes { Goes result (state scan.new)
+        (scan_stmt (type_alias_tree s.now) (state scan.old)) }
     ensures told { IfErr result IsTextOrMemory }
 {
     check_type_params(scan, s.type_params.as_slice())?;
@@ -73,7 +76,10 @@ fn scan_generic_alias(
     generic: bool,
     s: &StmtTypeAlias,
 ) -> Result<(), SymbolTableError>
-    ensures goes { Goes result (state scan.new) (in_type_params generic (alias_name (plain_name (expr_tree s.now.name.value))) s.now.location (scan_type_params [] (type_params s.now.type_params) ▸ scan_expr Load (expr_tree s.now.value.value)) (state scan.old)) }
+    ensures goes { Goes result (state scan.new)
+        (in_type_params generic (alias_name (plain_name (expr_tree s.now.name.value)))
+        s.now.location (scan_type_params [] (type_params s.now.type_params)
+        ▸ scan_expr Load (expr_tree s.now.value.value)) (state scan.old)) }
     ensures told { IfErr result IsTextOrMemory }
 {
     enter_type_params(scan, generic, alias_name(&s.name), s.location)?;
@@ -82,7 +88,9 @@ fn scan_generic_alias(
 }
 
 fn scan_alias_value(scan: &mut Scan, s: &StmtTypeAlias) -> Result<(), SymbolTableError>
-    ensures goes { Goes result (state scan.new) ((scan_type_params [] (type_params s.now.type_params) ▸ scan_expr Load (expr_tree s.now.value.value)) (state scan.old)) }
+    ensures goes { Goes result (state scan.new)
+        ((scan_type_params [] (type_params s.now.type_params)
+        ▸ scan_expr Load (expr_tree s.now.value.value)) (state scan.old)) }
     ensures told { IfErr result IsTextOrMemory }
 {
     scan_type_params(scan, s.type_params.as_slice())?;
@@ -101,7 +109,8 @@ fn alias_name(name: &Expr) -> &str
 }
 
 pub(crate) fn scan_aug_assign(scan: &mut Scan, s: &StmtAugAssign) -> Result<(), SymbolTableError>
-    ensures goes { Goes result (state scan.new) (scan_stmt (aug_assign_tree s.now) (state scan.old)) }
+    ensures goes { Goes result (state scan.new)
+        (scan_stmt (aug_assign_tree s.now) (state scan.old)) }
     ensures told { IfErr result IsTextOrMemory }
 {
     scan_expr(scan, Usage::Store, &s.target)?;
@@ -109,7 +118,8 @@ pub(crate) fn scan_aug_assign(scan: &mut Scan, s: &StmtAugAssign) -> Result<(), 
 }
 
 pub(crate) fn scan_ann_assign(scan: &mut Scan, s: &StmtAnnAssign) -> Result<(), SymbolTableError>
-    ensures goes { Goes result (state scan.new) (scan_stmt (ann_assign_tree s.now) (state scan.old)) }
+    ensures goes { Goes result (state scan.new)
+        (scan_stmt (ann_assign_tree s.now) (state scan.old)) }
     ensures told { IfErr result IsTextOrMemory }
 {
     scan_opt(scan, Usage::Load, &s.value)?;
@@ -118,7 +128,8 @@ pub(crate) fn scan_ann_assign(scan: &mut Scan, s: &StmtAnnAssign) -> Result<(), 
 }
 
 fn scan_annotation(scan: &mut Scan, annotation: &Expr) -> Result<(), SymbolTableError>
-    ensures goes { Goes result (state scan.new) (unless_postponed (scan_expr Load (expr_tree annotation.now)) (state scan.old)) }
+    ensures goes { Goes result (state scan.new)
+        (unless_postponed (scan_expr Load (expr_tree annotation.now)) (state scan.old)) }
     ensures told { IfErr result IsTextOrMemory }
 {
     if scan.postponed {
@@ -130,7 +141,9 @@ fn scan_annotation(scan: &mut Scan, annotation: &Expr) -> Result<(), SymbolTable
 /// A simple annotated name is registered where its statement stands.
 #[tactic(auto, using(py_tree::proofs::View::trees))]
 fn scan_annotated_target(scan: &mut Scan, s: &StmtAnnAssign) -> Result<(), SymbolTableError>
-    ensures goes { Goes result (state scan.new) (annotated_target s.now.simple (plain_name (expr_tree s.now.target.value)) s.now.location (scan_expr Store (expr_tree s.now.target.value)) (state scan.old)) }
+    ensures goes { Goes result (state scan.new)
+        (annotated_target s.now.simple (plain_name (expr_tree s.now.target.value)) s.now.location
+        (scan_expr Store (expr_tree s.now.target.value)) (state scan.old)) }
     ensures told { IfErr result IsTextOrMemory }
 {
     match &*s.target {
@@ -143,7 +156,8 @@ fn scan_annotated_target(scan: &mut Scan, s: &StmtAnnAssign) -> Result<(), Symbo
 
 /// Scans what a `with` enters, each before its target.
 pub(crate) fn scan_items(scan: &mut Scan, items: &[WithItem]) -> Result<(), SymbolTableError>
-    ensures goes { Goes result (state scan.new) (scan_items (with_items items.now) (state scan.old)) }
+    ensures goes { Goes result (state scan.new)
+        (scan_items (with_items items.now) (state scan.old)) }
     ensures told { IfErr result IsTextOrMemory }
 {
     for item in items {
@@ -177,7 +191,8 @@ pub(crate) fn scan_assert(scan: &mut Scan, s: &StmtAssert) -> Result<(), SymbolT
 }
 
 pub(crate) fn scan_import_from(scan: &mut Scan, s: &StmtImportFrom) -> Result<(), SymbolTableError>
-    ensures goes { Goes result (state scan.new) (scan_stmt (import_from_tree s.now) (state scan.old)) }
+    ensures goes { Goes result (state scan.new)
+        (scan_stmt (import_from_tree s.now) (state scan.old)) }
     ensures told { IfErr result IsTextOrMemory }
 {
     check_future(scan, &s.module, s.names.as_slice());

@@ -91,7 +91,8 @@ fn scan_stmt(scan: &mut Scan, stmt: &Stmt) -> Result<(), SymbolTableError>
 /// The first fault of the scan, at its place; or OutOfMemory.
 #[cycle(scan)]
 pub fn scan_stmts(scan: &mut Scan, body: &[Stmt]) -> Result<(), SymbolTableError>
-    ensures goes { Goes result (state scan.new) (scan_stmts (stmts stmt_tree body.now) (state scan.old)) }
+    ensures goes { Goes result (state scan.new)
+        (scan_stmts (stmts stmt_tree body.now) (state scan.old)) }
     ensures told { IfErr result IsTextOrMemory }
 {
     for stmt in body {
@@ -102,7 +103,8 @@ pub fn scan_stmts(scan: &mut Scan, body: &[Stmt]) -> Result<(), SymbolTableError
 
 #[cycle(scan)]
 fn scan_function_def(scan: &mut Scan, s: &StmtFunctionDef) -> Result<(), SymbolTableError>
-    ensures goes { Goes result (state scan.new) (scan_stmt (function_def_tree s.now) (state scan.old)) }
+    ensures goes { Goes result (state scan.new)
+        (scan_stmt (function_def_tree s.now) (state scan.old)) }
     ensures told { IfErr result IsTextOrMemory }
 {
     let function = FunctionParts {
@@ -122,7 +124,8 @@ fn scan_async_function_def(
     scan: &mut Scan,
     s: &StmtAsyncFunctionDef,
 ) -> Result<(), SymbolTableError>
-    ensures goes { Goes result (state scan.new) (scan_stmt (async_function_def_tree s.now) (state scan.old)) }
+    ensures goes { Goes result (state scan.new)
+        (scan_stmt (async_function_def_tree s.now) (state scan.old)) }
     ensures told { IfErr result IsTextOrMemory }
 {
     let function = FunctionParts {
@@ -139,7 +142,13 @@ fn scan_async_function_def(
 
 #[cycle(scan)]
 fn scan_function(scan: &mut Scan, function: &FunctionParts<'_>) -> Result<(), SymbolTableError>
-    ensures goes { Goes result (state scan.new) (scan_function function.now.location function.now.name.now (arguments expr_tree function.now.args.now) (scan_stmts (stmts stmt_tree function.now.body.now)) (exprs expr_tree function.now.decorator_list.now) (opt_box expr_tree function.now.returns.now) (type_params function.now.type_params.now) (state scan.old)) }
+    ensures goes { Goes result (state scan.new)
+        (scan_function function.now.location function.now.name.now
+        (arguments expr_tree function.now.args.now)
+        (scan_stmts (stmts stmt_tree function.now.body.now))
+        (exprs expr_tree function.now.decorator_list.now)
+        (opt_box expr_tree function.now.returns.now) (type_params function.now.type_params.now)
+        (state scan.old)) }
     ensures told { IfErr result IsTextOrMemory }
 {
     check_type_params(scan, function.type_params.as_slice())?;
@@ -158,7 +167,13 @@ fn scan_generic_function(
     generic: bool,
     function: &FunctionParts<'_>,
 ) -> Result<(), SymbolTableError>
-    ensures goes { Goes result (state scan.new) (in_type_params generic function.now.name.now function.now.location (scan_handed_function generic function.now.location function.now.name.now (arguments expr_tree function.now.args.now) (scan_stmts (stmts stmt_tree function.now.body.now)) (opt_box expr_tree function.now.returns.now) (type_params function.now.type_params.now)) (state scan.old)) }
+    ensures goes { Goes result (state scan.new)
+        (in_type_params generic function.now.name.now function.now.location
+        (scan_handed_function generic function.now.location function.now.name.now
+        (arguments expr_tree function.now.args.now)
+        (scan_stmts (stmts stmt_tree function.now.body.now))
+        (opt_box expr_tree function.now.returns.now) (type_params function.now.type_params.now))
+        (state scan.old)) }
     ensures told { IfErr result IsTextOrMemory }
 {
     enter_type_params(scan, generic, function.name.as_str(), function.location)?;
@@ -172,7 +187,12 @@ fn scan_handed_function(
     generic: bool,
     function: &FunctionParts<'_>,
 ) -> Result<(), SymbolTableError>
-    ensures goes { Goes result (state scan.new) (scan_handed_function generic function.now.location function.now.name.now (arguments expr_tree function.now.args.now) (scan_stmts (stmts stmt_tree function.now.body.now)) (opt_box expr_tree function.now.returns.now) (type_params function.now.type_params.now) (state scan.old)) }
+    ensures goes { Goes result (state scan.new)
+        (scan_handed_function generic function.now.location function.now.name.now
+        (arguments expr_tree function.now.args.now)
+        (scan_stmts (stmts stmt_tree function.now.body.now))
+        (opt_box expr_tree function.now.returns.now) (type_params function.now.type_params.now)
+        (state scan.old)) }
     ensures told { IfErr result IsTextOrMemory }
 {
     use_handed_defaults(scan, generic, function.args, &function.location)?;
@@ -185,7 +205,11 @@ fn scan_function_scope(
     scan: &mut Scan,
     function: &FunctionParts<'_>,
 ) -> Result<(), SymbolTableError>
-    ensures goes { Goes result (state scan.new) (scan_function_scope function.now.location function.now.name.now (arguments expr_tree function.now.args.now) (scan_stmts (stmts stmt_tree function.now.body.now)) (opt_box expr_tree function.now.returns.now) (state scan.old)) }
+    ensures goes { Goes result (state scan.new)
+        (scan_function_scope function.now.location function.now.name.now
+        (arguments expr_tree function.now.args.now)
+        (scan_stmts (stmts stmt_tree function.now.body.now))
+        (opt_box expr_tree function.now.returns.now) (state scan.old)) }
     ensures told { IfErr result IsTextOrMemory }
 {
     scan_function_body(scan, function)?;
@@ -196,7 +220,10 @@ fn scan_function_scope(
 /// The scope of a function.
 #[cycle(scan)]
 fn scan_function_body(scan: &mut Scan, function: &FunctionParts<'_>) -> Result<(), SymbolTableError>
-    ensures goes { Goes result (state scan.new) (inside scope.Function function.now.name.now function.now.location (use_parameters (arguments expr_tree function.now.args.now) ▸ scan_stmts (stmts stmt_tree function.now.body.now)) (state scan.old)) }
+    ensures goes { Goes result (state scan.new)
+        (inside scope.Function function.now.name.now function.now.location
+        (use_parameters (arguments expr_tree function.now.args.now)
+        ▸ scan_stmts (stmts stmt_tree function.now.body.now)) (state scan.old)) }
     ensures told { IfErr result IsTextOrMemory }
 {
     scan.enter(
@@ -211,7 +238,8 @@ fn scan_function_body(scan: &mut Scan, function: &FunctionParts<'_>) -> Result<(
 
 #[cycle(scan)]
 fn scan_class_def(scan: &mut Scan, s: &StmtClassDef) -> Result<(), SymbolTableError>
-    ensures goes { Goes result (state scan.new) (scan_stmt (class_def_tree s.now) (state scan.old)) }
+    ensures goes { Goes result (state scan.new)
+        (scan_stmt (class_def_tree s.now) (state scan.old)) }
     ensures told { IfErr result IsTextOrMemory }
 {
     let decorators = s.decorator_list.as_slice();
@@ -229,7 +257,11 @@ fn scan_generic_class(
     generic: bool,
     s: &StmtClassDef,
 ) -> Result<(), SymbolTableError>
-    ensures goes { Goes result (state scan.new) (in_type_params generic s.now.name s.now.location (scan_class_parts s.now.location s.now.name (exprs expr_tree s.now.bases) (keywords expr_tree s.now.keywords) (scan_stmts (stmts stmt_tree s.now.body)) (type_params s.now.type_params)) (state scan.old)) }
+    ensures goes { Goes result (state scan.new)
+        (in_type_params generic s.now.name s.now.location
+        (scan_class_parts s.now.location s.now.name (exprs expr_tree s.now.bases)
+        (keywords expr_tree s.now.keywords) (scan_stmts (stmts stmt_tree s.now.body))
+        (type_params s.now.type_params)) (state scan.old)) }
     ensures told { IfErr result IsTextOrMemory }
 {
     enter_type_params(scan, generic, s.name.as_str(), s.location)?;
@@ -240,7 +272,10 @@ fn scan_generic_class(
 /// The scope of a class, and then its bases.
 #[cycle(scan)]
 fn scan_class_parts(scan: &mut Scan, s: &StmtClassDef) -> Result<(), SymbolTableError>
-    ensures goes { Goes result (state scan.new) (scan_class_parts s.now.location s.now.name (exprs expr_tree s.now.bases) (keywords expr_tree s.now.keywords) (scan_stmts (stmts stmt_tree s.now.body)) (type_params s.now.type_params) (state scan.old)) }
+    ensures goes { Goes result (state scan.new)
+        (scan_class_parts s.now.location s.now.name (exprs expr_tree s.now.bases)
+        (keywords expr_tree s.now.keywords) (scan_stmts (stmts stmt_tree s.now.body))
+        (type_params s.now.type_params) (state scan.old)) }
     ensures told { IfErr result IsTextOrMemory }
 {
     scan_type_params(scan, s.type_params.as_slice())?;
@@ -252,18 +287,23 @@ fn scan_class_parts(scan: &mut Scan, s: &StmtClassDef) -> Result<(), SymbolTable
 /// Names in a class are mangled by it.
 #[cycle(scan)]
 fn scan_class_scope(scan: &mut Scan, s: &StmtClassDef) -> Result<(), SymbolTableError>
-    ensures goes { Goes result (state scan.new) (scan_class_scope s.now.location s.now.name (scan_stmts (stmts stmt_tree s.now.body)) (state scan.old)) }
+    ensures goes { Goes result (state scan.new)
+        (scan_class_scope s.now.location s.now.name (scan_stmts (stmts stmt_tree s.now.body))
+        (state scan.old)) }
     ensures told { IfErr result IsTextOrMemory }
 {
-    let around = scan.enter_class(&s.name)?;
+    let enclosing = scan.enter_class(&s.name)?;
     scan_class_body(scan, s)?;
-    scan.class = around;
+    scan.class = enclosing;
     Ok(())
 }
 
 #[cycle(scan)]
 fn scan_class_body(scan: &mut Scan, s: &StmtClassDef) -> Result<(), SymbolTableError>
-    ensures goes { Goes result (state scan.new) (inside scope.Class s.now.name s.now.location (use_first_names s.now.location ▸ scan_stmts (stmts stmt_tree s.now.body)) (state scan.old)) }
+    ensures goes { Goes result (state scan.new)
+        (inside scope.Class s.now.name s.now.location
+        (use_first_names s.now.location ▸ scan_stmts (stmts stmt_tree s.now.body))
+        (state scan.old)) }
     ensures told { IfErr result IsTextOrMemory }
 {
     scan.enter(SymbolTableType::Class, s.name.as_str(), s.location)?;
@@ -281,7 +321,10 @@ fn scan_for(
     body: &Stmts,
     orelse: &Stmts,
 ) -> Result<(), SymbolTableError>
-    ensures goes { Goes result (state scan.new) ((scan_expr Load (expr_tree iter.now) ▸ scan_expr Store (expr_tree target.now) ▸ scan_stmts (stmts stmt_tree body.now) ▸ scan_stmts (stmts stmt_tree orelse.now)) (state scan.old)) }
+    ensures goes { Goes result (state scan.new)
+        ((scan_expr Load (expr_tree iter.now) ▸ scan_expr Store (expr_tree target.now)
+        ▸ scan_stmts (stmts stmt_tree body.now)
+        ▸ scan_stmts (stmts stmt_tree orelse.now)) (state scan.old)) }
     ensures told { IfErr result IsTextOrMemory }
 {
     scan_expr(scan, Usage::Load, iter)?;
@@ -298,7 +341,9 @@ fn scan_branches(
     body: &Stmts,
     orelse: &Stmts,
 ) -> Result<(), SymbolTableError>
-    ensures goes { Goes result (state scan.new) ((scan_expr Load (expr_tree test.now) ▸ scan_stmts (stmts stmt_tree body.now) ▸ scan_stmts (stmts stmt_tree orelse.now)) (state scan.old)) }
+    ensures goes { Goes result (state scan.new)
+        ((scan_expr Load (expr_tree test.now) ▸ scan_stmts (stmts stmt_tree body.now)
+        ▸ scan_stmts (stmts stmt_tree orelse.now)) (state scan.old)) }
     ensures told { IfErr result IsTextOrMemory }
 {
     scan_expr(scan, Usage::Load, test)?;
@@ -309,7 +354,9 @@ fn scan_branches(
 /// Scans a `with` or an `async with`.
 #[cycle(scan)]
 fn scan_with(scan: &mut Scan, items: &List<WithItem>, body: &Stmts) -> Result<(), SymbolTableError>
-    ensures goes { Goes result (state scan.new) ((scan_items (with_items items.now) ▸ scan_stmts (stmts stmt_tree body.now)) (state scan.old)) }
+    ensures goes { Goes result (state scan.new)
+        ((scan_items (with_items items.now) ▸ scan_stmts (stmts stmt_tree body.now))
+        (state scan.old)) }
     ensures told { IfErr result IsTextOrMemory }
 {
     scan_items(scan, items.as_slice())?;
@@ -326,7 +373,11 @@ fn scan_try(
     orelse: &Stmts,
     finalbody: &Stmts,
 ) -> Result<(), SymbolTableError>
-    ensures goes { Goes result (state scan.new) ((scan_stmts (stmts stmt_tree body.now) ▸ scan_handlers at.now (handler_trees stmt_tree handlers.now) ▸ scan_stmts (stmts stmt_tree orelse.now) ▸ scan_stmts (stmts stmt_tree finalbody.now)) (state scan.old)) }
+    ensures goes { Goes result (state scan.new)
+        ((scan_stmts (stmts stmt_tree body.now)
+        ▸ scan_handlers at.now (handler_trees stmt_tree handlers.now)
+        ▸ scan_stmts (stmts stmt_tree orelse.now)
+        ▸ scan_stmts (stmts stmt_tree finalbody.now)) (state scan.old)) }
     ensures told { IfErr result IsTextOrMemory }
 {
     scan_stmts(scan, body.as_slice())?;
@@ -342,7 +393,8 @@ fn scan_handlers(
     at: &SourceLocation,
     items: &[ExceptHandler],
 ) -> Result<(), SymbolTableError>
-    ensures goes { Goes result (state scan.new) (scan_handlers at.now (handler_trees stmt_tree items.now) (state scan.old)) }
+    ensures goes { Goes result (state scan.new)
+        (scan_handlers at.now (handler_trees stmt_tree items.now) (state scan.old)) }
     ensures told { IfErr result IsTextOrMemory }
 {
     for handler in items {
@@ -357,7 +409,9 @@ fn scan_handler(
     at: &SourceLocation,
     handler: &ExceptHandler,
 ) -> Result<(), SymbolTableError>
-    ensures goes { Goes result (state scan.new) ((scan_opt Load (opt_box expr_tree handler.now.type_) ▸ use_opt_name handler.now.name at.now ▸ scan_stmts (stmts stmt_tree handler.now.body)) (state scan.old)) }
+    ensures goes { Goes result (state scan.new)
+        ((scan_opt Load (opt_box expr_tree handler.now.type_) ▸ use_opt_name handler.now.name at.now
+        ▸ scan_stmts (stmts stmt_tree handler.now.body)) (state scan.old)) }
     ensures told { IfErr result IsTextOrMemory }
 {
     scan_opt(scan, Usage::Load, &handler.type_)?;

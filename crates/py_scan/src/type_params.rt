@@ -17,7 +17,8 @@ pub(crate) fn scan_type_params(
     scan: &mut Scan,
     params: &[TypeParam],
 ) -> Result<(), SymbolTableError>
-    ensures goes { Goes result (state scan.new) (scan_type_params [] (type_params params.now) (state scan.old)) }
+    ensures goes { Goes result (state scan.new)
+        (scan_type_params [] (type_params params.now) (state scan.old)) }
     ensures told { IfErr result IsTextOrMemory }
 {
     let mut earlier = TypeNames::new(scan.alloc);
@@ -33,7 +34,9 @@ fn scan_type_param(
     earlier: &TypeNames,
     param: &TypeParam,
 ) -> Result<(), SymbolTableError>
-    ensures goes { (names : List Name) → AreWritten (state scan.old).class names earlier.now → Goes result (state scan.new) (scan_type_param names (type_param_tree param.now) (state scan.old)) }
+    ensures goes { (names : List Name) → AreWritten (state scan.old).class names earlier.now
+        → Goes result (state scan.new)
+        (scan_type_param names (type_param_tree param.now) (state scan.old)) }
     ensures told { IfErr result IsTextOrMemory }
 {
     match param {
@@ -47,7 +50,9 @@ fn scan_type_var(
     earlier: &TypeNames,
     param: &TypeParamTypeVar,
 ) -> Result<(), SymbolTableError>
-    ensures goes { (names : List Name) → AreWritten (state scan.old).class names earlier.now → Goes result (state scan.new) (scan_type_param names (type_var_tree param.now) (state scan.old)) }
+    ensures goes { (names : List Name) → AreWritten (state scan.old).class names earlier.now
+        → Goes result (state scan.new)
+        (scan_type_param names (type_var_tree param.now) (state scan.old)) }
     ensures told { IfErr result IsTextOrMemory }
 {
     scan_opt(scan, Usage::Load, &param.bound)?;

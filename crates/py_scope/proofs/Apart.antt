@@ -104,7 +104,8 @@ free_lift Holder h k n u = ap free_class_opt (lookup_put u.entries k n _) ∙ by
 
 free_lifted : (base : List Row) (pairs : List (ℕ × Name)) (t : ℕ) (n : Name) (u : Row) → free_class_opt (lookup n (lifted_all base pairs t u).entries) ≡ free_class_opt (lookup n u.entries)
 free_lifted base [] t n u = refl
-free_lifted base (q ∷ qs) t n u = free_lifted base qs t n (lift_effect base q t u) ∙ free_lift (lift_of (stages base q.1) t (outward_from base q.0)) (lifted_holds (stages base q.1) (outward_from base q.0)) q.1 n u
+free_lifted base (q ∷ qs) t n u = free_lifted base qs t n (lift_effect base q t u)
+    ∙ free_lift (lift_of (stages base q.1) t (outward_from base q.0)) (lifted_holds (stages base q.1) (outward_from base q.0)) q.1 n u
 
 -- a scope that a look passes does not stop it
 pub passed_past : (m : ℕ → Meets) (t : ℕ) (es : List ℕ) → touch m t es ≡ Passes → m t ≡ Past

@@ -10,11 +10,12 @@ use Rattle.py_scope.specs.Outward.{enclosing_scopes, look, look_from, meetings, 
 use Rattle.py_scope.specs.Entries.{entry_at, entry_of}
 use Rattle.py_scope.specs.Roles.{bound_opt}
 use Rattle.py_scope.specs.Registered.{is_fresh}
-use Rattle.py_scope.specs.Lifts.{Lift, Stays, Through, Holder, after_lift, or_absent, held_as, holding_entry, lift_of, lifted_holds, stages, as_in, lifts, lift_effect, lifted_all, outward_from, holds_opt, kind_of}
+use Rattle.py_scope.specs.Lifts.{Lift, Stays, Through, Holder, after_lift, or_absent, held_as, holding_entry, lift_of, lifted_holds, stages}
+use Rattle.py_scope.specs.Lifts.{as_in, lifts, lift_effect, lifted_all, outward_from, holds_opt, kind_of}
 use Rattle.py_scope.specs.Scanned.{Scanned, order_of, is_function}
 use Rattle.py_scope.specs.InOrder.{IsScanned}
 use Rattle.py_scope.specs.Resolved.{first_fault, after_lifts}
-use Rattle.py_scope.specs.Resolve.{kind_at, around, last_declaration, holder, goes_through, is_held, lifted_to, holds_in, binds_in, stops_in, look_in}
+use Rattle.py_scope.specs.Resolve.{kind_at, outward_scopes, last_declaration, holder, goes_through, is_held, lifted_to, holds_in, binds_in, stops_in, look_in}
 use Rattle.py_scope.proofs.ByLifts.{is_through, is_holder}
 use Rattle.py_scope.proofs.LiftKeeps as lifting
 use Rattle.py_scope.proofs.MarkSumLemmas.{lookup_put}
@@ -132,11 +133,11 @@ module _ (s : Scanned) (old : IsScanned s) (fine : first_fault s ≡ None) where
   pub parents_are : parents based_base ≡ parents s.rows
   parents_are = lifting.lift_keep_same_parents s.rows based_base (lifts s.rows (order_of s)) (lawful_is_lifted s old fine)
 
-  pub around_is : (k : ℕ) → enclosing_scopes (parents based_base) k ≡ around s.rows k
-  around_is k = ap (λ p. enclosing_scopes p k) parents_are
+  pub outward_is : (k : ℕ) → enclosing_scopes (parents based_base) k ≡ outward_scopes s.rows k
+  outward_is k = ap (λ p. enclosing_scopes p k) parents_are
 
   pub based_look_is : (k : ℕ) (n : Name) → look_from based_base k n ≡ look_in s.rows k n
-  based_look_is k n = λ j. look (λ e. stop_is n e j) (around_is k j)
+  based_look_is k n = λ j. look (λ e. stop_is n e j) (outward_is k j)
 
   pub based_count_is : length based_base ≡ length s.rows
   based_count_is = lifting.lift_keep_same_length s.rows based_base (lifts s.rows (order_of s)) (lawful_is_lifted s old fine)

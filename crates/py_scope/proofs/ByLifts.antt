@@ -27,7 +27,7 @@ is_holder Holder = true
 abbrev pub goes_through : List Row → List ℕ → ℕ → Name → Bool
 goes_through rows order k n = list_any (λ q. same_name n q.1 && is_through (lift_of (stages rows q.1) k (outward_from rows q.0))) (lifts rows order)
 
--- a walrus in a comprehension within stores n, and this function is the nearest scope around that is no comprehension
+-- a walrus in a nested comprehension stores n, and this function is the nearest enclosing scope that is no comprehension
 abbrev pub is_held : List Row → List ℕ → ℕ → Name → Bool
 is_held rows order k n = list_any (λ q. same_name n q.1 && is_holder (lift_of (stages rows q.1) k (outward_from rows q.0))) (lifts rows order)
 
@@ -35,7 +35,7 @@ is_held rows order k n = list_any (λ q. same_name n q.1 && is_holder (lift_of (
 abbrev pub holds_in : List Row → List ℕ → ℕ → Name → Holds
 holds_in rows order k n = if goes_through rows order k n then lifted_holds (stages rows n) (outward_from rows k) else holds_opt (entry_at rows k n)
 
--- scope k binds n: a use there binds it, or a walrus within, unless k declares it
+-- scope k binds n: a use there binds it, or a nested walrus, unless k declares it
 abbrev pub binds_in : List Row → List ℕ → ℕ → Name → Bool
 binds_in rows order k n = bound_opt (entry_at rows k n) || (is_held rows order k n && is_plain (holds_opt (entry_at rows k n)))
 

@@ -1,5 +1,6 @@
 -- A name is captured in the settled rows exactly where a direct child needs it.
-use Rattle.std.proofs.Common.{◌≡◌, refl, sym, ap, ◌∙◌, subst, ℕ, zero, suc, ◌<◌, ◌≤◌, Bool, true, false, ◌||◌, ◌&&◌, List, [], ◌∷◌, length, nat_eq, if◌then◌else◌, slice_get, take, take_all, option_map, Option, Some, None, ◌⊎◌, inl, inr, arith}
+use Rattle.std.proofs.Common.{◌≡◌, refl, sym, ap, ◌∙◌, subst, ℕ, zero, suc, ◌<◌, ◌≤◌, Bool, true, false, ◌||◌, ◌&&◌, List, [], ◌∷◌, length}
+use Rattle.std.proofs.Common.{nat_eq, if◌then◌else◌, slice_get, take, take_all, option_map, Option, Some, None, ◌⊎◌, inl, inr, arith}
 use Rattle.std.specs.List.{list_any}
 use Rattle.py_scope.specs.declared.outward.Meets.{Meets}
 use Rattle.py_scope.specs.declared.outward.Meets.TheVariants.{Past, Binding, Explicit}
@@ -98,7 +99,12 @@ module _ (old new : List Row) (order : List ℕ) (whole : IsSettled old (looks o
           let f = from_looks (captures old t n) old order g in
           let s = captured_name_both (same_name n f.1) _ f.3 in
           let q : n ≡ f.1 = equal_names n f.1 s.0 in
-          inr (f.0, subst (λ z. asks_for old f.0 z ≡ true) (sym q) f.2, subst (λ z. look_from old f.0 z ≡ FreeOf t) (sym q) (captures_ends (meetings old f.1) t (enclosing_scopes (parents old) f.0) (is_it _ s.1)))
+          inr (
+            f.0,
+            subst (λ z. asks_for old f.0 z ≡ true) (sym q) f.2,
+            subst (λ z. look_from old f.0 z ≡ FreeOf t) (sym q)
+                (captures_ends (meetings old f.1) t (enclosing_scopes (parents old) f.0) (is_it _ s.1)),
+          )
 
   pub asked_flag : ((r : ℕ) → r < length old → list_any (nat_eq r) order ≡ true) → (t : ℕ) (n : Name) (r : ℕ) → t < length old → r < length old
       → asks_for old r n ≡ true → look_from old r n ≡ FreeOf t → captured_opt (entry_at new t n) ≡ true

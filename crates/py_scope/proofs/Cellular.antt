@@ -1,5 +1,6 @@
 -- The cells of the scopes of a builder without a fault.
-use Rattle.std.proofs.Common.{◌≡◌, refl, sym, ap, ◌∙◌, subst, ℕ, zero, suc, ◌<◌, Bool, true, false, ◌||◌, List, [], ◌∷◌, length, if◌then◌else◌, slice_get, Option, Some, None, option_map, ◌⊎◌, inl, inr, ◌↔◌, arith}
+use Rattle.std.proofs.Common.{◌≡◌, refl, sym, ap, ◌∙◌, subst, ℕ, zero, suc, ◌<◌, Bool, true, false, ◌||◌, List, [], ◌∷◌, length}
+use Rattle.std.proofs.Common.{if◌then◌else◌, slice_get, Option, Some, None, option_map, ◌⊎◌, inl, inr, ◌↔◌, arith}
 use Rattle.std.specs.List.{list_any}
 use Rattle.py_scope.specs.declared.table_type.SymbolTableType.{SymbolTableType}
 use Rattle.py_scope.specs.declared.table_type.SymbolTableType.TheVariants.{Function}
@@ -41,7 +42,9 @@ abbrev pub bound_of : Option Entry → Bool
 bound_of None = false
 bound_of (Some e) = is_bound e
 
-module _ {A : Type 0} (f : Option Entry → A) (passes : (k : SymbolTableType) (o : Option Entry) → f (Some (passed_entry k (or_new o))) ≡ f o) (captures : (o : Option Entry) → f (Some (captured_entry (or_new o))) ≡ f o) where
+module _ {A : Type 0} (f : Option Entry → A)
+    (passes : (k : SymbolTableType) (o : Option Entry) → f (Some (passed_entry k (or_new o))) ≡ f o)
+    (captures : (o : Option Entry) → f (Some (captured_entry (or_new o))) ≡ f o) where
   after_keeps : (n : Name) (x : Touch) (k : Name) (u : Row) → f (lookup n (after x k u).entries) ≡ f (lookup n u.entries)
   after_keeps n Leaves k u = refl
   after_keeps n Passes k u = ap f (lookup_put u.entries k n _) ∙ by (same_name n k) refl
@@ -133,9 +136,16 @@ module _ (s : Scanned) (old : IsScanned s) (fine : first_fault s ≡ None) where
       read (Some r) m h = h
 
       by_lift : (o : Option Row) → slice_get s.rows k ≡ o → captured_opt (entry_at cellular_base k n) ≡ true → kind_of (slice_get cellular_base k) ≡ Function
-      by_lift None e c = let q : false ≡ true = sym (ap (λ o. captured_opt (entry_of n o)) (lawful_is_lifted s old fine k ∙ ap (option_map (lifted_all s.rows (lifts s.rows (order_of s)) k)) e)) ∙ c in cc
+      by_lift None e c = let q : false ≡ true =
+          sym (ap (λ o. captured_opt (entry_of n o))
+          (lawful_is_lifted s old fine k ∙ ap (option_map (lifted_all s.rows (lifts s.rows (order_of s)) k)) e)) ∙ c in cc
       by_lift (Some u) e c =
-          let all : list_any (hits_holder s.rows k n) (lifts s.rows (order_of s)) ≡ true = sym (captured_lifted s.rows (lifts s.rows (order_of s)) k n u ∙ ap (λ b. b || list_any (hits_holder s.rows k n) (lifts s.rows (order_of s))) (ap (λ o. captured_opt (entry_of n o)) (sym e) ∙ (old.fresh k).uncaptured n)) ∙ ap (λ o. captured_opt (entry_of n o)) (sym (lawful_is_lifted s old fine k ∙ ap (option_map (lifted_all s.rows (lifts s.rows (order_of s)) k)) e)) ∙ c in
+          let all : list_any (hits_holder s.rows k n) (lifts s.rows (order_of s)) ≡ true =
+          sym (captured_lifted s.rows (lifts s.rows (order_of s)) k n u
+          ∙ ap (λ b. b || list_any (hits_holder s.rows k n) (lifts s.rows (order_of s)))
+          (ap (λ o. captured_opt (entry_of n o)) (sym e) ∙ (old.fresh k).uncaptured n))
+          ∙ ap (λ o. captured_opt (entry_of n o))
+          (sym (lawful_is_lifted s old fine k ∙ ap (option_map (lifted_all s.rows (lifts s.rows (order_of s)) k)) e)) ∙ c in
           let w = witness (hits_holder s.rows k n) (lifts s.rows (order_of s)) all in
           let z = lifts_capture_both (same_name n w.it.1) _ w.passes in
           let f : (stages s.rows w.it.1 k).kind ≡ Function = holder_kind (stages s.rows w.it.1) (parents s.rows) k (outward_from s.rows w.it.0) (is_held _ z.1) in
@@ -177,4 +187,6 @@ module _ (s : Scanned) (old : IsScanned s) (fine : first_fault s ≡ None) where
       own (Some v) x = ap hands_on_as x
 
       where_needed : (captured_opt (entry_at cellular_new k n) ≡ true) ↔ ChildNeeds cellular_base k n
-      where_needed = cells_where_needed cellular_base cellular_new (lawful_numbered s old fine) (lawful_once s old fine) (lifts_captured s old fine) (captures s old fine) k n (cellular_there k n e h) (binds (slice_get cellular_base k) (same_kind k) held_before bound_before) (own (entry_at cellular_base k n) held_before)
+      where_needed = cells_where_needed cellular_base cellular_new (lawful_numbered s old fine) (lawful_once s old fine)
+          (lifts_captured s old fine) (captures s old fine) k n (cellular_there k n e h)
+          (binds (slice_get cellular_base k) (same_kind k) held_before bound_before) (own (entry_at cellular_base k n) held_before)

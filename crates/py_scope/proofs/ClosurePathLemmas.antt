@@ -89,11 +89,11 @@ module _ (rows : List Row) (numbered : IsNumbered rows) (handed : HandsOn rows) 
     closure_path_below : parents rows c < c
     closure_path_below = numbered c (not_the_module rows numbered (meetings rows n) c h.binding from_here) closure_path_low
 
-    closure_path_around : enclosing_scopes (parents rows) c ≡ parents rows c ∷ enclosing_scopes (parents rows) (parents rows c)
-    closure_path_around = outward (parents rows) c (parents rows c) refl closure_path_below
+    closure_path_outward : enclosing_scopes (parents rows) c ≡ parents rows c ∷ enclosing_scopes (parents rows) (parents rows c)
+    closure_path_outward = outward (parents rows) c (parents rows c) refl closure_path_below
 
     closure_path_begins : found_at (parents rows c) (meetings rows n (parents rows c)) (look_from rows (parents rows c) n) ≡ FreeOf h.binding
-    closure_path_begins = ap (look (meetings rows n)) (sym closure_path_around) ∙ from_here
+    closure_path_begins = ap (look (meetings rows n)) (sym closure_path_outward) ∙ from_here
 
     closure_path_further : meetings rows n (parents rows c) ≡ Past → look_from rows (parents rows c) n ≡ FreeOf h.binding
     closure_path_further x = ap (λ z. found_at (parents rows c) z (look_from rows (parents rows c) n)) (sym x) ∙ closure_path_begins
@@ -109,7 +109,8 @@ module _ (rows : List Row) (numbered : IsNumbered rows) (handed : HandsOn rows) 
         by (inr q) = passes_next (meetings rows n) (parents rows) c (parents rows c) h.binding refl closure_path_below x from_here (closure_path_further x) h.asker (parents rows h.asker) q
 
     abbrev ClosurePathWhole : Meets → Bool → Type 0
-    ClosurePathWhole x d = (b : ℕ) × (binder_at x d (parents rows c) (binder_from rows (parents rows c) n) ≡ Some b) × CapturedLeads rows n (parents rows c ∷ enclosing_scopes (parents rows) (parents rows c)) b
+    ClosurePathWhole x d = (b : ℕ) × (binder_at x d (parents rows c) (binder_from rows (parents rows c) n) ≡ Some b)
+        × CapturedLeads rows n (parents rows c ∷ enclosing_scopes (parents rows) (parents rows c)) b
 
     step : (x : Meets) → meetings rows n (parents rows c) ≡ x → (d : Bool) → hands_on (entry_at rows (parents rows c) n) ≡ d → ClosurePathWhole x d
     step Past x d e =
@@ -130,7 +131,7 @@ module _ (rows : List Row) (numbered : IsNumbered rows) (handed : HandsOn rows) 
     leads_one : ClosurePathAnswer c n
     leads_one =
         let w = step (meetings rows n (parents rows c)) refl (hands_on (entry_at rows (parents rows c) n)) refl in
-        (w.0, ap (binder (meetings rows n) (λ e. hands_on (entry_at rows e n))) closure_path_around ∙ w.1, subst (λ es. CapturedLeads rows n es w.0) (sym closure_path_around) w.2)
+        (w.0, ap (binder (meetings rows n) (λ e. hands_on (entry_at rows e n))) closure_path_outward ∙ w.1, subst (λ es. CapturedLeads rows n es w.0) (sym closure_path_outward) w.2)
 
   leads_below : (k c : ℕ) (n : Name) → c < k → Needs rows c n → ClosurePathAnswer c n
   leads_below zero c n l h = absurd (omega arith)

@@ -19,11 +19,16 @@ map_push [] x = refl
 map_push (y ∷ ys) x = ap (λ fs. flat_table y ∷ fs) (map_push ys x)
 
 -- one sub table more
-pub flat_next : (pushed entries after : List ScopeEntry) (xs : List SymbolTable) (x : SymbolTable) → entries ≡ pushed ++ all_flat (map {B = FlatTableFlat} flat_table xs) (length pushed) → after ≡ entries ++ flat_table x (length entries)
+pub flat_next : (pushed entries after : List ScopeEntry) (xs : List SymbolTable) (x : SymbolTable)
+    → entries ≡ pushed ++ all_flat (map {B = FlatTableFlat} flat_table xs) (length pushed)
+    → after ≡ entries ++ flat_table x (length entries)
     → after ≡ pushed ++ all_flat (map {B = FlatTableFlat} flat_table (xs ++ x ∷ [])) (length pushed)
 flat_next pushed entries after xs x h g =
     g ∙ (λ j. h j ++ flat_table x (length (h j))) ∙ append_assoc pushed (all_flat (map {B = FlatTableFlat} flat_table xs) (length pushed)) _
-    ∙ ap (λ ys. pushed ++ ys) (ap (λ n. all_flat (map {B = FlatTableFlat} flat_table xs) (length pushed) ++ flat_table x n) (length-append pushed (all_flat (map {B = FlatTableFlat} flat_table xs) (length pushed))) ∙ sym (ap (λ fs. all_flat fs (length pushed)) (map_push xs x) ∙ push_flat (map {B = FlatTableFlat} flat_table xs) (flat_table x) (length pushed)))
+    ∙ ap (λ ys. pushed ++ ys) (ap (λ n. all_flat (map {B = FlatTableFlat} flat_table xs) (length pushed) ++ flat_table x n)
+    (length-append pushed (all_flat (map {B = FlatTableFlat} flat_table xs) (length pushed)))
+    ∙ sym (ap (λ fs. all_flat fs (length pushed)) (map_push xs x)
+    ∙ push_flat (map {B = FlatTableFlat} flat_table xs) (flat_table x) (length pushed)))
 
 set_first : {A : Type 0} (old : List A) (h x : A) (rest : List A) → slice_set (old ++ h ∷ rest) (length old) x ≡ old ++ x ∷ rest
 set_first [] h x rest = refl
@@ -55,7 +60,8 @@ module _ (table : SymbolTable) (old pushed entries : List ScopeEntry) (xs : List
   pub flat_table_first_is : (e : ScopeEntry) → e ≡ slice_index_or entries (length old) e → e ≡ flat_table_blank
   flat_table_first_is e h = h ∙ ap (λ es. slice_index_or es (length old) e) flat_table_whole ∙ get_first old flat_table_blank flat_table_inner e
 
-  pub flat_done : (e : ScopeEntry) (n : ℕ) → e ≡ slice_index_or entries (length old) e → n ≡ length entries → slice_set entries (length old) (record { typ = e.typ; symbols = e.symbols; next = n }) ≡ old ++ flat_table table (length old)
+  pub flat_done : (e : ScopeEntry) (n : ℕ) → e ≡ slice_index_or entries (length old) e → n ≡ length entries
+      → slice_set entries (length old) (record { typ = e.typ; symbols = e.symbols; next = n }) ≡ old ++ flat_table table (length old)
   flat_done e n h g =
       (λ j. slice_set (flat_table_whole j) (length old) (record { typ = (flat_table_first_is e h j).typ; symbols = (flat_table_first_is e h j).symbols; next = last j }))
       ∙ set_first old flat_table_blank (record { typ = (out-SymbolTable table).typ; symbols = (out-SymbolTable table).symbols; next = suc (length old) + length flat_table_inner }) flat_table_inner

@@ -17,7 +17,7 @@ use Rattle.py_scope.specs.Lifts.{Lift, Stays, Through, Holder, after_lift, lift_
 use Rattle.py_scope.specs.Tables.{kind_in, symbol_in, symbols_in, all_symbols, children_of, table_of, tables_from}
 use Rattle.py_scope.specs.Checks.{entries_of}
 use Rattle.py_scope.specs.Symbols.{AreApart}
-use Rattle.py_scope.specs.Laws.{is_from_outside, has_symbol, flags_by_uses, SymbolsFollow, TableFollows}
+use Rattle.py_scope.specs.Laws.{is_free_variable, has_symbol, flags_by_uses, SymbolsFollow, TableFollows}
 use Rattle.py_scope.specs.Scanned.{Scanned, order_of}
 use Rattle.py_scope.specs.InOrder.{IsScanned}
 use Rattle.py_scope.specs.Resolved.{each_row, first_fault, resolved_table, after_lifts, after_looks}
@@ -52,11 +52,15 @@ stands_on a b c x y = record { kind = y.kind ∙ x.kind; parent = y.parent ∙ x
 
 stands_lifts : (base : List Row) (pairs : List (ℕ × Name)) (t : ℕ) (u : Row) → FollowStands u (lifted_all base pairs t u)
 stands_lifts base [] t u = record { kind = refl; parent = refl; head = refl }
-stands_lifts base (q ∷ qs) t u = stands_on u (lift_effect base q t u) (lifted_all base qs t (lift_effect base q t u)) (stands_lift (lift_of (stages base q.1) t (outward_from base q.0)) (lifted_holds (stages base q.1) (outward_from base q.0)) q.1 u) (stands_lifts base qs t (lift_effect base q t u))
+stands_lifts base (q ∷ qs) t u = stands_on u (lift_effect base q t u) (lifted_all base qs t (lift_effect base q t u))
+    (stands_lift (lift_of (stages base q.1) t (outward_from base q.0)) (lifted_holds (stages base q.1) (outward_from base q.0)) q.1 u)
+    (stands_lifts base qs t (lift_effect base q t u))
 
 stands_looks : (base : List Row) (pairs : List (ℕ × Name)) (t : ℕ) (u : Row) → FollowStands u (settled_row base pairs t u)
 stands_looks base [] t u = record { kind = refl; parent = refl; head = refl }
-stands_looks base (q ∷ qs) t u = stands_on u (after (touch_by base q.0 q.1 t) q.1 u) (settled_row base qs t (after (touch_by base q.0 q.1 t) q.1 u)) (stands_look (touch_by base q.0 q.1 t) q.1 u) (stands_looks base qs t (after (touch_by base q.0 q.1 t) q.1 u))
+stands_looks base (q ∷ qs) t u = stands_on u (after (touch_by base q.0 q.1 t) q.1 u)
+    (settled_row base qs t (after (touch_by base q.0 q.1 t) q.1 u)) (stands_look (touch_by base q.0 q.1 t) q.1 u)
+    (stands_looks base qs t (after (touch_by base q.0 q.1 t) q.1 u))
 
 module _ (f : ℕ → Row → Row) (stands : (k : ℕ) (u : Row) → FollowStands u (f k u)) where
   same_children : (k j : ℕ) (rs : List Row) (ts : List SymbolTable) → children_of k (each_row f j rs) ts ≡ children_of k rs ts
@@ -74,7 +78,16 @@ module _ (f : ℕ → Row → Row) (stands : (k : ℕ) (u : Row) → FollowStand
       ∙ ap (λ t. t ∷ tables_from (suc k) rs ss) (same_table (f j r) r (stands j r) s (children_of k rs (tables_from (suc k) rs ss)))
     where
       same_table : (a b : Row) → FollowStands b a → (s : List Symbol) (ts : List SymbolTable) → table_of a s ts ≡ table_of b s ts
-      same_table a b x s ts = λ i. roll-SymbolTable (record { name = (x.head i).name; typ = x.kind i; line_number = (x.head i).line_number; is_nested = (x.head i).is_nested; symbols = s; sub_tables = ts })
+      same_table a b x s ts = λ i. roll-SymbolTable
+          (record {
+            name = (x.head i).name;
+            typ = x.kind i;
+            line_number = (x.head i).line_number;
+            is_nested =
+                (x.head i).is_nested;
+            symbols = s;
+            sub_tables = ts;
+          })
 
 symbols_of_row : (rows : List Row) (j : ℕ) (rs : List Row) (i : ℕ) (ts : List Symbol) → slice_get (all_symbols rows j rs) i ≡ Some ts → ts ≡ symbols_in rows (j + i)
 symbols_of_row rows j [] i ts h = cc
@@ -161,7 +174,7 @@ module _ (s : Scanned) (old : IsScanned s) (fine : first_fault s ≡ None) where
     kinds = λ i t h. let p = mapped follow_new k (entries_of (slice_get follow_new k)) i t h in
         ap (λ t. t.scope) p.2 ∙ kind_is_resolved s old fine k p.0.0 p.0.1 (entry_of_symbol k i p.0 p.1) ∙ ap (λ t. (resolve s.rows k t.name).kind) (sym p.2);
     outside = λ i t h. let p = mapped follow_new k (entries_of (slice_get follow_new k)) i t h in
-        ap is_from_outside p.2
+        ap is_free_variable p.2
         ∙ ap (λ b. is_free_kind (kind_in follow_new k p.0.0 p.0.1) || b) (marked_row s old fine k p.0.0 p.0.1 (entry_of_symbol k i p.0 p.1))
         ∙ shown_is_needed s old fine k p.0.0 p.0.1 (entry_of_symbol k i p.0 p.1)
         ∙ ap (λ t. needs s.rows k t.name) (sym p.2);
@@ -174,7 +187,11 @@ module _ (s : Scanned) (old : IsScanned s) (fine : first_fault s ≡ None) where
   pub table_follows : (table : SymbolTable) → resolved_table s ≡ Some table → TableFollows s.rows table
   table_follows table h = record {
     symbols = all_symbols follow_new 0 follow_new;
-    nested = ap (λ ts. slice_get ts 0) (sym (same_tables (settled_row (after_lifts s) (looks (after_lifts s) (order_of s))) (stands_looks (after_lifts s) (looks (after_lifts s) (order_of s))) 0 0 (after_lifts s) (all_symbols follow_new 0 follow_new) ∙ same_tables (lifted_all s.rows (lifts s.rows (order_of s))) (stands_lifts s.rows (lifts s.rows (order_of s))) 0 0 s.rows (all_symbols follow_new 0 follow_new))) ∙ h;
+    nested = ap (λ ts. slice_get ts 0)
+        (sym (same_tables (settled_row (after_lifts s) (looks (after_lifts s) (order_of s)))
+        (stands_looks (after_lifts s) (looks (after_lifts s) (order_of s))) 0 0 (after_lifts s) (all_symbols follow_new 0 follow_new)
+        ∙ same_tables (lifted_all s.rows (lifts s.rows (order_of s))) (stands_lifts s.rows (lifts s.rows (order_of s))) 0 0 s.rows
+        (all_symbols follow_new 0 follow_new))) ∙ h;
     whole = length-all_symbols follow_new 0 follow_new ∙ count_new s old fine;
     each = λ k ts g. subst (SymbolsFollow s.rows k) (sym (symbols_of_row follow_new 0 follow_new k ts g ∙ ap (symbols_in follow_new) (zero-add k))) (symbols_follow k);
   }

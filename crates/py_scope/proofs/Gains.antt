@@ -1,4 +1,4 @@
--- What a walrus within gives to the scope that holds its name.
+-- What a nested walrus gives to the scope that holds its name.
 use Rattle.std.proofs.Common.{◌≡◌, refl, sym, ap, ◌∙◌, ℕ, Bool, true, false, ◌||◌, ◌&&◌, List, [], ◌∷◌, if◌then◌else◌, slice_get, Option, Some, None}
 use Rattle.std.specs.List.{list_any}
 use Rattle.py_base.proofs.Booleans.{or_false_left, or_false_right}
@@ -9,7 +9,8 @@ use Rattle.py_scope.specs.declared.rows.Holds.{Holds}
 use Rattle.py_scope.specs.declared.rows.Holds.TheVariants.{Plain, DeclaredGlobal, DeclaredNonlocal, LiftedFree, LiftedGlobal, LiftedModule, Passed}
 use Rattle.py_scope.specs.Names.{Name, same_name, lookup}
 use Rattle.py_scope.specs.Outward.{parents}
-use Rattle.py_scope.specs.Lifts.{Lift, Stays, Through, Holder, stages, stage_of, holds_opt, or_absent, held_as, holding_entry, assigned_as, lifted_holds, lift_of, after_lift, outward_from, lift_effect, lifted_all, kind_of}
+use Rattle.py_scope.specs.Lifts.{Lift, Stays, Through, Holder, stages, stage_of, holds_opt, or_absent, held_as, holding_entry, assigned_as}
+use Rattle.py_scope.specs.Lifts.{lifted_holds, lift_of, after_lift, outward_from, lift_effect, lifted_all, kind_of}
 use Rattle.py_scope.specs.Registered.{is_fresh}
 use Rattle.py_scope.specs.Tables.{is_plain}
 use Rattle.py_scope.proofs.ByLifts.{is_through, is_holder}
@@ -20,7 +21,7 @@ use Rattle.py_scope.proofs.LiftsCapture.{hits_through, hits_holder, holds_after,
 use Rattle.py_scope.proofs.LiftsSound as sound
 use Rattle.py_scope.proofs.LiftsSound.{holder_kind, witness, begins_well}
 
--- whether a scope that holds the name so takes it from a walrus within
+-- whether a scope that holds the name so takes it from a nested walrus
 abbrev pub takes : Holds → Bool
 takes h = assigned_as h false
 
@@ -62,7 +63,8 @@ no_more false true c = refl
 no_more false false c = refl
 
 -- a mark that only a holder gains
-module _ (g : Option Entry → Bool) (stays : (h : Holds) (o : Option Entry) → g (Some (held_as h (or_absent o))) ≡ g o) (gains : (o : Option Entry) → g (Some (holding_entry (or_absent o))) ≡ g o || takes (holds_opt o)) where
+module _ (g : Option Entry → Bool) (stays : (h : Holds) (o : Option Entry) → g (Some (held_as h (or_absent o))) ≡ g o)
+    (gains : (o : Option Entry) → g (Some (holding_entry (or_absent o))) ≡ g o || takes (holds_opt o)) where
   -- one lift that does not go through the scope
   gained_after : (x : Lift) (h : Holds) (k n : Name) (u : Row) → same_name n k && is_through x ≡ false
       → g (lookup n (after_lift x h k u).entries) ≡ g (lookup n u.entries) || ((same_name n k && is_holder x) && takes (holds_opt (lookup n u.entries)))
@@ -129,7 +131,9 @@ module _ (g : Option Entry → Bool) (stays : (h : Holds) (o : Option Entry) →
 
     gained_same : (pairs : List (ℕ × Name)) (u : Row) → list_any (hits_holder base t n) pairs ≡ false → g (lookup n (lifted_all base pairs t u).entries) ≡ g (lookup n u.entries)
     gained_same [] u h = refl
-    gained_same (q ∷ qs) u h = gained_same qs (lift_effect base q t u) (or_false_right _ _ h) ∙ gained_still (lift_of (stages base q.1) t (outward_from base q.0)) (lifted_holds (stages base q.1) (outward_from base q.0)) q.1 n u (or_false_left _ _ h)
+    gained_same (q ∷ qs) u h = gained_same qs (lift_effect base q t u) (or_false_right _ _ h)
+        ∙ gained_still (lift_of (stages base q.1) t (outward_from base q.0))
+        (lifted_holds (stages base q.1) (outward_from base q.0)) q.1 n u (or_false_left _ _ h)
 
     kind_read : (m : Name) (o : Option Row) → (stage_of m o).kind ≡ kind_of o
     kind_read m None = refl
@@ -145,7 +149,9 @@ module _ (g : Option Entry → Bool) (stays : (h : Holds) (o : Option Entry) →
             let v = witness (hits_through base t n) pairs h in let y = lifts_capture_both (same_name n v.it.1) _ v.passes in
             let w = witness (hits_holder base t n) pairs g in let z = lifts_capture_both (same_name n w.it.1) _ w.passes in
             let c : kind_of (slice_get base t) ≡ Comprehension = sym (kind_read v.it.1 (slice_get base t)) ∙ through (stages base v.it.1) t (outward_from base v.it.0) (is_it _ y.1) in
-            let f : kind_of (slice_get base t) ≡ Function = sym (kind_read w.it.1 (slice_get base t)) ∙ holder_kind (stages base w.it.1) (parents base) t (outward_from base w.it.0) (sound.is_held _ z.1) in
+            let f : kind_of (slice_get base t) ≡ Function =
+            sym (kind_read w.it.1 (slice_get base t)) ∙ holder_kind (stages base w.it.1) (parents base) t (outward_from base w.it.0)
+            (sound.is_held _ z.1) in
             let q : Comprehension ≡ Function = sym c ∙ f in cc
 
     pub gained_lifted : (pairs : List (ℕ × Name)) (u : Row)

@@ -10,19 +10,22 @@ use Rattle.py_scope.specs.Scanned.{holder_in}
 use Rattle.py_scope.proofs.Chains.{outward}
 
 -- a comprehension passes on to the enclosing scope
-pub held_around : (rows : List Row) (at : ℕ) (row : Row) → slice_get rows at ≡ Some row → row.kind ≡ Comprehension → IsNumbered rows
+pub held_by_enclosing : (rows : List Row) (at : ℕ) (row : Row) → slice_get rows at ≡ Some row → row.kind ≡ Comprehension → IsNumbered rows
     → kind_of (slice_get rows 0) ≡ Module → at < length rows
     → holder_in rows (at ∷ enclosing_scopes (parents rows) at) ≡ holder_in rows (row.parent ∷ enclosing_scopes (parents rows) row.parent)
-held_around rows zero row e k numbered first within = let h : Module ≡ Comprehension = sym first ∙ ap kind_of e ∙ k in absurd cc
-held_around rows (suc n) row e k numbered first within =
+held_by_enclosing rows zero row e k numbered first within = let h : Module ≡ Comprehension = sym first ∙ ap kind_of e ∙ k in absurd cc
+held_by_enclosing rows (suc n) row e k numbered first within =
     let p : parents rows (suc n) ≡ row.parent = ap parent_of e in
     let below : row.parent < suc n = subst (λ q. q < suc n) p (numbered (suc n) (omega arith) within) in
     let here : is_comprehension (kind_of (slice_get rows (suc n))) ≡ true = ap (λ o. is_comprehension (kind_of o)) e ∙ ap is_comprehension k in
-    ap (λ (b : Bool). if b then holder_in rows (enclosing_scopes (parents rows) (suc n)) else kind_of (slice_get rows (suc n))) here ∙ ap (holder_in rows) (outward (parents rows) (suc n) row.parent p below)
+    ap (λ (b : Bool). if b then holder_in rows (enclosing_scopes (parents rows) (suc n)) else kind_of (slice_get rows (suc n))) here
+    ∙ ap (holder_in rows) (outward (parents rows) (suc n) row.parent p below)
 
 -- any other scope is it
 pub held_here : (rows : List Row) (at : ℕ) (row : Row) → slice_get rows at ≡ Some row → is_comprehension row.kind ≡ false → holder_in rows (at ∷ enclosing_scopes (parents rows) at) ≡ row.kind
-held_here rows at row e k = ap (λ (b : Bool). if b then holder_in rows (enclosing_scopes (parents rows) at) else kind_of (slice_get rows at)) (ap (λ o. is_comprehension (kind_of o)) e ∙ k) ∙ ap kind_of e
+held_here rows at row e k = ap
+    (λ (b : Bool). if b then holder_in rows (enclosing_scopes (parents rows) at) else kind_of (slice_get rows at))
+    (ap (λ o. is_comprehension (kind_of o)) e ∙ k) ∙ ap kind_of e
 
 pub not_comprehension : (k : SymbolTableType) → (k ≡ Comprehension → ⊥) → is_comprehension k ≡ false
 not_comprehension Module h = refl

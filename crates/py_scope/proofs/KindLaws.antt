@@ -33,7 +33,7 @@ bound_stays h (Some e) = refl
 
 bound_gains : (o : Option Entry) → bound_opt (Some (holding_entry (or_absent o))) ≡ bound_opt o || takes (holds_opt o)
 bound_gains None = refl
-bound_gains (Some e) = ap (λ b. b || intersects e.roles.0 0x096) (takes_or e.holds e.assigned_within) ∙ or_swap e.assigned_within (takes e.holds) (intersects e.roles.0 0x096)
+bound_gains (Some e) = ap (λ b. b || intersects e.roles.0 0x096) (takes_or e.holds e.assigned_in_comprehension) ∙ or_swap e.assigned_in_comprehension (takes e.holds) (intersects e.roles.0 0x096)
 
 assigned_stays : (h : Holds) (o : Option Entry) → assigned_opt (Some (held_as h (or_absent o))) ≡ assigned_opt o
 assigned_stays h None = refl
@@ -41,7 +41,7 @@ assigned_stays h (Some e) = refl
 
 assigned_gains : (o : Option Entry) → assigned_opt (Some (holding_entry (or_absent o))) ≡ assigned_opt o || takes (holds_opt o)
 assigned_gains None = refl
-assigned_gains (Some e) = takes_or e.holds e.assigned_within
+assigned_gains (Some e) = takes_or e.holds e.assigned_in_comprehension
 
 module _ (s : Scanned) (old : IsScanned s) (fine : first_fault s ≡ None) where
   abbrev kind_law_order : List ℕ
@@ -58,33 +58,50 @@ module _ (s : Scanned) (old : IsScanned s) (fine : first_fault s ≡ None) where
       none false h = refl
 
       by : (o : Option Row) → slice_get s.rows k ≡ o
-          → holds_opt (entry_of n (option_map (lifted_all s.rows (lifts s.rows kind_law_order) k) o)) ≡ if goes_through s.rows kind_law_order k n then lifted_holds (stages s.rows n) (outward_from s.rows k) else holds_opt (entry_of n o)
-      by None e = none (goes_through s.rows kind_law_order k n) (λ h. let c : Module ≡ Comprehension = sym (ap (λ o. (stage_of n o).kind) e) ∙ sound.through_kind s.rows kind_law_base (lifts s.rows kind_law_order) (lawful_is_lifted s old fine) old.numbered (λ j m. (old.fresh j).fresh m) (λ j m. (old.fresh j).uncaptured m) old.first (begins_well s.rows (λ j h. (old.fresh j).walruses h) kind_law_order) k n h in cc)
+          → holds_opt (entry_of n (option_map (lifted_all s.rows (lifts s.rows kind_law_order) k) o))
+          ≡ if goes_through s.rows kind_law_order k n then lifted_holds (stages s.rows n) (outward_from s.rows k) else holds_opt
+          (entry_of n o)
+      by None e = none (goes_through s.rows kind_law_order k n)
+          (λ h. let c : Module ≡ Comprehension = sym (ap (λ o. (stage_of n o).kind) e)
+          ∙ sound.through_kind s.rows kind_law_base (lifts s.rows kind_law_order) (lawful_is_lifted s old fine) old.numbered
+          (λ j m. (old.fresh j).fresh m) (λ j m. (old.fresh j).uncaptured m) old.first
+          (begins_well s.rows (λ j h. (old.fresh j).walruses h) kind_law_order) k n h in cc)
       by (Some u) e = holds_lifted s.rows (lifts s.rows kind_law_order) k n u
 
   declared_is : (k : ℕ) (n : Name) → takes (holds_opt (entry_at s.rows k n)) ≡ is_plain (holds_opt (entry_at s.rows k n))
   declared_is k n = takes_plain (holds_opt (entry_at s.rows k n)) ((old.fresh k).fresh n)
 
-  module _ (g : Option Entry → Bool) (nothing : g None ≡ false) (stays : (h : Holds) (o : Option Entry) → g (Some (held_as h (or_absent o))) ≡ g o) (gains : (o : Option Entry) → g (Some (holding_entry (or_absent o))) ≡ g o || takes (holds_opt o)) where
+  module _ (g : Option Entry → Bool) (nothing : g None ≡ false)
+      (stays : (h : Holds) (o : Option Entry) → g (Some (held_as h (or_absent o))) ≡ g o)
+      (gains : (o : Option Entry) → g (Some (holding_entry (or_absent o))) ≡ g o || takes (holds_opt o)) where
     pub gained_are : (k : ℕ) (n : Name) → g (entry_at kind_law_base k n) ≡ g (entry_at s.rows k n) || (is_held s.rows kind_law_order k n && is_plain (holds_opt (entry_at s.rows k n)))
-    gained_are k n = ap (λ o. g (entry_of n o)) (lawful_is_lifted s old fine k) ∙ by (slice_get s.rows k) refl ∙ ap (λ b. g (entry_at s.rows k n) || (is_held s.rows kind_law_order k n && b)) (declared_is k n)
+    gained_are k n = ap (λ o. g (entry_of n o)) (lawful_is_lifted s old fine k) ∙ by (slice_get s.rows k) refl
+        ∙ ap (λ b. g (entry_at s.rows k n) || (is_held s.rows kind_law_order k n && b)) (declared_is k n)
       where
         none : (z : Bool) → (z ≡ true → ⊥) → false ≡ (z && true)
         none true h = absurd (h refl)
         none false h = refl
 
         by : (o : Option Row) → slice_get s.rows k ≡ o
-            → g (entry_of n (option_map (lifted_all s.rows (lifts s.rows kind_law_order) k) o)) ≡ g (entry_at s.rows k n) || (is_held s.rows kind_law_order k n && takes (holds_opt (entry_at s.rows k n)))
-        by None e = nothing ∙ none (is_held s.rows kind_law_order k n) (λ h. let w = witness (hits_holder s.rows k n) (lifts s.rows kind_law_order) h in let z = lifts_capture_both (same_name n w.it.1) _ w.passes in
-            let c : Module ≡ Function = sym (ap (λ o. (stage_of w.it.1 o).kind) e) ∙ holder_kind (stages s.rows w.it.1) (parents s.rows) k (outward_from s.rows w.it.0) (sound.is_held _ z.1) in cc) ∙ sym (ap (λ x. x || (is_held s.rows kind_law_order k n && true)) nothing) ∙ ap (λ o. g (entry_of n o) || (is_held s.rows kind_law_order k n && takes (holds_opt (entry_of n o)))) (sym e)
-        by (Some u) e = gained_lifted g stays gains s.rows k n (lifts s.rows kind_law_order) u ∙ ap (λ o. g (entry_of n o) || (is_held s.rows kind_law_order k n && takes (holds_opt (entry_of n o)))) (sym e)
+            → g (entry_of n (option_map (lifted_all s.rows (lifts s.rows kind_law_order) k) o))
+            ≡ g (entry_at s.rows k n) || (is_held s.rows kind_law_order k n && takes (holds_opt (entry_at s.rows k n)))
+        by None e = nothing ∙ none (is_held s.rows kind_law_order k n)
+            (λ h. let w = witness (hits_holder s.rows k n) (lifts s.rows kind_law_order) h in let z =
+            lifts_capture_both (same_name n w.it.1) _ w.passes in
+            let c : Module ≡ Function = sym (ap (λ o. (stage_of w.it.1 o).kind) e)
+            ∙ holder_kind (stages s.rows w.it.1) (parents s.rows) k (outward_from s.rows w.it.0) (sound.is_held _ z.1) in cc)
+            ∙ sym (ap (λ x. x || (is_held s.rows kind_law_order k n && true)) nothing)
+            ∙ ap (λ o. g (entry_of n o) || (is_held s.rows kind_law_order k n && takes (holds_opt (entry_of n o)))) (sym e)
+        by (Some u) e = gained_lifted g stays gains s.rows k n (lifts s.rows kind_law_order) u
+            ∙ ap (λ o. g (entry_of n o) || (is_held s.rows kind_law_order k n && takes (holds_opt (entry_of n o)))) (sym e)
 
   pub binds_are : (k : ℕ) (n : Name) → bound_opt (entry_at kind_law_base k n) ≡ binds_in s.rows kind_law_order k n
   binds_are k n = gained_are bound_opt refl bound_stays bound_gains k n
 
-  -- a walrus within assigns the name of its holder
+  -- a nested walrus assigns the name of its holder
   pub assigned_are : (k : ℕ) (n : Name) → assigned_opt (entry_at kind_law_base k n) ≡ is_held s.rows kind_law_order k n && is_plain (holds_opt (entry_at s.rows k n))
-  assigned_are k n = gained_are assigned_opt refl assigned_stays assigned_gains k n ∙ ap (λ b. b || (is_held s.rows kind_law_order k n && is_plain (holds_opt (entry_at s.rows k n)))) ((old.fresh k).unassigned n)
+  assigned_are k n = gained_are assigned_opt refl assigned_stays assigned_gains k n
+      ∙ ap (λ b. b || (is_held s.rows kind_law_order k n && is_plain (holds_opt (entry_at s.rows k n)))) ((old.fresh k).unassigned n)
 
   pub kinds_are : (k : ℕ) → kind_of (slice_get kind_law_base k) ≡ kind_of (slice_get s.rows k)
   kinds_are k = lifting.same_kind_of s.rows kind_law_base (lifts s.rows kind_law_order) (lawful_is_lifted s old fine) k

@@ -65,7 +65,9 @@ module _ (s : Scanned) (old : IsScanned s) (fine : first_fault s ≡ None) (k : 
   kinded_bound = ap bound_of (sym h) ∙ cellular_kept s old fine bound_of (λ x o. same_bound o x) same_bound_end k n ∙ bound_same (entry_at kinded_base k n) ∙ bound_is s old fine k n
 
   looks_alike : look_from (after_looks s) k n ≡ look_in s.rows k n
-  looks_alike = (λ j. look (settling.same_meetings kinded_base (after_looks s) (looks kinded_base (order_of s)) (is_settled s old fine) n j) (enclosing_scopes (settling.mark_sum_same_parents kinded_base (after_looks s) (looks kinded_base (order_of s)) (is_settled s old fine) j) k)) ∙ based_look_is s old fine k n
+  looks_alike = (λ j. look (settling.same_meetings kinded_base (after_looks s) (looks kinded_base (order_of s)) (is_settled s old fine) n j)
+      (enclosing_scopes (settling.mark_sum_same_parents kinded_base (after_looks s) (looks kinded_base (order_of s))
+      (is_settled s old fine) j) k)) ∙ based_look_is s old fine k n
 
   -- the names that a use or a lift made
   pub kinded_made : is_passed_on e.holds ≡ false → (is_some (entry_at kinded_base k n) ≡ true) × (e.holds ≡ holds_in s.rows k n)
@@ -113,7 +115,8 @@ module _ (s : Scanned) (old : IsScanned s) (fine : first_fault s ≡ None) (k : 
 
     in_table : kind_in (after_looks s) k n e ≡ Free
     in_table =
-        ap (λ x. if nat_eq k 0 && ((is_plain x && is_bound e) && global_within (after_looks s) n) then GlobalExplicit else kind_as (kind_of (slice_get (after_looks s) k)) (look_from (after_looks s) k n) x (is_bound e) e.captured) passed
+        ap (λ x. if nat_eq k 0 && ((is_plain x && is_bound e) && global_within (after_looks s) n) then GlobalExplicit else kind_as
+        (kind_of (slice_get (after_looks s) k)) (look_from (after_looks s) k n) x (is_bound e) e.captured) passed
         ∙ ap (λ b. if b then GlobalExplicit else Free) (truth_and_false (nat_eq k 0))
 
     pub kind_passed : kind_in (after_looks s) k n e ≡ kind_by_uses s.rows k n
@@ -131,7 +134,9 @@ module _ (s : Scanned) (old : IsScanned s) (fine : first_fault s ≡ None) (k : 
         by false c = none e.captured refl
           where
             none : (x : Bool) → e.captured ≡ x → x ≡ false
-            none true q = absurd (never_both (counts (kind_of (slice_get kinded_base k)) n) (captured_counts s old fine k n (cellular_there s old fine k n e h) (ap captured_opt h ∙ q)) (ap (λ z. counts z n) (same_kind s old fine k) ∙ c))
+            none true q = absurd (never_both (counts (kind_of (slice_get kinded_base k)) n)
+                (captured_counts s old fine k n (cellular_there s old fine k n e h) (ap captured_opt h ∙ q))
+                (ap (λ z. counts z n) (same_kind s old fine k) ∙ c))
             none false q = refl
 
     abbrev InTable : Holds → Bool → SymbolScope
@@ -176,7 +181,9 @@ module _ (s : Scanned) (old : IsScanned s) (fine : first_fault s ≡ None) (k : 
 
     pub kind_used : kind_in (after_looks s) k n e ≡ kind_by_uses s.rows k n
     kind_used =
-        (λ j. if nat_eq k 0 && ((is_plain ((kinded_made used).1 j) && kinded_bound j) && global_within (after_looks s) n) then GlobalExplicit else kind_as (settled_kind s old fine k j) (looks_alike j) ((kinded_made used).1 j) (kinded_bound j) e.captured)
+        (λ j. if nat_eq k 0 && ((is_plain ((kinded_made used).1 j) && kinded_bound j) && global_within (after_looks s) n)
+        then GlobalExplicit else kind_as (settled_kind s old fine k j) (looks_alike j) ((kinded_made used).1 j)
+        (kinded_bound j) e.captured)
         ∙ by (holds_in s.rows k n) refl (binds_in s.rows k n) refl
 
   -- how an entry came about

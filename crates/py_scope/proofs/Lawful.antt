@@ -1,5 +1,6 @@
 -- What holds of the scopes of a builder without a fault.
-use Rattle.std.proofs.Common.{◌≡◌, refl, sym, ap, ◌∙◌, subst, ℕ, zero, suc, ◌<◌, Bool, true, false, ◌||◌, List, [], ◌∷◌, length, take_all, nat_eq, if◌then◌else◌, slice_get, Option, Some, None, option_map, zero-add, arith}
+use Rattle.std.proofs.Common.{◌≡◌, refl, sym, ap, ◌∙◌, subst, ℕ, zero, suc, ◌<◌, Bool, true, false, ◌||◌, List, [], ◌∷◌, length, take_all}
+use Rattle.std.proofs.Common.{nat_eq, if◌then◌else◌, slice_get, Option, Some, None, option_map, zero-add, arith}
 use Rattle.std.specs.List.{list_any}
 use Rattle.py_scope.specs.declared.rows.Row.{Row}
 use Rattle.py_scope.specs.declared.rows.Entry.{Entry}
@@ -75,7 +76,8 @@ module _ (s : Scanned) (old : IsScanned s) (fine : first_fault s ≡ None) where
   lawful_is_lifted t = get_each (lifted_all s.rows (lifts s.rows lawful_order)) 0 s.rows t ∙ ap (λ z. option_map (lifted_all s.rows (lifts s.rows lawful_order) z) (slice_get s.rows t)) (zero-add t)
 
   pub is_settled : IsSettled (after_lifts s) (looks (after_lifts s) lawful_order) (after_looks s)
-  is_settled t = get_each (settled_row (after_lifts s) (looks (after_lifts s) lawful_order)) 0 (after_lifts s) t ∙ ap (λ z. option_map (settled_row (after_lifts s) (looks (after_lifts s) lawful_order) z) (slice_get (after_lifts s) t)) (zero-add t)
+  is_settled t = get_each (settled_row (after_lifts s) (looks (after_lifts s) lawful_order)) 0 (after_lifts s) t
+      ∙ ap (λ z. option_map (settled_row (after_lifts s) (looks (after_lifts s) lawful_order) z) (slice_get (after_lifts s) t)) (zero-add t)
 
   pub registered : IsRegistered s.rows
   registered = record {
@@ -98,7 +100,9 @@ module _ (s : Scanned) (old : IsScanned s) (fine : first_fault s ≡ None) where
   complete r l = old.complete r (subst (λ v. r < v) same_count l)
 
   pub captures : CapturesAll (after_lifts s) (after_looks s)
-  captures = captures_all (after_lifts s) (after_looks s) lawful_order (length lawful_order) (subst (λ o. IsSettled (after_lifts s) (looks (after_lifts s) o) (after_looks s)) (sym (take_all (length lawful_order) lawful_order (omega arith))) is_settled) (omega arith) complete
+  captures = captures_all (after_lifts s) (after_looks s) lawful_order (length lawful_order)
+      (subst (λ o. IsSettled (after_lifts s) (looks (after_lifts s) o) (after_looks s))
+      (sym (take_all (length lawful_order) lawful_order (omega arith))) is_settled) (omega arith) complete
 
   pub lifts_captured : LiftsCaptured (after_lifts s)
   lifts_captured = lifted_tables s.rows (after_lifts s) lawful_order old.numbered registered lawful_is_lifted

@@ -1,5 +1,6 @@
 -- One step of a lift.
-use Rattle.std.proofs.Common.{◌≡◌, refl, sym, ap, ◌∙◌, subst, ℕ, zero, suc, ◌<◌, ◌≤◌, Bool, true, false, List, ◌∷◌, length, nat_eq, if◌then◌else◌, slice_get, slice_set, slice_index_or, option_map, Option, Some, None, arith}
+use Rattle.std.proofs.Common.{◌≡◌, refl, sym, ap, ◌∙◌, subst, ℕ, zero, suc, ◌<◌, ◌≤◌, Bool, true, false, List, ◌∷◌, length, nat_eq}
+use Rattle.std.proofs.Common.{if◌then◌else◌, slice_get, slice_set, slice_index_or, option_map, Option, Some, None, arith}
 use Rattle.py_scope.specs.declared.table_type.SymbolTableType.{SymbolTableType}
 use Rattle.py_scope.specs.declared.table_type.SymbolTableType.TheVariants.{Module, Class, Function, Comprehension, TypeParams}
 use Rattle.py_scope.specs.declared.rows.Holds.{Holds}
@@ -9,7 +10,9 @@ use Rattle.py_scope.specs.declared.refusal.Refusal.TheVariants.{RebindsIterated}
 use Rattle.py_scope.specs.declared.refusal.Fault.{Fault}
 use Rattle.py_scope.specs.Names.{Name, lookup}
 use Rattle.py_scope.specs.Outward.{chain, enclosing_scopes, parent_of, parents, IsNumbered}
-use Rattle.py_scope.specs.Lifts.{Stage, stages, stage_of, if_function, holds_opt, iterated_opt, as_in, or_absent, lifted_holds, lifted_by, refusal, refused_by, Lift, Stays, Through, Holder, lift_of, lift_here, after_lift, IsLiftedAlong, IsRefusal}
+use Rattle.py_scope.specs.Lifts.{Stage, stages, stage_of, if_function, holds_opt, iterated_opt, as_in, or_absent, lifted_holds, lifted_by}
+use Rattle.py_scope.specs.Lifts.{refusal, refused_by, Lift, Stays, Through, Holder, lift_of, lift_here, after_lift, IsLiftedAlong}
+use Rattle.py_scope.specs.Lifts.{IsRefusal}
 use Rattle.py_scope.proofs.Chains.{equal_numbers, unequal_numbers, tells_same, tells_apart, outward}
 use Rattle.py_scope.proofs.MarkLemmas.{get_set_same, get_set_other}
 use Rattle.std.proofs.lemmas.Option.{slice_get_read, slice_get_within}
@@ -57,7 +60,8 @@ module _ (old : List Row) (n : Name) (at : ℕ) (w : Row) (kind : SymbolTableTyp
 
   -- a scope that stops the lift and is not changed
   pub stops_still : ((b : Bool) (x : Lift) → lift_here kind b x ≡ Stays) → IsLiftedAlong old n (at ∷ es) old
-  stops_still still t = sym (ap (λ z. option_map (after_lift z (lifted_holds (stages old n) (at ∷ es)) n) (slice_get old t)) (lift_is t (nat_eq at t) refl ∙ still (nat_eq at t) _) ∙ unlifted (lifted_holds (stages old n) (at ∷ es)) n (slice_get old t))
+  stops_still still t = sym (ap (λ z. option_map (after_lift z (lifted_holds (stages old n) (at ∷ es)) n) (slice_get old t))
+      (lift_is t (nat_eq at t) refl ∙ still (nat_eq at t) _) ∙ unlifted (lifted_holds (stages old n) (at ∷ es)) n (slice_get old t))
 
   -- a scope that is changed, where the others are as they were or as the lift further out left them
   pub changed_here : (mid : List Row) (x : Lift) (k : Holds) (y z : Row) → lifted_holds (stages old n) (at ∷ es) ≡ k
@@ -122,11 +126,14 @@ module _ (old mid : List Row) (n : Name) (at : ℕ) (w v y z : Row) (k : Holds) 
     held_through = sym (lift_lifted_is old n at w Comprehension within is_w is_kind (enclosing_scopes (parents old) at) ∙ lift_further)
 
     pub goes_through : y ≡ slice_index_or mid at y → z ≡ after_lift Through k n y → IsLiftedAlong old n (at ∷ enclosing_scopes (parents old) at) (slice_set mid at z)
-    goes_through is_y is_z = changed_here old n at w Comprehension within is_w is_kind (enclosing_scopes (parents old) at) mid Through k y z (sym held_through) refl lift_untouched is_y is_z (λ t e. lift_all t)
+    goes_through is_y is_z = changed_here old n at w Comprehension within is_w is_kind (enclosing_scopes (parents old) at) mid Through k y z
+        (sym held_through) refl lift_untouched is_y is_z (λ t e. lift_all t)
 
   refusal_through : iterated_opt (lookup n w.entries) ≡ false
       → refusal n (stages old n) (at ∷ enclosing_scopes (parents old) at) ≡ refusal n (stages old n) (v.parent ∷ enclosing_scopes (parents old) v.parent)
-  refusal_through free = refusal_is old n at w Comprehension within is_w is_kind (enclosing_scopes (parents old) at) ∙ ap (λ b. if b then Some (RebindsIterated n) else refusal n (stages old n) (enclosing_scopes (parents old) at)) free ∙ ap (refusal n (stages old n)) lift_out
+  refusal_through free = refusal_is old n at w Comprehension within is_w is_kind (enclosing_scopes (parents old) at)
+      ∙ ap (λ b. if b then Some (RebindsIterated n) else refusal n (stages old n) (enclosing_scopes (parents old) at)) free
+      ∙ ap (refusal n (stages old n)) lift_out
 
   pub allowed_through : iterated_opt (lookup n w.entries) ≡ false → refusal n (stages old n) (v.parent ∷ enclosing_scopes (parents old) v.parent) ≡ None
       → refusal n (stages old n) (at ∷ enclosing_scopes (parents old) at) ≡ None

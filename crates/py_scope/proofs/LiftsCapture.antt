@@ -10,7 +10,8 @@ use Rattle.py_scope.specs.declared.rows.Row.{Row}
 use Rattle.py_scope.specs.Names.{Name, same_name, lookup}
 use Rattle.py_scope.specs.Outward.{chain, enclosing_scopes, parents}
 use Rattle.py_scope.specs.Flags.{captured_opt}
-use Rattle.py_scope.specs.Lifts.{Stage, stages, holds_opt, or_absent, held_as, holding_entry, lifted_holds, lifted_by, Lift, Stays, Through, Holder, lift_of, lift_here, after_lift, outward_from, lift_effect, lifted_all}
+use Rattle.py_scope.specs.Lifts.{Stage, stages, holds_opt, or_absent, held_as, holding_entry, lifted_holds, lifted_by, Lift, Stays, Through}
+use Rattle.py_scope.specs.Lifts.{Holder, lift_of, lift_here, after_lift, outward_from, lift_effect, lifted_all}
 use Rattle.py_scope.proofs.ByLifts.{is_holder, is_through}
 use Rattle.py_scope.proofs.Chains.{equal_numbers, tells_same, outward}
 use Rattle.py_scope.proofs.MarkSumLemmas.{lookup_put}
@@ -71,7 +72,7 @@ holds_after Holder h k n u = ap holds_opt (lookup_put u.entries k n _) ∙ by (s
     by false e = refl
 
 module _ (g : ℕ → Stage) (p : ℕ → ℕ) where
-  -- a scope and those around it, as a chain
+  -- a scope and those that enclose it, as a chain
   pub from_chain : (c : ℕ) → chain p (suc c) c ≡ c ∷ enclosing_scopes p c
   from_chain c = ap (λ b. if b then c ∷ chain p c (p c) else chain p c c) (tells_same c)
 
@@ -93,7 +94,8 @@ module _ (g : ℕ → Stage) (p : ℕ → ℕ) where
 
       by : (b : Bool) → lift_of g t (if b then k ∷ chain p k (p k) else chain p k v) ≡ Through
           → (lift_of g t (chain p k (p k)) ≡ Through → lifted_holds g (chain p k (p k)) ≡ lifted_holds g (t ∷ enclosing_scopes p t))
-          → (lift_of g t (chain p k v) ≡ Through → lifted_holds g (chain p k v) ≡ lifted_holds g (t ∷ enclosing_scopes p t)) → lifted_holds g (if b then k ∷ chain p k (p k) else chain p k v) ≡ lifted_holds g (t ∷ enclosing_scopes p t)
+          → (lift_of g t (chain p k v) ≡ Through → lifted_holds g (chain p k v) ≡ lifted_holds g (t ∷ enclosing_scopes p t))
+          → lifted_holds g (if b then k ∷ chain p k (p k) else chain p k v) ≡ lifted_holds g (t ∷ enclosing_scopes p t)
       by true z ih other = at (g k).kind refl (nat_eq k t) refl z ih
       by false z ih other = other z
 
@@ -126,7 +128,10 @@ module _ (g : ℕ → Stage) (p : ℕ → ℕ) where
       at Function q false d z ih = cc
       at Comprehension q true d z ih =
           let s : k ≡ r = equal_numbers k r d in
-          let first : lift_of g w (chain p k (p k)) ≡ lift_here (g w).kind true Stays = subst (λ y. lift_of g w (enclosing_scopes p y) ≡ lift_here (g w).kind true Stays) (sym s) (ap (lift_of g w) (outward p r w e l) ∙ ap (λ b. lift_here (g w).kind b (lift_of g w (enclosing_scopes p w))) (tells_same w) ∙ always (g w).kind _) in
+          let first : lift_of g w (chain p k (p k)) ≡ lift_here (g w).kind true Stays =
+          subst (λ y. lift_of g w (enclosing_scopes p y) ≡ lift_here (g w).kind true Stays) (sym s)
+          (ap (lift_of g w) (outward p r w e l) ∙ ap (λ b. lift_here (g w).kind b (lift_of g w (enclosing_scopes p w))) (tells_same w)
+          ∙ always (g w).kind _) in
           ap (λ y. lift_here y (nat_eq k w) (lift_of g w (chain p k (p k)))) q ∙ here q (nat_eq k w) refl first
       at Comprehension q false d z ih = ap (λ y. lift_here y (nat_eq k w) (lift_of g w (chain p k (p k)))) q ∙ here q (nat_eq k w) refl (ih z)
 
@@ -197,11 +202,13 @@ pub holds_lifted : (base : List Row) (pairs : List (ℕ × Name)) (t : ℕ) (n :
 holds_lifted base [] t n u = refl
 holds_lifted base (q ∷ qs) t n u =
     holds_lifted base qs t n (lift_effect base q t u)
-    ∙ ap (λ z. if list_any (hits_through base t n) qs then held_in base t n else z) (holds_after (lift_of (stages base q.1) t (outward_from base q.0)) (lifted_holds (stages base q.1) (outward_from base q.0)) q.1 n u)
+    ∙ ap (λ z. if list_any (hits_through base t n) qs then held_in base t n else z)
+    (holds_after (lift_of (stages base q.1) t (outward_from base q.0)) (lifted_holds (stages base q.1) (outward_from base q.0)) q.1 n u)
     ∙ by (hits_through base t n q) refl (list_any (hits_through base t n) qs)
   where
     by : (b : Bool) → hits_through base t n q ≡ b → (c : Bool)
-        → (if c then held_in base t n else (if b then lifted_holds (stages base q.1) (outward_from base q.0) else holds_opt (lookup n u.entries))) ≡ (if b || c then held_in base t n else holds_opt (lookup n u.entries))
+        → (if c then held_in base t n else (if b then lifted_holds (stages base q.1) (outward_from base q.0) else holds_opt
+        (lookup n u.entries))) ≡ (if b || c then held_in base t n else holds_opt (lookup n u.entries))
     by true e true = refl
     by true e false = one_kind base t n q e
     by false e c = refl

@@ -1,5 +1,6 @@
 -- After the lifts each name that a scope hands on has a look that ends at a binding.
-use Rattle.std.proofs.Common.{◌≡◌, refl, sym, ap, ◌∙◌, ℕ, zero, suc, ◌<◌, Bool, true, false, ◌||◌, not, List, [], ◌∷◌, length, if◌then◌else◌, slice_get, option_map, Option, Some, None, ◌⊎◌, inl, inr, arith}
+use Rattle.std.proofs.Common.{◌≡◌, refl, sym, ap, ◌∙◌, ℕ, zero, suc, ◌<◌, Bool, true, false, ◌||◌, not, List, [], ◌∷◌, length}
+use Rattle.std.proofs.Common.{if◌then◌else◌, slice_get, option_map, Option, Some, None, ◌⊎◌, inl, inr, arith}
 use Rattle.std.specs.List.{list_any}
 use Rattle.py_scope.specs.declared.table_type.SymbolTableType.{SymbolTableType}
 use Rattle.py_scope.specs.declared.table_type.SymbolTableType.TheVariants.{Module, Class, Function, Comprehension, TypeParams}
@@ -16,7 +17,9 @@ use Rattle.py_scope.specs.Entries.{entry_at, entry_of}
 use Rattle.py_scope.proofs.Captured.{hands_on, HandsOn, IsRegistered, NonlocalsFound, captured_is_lifted}
 use Rattle.py_scope.specs.Resolve.{hands_on_as}
 use Rattle.py_scope.specs.Registered.{is_fresh}
-use Rattle.py_scope.specs.Lifts.{assigned_as, after_lift, held_as, holding_entry, or_absent, lifts, lift_effect, Stage, stages, holds_opt, as_in, lifted_holds, lifted_by, Lift, Stays, Through, Holder, lift_of, outward_from, lifted_all, IsLifted, kind_of}
+use Rattle.py_scope.specs.Lifts.{assigned_as, after_lift, held_as, holding_entry, or_absent, lifts, lift_effect, Stage, stages, holds_opt}
+use Rattle.py_scope.specs.Lifts.{as_in, lifted_holds, lifted_by, Lift, Stays, Through, Holder, lift_of, outward_from, lifted_all, IsLifted}
+use Rattle.py_scope.specs.Lifts.{kind_of}
 use Rattle.py_scope.proofs.Chains.{outward}
 use Rattle.py_scope.proofs.LiftKeeps.{lift_keep_same_parents, same_kind_of, same_stages}
 use Rattle.py_scope.proofs.LiftsCapture.{hits_through, held_in}
@@ -75,7 +78,7 @@ well_after Holder h k n u p w = ap well (lookup_put u.entries k n _) ∙ by (sam
     plain : (s : Entry) → well (Some (holding_entry s)) ≡ true
     plain s = one s.holds
       where
-        one : (x : Holds) → not true || (not (is_plain x) || (assigned_as x s.assigned_within || intersects s.roles.0 0x096)) ≡ true
+        one : (x : Holds) → not true || (not (is_plain x) || (assigned_as x s.assigned_in_comprehension || intersects s.roles.0 0x096)) ≡ true
         one Plain = refl
         one DeclaredGlobal = refl
         one DeclaredNonlocal = refl
@@ -90,7 +93,9 @@ well_after Holder h k n u p w = ap well (lookup_put u.entries k n _) ∙ by (sam
 
 well_lifted : (base : List Row) (pairs : List (ℕ × Name)) (t : ℕ) (n : Name) (u : Row) → well (lookup n u.entries) ≡ true → well (lookup n (lifted_all base pairs t u).entries) ≡ true
 well_lifted base [] t n u w = w
-well_lifted base (q ∷ qs) t n u w = well_lifted base qs t n (lift_effect base q t u) (well_after (lift_of (stages base q.1) t (outward_from base q.0)) (lifted_holds (stages base q.1) (outward_from base q.0)) q.1 n u (never_plain (stages base q.1) (outward_from base q.0)) w)
+well_lifted base (q ∷ qs) t n u w = well_lifted base qs t n (lift_effect base q t u)
+    (well_after (lift_of (stages base q.1) t (outward_from base q.0)) (lifted_holds (stages base q.1) (outward_from base q.0)) q.1 n u
+    (never_plain (stages base q.1) (outward_from base q.0)) w)
 
 -- what a look meets in the holder of a lifted name
 in_holder : (n : Name) (o : Option Row) → kind_of o ≡ Function → captured_opt (entry_of n o) ≡ true → well (entry_of n o) ≡ true
@@ -139,7 +144,8 @@ module _ (base new : List Row) (order : List ℕ) (numbered : IsNumbered base) (
       begins = ap (look (meetings new n)) (outward (parents new) r (parents base r) up below)
 
       held_out : lifted_holds (stages base n) (outward_from base (parents base r)) ≡ LiftedFree
-      held_out = ap (lifted_holds (stages base n)) (sym (outward (parents base) r (parents base r) refl below)) ∙ sym (ap (λ x. lifted_by x (stages base n r).holds (lifted_holds (stages base n) (enclosing_scopes (parents base) r))) c) ∙ held
+      held_out = ap (lifted_holds (stages base n)) (sym (outward (parents base) r (parents base r) refl below))
+          ∙ sym (ap (λ x. lifted_by x (stages base n r).holds (lifted_holds (stages base n) (enclosing_scopes (parents base) r))) c) ∙ held
 
       bound : meetings new n (parents base r) ≡ Binding → (b : ℕ) × (look_from new r n ≡ FreeOf b)
       bound x = (parents base r, begins ∙ ap (λ y. found_at (parents base r) y (look_from new (parents base r) n)) x)
@@ -151,15 +157,24 @@ module _ (base new : List Row) (order : List ℕ) (numbered : IsNumbered base) (
       kind_new x e = same_kind_of base new (lifts base order) whole (parents base r) ∙ sym (kind_read base new (lifts base order) whole numbered reg.fresh n (slice_get base (parents base r))) ∙ e
 
       by : (x : SymbolTableType) → (stages base n (parents base r)).kind ≡ x
-          → (0 < parents base r → (stages base n (parents base r)).kind ≡ Comprehension → list_any (hits_through base (parents base r) n) (lifts base order) ≡ true → held_in base (parents base r) n ≡ LiftedFree → (b : ℕ) × (look_from new (parents base r) n ≡ FreeOf b))
+          → (0 < parents base r → (stages base n (parents base r)).kind ≡ Comprehension
+          → list_any (hits_through base (parents base r) n) (lifts base order) ≡ true → held_in base (parents base r) n ≡ LiftedFree
+          → (b : ℕ) × (look_from new (parents base r) n ≡ FreeOf b))
           → (b : ℕ) × (look_from new r n ≡ FreeOf b)
-      by Module e ih = let q : LiftedModule ≡ LiftedFree = ap (λ x. lifted_by x (stages base n (parents base r)).holds (lifted_holds (stages base n) (enclosing_scopes (parents base) (parents base r)))) (sym e) ∙ held_out in cc
-      by Class e ih = let q : LiftedModule ≡ LiftedFree = ap (λ x. lifted_by x (stages base n (parents base r)).holds (lifted_holds (stages base n) (enclosing_scopes (parents base) (parents base r)))) (sym e) ∙ held_out in cc
-      by TypeParams e ih = let q : LiftedModule ≡ LiftedFree = ap (λ x. lifted_by x (stages base n (parents base r)).holds (lifted_holds (stages base n) (enclosing_scopes (parents base) (parents base r)))) (sym e) ∙ held_out in cc
+      by Module e ih = let q : LiftedModule ≡ LiftedFree =
+          ap (λ x. lifted_by x (stages base n (parents base r)).holds
+          (lifted_holds (stages base n) (enclosing_scopes (parents base) (parents base r)))) (sym e) ∙ held_out in cc
+      by Class e ih = let q : LiftedModule ≡ LiftedFree =
+          ap (λ x. lifted_by x (stages base n (parents base r)).holds
+          (lifted_holds (stages base n) (enclosing_scopes (parents base) (parents base r)))) (sym e) ∙ held_out in cc
+      by TypeParams e ih = let q : LiftedModule ≡ LiftedFree =
+          ap (λ x. lifted_by x (stages base n (parents base r)).holds
+          (lifted_holds (stages base n) (enclosing_scopes (parents base) (parents base r)))) (sym e) ∙ held_out in cc
       by Function e ih = end (in_holder n (slice_get new (parents base r)) (kind_new Function e) caught fine (ap is_fresh as_before ∙ reg.fresh (parents base r) n) (ap as_in as_before ∙ kept))
         where
           caught : captured_opt (entry_at new (parents base r) n) ≡ true
-          caught = captured_here base new (lifts base order) whole numbered reg.fresh (parents base r) n there (reaches_holder base new (lifts base order) whole numbered reg.fresh r (parents base r) n refl below e hit)
+          caught = captured_here base new (lifts base order) whole numbered reg.fresh (parents base r) n there
+              (reaches_holder base new (lifts base order) whole numbered reg.fresh r (parents base r) n refl below e hit)
 
           fine : well (entry_at new (parents base r) n) ≡ true
           fine =
@@ -172,23 +187,33 @@ module _ (base new : List Row) (order : List ℕ) (numbered : IsNumbered base) (
               at_first (Some s) h = ap (λ z. not z || (not (is_plain s.holds) || (is_bound s))) h
 
           as_before : holds_opt (entry_at new (parents base r) n) ≡ holds_opt (entry_at base (parents base r) n)
-          as_before = sym (stage_function base new (lifts base order) whole numbered reg.fresh n (slice_get new (parents base r)) (kind_new Function e)) ∙ ap (λ f. (f (parents base r)).holds) (same_stages base new (lifts base order) whole n) ∙ stage_function base new (lifts base order) whole numbered reg.fresh n (slice_get base (parents base r)) (sym (kind_read base new (lifts base order) whole numbered reg.fresh n (slice_get base (parents base r))) ∙ e)
+          as_before = sym (stage_function base new (lifts base order) whole numbered reg.fresh n (slice_get new (parents base r))
+              (kind_new Function e)) ∙ ap (λ f. (f (parents base r)).holds) (same_stages base new (lifts base order) whole n)
+              ∙ stage_function base new (lifts base order) whole numbered reg.fresh n (slice_get base (parents base r))
+              (sym (kind_read base new (lifts base order) whole numbered reg.fresh n (slice_get base (parents base r))) ∙ e)
 
           kept : as_in (holds_opt (entry_at base (parents base r) n)) ≡ LiftedFree
-          kept = ap as_in (sym (stage_function base new (lifts base order) whole numbered reg.fresh n (slice_get base (parents base r)) (sym (kind_read base new (lifts base order) whole numbered reg.fresh n (slice_get base (parents base r))) ∙ e))) ∙ ap (λ x. lifted_by x (stages base n (parents base r)).holds (lifted_holds (stages base n) (enclosing_scopes (parents base) (parents base r)))) (sym e) ∙ held_out
+          kept = ap as_in
+              (sym (stage_function base new (lifts base order) whole numbered reg.fresh n (slice_get base (parents base r))
+              (sym (kind_read base new (lifts base order) whole numbered reg.fresh n (slice_get base (parents base r))) ∙ e)))
+              ∙ ap (λ x. lifted_by x (stages base n (parents base r)).holds
+              (lifted_holds (stages base n) (enclosing_scopes (parents base) (parents base r)))) (sym e) ∙ held_out
 
           end : (meetings new n (parents base r) ≡ Binding) ⊎ ((meetings new n (parents base r) ≡ Past) × (holds_opt (entry_at new (parents base r) n) ≡ DeclaredNonlocal))
               → (b : ℕ) × (look_from new r n ≡ FreeOf b)
           end (inl x) = bound x
           end (inr x) = past x.0 (nonlocals (parents base r) n x.1)
-      by Comprehension e ih = end (in_comprehension n (slice_get new (parents base r)) (kind_new Comprehension e) (held_here base new (lifts base order) whole numbered reg.fresh (parents base r) n there through ∙ held_out))
+      by Comprehension e ih = end (in_comprehension n (slice_get new (parents base r)) (kind_new Comprehension e)
+          (held_here base new (lifts base order) whole numbered reg.fresh (parents base r) n there through ∙ held_out))
         where
           through : list_any (hits_through base (parents base r) n) (lifts base order) ≡ true
           through = reaches_through base new (lifts base order) whole numbered reg.fresh r (parents base r) n refl below e hit
 
           end : (meetings new n (parents base r) ≡ Past) ⊎ ((meetings new n (parents base r) ≡ Binding) × (hands_on (entry_at new (parents base r) n) ≡ true))
               → (b : ℕ) × (look_from new r n ≡ FreeOf b)
-          end (inl x) = past x (ih (lifts_sound_not_first base new (lifts base order) whole numbered reg.fresh reg.uncaptured reg.first (begins_well base reg.walruses order) (parents base r) n e) e through held_out)
+          end (inl x) =
+              past x (ih (lifts_sound_not_first base new (lifts base order) whole numbered reg.fresh reg.uncaptured reg.first
+              (begins_well base reg.walruses order) (parents base r) n e) e through held_out)
           end (inr x) = bound x.0
 
   pub hands_on_found : HandsOn new
@@ -214,4 +239,7 @@ module _ (base new : List Row) (order : List ℕ) (numbered : IsNumbered base) (
           let hit = went_through base new (lifts base order) whole numbered reg.fresh reg.uncaptured reg.first (begins_well base reg.walruses order) s n lift in
           let kind = through_kind base new (lifts base order) whole numbered reg.fresh reg.uncaptured reg.first (begins_well base reg.walruses order) s n hit in
           let inside = lifts_sound_is_there base new (lifts base order) whole numbered reg.fresh reg.uncaptured reg.first (begins_well base reg.walruses order) s n kind in
-          ends_free (suc s) s n (omega arith) (lifts_sound_not_first base new (lifts base order) whole numbered reg.fresh reg.uncaptured reg.first (begins_well base reg.walruses order) s n kind) inside kind hit (sym (held_here base new (lifts base order) whole numbered reg.fresh s n inside hit) ∙ e)
+          ends_free (suc s) s n (omega arith)
+          (lifts_sound_not_first base new (lifts base order) whole numbered reg.fresh reg.uncaptured reg.first
+          (begins_well base reg.walruses order) s n kind) inside kind hit
+          (sym (held_here base new (lifts base order) whole numbered reg.fresh s n inside hit) ∙ e)

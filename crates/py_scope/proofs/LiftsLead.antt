@@ -1,5 +1,6 @@
 -- A lifted name leads to a captured one, or past a holder that asks for it.
-use Rattle.std.proofs.Common.{◌≡◌, refl, sym, ap, ◌∙◌, subst, ℕ, zero, suc, ◌<◌, Bool, true, false, ◌&&◌, List, [], ◌∷◌, length, if◌then◌else◌, slice_get, option_map, Option, Some, None, ◌⊎◌, inl, inr, arith}
+use Rattle.std.proofs.Common.{◌≡◌, refl, sym, ap, ◌∙◌, subst, ℕ, zero, suc, ◌<◌, Bool, true, false, ◌&&◌, List, [], ◌∷◌, length}
+use Rattle.std.proofs.Common.{if◌then◌else◌, slice_get, option_map, Option, Some, None, ◌⊎◌, inl, inr, arith}
 use Rattle.std.specs.List.{list_any}
 use Rattle.py_scope.specs.declared.table_type.SymbolTableType.{SymbolTableType}
 use Rattle.py_scope.specs.declared.table_type.SymbolTableType.TheVariants.{Module, Class, Function, Comprehension, TypeParams}
@@ -70,7 +71,8 @@ lifts_lead_in_function n (Some t) k c f h = by (lookup n t.entries) refl c f h
         one LiftedModule q b g f h = cc
         one Passed q b g f h = cc
 
-module _ (base new : List Row) (pairs : List (ℕ × Name)) (whole : IsLifted base pairs new) (numbered : IsNumbered base) (fresh : (s : ℕ) (n : Name) → is_fresh (holds_opt (entry_at base s n)) ≡ true) where
+module _ (base new : List Row) (pairs : List (ℕ × Name)) (whole : IsLifted base pairs new) (numbered : IsNumbered base)
+    (fresh : (s : ℕ) (n : Name) → is_fresh (holds_opt (entry_at base s n)) ≡ true) where
   pub present : (t : ℕ) → t < length base → (u : Row) × (slice_get base t ≡ Some u)
   present t l = by (slice_get base t) refl
     where
@@ -86,12 +88,14 @@ module _ (base new : List Row) (pairs : List (ℕ × Name)) (whole : IsLifted ba
   pub captured_here : (t : ℕ) (n : Name) → t < length base → list_any (hits_holder base t n) pairs ≡ true → captured_opt (entry_at new t n) ≡ true
   captured_here t n l h =
       let u = present t l in
-      ap (λ o. captured_opt (entry_of n o)) (whole t ∙ ap (option_map (lifted_all base pairs t)) u.1) ∙ captured_lifted base pairs t n u.0 ∙ lifts_capture_right_or (captured_opt (lookup n u.0.entries)) _ h
+      ap (λ o. captured_opt (entry_of n o)) (whole t ∙ ap (option_map (lifted_all base pairs t)) u.1) ∙ captured_lifted base pairs t n u.0
+      ∙ lifts_capture_right_or (captured_opt (lookup n u.0.entries)) _ h
 
   pub held_here : (t : ℕ) (n : Name) → t < length base → list_any (hits_through base t n) pairs ≡ true → holds_opt (entry_at new t n) ≡ held_in base t n
   held_here t n l h =
       let u = present t l in
-      ap (λ o. holds_opt (entry_of n o)) (whole t ∙ ap (option_map (lifted_all base pairs t)) u.1) ∙ holds_lifted base pairs t n u.0 ∙ ap (λ b. if b then held_in base t n else holds_opt (lookup n u.0.entries)) h
+      ap (λ o. holds_opt (entry_of n o)) (whole t ∙ ap (option_map (lifted_all base pairs t)) u.1) ∙ holds_lifted base pairs t n u.0
+      ∙ ap (λ b. if b then held_in base t n else holds_opt (lookup n u.0.entries)) h
 
   -- a lift that goes through r reaches the scope around r
   step_out : (r w : ℕ) (n : Name) → parents base r ≡ w → w < r → (q : ℕ × Name) → hits_through base r n q ≡ true
@@ -105,11 +109,13 @@ module _ (base new : List Row) (pairs : List (ℕ × Name)) (whole : IsLifted ba
 
   pub reaches_through : (r w : ℕ) (n : Name) → parents base r ≡ w → w < r → (stages base n w).kind ≡ Comprehension
       → list_any (hits_through base r n) pairs ≡ true → list_any (hits_through base w n) pairs ≡ true
-  reaches_through r w n e l k = any_more (hits_through base r n) (hits_through base w n) (λ q h. let s = step_out r w n e l q h in (λ j. s.0 j && is_through ((s.1 ∙ ap (λ x. lift_here x true Stays) k) j))) pairs
+  reaches_through r w n e l k = any_more (hits_through base r n) (hits_through base w n)
+      (λ q h. let s = step_out r w n e l q h in (λ j. s.0 j && is_through ((s.1 ∙ ap (λ x. lift_here x true Stays) k) j))) pairs
 
   pub reaches_holder : (r w : ℕ) (n : Name) → parents base r ≡ w → w < r → (stages base n w).kind ≡ Function → list_any (hits_through base r n) pairs ≡ true
       → list_any (hits_holder base w n) pairs ≡ true
-  reaches_holder r w n e l k = any_more (hits_through base r n) (hits_holder base w n) (λ q h. let s = step_out r w n e l q h in (λ j. s.0 j && is_holder ((s.1 ∙ ap (λ x. lift_here x true Stays) k) j))) pairs
+  reaches_holder r w n e l k = any_more (hits_through base r n) (hits_holder base w n)
+      (λ q h. let s = step_out r w n e l q h in (λ j. s.0 j && is_holder ((s.1 ∙ ap (λ x. lift_here x true Stays) k) j))) pairs
 
   pub stage_function : (n : Name) (o : Option Row) → kind_of o ≡ Function → (stage_of n o).holds ≡ holds_opt (entry_of n o)
   stage_function n None k = cc
@@ -131,7 +137,9 @@ module _ (base new : List Row) (pairs : List (ℕ × Name)) (whole : IsLifted ba
       → list_any (hits_through base r n) pairs ≡ true → held_in base r n ≡ LiftedFree → look_from new r n ≡ FreeOf s
       → hands_on (entry_at new s n) ≡ false → LiftsLeadAnswer s n
   lifts_lead_leads zero r n s l a within c hit held ends own = absurd (omega arith)
-  lifts_lead_leads (suc k) r n s l a within c hit held ends own = by (stages base n (parents base r)).kind refl (λ c' h e f. lifts_lead_leads k (parents base r) n s (omega (arith, below)) f (omega (arith, below)) c' h e)
+  lifts_lead_leads (suc k) r n s l a within c hit held ends own =
+      by (stages base n (parents base r)).kind refl
+      (λ c' h e f. lifts_lead_leads k (parents base r) n s (omega (arith, below)) f (omega (arith, below)) c' h e)
     where
       below : parents base r < r
       below = numbered r a within
@@ -146,7 +154,8 @@ module _ (base new : List Row) (pairs : List (ℕ × Name)) (whole : IsLifted ba
       begins = ap (look (meetings new n)) (sym (outward (parents new) r (parents base r) up below)) ∙ ends
 
       held_out : lifted_holds (stages base n) (outward_from base (parents base r)) ≡ LiftedFree
-      held_out = ap (lifted_holds (stages base n)) (sym (outward (parents base) r (parents base r) refl below)) ∙ sym (ap (λ x. lifted_by x (stages base n r).holds (lifted_holds (stages base n) (enclosing_scopes (parents base) r))) c) ∙ held
+      held_out = ap (lifted_holds (stages base n)) (sym (outward (parents base) r (parents base r) refl below))
+          ∙ sym (ap (λ x. lifted_by x (stages base n r).holds (lifted_holds (stages base n) (enclosing_scopes (parents base) r))) c) ∙ held
 
       past : meetings new n (parents base r) ≡ Past → look_from new (parents base r) n ≡ FreeOf s
       past x = ap (λ y. found_at (parents base r) y (look_from new (parents base r) n)) (sym x) ∙ begins
@@ -161,21 +170,34 @@ module _ (base new : List Row) (pairs : List (ℕ × Name)) (whole : IsLifted ba
       kind_new x e = same_kind_of base new pairs whole (parents base r) ∙ sym (kind_read n (slice_get base (parents base r))) ∙ e
 
       by : (x : SymbolTableType) → (stages base n (parents base r)).kind ≡ x
-          → ((stages base n (parents base r)).kind ≡ Comprehension → list_any (hits_through base (parents base r) n) pairs ≡ true → held_in base (parents base r) n ≡ LiftedFree → 0 < parents base r → look_from new (parents base r) n ≡ FreeOf s → hands_on (entry_at new s n) ≡ false → LiftsLeadAnswer s n)
+          → ((stages base n (parents base r)).kind ≡ Comprehension → list_any (hits_through base (parents base r) n) pairs ≡ true
+          → held_in base (parents base r) n ≡ LiftedFree → 0 < parents base r → look_from new (parents base r) n ≡ FreeOf s
+          → hands_on (entry_at new s n) ≡ false → LiftsLeadAnswer s n)
           → LiftsLeadAnswer s n
-      by Module e ih = let q : LiftedModule ≡ LiftedFree = ap (λ x. lifted_by x (stages base n (parents base r)).holds (lifted_holds (stages base n) (enclosing_scopes (parents base) (parents base r)))) (sym e) ∙ held_out in cc
-      by Class e ih = let q : LiftedModule ≡ LiftedFree = ap (λ x. lifted_by x (stages base n (parents base r)).holds (lifted_holds (stages base n) (enclosing_scopes (parents base) (parents base r)))) (sym e) ∙ held_out in cc
-      by TypeParams e ih = let q : LiftedModule ≡ LiftedFree = ap (λ x. lifted_by x (stages base n (parents base r)).holds (lifted_holds (stages base n) (enclosing_scopes (parents base) (parents base r)))) (sym e) ∙ held_out in cc
+      by Module e ih = let q : LiftedModule ≡ LiftedFree =
+          ap (λ x. lifted_by x (stages base n (parents base r)).holds
+          (lifted_holds (stages base n) (enclosing_scopes (parents base) (parents base r)))) (sym e) ∙ held_out in cc
+      by Class e ih = let q : LiftedModule ≡ LiftedFree =
+          ap (λ x. lifted_by x (stages base n (parents base r)).holds
+          (lifted_holds (stages base n) (enclosing_scopes (parents base) (parents base r)))) (sym e) ∙ held_out in cc
+      by TypeParams e ih = let q : LiftedModule ≡ LiftedFree =
+          ap (λ x. lifted_by x (stages base n (parents base r)).holds
+          (lifted_holds (stages base n) (enclosing_scopes (parents base) (parents base r)))) (sym e) ∙ held_out in cc
       by Function e ih = end (lifts_lead_in_function n (slice_get new (parents base r)) (kind_new Function e) caught (ap is_fresh as_before ∙ fresh (parents base r) n) (ap as_in as_before ∙ kept))
         where
           caught : captured_opt (entry_at new (parents base r) n) ≡ true
           caught = captured_here (parents base r) n there (reaches_holder r (parents base r) n refl below e hit)
 
           as_before : holds_opt (entry_at new (parents base r) n) ≡ holds_opt (entry_at base (parents base r) n)
-          as_before = sym (stage_function n (slice_get new (parents base r)) (kind_new Function e)) ∙ ap (λ f. (f (parents base r)).holds) (same_stages base new pairs whole n) ∙ stage_function n (slice_get base (parents base r)) (sym (kind_read n (slice_get base (parents base r))) ∙ e)
+          as_before = sym (stage_function n (slice_get new (parents base r)) (kind_new Function e))
+              ∙ ap (λ f. (f (parents base r)).holds) (same_stages base new pairs whole n)
+              ∙ stage_function n (slice_get base (parents base r)) (sym (kind_read n (slice_get base (parents base r))) ∙ e)
 
           kept : as_in (holds_opt (entry_at base (parents base r) n)) ≡ LiftedFree
-          kept = ap as_in (sym (stage_function n (slice_get base (parents base r)) (sym (kind_read n (slice_get base (parents base r))) ∙ e))) ∙ ap (λ x. lifted_by x (stages base n (parents base r)).holds (lifted_holds (stages base n) (enclosing_scopes (parents base) (parents base r)))) (sym e) ∙ held_out
+          kept = ap as_in
+              (sym (stage_function n (slice_get base (parents base r)) (sym (kind_read n (slice_get base (parents base r))) ∙ e)))
+              ∙ ap (λ x. lifted_by x (stages base n (parents base r)).holds
+              (lifted_holds (stages base n) (enclosing_scopes (parents base) (parents base r)))) (sym e) ∙ held_out
 
           end : (meetings new n (parents base r) ≡ Binding) ⊎ ((meetings new n (parents base r) ≡ Past) × (asks_opt (entry_at new (parents base r) n) ≡ true)) → LiftsLeadAnswer s n
           end (inl x) = inl (subst (λ z. captured_opt (entry_at new z n) ≡ true) (same (bound x)) caught)

@@ -1,5 +1,6 @@
 -- A look from a comprehension whose walrus stores a name of the module finds nothing.
-use Rattle.std.proofs.Common.{◌≡◌, refl, sym, ap, ◌∙◌, subst, ℕ, zero, suc, ◌<◌, Bool, true, false, ◌||◌, ◌&&◌, List, [], ◌∷◌, length, nat_eq, if◌then◌else◌, slice_get, Option, Some, None, ◌⊎◌, inl, inr, arith}
+use Rattle.std.proofs.Common.{◌≡◌, refl, sym, ap, ◌∙◌, subst, ℕ, zero, suc, ◌<◌, Bool, true, false, ◌||◌, ◌&&◌, List, [], ◌∷◌, length}
+use Rattle.std.proofs.Common.{nat_eq, if◌then◌else◌, slice_get, Option, Some, None, ◌⊎◌, inl, inr, arith}
 use Rattle.std.specs.Prelude.{not}
 use Rattle.std.specs.List.{list_any}
 use Rattle.std.proofs.lemmas.Option.{slice_get_within}
@@ -16,7 +17,7 @@ use Rattle.py_scope.specs.Names.{Name}
 use Rattle.py_scope.specs.Outward.{chain, enclosing_scopes, look, found_at, stop_of, counts, parents, IsNumbered}
 use Rattle.py_scope.specs.Registered.{is_fresh}
 use Rattle.py_scope.specs.Lifts.{as_in, stages, refusal, refused_by, first_refusal, outward_from, is_comprehension, kind_of, lifts}
-use Rattle.py_scope.specs.Resolve.{among, kind_at, around, last_declaration, stores, way, holder, goes_through, lifted_to, holds_in, binds_in, stops_in, look_in}
+use Rattle.py_scope.specs.Resolve.{among, kind_at, outward_scopes, last_declaration, stores, way, holder, goes_through, lifted_to, holds_in, binds_in, stops_in, look_in}
 use Rattle.py_scope.specs.Scanned.{is_function, Scanned, order_of}
 use Rattle.py_scope.specs.InOrder.{IsScanned, OneModule}
 use Rattle.py_scope.specs.Resolved.{first_fault}
@@ -47,7 +48,9 @@ fresh_free Passed f e = cc
 lifts_module_none_of : (base : List Row) (ps : List (ℕ × Name)) → first_refusal base ps ≡ None → (f : ℕ × Name → Bool)
     → ((q : ℕ × Name) → refusal q.1 (stages base q.1) (enclosing_scopes (parents base) q.0) ≡ None → f q ≡ true) → list_any (λ q. not (f q)) ps ≡ false
 lifts_module_none_of base [] h f g = refl
-lifts_module_none_of base (p ∷ ps) h f g = λ j. not (g p (none_first _ _ h) j) || lifts_module_none_of base ps (none_second (refusal p.1 (stages base p.1) (enclosing_scopes (parents base) p.0)) _ h) f g j
+lifts_module_none_of base (p ∷ ps) h f g = λ j.
+    not (g p (none_first _ _ h) j) || lifts_module_none_of base ps
+    (none_second (refusal p.1 (stages base p.1) (enclosing_scopes (parents base) p.0)) _ h) f g j
 
 abbrev is_none : Option Refusal → Bool
 is_none None = true
@@ -67,12 +70,12 @@ module _ (rows : List Row) (numbered : IsNumbered rows) (only : OneModule rows) 
 
   -- where no scope further out refuses the name, none does from a comprehension on the way
   lifts_module_further : (n : Name) (t k w : ℕ) → among t (way rows (chain (parents rows) k w)) ≡ true
-      → refusal n (stages rows n) (chain (parents rows) k w) ≡ None → refusal n (stages rows n) (around rows t) ≡ None
+      → refusal n (stages rows n) (chain (parents rows) k w) ≡ None → refusal n (stages rows n) (outward_scopes rows t) ≡ None
   lifts_module_further n t zero w a h = cc
   lifts_module_further n t (suc k) w a h = by (nat_eq k w) a h (lifts_module_further n t k (parents rows k)) (lifts_module_further n t k w)
     where
       Goal : List ℕ → Type 0
-      Goal es = among t (way rows es) ≡ true → refusal n (stages rows n) es ≡ None → refusal n (stages rows n) (around rows t) ≡ None
+      Goal es = among t (way rows es) ≡ true → refusal n (stages rows n) es ≡ None → refusal n (stages rows n) (outward_scopes rows t) ≡ None
 
       iter : (b : Bool) → (if b then Some (RebindsIterated n) else refusal n (stages rows n) (chain (parents rows) k (parents rows k))) ≡ None
           → refusal n (stages rows n) (chain (parents rows) k (parents rows k)) ≡ None
@@ -82,21 +85,23 @@ module _ (rows : List Row) (numbered : IsNumbered rows) (only : OneModule rows) 
       at : (x : SymbolTableType) → kind_at rows k ≡ x
           → among t (if is_comprehension x then k ∷ way rows (chain (parents rows) k (parents rows k)) else []) ≡ true
           → refused_by n x (stages rows n k).iterated (refusal n (stages rows n) (chain (parents rows) k (parents rows k))) ≡ None
-          → Goal (chain (parents rows) k (parents rows k)) → refusal n (stages rows n) (around rows t) ≡ None
+          → Goal (chain (parents rows) k (parents rows k)) → refusal n (stages rows n) (outward_scopes rows t) ≡ None
       at Module q g r ih = cc
       at Class q g r ih = cc
       at Function q g r ih = cc
       at TypeParams q g r ih = cc
       at Comprehension q g r ih = one (truth_either (nat_eq t k) _ g)
         where
-          one : (nat_eq t k ≡ true) ⊎ (among t (way rows (chain (parents rows) k (parents rows k))) ≡ true) → refusal n (stages rows n) (around rows t) ≡ None
-          one (inl e) = subst (λ z. refusal n (stages rows n) (around rows z) ≡ None) (sym (equal_numbers t k e)) (iter (stages rows n k).iterated r)
+          one : (nat_eq t k ≡ true) ⊎ (among t (way rows (chain (parents rows) k (parents rows k))) ≡ true) → refusal n (stages rows n) (outward_scopes rows t) ≡ None
+          one (inl e) = subst (λ z. refusal n (stages rows n) (outward_scopes rows z) ≡ None) (sym (equal_numbers t k e)) (iter (stages rows n k).iterated r)
           one (inr e) = ih e (iter (stages rows n k).iterated r)
 
       by : (b : Bool) → among t (way rows (if b then k ∷ chain (parents rows) k (parents rows k) else chain (parents rows) k w)) ≡ true
           → refusal n (stages rows n) (if b then k ∷ chain (parents rows) k (parents rows k) else chain (parents rows) k w) ≡ None
-          → Goal (chain (parents rows) k (parents rows k)) → Goal (chain (parents rows) k w) → refusal n (stages rows n) (around rows t) ≡ None
-      by true g r ih other = at (kind_at rows k) refl g (ap (λ x. refused_by n x (stages rows n k).iterated (refusal n (stages rows n) (chain (parents rows) k (parents rows k)))) (sym (kind_stage n k)) ∙ r) ih
+          → Goal (chain (parents rows) k (parents rows k)) → Goal (chain (parents rows) k w) → refusal n (stages rows n) (outward_scopes rows t) ≡ None
+      by true g r ih other = at (kind_at rows k) refl g
+          (ap (λ x. refused_by n x (stages rows n k).iterated (refusal n (stages rows n) (chain (parents rows) k (parents rows k))))
+          (sym (kind_stage n k)) ∙ r) ih
       by false g r ih other = other g r
 
   -- the next scope on the way
@@ -104,8 +109,10 @@ module _ (rows : List Row) (numbered : IsNumbered rows) (only : OneModule rows) 
   next_way c w zero v p l x a = cc
   next_way c w (suc k) v p l x a = by (nat_eq k v) a (next_way c w k (parents rows k) p l x) (next_way c w k v p l x)
     where
-      begin : among w (way rows (around rows c)) ≡ true
-      begin = ap (λ es. among w (way rows es)) (outward (parents rows) c w p l) ∙ ap (λ z. among w (if is_comprehension z then w ∷ way rows (around rows w) else [])) x ∙ left_or (nat_eq w w) _ (tells_same w)
+      begin : among w (way rows (outward_scopes rows c)) ≡ true
+      begin = ap (λ es. among w (way rows es)) (outward (parents rows) c w p l)
+          ∙ ap (λ z. among w (if is_comprehension z then w ∷ way rows (outward_scopes rows w) else [])) x
+          ∙ left_or (nat_eq w w) _ (tells_same w)
 
       at : (x : SymbolTableType) → among c (if is_comprehension x then k ∷ way rows (chain (parents rows) k (parents rows k)) else []) ≡ true
           → (among c (way rows (chain (parents rows) k (parents rows k))) ≡ true → among w (way rows (chain (parents rows) k (parents rows k))) ≡ true)
@@ -117,7 +124,7 @@ module _ (rows : List Row) (numbered : IsNumbered rows) (only : OneModule rows) 
       at Comprehension g ih = truth_right_or (nat_eq w k) _ (one (truth_either (nat_eq c k) _ g))
         where
           one : (nat_eq c k ≡ true) ⊎ (among c (way rows (chain (parents rows) k (parents rows k))) ≡ true) → among w (way rows (chain (parents rows) k (parents rows k))) ≡ true
-          one (inl e) = subst (λ z. among w (way rows (around rows z)) ≡ true) (equal_numbers c k e) begin
+          one (inl e) = subst (λ z. among w (way rows (outward_scopes rows z)) ≡ true) (equal_numbers c k e) begin
           one (inr e) = ih e
 
       by : (b : Bool) → among c (way rows (if b then k ∷ chain (parents rows) k (parents rows k) else chain (parents rows) k v)) ≡ true
@@ -173,8 +180,8 @@ module _ (rows : List Row) (numbered : IsNumbered rows) (only : OneModule rows) 
       by (Some t) q g = slice_get_within rows c t q
 
   -- from a comprehension with such a holder the look goes on to the module
-  to_module : (d c : ℕ) (n : Name) → c < d → goes_through rows c n ≡ true → refusal n (stages rows n) (around rows c) ≡ None
-      → lifted_to rows (holder rows (around rows c)) n ≡ LiftedModule → look_in rows c n ≡ Nowhere
+  to_module : (d c : ℕ) (n : Name) → c < d → goes_through rows c n ≡ true → refusal n (stages rows n) (outward_scopes rows c) ≡ None
+      → lifted_to rows (holder rows (outward_scopes rows c)) n ≡ LiftedModule → look_in rows c n ≡ Nowhere
   to_module zero c n l h r e = absurd (omega arith)
   to_module (suc d) c n l h r e = by (kind_at rows (parents rows c)) refl (λ g x y. to_module d (parents rows c) n (omega (arith, below)) g x y)
     where
@@ -184,20 +191,23 @@ module _ (rows : List Row) (numbered : IsNumbered rows) (only : OneModule rows) 
       below : parents rows c < c
       below = numbered c (lifts_module_not_first c kind) (lifts_module_is_there c kind)
 
-      out : around rows c ≡ parents rows c ∷ around rows (parents rows c)
+      out : outward_scopes rows c ≡ parents rows c ∷ outward_scopes rows (parents rows c)
       out = outward (parents rows) c (parents rows c) refl below
 
       begins : look_in rows c n ≡ found_at (parents rows c) (stops_in rows n (parents rows c)) (look_in rows (parents rows c) n)
       begins = ap (look (stops_in rows n)) out
 
-      refused : refused_by n (kind_at rows (parents rows c)) (stages rows n (parents rows c)).iterated (refusal n (stages rows n) (around rows (parents rows c))) ≡ None
-      refused = ap (λ x. refused_by n x (stages rows n (parents rows c)).iterated (refusal n (stages rows n) (around rows (parents rows c)))) (sym (kind_stage n (parents rows c))) ∙ ap (refusal n (stages rows n)) (sym out) ∙ r
+      refused : refused_by n (kind_at rows (parents rows c)) (stages rows n (parents rows c)).iterated (refusal n (stages rows n) (outward_scopes rows (parents rows c))) ≡ None
+      refused = ap (λ x. refused_by n x (stages rows n (parents rows c)).iterated
+          (refusal n (stages rows n) (outward_scopes rows (parents rows c)))) (sym (kind_stage n (parents rows c)))
+          ∙ ap (refusal n (stages rows n)) (sym out) ∙ r
 
-      iter : (b : Bool) → (if b then Some (RebindsIterated n) else refusal n (stages rows n) (around rows (parents rows c))) ≡ None → refusal n (stages rows n) (around rows (parents rows c)) ≡ None
+      iter : (b : Bool) → (if b then Some (RebindsIterated n) else refusal n (stages rows n) (outward_scopes rows (parents rows c))) ≡ None
+          → refusal n (stages rows n) (outward_scopes rows (parents rows c)) ≡ None
       iter true g = cc
       iter false g = g
 
-      held_out : lifted_to rows (if is_comprehension (kind_at rows (parents rows c)) then holder rows (around rows (parents rows c)) else parents rows c) n ≡ LiftedModule
+      held_out : lifted_to rows (if is_comprehension (kind_at rows (parents rows c)) then holder rows (outward_scopes rows (parents rows c)) else parents rows c) n ≡ LiftedModule
       held_out = ap (λ es. lifted_to rows (holder rows es) n) (sym out) ∙ e
 
       past : stops_in rows n (parents rows c) ≡ Past → look_in rows (parents rows c) n ≡ Nowhere → look_in rows c n ≡ Nowhere
@@ -208,32 +218,53 @@ module _ (rows : List Row) (numbered : IsNumbered rows) (only : OneModule rows) 
       choice false = refl
 
       by : (x : SymbolTableType) → kind_at rows (parents rows c) ≡ x
-          → (goes_through rows (parents rows c) n ≡ true → refusal n (stages rows n) (around rows (parents rows c)) ≡ None → lifted_to rows (holder rows (around rows (parents rows c))) n ≡ LiftedModule → look_in rows (parents rows c) n ≡ Nowhere)
+          → (goes_through rows (parents rows c) n ≡ true → refusal n (stages rows n) (outward_scopes rows (parents rows c)) ≡ None
+          → lifted_to rows (holder rows (outward_scopes rows (parents rows c))) n ≡ LiftedModule
+          → look_in rows (parents rows c) n ≡ Nowhere)
           → look_in rows c n ≡ Nowhere
       by Module q ih = zeroth (parents rows c) refl
         where
           zeroth : (w : ℕ) → parents rows c ≡ w → look_in rows c n ≡ Nowhere
           zeroth zero p = past (ap (λ x. if counts x n then stop_of (holds_in rows (parents rows c) n) (binds_in rows (parents rows c) n) else Past) q) (ap (λ z. look_in rows z n) p)
           zeroth (suc w) p = absurd (only (suc w) (omega arith) (let b = below in let l = lifts_module_is_there c kind in omega (arith, p, b, l)) (ap (kind_at rows) (sym p) ∙ q))
-      by Class q ih = let z : Some InClassBody ≡ None = ap (λ x. refused_by n x (stages rows n (parents rows c)).iterated (refusal n (stages rows n) (around rows (parents rows c)))) (sym q) ∙ refused in cc
-      by TypeParams q ih = let z : Some InTypeParams ≡ None = ap (λ x. refused_by n x (stages rows n (parents rows c)).iterated (refusal n (stages rows n) (around rows (parents rows c)))) (sym q) ∙ refused in cc
-      by Function q ih = absurd (as_in_free (last_declaration rows (parents rows c) n) (sym (ap (λ b. if b then as_in (last_declaration rows (parents rows c) n) else LiftedModule) (ap is_function q)) ∙ ap (λ x. lifted_to rows (if is_comprehension x then holder rows (around rows (parents rows c)) else parents rows c) n) (sym q) ∙ held_out))
+      by Class q ih = let z : Some InClassBody ≡ None =
+          ap (λ x. refused_by n x (stages rows n (parents rows c)).iterated
+          (refusal n (stages rows n) (outward_scopes rows (parents rows c)))) (sym q) ∙ refused in cc
+      by TypeParams q ih = let z : Some InTypeParams ≡ None =
+          ap (λ x. refused_by n x (stages rows n (parents rows c)).iterated
+          (refusal n (stages rows n) (outward_scopes rows (parents rows c)))) (sym q) ∙ refused in cc
+      by Function q ih = absurd (as_in_free (last_declaration rows (parents rows c) n)
+          (sym (ap (λ b. if b then as_in (last_declaration rows (parents rows c) n) else LiftedModule) (ap is_function q))
+          ∙ ap (λ x. lifted_to rows (if is_comprehension x then holder rows (outward_scopes rows (parents rows c)) else parents rows c) n)
+          (sym q) ∙ held_out))
       by Comprehension q ih =
           let g = through_next c (parents rows c) n refl below q h in
-          let away : lifted_to rows (holder rows (around rows (parents rows c))) n ≡ LiftedModule = ap (λ x. lifted_to rows (if is_comprehension x then holder rows (around rows (parents rows c)) else parents rows c) n) (sym q) ∙ held_out in
-          let held : holds_in rows (parents rows c) n ≡ LiftedModule = ap (λ b. if b then lifted_to rows (holder rows (outward_from rows (parents rows c))) n else last_declaration rows (parents rows c) n) g ∙ ap (λ x. lifted_to rows (if is_comprehension x then holder rows (around rows (parents rows c)) else parents rows c) n) q ∙ away in
+          let away : lifted_to rows (holder rows (outward_scopes rows (parents rows c))) n ≡ LiftedModule =
+          ap (λ x. lifted_to rows (if is_comprehension x then holder rows (outward_scopes rows (parents rows c)) else parents rows c) n)
+          (sym q) ∙ held_out in
+          let held : holds_in rows (parents rows c) n ≡ LiftedModule =
+          ap (λ b. if b then lifted_to rows (holder rows (outward_from rows (parents rows c))) n else last_declaration rows
+          (parents rows c) n) g ∙ ap (λ x. lifted_to rows
+          (if is_comprehension x then holder rows (outward_scopes rows (parents rows c)) else parents rows c) n) q ∙ away in
           past (ap (λ x. if counts (kind_at rows (parents rows c)) n then stop_of x (binds_in rows (parents rows c) n) else Past) held ∙ choice (counts (kind_at rows (parents rows c)) n))
-          (ih g (iter (stages rows n (parents rows c)).iterated (ap (λ x. refused_by n x (stages rows n (parents rows c)).iterated (refusal n (stages rows n) (around rows (parents rows c)))) (sym q) ∙ refused)) away)
+          (ih g (iter (stages rows n (parents rows c)).iterated
+          (ap (λ x. refused_by n x (stages rows n (parents rows c)).iterated
+          (refusal n (stages rows n) (outward_scopes rows (parents rows c)))) (sym q) ∙ refused)) away)
 
 module _ (s : Scanned) (old : IsScanned s) (fine : first_fault s ≡ None) where
-  lifts_module_allowed : (q : ℕ) (n : Name) → q < length s.rows → stores s.rows q n ≡ true → refusal n (stages s.rows n) (around s.rows q) ≡ None
-  lifts_module_allowed q n l h = by (is_none (refusal n (stages s.rows n) (around s.rows q))) refl
+  lifts_module_allowed : (q : ℕ) (n : Name) → q < length s.rows → stores s.rows q n ≡ true → refusal n (stages s.rows n) (outward_scopes s.rows q) ≡ None
+  lifts_module_allowed q n l h = by (is_none (refusal n (stages s.rows n) (outward_scopes s.rows q))) refl
     where
-      by : (b : Bool) → is_none (refusal n (stages s.rows n) (around s.rows q)) ≡ b → refusal n (stages s.rows n) (around s.rows q) ≡ None
+      by : (b : Bool) → is_none (refusal n (stages s.rows n) (outward_scopes s.rows q)) ≡ b → refusal n (stages s.rows n) (outward_scopes s.rows q) ≡ None
       by true e = lifts_module_none_is _ e
       by false e =
-          let some : list_any (λ q. not (is_none (refusal q.1 (stages s.rows q.1) (enclosing_scopes (parents s.rows) q.0)))) (lifts s.rows (order_of s)) ≡ true = to_lifts (λ q. not (is_none (refusal q.1 (stages s.rows q.1) (enclosing_scopes (parents s.rows) q.0)))) s.rows (order_of s) q n (old.complete q l) h (ap not e) in
-          let none : list_any (λ q. not (is_none (refusal q.1 (stages s.rows q.1) (enclosing_scopes (parents s.rows) q.0)))) (lifts s.rows (order_of s)) ≡ false = lifts_module_none_of s.rows (lifts s.rows (order_of s)) (none_first _ _ fine) (λ q. is_none (refusal q.1 (stages s.rows q.1) (enclosing_scopes (parents s.rows) q.0))) (λ q g. is_none_of _ g) in
+          let some : list_any (λ q. not (is_none (refusal q.1 (stages s.rows q.1) (enclosing_scopes (parents s.rows) q.0))))
+          (lifts s.rows (order_of s)) ≡ true =
+          to_lifts (λ q. not (is_none (refusal q.1 (stages s.rows q.1) (enclosing_scopes (parents s.rows) q.0)))) s.rows
+          (order_of s) q n (old.complete q l) h (ap not e) in
+          let none : list_any (λ q. not (is_none (refusal q.1 (stages s.rows q.1) (enclosing_scopes (parents s.rows) q.0))))
+          (lifts s.rows (order_of s)) ≡ false = lifts_module_none_of s.rows (lifts s.rows (order_of s)) (none_first _ _ fine)
+          (λ q. is_none (refusal q.1 (stages s.rows q.1) (enclosing_scopes (parents s.rows) q.0))) (λ q g. is_none_of _ g) in
           let z : true ≡ false = sym some ∙ none in cc
 
   -- a look from a scope through which a name of the module is lifted finds nothing
@@ -248,18 +279,19 @@ module _ (s : Scanned) (old : IsScanned s) (fine : first_fault s ≡ None) where
           let kind = through_comprehension s.rows old.numbered old.only old.first k n e in
           let q = any_scope (λ q. stores s.rows q n && among k (way s.rows (outward_from s.rows q))) s.rows e in
           let z = truth_both (stores s.rows q.0 n) _ q.2 in
-          to_module s.rows old.numbered old.only old.first (suc k) k n (omega arith) e (on_way q.0 q.1 z.0 z.1) (ap (λ x. lifted_to s.rows (if is_comprehension x then holder s.rows (around s.rows k) else k) n) (sym kind) ∙ g)
+          to_module s.rows old.numbered old.only old.first (suc k) k n (omega arith) e (on_way q.0 q.1 z.0 z.1)
+          (ap (λ x. lifted_to s.rows (if is_comprehension x then holder s.rows (outward_scopes s.rows k) else k) n) (sym kind) ∙ g)
         where
-          on_way : (q : ℕ) → q < length s.rows → stores s.rows q n ≡ true → among k (way s.rows (outward_from s.rows q)) ≡ true → refusal n (stages s.rows n) (around s.rows k) ≡ None
+          on_way : (q : ℕ) → q < length s.rows → stores s.rows q n ≡ true → among k (way s.rows (outward_from s.rows q)) ≡ true → refusal n (stages s.rows n) (outward_scopes s.rows k) ≡ None
           on_way q l st a = here (kind_at s.rows q) a
             where
-              here : (x : SymbolTableType) → among k (if is_comprehension x then q ∷ way s.rows (around s.rows q) else []) ≡ true → refusal n (stages s.rows n) (around s.rows k) ≡ None
+              here : (x : SymbolTableType) → among k (if is_comprehension x then q ∷ way s.rows (outward_scopes s.rows q) else []) ≡ true → refusal n (stages s.rows n) (outward_scopes s.rows k) ≡ None
               here Module g = cc
               here Class g = cc
               here Function g = cc
               here TypeParams g = cc
               here Comprehension g = one (truth_either (nat_eq k q) _ g)
                 where
-                  one : (nat_eq k q ≡ true) ⊎ (among k (way s.rows (around s.rows q)) ≡ true) → refusal n (stages s.rows n) (around s.rows k) ≡ None
-                  one (inl d) = subst (λ z. refusal n (stages s.rows n) (around s.rows z) ≡ None) (sym (equal_numbers k q d)) (lifts_module_allowed q n l st)
+                  one : (nat_eq k q ≡ true) ⊎ (among k (way s.rows (outward_scopes s.rows q)) ≡ true) → refusal n (stages s.rows n) (outward_scopes s.rows k) ≡ None
+                  one (inl d) = subst (λ z. refusal n (stages s.rows n) (outward_scopes s.rows z) ≡ None) (sym (equal_numbers k q d)) (lifts_module_allowed q n l st)
                   one (inr d) = lifts_module_further s.rows old.numbered old.only old.first n k q (parents s.rows q) d (lifts_module_allowed q n l st)

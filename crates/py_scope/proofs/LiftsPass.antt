@@ -44,11 +44,13 @@ module _ (base new : List Row) (pairs : List (ℕ × Name)) (whole : IsLifted ba
       up : parents new r ≡ parents base r
       up = ap (λ f. f r) (lift_keep_same_parents base new pairs whole)
 
-      begins : touch_here (meetings new n (parents base r)) (nat_eq (parents base r) c) (look (meetings new n) (enclosing_scopes (parents new) (parents base r))) (touch_by new (parents base r) n c) ≡ Passes
+      begins : touch_here (meetings new n (parents base r)) (nat_eq (parents base r) c)
+          (look (meetings new n) (enclosing_scopes (parents new) (parents base r))) (touch_by new (parents base r) n c) ≡ Passes
       begins = ap (touch (meetings new n) c) (sym (outward (parents new) r (parents base r) up below)) ∙ t
 
       held_out : lifted_holds (stages base n) (outward_from base (parents base r)) ≡ LiftedFree
-      held_out = ap (lifted_holds (stages base n)) (sym (outward (parents base) r (parents base r) refl below)) ∙ sym (ap (λ x. lifted_by x (stages base n r).holds (lifted_holds (stages base n) (enclosing_scopes (parents base) r))) i) ∙ held
+      held_out = ap (lifted_holds (stages base n)) (sym (outward (parents base) r (parents base r) refl below))
+          ∙ sym (ap (λ x. lifted_by x (stages base n r).holds (lifted_holds (stages base n) (enclosing_scopes (parents base) r))) i) ∙ held
 
       -- it stands here, or the look goes on
       past : (d : Bool) → nat_eq (parents base r) c ≡ d → meetings new n (parents base r) ≡ Past → wants_for new (parents base r) n ≡ true
@@ -58,7 +60,9 @@ module _ (base new : List Row) (pairs : List (ℕ × Name)) (whole : IsLifted ba
       past false e x w f ih = ih (sym (λ j. touch_here (x j) (e j) (look (meetings new n) (enclosing_scopes (parents new) (parents base r))) (touch_by new (parents base r) n c)) ∙ begins)
 
       bound : meetings new n (parents base r) ≡ Binding → LiftsPassAnswer c n
-      bound x = stops (nat_eq (parents base r) c) (ap (λ y. touch_here y (nat_eq (parents base r) c) (look (meetings new n) (enclosing_scopes (parents new) (parents base r))) (touch_by new (parents base r) n c)) (sym x) ∙ begins)
+      bound x = stops (nat_eq (parents base r) c)
+          (ap (λ y. touch_here y (nat_eq (parents base r) c) (look (meetings new n) (enclosing_scopes (parents new) (parents base r)))
+          (touch_by new (parents base r) n c)) (sym x) ∙ begins)
         where
           stops : (d : Bool) → touch_here Binding d (look (meetings new n) (enclosing_scopes (parents new) (parents base r))) (touch_by new (parents base r) n c) ≡ Passes → LiftsPassAnswer c n
           stops true q = cc
@@ -68,32 +72,50 @@ module _ (base new : List Row) (pairs : List (ℕ × Name)) (whole : IsLifted ba
       kind_new x e = same_kind_of base new pairs whole (parents base r) ∙ sym (kind_read base new pairs whole numbered fresh n (slice_get base (parents base r))) ∙ e
 
       by : (x : SymbolTableType) → (stages base n (parents base r)).kind ≡ x
-          → ((stages base n (parents base r)).kind ≡ Comprehension → list_any (hits_through base (parents base r) n) pairs ≡ true → held_in base (parents base r) n ≡ LiftedFree → touch_by new (parents base r) n c ≡ Passes → LiftsPassAnswer c n)
+          → ((stages base n (parents base r)).kind ≡ Comprehension → list_any (hits_through base (parents base r) n) pairs ≡ true
+          → held_in base (parents base r) n ≡ LiftedFree → touch_by new (parents base r) n c ≡ Passes → LiftsPassAnswer c n)
           → LiftsPassAnswer c n
-      by Module e ih = let q : LiftedModule ≡ LiftedFree = ap (λ x. lifted_by x (stages base n (parents base r)).holds (lifted_holds (stages base n) (enclosing_scopes (parents base) (parents base r)))) (sym e) ∙ held_out in cc
-      by Class e ih = let q : LiftedModule ≡ LiftedFree = ap (λ x. lifted_by x (stages base n (parents base r)).holds (lifted_holds (stages base n) (enclosing_scopes (parents base) (parents base r)))) (sym e) ∙ held_out in cc
-      by TypeParams e ih = let q : LiftedModule ≡ LiftedFree = ap (λ x. lifted_by x (stages base n (parents base r)).holds (lifted_holds (stages base n) (enclosing_scopes (parents base) (parents base r)))) (sym e) ∙ held_out in cc
+      by Module e ih = let q : LiftedModule ≡ LiftedFree =
+          ap (λ x. lifted_by x (stages base n (parents base r)).holds
+          (lifted_holds (stages base n) (enclosing_scopes (parents base) (parents base r)))) (sym e) ∙ held_out in cc
+      by Class e ih = let q : LiftedModule ≡ LiftedFree =
+          ap (λ x. lifted_by x (stages base n (parents base r)).holds
+          (lifted_holds (stages base n) (enclosing_scopes (parents base) (parents base r)))) (sym e) ∙ held_out in cc
+      by TypeParams e ih = let q : LiftedModule ≡ LiftedFree =
+          ap (λ x. lifted_by x (stages base n (parents base r)).holds
+          (lifted_holds (stages base n) (enclosing_scopes (parents base) (parents base r)))) (sym e) ∙ held_out in cc
       by Function e ih = end (lifts_lead_in_function n (slice_get new (parents base r)) (kind_new Function e) caught (ap is_fresh as_before ∙ fresh (parents base r) n) (ap as_in as_before ∙ kept))
         where
           caught : captured_opt (entry_at new (parents base r) n) ≡ true
           caught = captured_here base new pairs whole numbered fresh (parents base r) n there (reaches_holder base new pairs whole numbered fresh r (parents base r) n refl below e hit)
 
           as_before : holds_opt (entry_at new (parents base r) n) ≡ holds_opt (entry_at base (parents base r) n)
-          as_before = sym (stage_function base new pairs whole numbered fresh n (slice_get new (parents base r)) (kind_new Function e)) ∙ ap (λ f. (f (parents base r)).holds) (same_stages base new pairs whole n) ∙ stage_function base new pairs whole numbered fresh n (slice_get base (parents base r)) (sym (kind_read base new pairs whole numbered fresh n (slice_get base (parents base r))) ∙ e)
+          as_before = sym (stage_function base new pairs whole numbered fresh n (slice_get new (parents base r)) (kind_new Function e))
+              ∙ ap (λ f. (f (parents base r)).holds) (same_stages base new pairs whole n)
+              ∙ stage_function base new pairs whole numbered fresh n (slice_get base (parents base r))
+              (sym (kind_read base new pairs whole numbered fresh n (slice_get base (parents base r))) ∙ e)
 
           kept : as_in (holds_opt (entry_at base (parents base r) n)) ≡ LiftedFree
-          kept = ap as_in (sym (stage_function base new pairs whole numbered fresh n (slice_get base (parents base r)) (sym (kind_read base new pairs whole numbered fresh n (slice_get base (parents base r))) ∙ e))) ∙ ap (λ x. lifted_by x (stages base n (parents base r)).holds (lifted_holds (stages base n) (enclosing_scopes (parents base) (parents base r)))) (sym e) ∙ held_out
+          kept = ap as_in
+              (sym (stage_function base new pairs whole numbered fresh n (slice_get base (parents base r))
+              (sym (kind_read base new pairs whole numbered fresh n (slice_get base (parents base r))) ∙ e)))
+              ∙ ap (λ x. lifted_by x (stages base n (parents base r)).holds
+              (lifted_holds (stages base n) (enclosing_scopes (parents base) (parents base r)))) (sym e) ∙ held_out
 
           end : (meetings new n (parents base r) ≡ Binding) ⊎ ((meetings new n (parents base r) ≡ Past) × (asks_opt (entry_at new (parents base r) n) ≡ true)) → LiftsPassAnswer c n
           end (inl x) = bound x
-          end (inr x) = past (nat_eq (parents base r) c) refl x.0 (asks_wants (entry_at new (parents base r) n) x.1) (ap is_class (kind_new Function e)) (λ g. inr (parents base r, asks_read n (slice_get new (parents base r)) x.1, g))
-      by Comprehension e ih = end (in_comprehension n (slice_get new (parents base r)) (kind_new Comprehension e) (held_here base new pairs whole numbered fresh (parents base r) n there through ∙ held_out))
+          end (inr x) = past (nat_eq (parents base r) c) refl x.0 (asks_wants (entry_at new (parents base r) n) x.1)
+              (ap is_class (kind_new Function e)) (λ g. inr (parents base r, asks_read n (slice_get new (parents base r)) x.1, g))
+      by Comprehension e ih = end (in_comprehension n (slice_get new (parents base r)) (kind_new Comprehension e)
+          (held_here base new pairs whole numbered fresh (parents base r) n there through ∙ held_out))
         where
           through : list_any (hits_through base (parents base r) n) pairs ≡ true
           through = reaches_through base new pairs whole numbered fresh r (parents base r) n refl below e hit
 
           wanted : wants_for new (parents base r) n ≡ true
-          wanted = lifted_wants (entry_at new (parents base r) n) (lifts_sound_lifted_is (entry_at new (parents base r) n) (held_here base new pairs whole numbered fresh (parents base r) n there through ∙ held_out))
+          wanted = lifted_wants (entry_at new (parents base r) n)
+              (lifts_sound_lifted_is (entry_at new (parents base r) n)
+              (held_here base new pairs whole numbered fresh (parents base r) n there through ∙ held_out))
 
           end : (meetings new n (parents base r) ≡ Past) ⊎ ((meetings new n (parents base r) ≡ Binding) × (hands_on (entry_at new (parents base r) n) ≡ true)) → LiftsPassAnswer c n
           end (inl x) = past (nat_eq (parents base r) c) refl x wanted (ap is_class (kind_new Comprehension e)) (ih e through held_out)

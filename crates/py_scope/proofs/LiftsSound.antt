@@ -1,5 +1,6 @@
 -- The lifted rows capture a name only where a lifted name leads to it.
-use Rattle.std.proofs.Common.{◌≡◌, refl, sym, ap, ◌∙◌, subst, ℕ, zero, suc, ◌<◌, Bool, true, false, ◌||◌, ◌&&◌, not, List, [], ◌∷◌, ◌++◌, length, nat_eq, if◌then◌else◌, slice_get, option_map, Option, Some, None, ◌⊎◌, inl, inr, arith}
+use Rattle.std.proofs.Common.{◌≡◌, refl, sym, ap, ◌∙◌, subst, ℕ, zero, suc, ◌<◌, Bool, true, false, ◌||◌, ◌&&◌, not, List, [], ◌∷◌, ◌++◌}
+use Rattle.std.proofs.Common.{length, nat_eq, if◌then◌else◌, slice_get, option_map, Option, Some, None, ◌⊎◌, inl, inr, arith}
 use Rattle.std.specs.List.{list_any}
 use Rattle.std.proofs.lemmas.Option.{slice_get_within}
 use Rattle.py_scope.specs.declared.table_type.SymbolTableType.{SymbolTableType}
@@ -17,7 +18,9 @@ use Rattle.py_scope.specs.Flags.{captured_opt}
 use Rattle.py_scope.specs.Entries.{entry_at, entry_of}
 use Rattle.py_scope.proofs.Captured.{captured_is_lifted, is_lifted_as, LiftsCaptured, IsRegistered}
 use Rattle.py_scope.specs.Registered.{is_fresh}
-use Rattle.py_scope.specs.Lifts.{WalrusesInComprehensions, walruses_of, lifts, lifts_of, Stage, stages, stage_of, holds_opt, as_in, lifted_holds, lifted_by, Lift, Stays, Through, Holder, lift_of, lift_here, outward_from, lifted_all, IsLifted, kind_of, is_comprehension}
+use Rattle.py_scope.specs.Lifts.{WalrusesInComprehensions, walruses_of, lifts, lifts_of, Stage, stages, stage_of, holds_opt, as_in}
+use Rattle.py_scope.specs.Lifts.{lifted_holds, lifted_by, Lift, Stays, Through, Holder, lift_of, lift_here, outward_from, lifted_all}
+use Rattle.py_scope.specs.Lifts.{IsLifted, kind_of, is_comprehension}
 use Rattle.py_scope.proofs.Chains.{equal_numbers, tells_same, outward}
 use Rattle.py_scope.proofs.LiftKeeps.{lift_keep_same_parents, same_kind_of, same_stages, through}
 use Rattle.py_scope.proofs.ByLifts.{is_holder, is_through}
@@ -222,11 +225,15 @@ module _ (base new : List Row) (pairs : List (ℕ × Name)) (whole : IsLifted ba
                       ∙ lifted_free n (slice_get new s) kind_new binds
 
                   ends : look_from new l.0 n ≡ FreeOf s
-                  ends = ap (look (meetings new n)) (outward (parents new) l.0 s (ap (λ f. f l.0) (lift_keep_same_parents base new pairs whole) ∙ l.1) below) ∙ ap (λ x. found_at s x (look_from new s n)) binds
+                  ends = ap (look (meetings new n))
+                      (outward (parents new) l.0 s (ap (λ f. f l.0) (lift_keep_same_parents base new pairs whole) ∙ l.1) below)
+                      ∙ ap (λ x. found_at s x (look_from new s n)) binds
 
       by : (o : Option Row) → slice_get base s ≡ o → (r : ℕ) × (captured_is_lifted (entry_at new r n) ≡ true) × (look_from new r n ≡ FreeOf s)
       by None e = let q : captured_opt (entry_of n None) ≡ true = sym (ap (λ o. captured_opt (entry_of n o)) (whole s ∙ ap (option_map (lifted_all base pairs s)) e)) ∙ h in cc
-      by (Some u) e = choose (lifts_sound_either (captured_opt (lookup n u.entries)) _ (sym (ap (λ o. captured_opt (entry_of n o)) (whole s ∙ ap (option_map (lifted_all base pairs s)) e) ∙ captured_lifted base pairs s n u) ∙ h))
+      by (Some u) e = choose (lifts_sound_either (captured_opt (lookup n u.entries))
+          _ (sym (ap (λ o. captured_opt (entry_of n o)) (whole s ∙ ap (option_map (lifted_all base pairs s)) e)
+          ∙ captured_lifted base pairs s n u) ∙ h))
         where
           choose : (captured_opt (lookup n u.entries) ≡ true) ⊎ (list_any (hits_holder base s n) pairs ≡ true)
               → (r : ℕ) × (captured_is_lifted (entry_at new r n) ≡ true) × (look_from new r n ≡ FreeOf s)
@@ -247,14 +254,18 @@ module _ (base new : List Row) (pairs : List (ℕ × Name)) (whole : IsLifted ba
           choose : (b : Bool) → list_any (hits_through base r n) pairs ≡ b → list_any (hits_through base r n) pairs ≡ true
           choose true q = q
           choose false q =
-              let k : holds_opt (lookup n u.entries) ≡ LiftedFree = sym (ap (λ o. holds_opt (entry_of n o)) (whole r ∙ ap (option_map (lifted_all base pairs r)) e) ∙ holds_lifted base pairs r n u ∙ ap (λ b. if b then held_in base r n else holds_opt (lookup n u.entries)) q) ∙ held in
+              let k : holds_opt (lookup n u.entries) ≡ LiftedFree =
+              sym (ap (λ o. holds_opt (entry_of n o)) (whole r ∙ ap (option_map (lifted_all base pairs r)) e)
+              ∙ holds_lifted base pairs r n u ∙ ap (λ b. if b then held_in base r n else holds_opt (lookup n u.entries)) q) ∙ held in
               let f : is_fresh LiftedFree ≡ true = sym (ap is_fresh (ap (λ o. holds_opt (entry_of n o)) e ∙ k)) ∙ fresh r n in cc
 
   pub lifts_captured : LiftsCaptured new
   lifts_captured = record {
     only = λ s n binds own h. only s n binds h;
     each = λ s n r binds own lift ends. let hit = went_through r n lift in let kind = through_kind r n hit in
-        lifted_leads base new pairs whole numbered fresh r n s (lifts_sound_not_first r n kind) (lifts_sound_is_there r n kind) kind hit (sym (held_here base new pairs whole numbered fresh r n (lifts_sound_is_there r n kind) hit) ∙ is_free_held (entry_at new r n) lift) ends own;
+        lifted_leads base new pairs whole numbered fresh r n s (lifts_sound_not_first r n kind) (lifts_sound_is_there r n kind) kind hit
+        (sym (held_here base new pairs whole numbered fresh r n (lifts_sound_is_there r n kind) hit)
+        ∙ is_free_held (entry_at new r n) lift) ends own;
   }
 
 -- lifts begin at comprehensions

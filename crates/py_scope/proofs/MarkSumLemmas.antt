@@ -1,5 +1,7 @@
 -- What the marks keep, and how they add up.
-use Rattle.std.proofs.Common.{◌≡◌, refl, sym, ap, ◌∙◌, subst, ℕ, zero, suc, ◌+◌, ◌<◌, ◌≤◌, Bool, true, false, List, [], ◌∷◌, ◌++◌, length, if◌then◌else◌, slice_get, slice_index_or, option_map, Option, Some, None, is_some, fold, take, take_all, drop, append_assoc, add-one}
+use Rattle.std.proofs.Common.{◌≡◌, refl, sym, ap, ◌∙◌, subst, ℕ, zero, suc, ◌+◌, ◌<◌, ◌≤◌, Bool, true, false, List, [], ◌∷◌, ◌++◌, length}
+use Rattle.std.proofs.Common.{if◌then◌else◌, slice_get, slice_index_or, option_map, Option, Some, None, is_some, fold, take, take_all, drop}
+use Rattle.std.proofs.Common.{append_assoc, add-one}
 use Rattle.std.proofs.lemmas.List.Sums.{fold-append}
 use Rattle.std.proofs.lemmas.List.{map-append, append-nil}
 use Rattle.std.proofs.lemmas.Grind.{flat_map-append}
@@ -8,15 +10,16 @@ use Rattle.std.proofs.lemmas.Option.{slice_get_read}
 use Rattle.py_scope.specs.declared.outward.Meets.TheVariants.{Past}
 use Rattle.py_scope.specs.declared.rows.Entry.{Entry}
 use Rattle.py_scope.specs.declared.rows.Row.{Row}
-use Rattle.py_scope.specs.Names.{Name, same_name, lookup, put}
-use Rattle.py_scope.specs.Outward.{counts, stop_of_entry, meets, meets_of, asks, asked_outward, asking_in, enclosing_scopes, touch, Touch, Leaves, Passes, Captures, parent_of, parents, meetings, IsNumbered}
+use Rattle.py_scope.specs.Names.{Name, same_name, lookup, put_value}
+use Rattle.py_scope.specs.Outward.{counts, stop_of_entry, meets, meets_of, asks, asked_outward, asking_in, enclosing_scopes, touch, Touch}
+use Rattle.py_scope.specs.Outward.{Leaves, Passes, Captures, parent_of, parents, meetings, IsNumbered}
 use Rattle.py_scope.specs.Marks.{after, passed_entry, captured_entry, or_new, new_entry, touch_by, IsLooked, settled_row, IsSettled, asking_of, from_scope, looks}
 use Rattle.py_scope.proofs.Chains.{outward}
 use Rattle.py_scope.proofs.NameLemmas.{equal_names}
 
 module _ {V : Type 0} where
   -- a key that is put is found, and each other key has what it had
-  pub lookup_put : (es : List (Name × V)) (n k : Name) (v : V) → lookup k (put es n v) ≡ if same_name k n then Some v else lookup k es
+  pub lookup_put : (es : List (Name × V)) (n k : Name) (v : V) → lookup k (put_value es n v) ≡ if same_name k n then Some v else lookup k es
   lookup_put [] n k v = refl
   lookup_put (e ∷ es) n k v = by (same_name n e.0) refl (lookup_put es n k v)
     where
@@ -29,9 +32,11 @@ module _ {V : Type 0} where
       apart true h g = swap (same_name k e.0) true (ap (λ x. same_name x e.0) (equal_names k n h) ∙ g)
       apart false h g = refl
 
-      by : (b : Bool) → same_name n e.0 ≡ b → lookup k (put es n v) ≡ (if same_name k n then Some v else lookup k es)
-          → lookup k (if b then (e.0, v) ∷ es else e ∷ put es n v) ≡ (if same_name k n then Some v else lookup k (e ∷ es))
-      by true h f = let s : n ≡ e.0 = equal_names n e.0 h in subst (λ x. (if same_name k x then Some v else lookup k es) ≡ (if same_name k n then Some v else (if same_name k x then Some e.1 else lookup k es))) s (again (same_name k n))
+      by : (b : Bool) → same_name n e.0 ≡ b → lookup k (put_value es n v) ≡ (if same_name k n then Some v else lookup k es)
+          → lookup k (if b then (e.0, v) ∷ es else e ∷ put_value es n v) ≡ (if same_name k n then Some v else lookup k (e ∷ es))
+      by true h f = let s : n ≡ e.0 = equal_names n e.0 h in subst
+          (λ x. (if same_name k x then Some v else lookup k es)
+          ≡ (if same_name k n then Some v else (if same_name k x then Some e.1 else lookup k es))) s (again (same_name k n))
         where
           again : (d : Bool) → (if d then Some v else lookup k es) ≡ (if d then Some v else (if d then Some e.1 else lookup k es))
           again true = refl
@@ -46,7 +51,7 @@ keeps_parent Captures n t = refl
 
 module _ (g : Entry → Entry) (keeps : (s : Entry) → stop_of_entry (Some (g s)) ≡ stop_of_entry (Some s)) (es : List (Name × Entry)) (n k : Name) where
   -- a symbol that is put in the place of one that stops alike leaves each stop
-  stops_alike : stop_of_entry (lookup k (put es n (g (or_new (lookup n es))))) ≡ stop_of_entry (lookup k es)
+  stops_alike : stop_of_entry (lookup k (put_value es n (g (or_new (lookup n es))))) ≡ stop_of_entry (lookup k es)
   stops_alike = ap stop_of_entry (lookup_put es n k _) ∙ by (same_name k n) refl
     where
       same : (o : Option Entry) → stop_of_entry (Some (g (or_new o))) ≡ stop_of_entry o
@@ -68,12 +73,12 @@ asks_opt None = false
 asks_opt (Some s) = asks s
 
 -- a symbol that is put in the place of one that asks alike leaves the names that ask
-asking_put : (es : List (Name × Entry)) (n : Name) (v : Entry) → asks v ≡ asks_opt (lookup n es) → asked_outward (put es n v) ≡ asked_outward es
+asking_put : (es : List (Name × Entry)) (n : Name) (v : Entry) → asks v ≡ asks_opt (lookup n es) → asked_outward (put_value es n v) ≡ asked_outward es
 asking_put [] n v h = ap (λ b. if b then n ∷ [] else []) h
 asking_put (e ∷ es) n v h = by (same_name n e.0) refl (asking_put es n v)
   where
-    by : (b : Bool) → same_name n e.0 ≡ b → (asks v ≡ asks_opt (lookup n es) → asked_outward (put es n v) ≡ asked_outward es)
-        → asked_outward (if b then (e.0, v) ∷ es else e ∷ put es n v) ≡ asked_outward (e ∷ es)
+    by : (b : Bool) → same_name n e.0 ≡ b → (asks v ≡ asks_opt (lookup n es) → asked_outward (put_value es n v) ≡ asked_outward es)
+        → asked_outward (if b then (e.0, v) ∷ es else e ∷ put_value es n v) ≡ asked_outward (e ∷ es)
     by true g f = ap (λ b. if b then e.0 ∷ asked_outward es else asked_outward es) (h ∙ ap (λ b. asks_opt (if b then Some e.1 else lookup n es)) g)
     by false g f = ap (λ r. if asks e.1 then e.0 ∷ r else r) (f (h ∙ ap (λ b. asks_opt (if b then Some e.1 else lookup n es)) g))
 
@@ -142,17 +147,23 @@ pub one_name : (base cur new : List Row) (s : ℕ) (names : List Name) (i : ℕ)
 one_name base cur new s names i n so_far is_n within step = subst (λ ps. IsSettled base ps new) (sym longer) (and_then base cur (from_scope s (take i names)) so_far ((s, n) ∷ []) new step)
   where
     longer : from_scope s (take (i + 1) names) ≡ from_scope s (take i names) ++ (s, n) ∷ []
-    longer = ap (λ k. from_scope s (take k names)) (add-one i) ∙ ap (from_scope s) (take-suc names i n within ∙ ap (λ x. take i names ++ x ∷ []) (sym is_n)) ∙ map-append {B = ℕ × Name} (λ n. (s, n)) (take i names) (n ∷ [])
+    longer = ap (λ k. from_scope s (take k names)) (add-one i)
+        ∙ ap (from_scope s) (take-suc names i n within ∙ ap (λ x. take i names ++ x ∷ []) (sym is_n))
+        ∙ map-append {B = ℕ × Name} (λ n. (s, n)) (take i names) (n ∷ [])
 
 -- a loop over the scopes goes one further
 pub one_scope : (base cur new : List Row) (order : List ℕ) (i s : ℕ) → IsSettled base (looks base (take i order)) cur → s ≡ slice_index_or order i 0
     → i < length order → IsSettled cur (looks cur (s ∷ [])) new
     → IsSettled base (looks base (take (i + 1) order)) new
 one_scope base cur new order i s so_far is_s within step =
-    subst (λ ps. IsSettled base ps new) (sym longer) (and_then base cur (looks base (take i order)) so_far (looks base (s ∷ [])) new (subst (λ ps. IsSettled cur ps new) (same_looks base cur (looks base (take i order)) so_far s) step))
+    subst (λ ps. IsSettled base ps new) (sym longer)
+    (and_then base cur (looks base (take i order)) so_far (looks base (s ∷ [])) new
+    (subst (λ ps. IsSettled cur ps new) (same_looks base cur (looks base (take i order)) so_far s) step))
   where
     longer : looks base (take (i + 1) order) ≡ looks base (take i order) ++ looks base (s ∷ [])
-    longer = ap (λ k. looks base (take k order)) (add-one i) ∙ ap (looks base) (take-suc order i 0 within ∙ ap (λ x. take i order ++ x ∷ []) (sym is_s)) ∙ flat_map-append (λ s. from_scope s (asking_of (slice_get base s))) (take i order) (s ∷ [])
+    longer = ap (λ k. looks base (take k order)) (add-one i)
+        ∙ ap (looks base) (take-suc order i 0 within ∙ ap (λ x. take i order ++ x ∷ []) (sym is_s))
+        ∙ flat_map-append (λ s. from_scope s (asking_of (slice_get base s))) (take i order) (s ∷ [])
 
 -- the names of a list of symbols from place i on
 pub asking_next : (es : List (Name × Entry)) (i : ℕ) → asked_outward (drop i es) ≡ asking_in (slice_get es i) ++ asked_outward (drop (suc i) es)

@@ -69,7 +69,8 @@ bits_lift Holder h k n u = ap bits_of (lookup_put u.entries k n _) ∙ by (same_
 
 bits_lifts : (base : List Row) (pairs : List (ℕ × Name)) (t : ℕ) (n : Name) (u : Row) → bits_of (lookup n (lifted_all base pairs t u).entries) ≡ bits_of (lookup n u.entries)
 bits_lifts base [] t n u = refl
-bits_lifts base (q ∷ qs) t n u = bits_lifts base qs t n (lift_effect base q t u) ∙ bits_lift (lift_of (stages base q.1) t (outward_from base q.0)) (lifted_holds (stages base q.1) (outward_from base q.0)) q.1 n u
+bits_lifts base (q ∷ qs) t n u = bits_lifts base qs t n (lift_effect base q t u)
+    ∙ bits_lift (lift_of (stages base q.1) t (outward_from base q.0)) (lifted_holds (stages base q.1) (outward_from base q.0)) q.1 n u
 
 module _ (s : Scanned) (old : IsScanned s) (fine : first_fault s ≡ None) where
   -- the passes leave the roles of a name as they are
@@ -87,7 +88,7 @@ module _ (s : Scanned) (old : IsScanned s) (fine : first_fault s ≡ None) where
     roles_are : e.roles.0 ≡ bits_of (entry_at s.rows k n)
     roles_are = ap bits_of (sym h) ∙ same_bits k n
 
-    marked_assigned : e.assigned_within ≡ is_held s.rows k n && is_plain (last_declaration s.rows k n)
+    marked_assigned : e.assigned_in_comprehension ≡ is_held s.rows k n && is_plain (last_declaration s.rows k n)
     marked_assigned =
         ap assigned_opt (sym h)
         ∙ cellular_kept s old fine assigned_opt assigned_passing assigned_capturing k n
@@ -97,9 +98,9 @@ module _ (s : Scanned) (old : IsScanned s) (fine : first_fault s ≡ None) where
     -- FREE_CLASS is there exactly where a class hands the name on
     pub marked_row : intersects (flags_in e) 0x100 ≡ e.free_class
     marked_row =
-        intersects-or (bit_or e.roles.0 (if e.assigned_within then 0x002 else 0)) (if e.free_class then 0x100 else 0) 0x100
-        ∙ (λ j. intersects-or e.roles.0 (if e.assigned_within then 0x002 else 0) 0x100 j || last e.free_class j)
-        ∙ (λ j. (none j || middle e.assigned_within j) || e.free_class)
+        intersects-or (bit_or e.roles.0 (if e.assigned_in_comprehension then 0x002 else 0)) (if e.free_class then 0x100 else 0) 0x100
+        ∙ (λ j. intersects-or e.roles.0 (if e.assigned_in_comprehension then 0x002 else 0) 0x100 j || last e.free_class j)
+        ∙ (λ j. (none j || middle e.assigned_in_comprehension j) || e.free_class)
       where
         none : intersects e.roles.0 0x100 ≡ false
         none = ap (λ b. intersects b 0x100) roles_are ∙ (old.fresh k).unmarked n
@@ -113,7 +114,9 @@ module _ (s : Scanned) (old : IsScanned s) (fine : first_fault s ≡ None) where
         last false = refl
 
     handed_through : e.free_class ≡ hands_through s.rows k n
-    handed_through = class_passes s old fine k n e h ∙ ap (λ x. list_any (passes (after_lifts s) k n) (looks (after_lifts s) (order_of s)) && is_class x) (kind_is s old fine k) ∙ by (is_class (kind_at s.rows k)) refl
+    handed_through = class_passes s old fine k n e h
+        ∙ ap (λ x. list_any (passes (after_lifts s) k n) (looks (after_lifts s) (order_of s)) && is_class x) (kind_is s old fine k)
+        ∙ by (is_class (kind_at s.rows k)) refl
       where
         by : (b : Bool) → is_class (kind_at s.rows k) ≡ b → list_any (passes (after_lifts s) k n) (looks (after_lifts s) (order_of s)) && b ≡ b && list_any (is_free_past s.rows k n) (scopes s.rows)
         by false q = truth_and_false _

@@ -18,7 +18,9 @@ pub names_same : (a : Name) → same_name a a ≡ true
 names_same a = nat_list_eq_equiv.refl a
 
 and-or : (a b m : ℕ) → bit_and (bit_or a b) m ≡ bit_or (bit_and a m) (bit_and b m)
-and-or a b m = same_from_bits (bit_and (bit_or a b) m) (bit_or (bit_and a m) (bit_and b m)) (λ i. bit_at_and (bit_or a b) m i ∙ ap (λ x. min x (bit_at m i)) (bit_at_or a b i) ∙ spread (bit_at a i) (bit_at b i) (bit_at m i) ∙ sym (bit_at_or (bit_and a m) (bit_and b m) i ∙ (λ j. max (bit_at_and a m i j) (bit_at_and b m i j))))
+and-or a b m = same_from_bits (bit_and (bit_or a b) m) (bit_or (bit_and a m) (bit_and b m))
+    (λ i. bit_at_and (bit_or a b) m i ∙ ap (λ x. min x (bit_at m i)) (bit_at_or a b i) ∙ spread (bit_at a i) (bit_at b i) (bit_at m i)
+    ∙ sym (bit_at_or (bit_and a m) (bit_and b m) i ∙ (λ j. max (bit_at_and a m i j) (bit_at_and b m i j))))
   where
     spread : (x y z : ℕ) → min (max x y) z ≡ max (min x z) (min y z)
     spread x y z = omega arith

@@ -3,12 +3,12 @@ use Rattle.std.proofs.Common.{◌≡◌, refl, ap, ◌∙◌, ℕ, Bool, true, f
 use Rattle.std.specs.List.{list_any}
 use Rattle.std.specs.Map.{keys_of}
 use Rattle.py_scope.specs.declared.rows.Row.{Row}
-use Rattle.py_scope.specs.Names.{Name, same_name, put}
+use Rattle.py_scope.specs.Names.{Name, same_name, put_value}
 use Rattle.py_scope.specs.Outward.{Touch, Leaves, Passes, Captures}
 use Rattle.py_scope.specs.Marks.{after, touch_by, settled_row}
 use Rattle.py_scope.specs.Kinds.{add_name, names_after, names_in_order}
 
-pub keys_put : {V : Type 0} (es : List (Name × V)) (n : Name) (v : V) → keys_of (put es n v) ≡ add_name (keys_of es) n
+pub keys_put : {V : Type 0} (es : List (Name × V)) (n : Name) (v : V) → keys_of (put_value es n v) ≡ add_name (keys_of es) n
 keys_put [] n v = refl
 keys_put (e ∷ es) n v = by (same_name n e.0) (keys_put es n v)
   where
@@ -16,8 +16,8 @@ keys_put (e ∷ es) n v = by (same_name n e.0) (keys_put es n v)
     later true = refl
     later false = refl
 
-    by : (b : Bool) → keys_of (put es n v) ≡ add_name (keys_of es) n
-        → keys_of (if b then (e.0, v) ∷ es else e ∷ put es n v) ≡ (if b || list_any (same_name n) (keys_of es) then e.0 ∷ keys_of es else (e.0 ∷ keys_of es) ++ n ∷ [])
+    by : (b : Bool) → keys_of (put_value es n v) ≡ add_name (keys_of es) n
+        → keys_of (if b then (e.0, v) ∷ es else e ∷ put_value es n v) ≡ (if b || list_any (same_name n) (keys_of es) then e.0 ∷ keys_of es else (e.0 ∷ keys_of es) ++ n ∷ [])
     by true f = refl
     by false f = ap (λ ks. e.0 ∷ ks) f ∙ later (list_any (same_name n) (keys_of es))
 

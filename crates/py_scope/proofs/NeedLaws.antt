@@ -1,5 +1,6 @@
 -- The tables show exactly the names that a scope needs from outside.
-use Rattle.std.proofs.Common.{◌≡◌, refl, sym, ap, ◌∙◌, subst, ℕ, zero, suc, ◌<◌, Bool, true, false, ◌||◌, ◌&&◌, List, [], ◌∷◌, length, nat_eq, if◌then◌else◌, slice_get, Option, Some, None, ◌⊎◌, inl, inr, arith}
+use Rattle.std.proofs.Common.{◌≡◌, refl, sym, ap, ◌∙◌, subst, ℕ, zero, suc, ◌<◌, Bool, true, false, ◌||◌, ◌&&◌, List, [], ◌∷◌, length}
+use Rattle.std.proofs.Common.{nat_eq, if◌then◌else◌, slice_get, Option, Some, None, ◌⊎◌, inl, inr, arith}
 use Rattle.std.specs.Prelude.{is_some}
 use Rattle.std.specs.List.{list_any}
 use Rattle.py_scope.specs.declared.table_type.SymbolTableType.{SymbolTableType}
@@ -97,12 +98,19 @@ module _ (s : Scanned) (old : IsScanned s) (fine : first_fault s ≡ None) where
           let hit = sound.went_through s.rows need_law_base (lifts s.rows (order_of s)) whole old.numbered reg.fresh reg.uncaptured reg.first begins r n l in
           let kind = sound.through_kind s.rows need_law_base (lifts s.rows (order_of s)) whole old.numbered reg.fresh reg.uncaptured reg.first begins r n hit in
           let inside = sound.lifts_sound_is_there s.rows need_law_base (lifts s.rows (order_of s)) whole old.numbered reg.fresh reg.uncaptured reg.first begins r n kind in
-          lifted_passes s.rows need_law_base (lifts s.rows (order_of s)) whole old.numbered reg.fresh (λ c m q. sound.lifts_sound_not_first s.rows need_law_base (lifts s.rows (order_of s)) whole old.numbered reg.fresh reg.uncaptured reg.first begins c m q)
+          lifted_passes s.rows need_law_base (lifts s.rows (order_of s)) whole old.numbered reg.fresh
+          (λ c m q. sound.lifts_sound_not_first s.rows need_law_base
+          (lifts s.rows (order_of s)) whole old.numbered reg.fresh reg.uncaptured reg.first begins c m q)
           r n k inside kind hit (sym (held_here s.rows need_law_base (lifts s.rows (order_of s)) whole old.numbered reg.fresh r n inside hit) ∙ sound.is_free_held (entry_at need_law_base r n) l) t
 
       split : (asks_opt (entry_at need_law_base r n) ≡ true) ⊎ (captured_is_lifted (entry_at need_law_base r n) ≡ true)
           → ((wants_for need_law_base k n ≡ true) × (is_class (kind_of (slice_get need_law_base k)) ≡ false)) ⊎ Passing k n
-      split (inl a) = inr (r, opt_to_asks need_law_base (after_looks s) (lawful.lawful_numbered s old fine) (lawful.lawful_once s old fine) (lawful.lifts_captured s old fine) (lawful.captures s old fine) r n a, t)
+      split (inl a) = inr (
+        r,
+        opt_to_asks need_law_base (after_looks s) (lawful.lawful_numbered s old fine) (lawful.lawful_once s old fine)
+            (lawful.lifts_captured s old fine) (lawful.captures s old fine) r n a,
+        t,
+      )
       split (inr l) = lifted l
 
   -- a scope that needs a name wants it itself, or a look of a scope that asks for it passes
@@ -118,7 +126,9 @@ module _ (s : Scanned) (old : IsScanned s) (fine : first_fault s ≡ None) where
       by (inr t) = narrow (passed_asks h.asker k n h.wants_there t)
 
   pub asker_there : (r : ℕ) (n : Name) → asks_for need_law_base r n ≡ true → r < length need_law_base
-  asker_there r n a = needed_name_is_there need_law_base (lawful.lawful_numbered s old fine) r n (asks_to_wants need_law_base (after_looks s) (lawful.lawful_numbered s old fine) (lawful.lawful_once s old fine) (lawful.lifts_captured s old fine) (lawful.captures s old fine) r n a)
+  asker_there r n a = needed_name_is_there need_law_base (lawful.lawful_numbered s old fine) r n
+      (asks_to_wants need_law_base (after_looks s) (lawful.lawful_numbered s old fine) (lawful.lawful_once s old fine)
+      (lawful.lifts_captured s old fine) (lawful.captures s old fine) r n a)
 
   -- the look from a scope that needs a name ends at a binding
   pub needing_look : (k : ℕ) (n : Name) (h : Needs need_law_base k n) → look_from need_law_base k n ≡ FreeOf h.binding
@@ -155,7 +165,10 @@ module _ (s : Scanned) (old : IsScanned s) (fine : first_fault s ≡ None) where
       by (inl w) = still_there k n (wants_some (entry_at need_law_base k n) w)
       by (inr p) =
           let u = row_present need_law_base k (needing_there k n need) in
-          some_looked s old fine k n u.0 u.1 ∙ truth_right_or (is_some (entry_at need_law_base k n)) _ (passing_look s old fine (touches need_law_base k n) p.0 n (asker_there p.0 n p.1) p.1 (and_both _ _ (names_same n) (ap (λ x. is_passes x || is_captures x) p.2)))
+          some_looked s old fine k n u.0 u.1 ∙ truth_right_or
+          (is_some (entry_at need_law_base k n))
+          _ (passing_look s old fine (touches need_law_base k n) p.0 n (asker_there p.0 n p.1) p.1
+          (and_both _ _ (names_same n) (ap (λ x. is_passes x || is_captures x) p.2)))
 
   module _ (k : ℕ) (n : Name) (e : Entry) (h : entry_at (after_looks s) k n ≡ Some e) where
     abbrev need_law_shown : Bool
@@ -188,7 +201,8 @@ module _ (s : Scanned) (old : IsScanned s) (fine : first_fault s ≡ None) where
         by (inr q) = handed ((truth_both _ _ (sym (class_passes s old fine k n e h) ∙ q)).0)
 
     free_shown : is_own s.rows k n ≡ false → is_free_kind (open_kind s.rows k n) ≡ true → need_law_shown ≡ true
-    free_shown o f = left_or (is_free_kind (kind_in (after_looks s) k n e)) _ (ap is_free_kind (kind_is_resolved s old fine k n e h ∙ ap (λ b. if b then own_kind s.rows k n else open_kind s.rows k n) o) ∙ f)
+    free_shown o f = left_or (is_free_kind (kind_in (after_looks s) k n e))
+        _ (ap is_free_kind (kind_is_resolved s old fine k n e h ∙ ap (λ b. if b then own_kind s.rows k n else open_kind s.rows k n) o) ∙ f)
 
     -- and what the scope needs the table shows so
     needs_shown : Needs need_law_base k n → need_law_shown ≡ true
@@ -199,7 +213,9 @@ module _ (s : Scanned) (old : IsScanned s) (fine : first_fault s ≡ None) where
 
         wanted : wants_for need_law_base k n ≡ true → need_law_shown ≡ true
         wanted w = free_shown
-            (wants_not_own (holds_in s.rows k n) (binds_in s.rows k n) (sym (wants_held (entry_at need_law_base k n) (wants_some (entry_at need_law_base k n) w) ∙ (λ j. wants_as (based_held_is s old fine k n j) (bound_is s old fine k n j))) ∙ w))
+            (wants_not_own (holds_in s.rows k n) (binds_in s.rows k n)
+            (sym (wants_held (entry_at need_law_base k n) (wants_some (entry_at need_law_base k n) w)
+            ∙ (λ j. wants_as (based_held_is s old fine k n j) (bound_is s old fine k n j))) ∙ w))
             ((truth_both (is_used s.rows k n) _ (wants_free s old fine k need.binding n w found)).1)
 
         not_module : kind_at s.rows k ≡ Module → ⊥
@@ -217,11 +233,18 @@ module _ (s : Scanned) (old : IsScanned s) (fine : first_fault s ≡ None) where
         stopped TypeParams q c = refl
 
         passed : (p : Passing k n) → (b : Bool) → is_class (kind_of (slice_get need_law_base k)) ≡ b → need_law_shown ≡ true
-        passed p true c = truth_right_or (is_free_kind (kind_in (after_looks s) k n e)) _ (class_passes s old fine k n e h ∙ and_both _ _ (passing_look s old fine (passes need_law_base k n) p.0 n (asker_there p.0 n p.1) p.1 (and_both _ _ (names_same n) (ap is_passes p.2))) c)
+        passed p true c = truth_right_or (is_free_kind (kind_in (after_looks s) k n e))
+            _ (class_passes s old fine k n e h
+            ∙ and_both _ _ (passing_look s old fine (passes need_law_base k n) p.0 n (asker_there p.0 n p.1) p.1
+            (and_both _ _ (names_same n) (ap is_passes p.2))) c)
         passed p false c =
             let counted : counts (kind_at s.rows k) n ≡ true = stopped (kind_at s.rows k) refl (ap is_class (sym (kind_is s old fine k)) ∙ c) in
-            let past : stop_of (holds_in s.rows k n) (binds_in s.rows k n) ≡ Past = sym (ap (λ x. if x then stop_of (holds_in s.rows k n) (binds_in s.rows k n) else Past) counted) ∙ sym (stop_is s old fine n k) ∙ passed_past (meetings need_law_base n) k (enclosing_scopes (parents need_law_base) p.0) p.2 in
-            let w = past_free (kind_at s.rows k) need.binding (holds_in s.rows k n) (binds_in s.rows k n) past (never_passed s old fine k n) (λ q. let z : Nowhere ≡ FreeOf need.binding = sym (module_nowhere s old fine k n q) ∙ found in cc) in
+            let past : stop_of (holds_in s.rows k n) (binds_in s.rows k n) ≡ Past =
+            sym (ap (λ x. if x then stop_of (holds_in s.rows k n) (binds_in s.rows k n) else Past) counted)
+            ∙ sym (stop_is s old fine n k) ∙ passed_past (meetings need_law_base n) k
+            (enclosing_scopes (parents need_law_base) p.0) p.2 in
+            let w = past_free (kind_at s.rows k) need.binding (holds_in s.rows k n) (binds_in s.rows k n) past (never_passed s old fine k n)
+            (λ q. let z : Nowhere ≡ FreeOf need.binding = sym (module_nowhere s old fine k n q) ∙ found in cc) in
             free_shown w.1 (ap (λ x. is_free_kind (kind_as (kind_at s.rows k) x (holds_in s.rows k n) (binds_in s.rows k n) false)) found ∙ w.0)
 
         by : (wants_for need_law_base k n ≡ true) ⊎ Passing k n → need_law_shown ≡ true

@@ -17,7 +17,9 @@ use Rattle.py_scope.specs.Marks.{touch_by}
 use Rattle.py_scope.specs.Entries.{entry_at, entry_of}
 use Rattle.py_scope.proofs.Captured.{wants, wants_as, wants_for, Needs, ChildNeeds, hands_on}
 use Rattle.py_scope.specs.Roles.{bound_opt}
-use Rattle.py_scope.specs.Resolve.{hands_on_as, scopes, among, kind_at, around, stands_in, last_declaration, holder, goes_through, is_held, lifted_to, holds_in, binds_in, look_in, is_free_kind, open_kind, is_used, is_free_in, ends_among, is_free_past, needs, is_needed_inside}
+use Rattle.py_scope.specs.Resolve.{hands_on_as, scopes, among, kind_at, outward_scopes, stands_in, last_declaration, holder, goes_through}
+use Rattle.py_scope.specs.Resolve.{is_held, lifted_to, holds_in, binds_in, look_in, is_free_kind, open_kind, is_used, is_free_in}
+use Rattle.py_scope.specs.Resolve.{ends_among, is_free_past, needs, is_needed_inside}
 use Rattle.py_scope.specs.Lifts.{lifts, lifted_all, holds_opt, outward_from}
 use Rattle.py_scope.specs.Kinds.{kind_as, nowhere}
 use Rattle.py_scope.specs.Tables.{is_plain}
@@ -29,7 +31,7 @@ use Rattle.py_scope.proofs.NeededNameLemmas.{passes_look, needed_name_is_there}
 use Rattle.py_scope.proofs.Lawful.{lawful_is_lifted, lawful_numbered, handed}
 use Rattle.py_scope.proofs.Truth.{truth_either, left_or, truth_right_or, truth_both, and_both, any_scope, some_scope}
 use Rattle.py_scope.proofs.Outside.{chain_below, look_among, passed_among, passes_within}
-use Rattle.py_scope.proofs.Based.{is_passed_on, lifted_not_plain, based_held_is, bound_is, based_look_is, around_is, parents_are, based_count_is, never_passed, based_some_is}
+use Rattle.py_scope.proofs.Based.{is_passed_on, lifted_not_plain, based_held_is, bound_is, based_look_is, outward_is, parents_are, based_count_is, never_passed, based_some_is}
 
 -- a name that is free here is wanted from outside, and its look ends at a binding if the scope does not hand it on
 open_free : (k : SymbolTableType) (f : Found) (h : Holds) (b : Bool) → is_passed_on h ≡ false → is_free_kind (kind_as k f h b false) ≡ true
@@ -101,7 +103,10 @@ module _ (s : Scanned) (old : IsScanned s) (fine : first_fault s ≡ None) where
 
       by : (is_some (entry_at s.rows d n) ≡ true) ⊎ (goes_through s.rows d n ≡ true) → is_some (entry_at needed_base d n) ≡ true
       by (inl g) = here (slice_get s.rows d) refl g
-      by (inr g) = some_or_plain (entry_at needed_base d n) (λ q. lifted_not_plain s.rows (holder s.rows (outward_from s.rows d)) n (sym (ap (λ b. if b then lifted_to s.rows (holder s.rows (outward_from s.rows d)) n else last_declaration s.rows d n) g) ∙ sym (based_held_is s old fine d n) ∙ q))
+      by (inr g) = some_or_plain (entry_at needed_base d n)
+          (λ q. lifted_not_plain s.rows (holder s.rows (outward_from s.rows d)) n
+          (sym (ap (λ b. if b then lifted_to s.rows (holder s.rows (outward_from s.rows d)) n else last_declaration s.rows d n) g)
+          ∙ sym (based_held_is s old fine d n) ∙ q))
 
   -- what a scope wants after the lifts it uses
   wanted_used : (d : ℕ) (n : Name) → wants_for needed_base d n ≡ true → is_used s.rows d n ≡ true
@@ -147,7 +152,9 @@ module _ (s : Scanned) (old : IsScanned s) (fine : first_fault s ≡ None) where
   free_wants d n h = let z = truth_both (is_used s.rows d n) _ h in open_wants d n (needed_used_there d n z.0) z.1
 
   pub wants_free : (d b : ℕ) (n : Name) → wants_for needed_base d n ≡ true → look_in s.rows d n ≡ FreeOf b → is_free_in s.rows d n ≡ true
-  wants_free d b n h f = and_both _ _ (wanted_used d n h) (ap (λ x. is_free_kind (kind_as (kind_at s.rows d) x (holds_in s.rows d n) (binds_in s.rows d n) false)) f ∙ wants_open (kind_at s.rows d) b (holds_in s.rows d n) (binds_in s.rows d n) wanted)
+  wants_free d b n h f = and_both _ _ (wanted_used d n h)
+      (ap (λ x. is_free_kind (kind_as (kind_at s.rows d) x (holds_in s.rows d n) (binds_in s.rows d n) false)) f
+      ∙ wants_open (kind_at s.rows d) b (holds_in s.rows d n) (binds_in s.rows d n) wanted)
     where
       wanted : wants_as (holds_in s.rows d n) (binds_in s.rows d n) ≡ true
       wanted = sym (wants_held (entry_at needed_base d n) (wants_some (entry_at needed_base d n) h) ∙ (λ j. wants_as (based_held_is s old fine d n j) (bound_is s old fine d n j))) ∙ h
@@ -157,18 +164,24 @@ module _ (s : Scanned) (old : IsScanned s) (fine : first_fault s ≡ None) where
       → (wants_for needed_base d n ≡ true) × ((b : ℕ) × (look_from needed_base d n ≡ FreeOf b)) × (touch_by needed_base d n c ≡ Passes)
   past_to c d n h =
       let z = truth_both (is_free_in s.rows d n) _ h in
-      let y = truth_both (among c (around s.rows d)) _ z.1 in
+      let y = truth_both (among c (outward_scopes s.rows d)) _ z.1 in
       let w = free_wants d n z.0 in
-      let l : w.1.0 < c = chain_below (parents s.rows) c (parents s.rows c) w.1.0 (sym (ap (λ x. ends_among x (around s.rows c)) w.1.1) ∙ y.1) in
-      (w.0, (w.1.0, based_look_is s old fine d n ∙ w.1.1), passes_within (meetings needed_base n) (parents needed_base) c w.1.0 d (parents needed_base d) (ap (among c) (around_is s old fine d) ∙ y.0) l (based_look_is s old fine d n ∙ w.1.1))
+      let l : w.1.0 < c = chain_below (parents s.rows) c (parents s.rows c) w.1.0 (sym (ap (λ x. ends_among x (outward_scopes s.rows c)) w.1.1) ∙ y.1) in (
+        w.0,
+        (w.1.0, based_look_is s old fine d n ∙ w.1.1),
+        passes_within (meetings needed_base n) (parents needed_base) c w.1.0 d (parents needed_base d)
+            (ap (among c) (outward_is s old fine d) ∙ y.0) l (based_look_is s old fine d n ∙ w.1.1),
+      )
 
   pub past_from : (c d b : ℕ) (n : Name) → wants_for needed_base d n ≡ true → look_from needed_base d n ≡ FreeOf b → touch_by needed_base d n c ≡ Passes
       → list_any (is_free_past s.rows c n) (scopes s.rows) ≡ true
   past_from c d b n w f t = some_scope (is_free_past s.rows c n) s.rows d
       (subst (λ v. d < v) (based_count_is s old fine) (needed_name_is_there needed_base (lawful_numbered s old fine) d n w))
       (and_both _ _ (wants_free d b n w (sym (based_look_is s old fine d n) ∙ f)) (and_both _ _
-      (ap (among c) (sym (around_is s old fine d)) ∙ passed_among (meetings needed_base n) c (enclosing_scopes (parents needed_base) d) t)
-      (ap (λ x. ends_among x (around s.rows c)) (sym (based_look_is s old fine d n) ∙ f) ∙ ap (among b) (sym (around_is s old fine c)) ∙ look_among (meetings needed_base n) b (enclosing_scopes (parents needed_base) c) (sym (passes_look (meetings needed_base n) (parents needed_base) c d (parents needed_base d) t) ∙ f))))
+      (ap (among c) (sym (outward_is s old fine d)) ∙ passed_among (meetings needed_base n) c (enclosing_scopes (parents needed_base) d) t)
+      (ap (λ x. ends_among x (outward_scopes s.rows c)) (sym (based_look_is s old fine d n) ∙ f)
+      ∙ ap (among b) (sym (outward_is s old fine c)) ∙ look_among (meetings needed_base n) b (enclosing_scopes (parents needed_base) c)
+      (sym (passes_look (meetings needed_base n) (parents needed_base) c d (parents needed_base d) t) ∙ f))))
 
   pub needs_to : (c : ℕ) (n : Name) → needs s.rows c n ≡ true → Needs needed_base c n
   needs_to c n h = by (truth_either (is_free_in s.rows c n) _ h)
@@ -207,7 +220,9 @@ module _ (s : Scanned) (old : IsScanned s) (fine : first_fault s ≡ None) where
   pub inside_from : (k : ℕ) (n : Name) → ChildNeeds needed_base k n → is_needed_inside s.rows k n ≡ true
   inside_from k n h = some_scope (λ c. stands_in s.rows c k && needs s.rows c n) s.rows h.child
       (subst (λ v. h.child < v) (based_count_is s old fine) h.within.there)
-      (and_both _ _ (and_both _ _ (above h.child h.within.above) (ap (λ x. nat_eq x k) (ap (λ p. p h.child) (sym (parents_are s old fine)) ∙ h.within.parent) ∙ tells_same k)) (needs_from h.child n h.needs))
+      (and_both _ _ (and_both _ _ (above h.child h.within.above)
+      (ap (λ x. nat_eq x k) (ap (λ p. p h.child) (sym (parents_are s old fine)) ∙ h.within.parent) ∙ tells_same k))
+      (needs_from h.child n h.needs))
     where
       above : (c : ℕ) → 0 < c → nat_lt 0 c ≡ true
       above c e = grind (arith, common_steps)

@@ -1,5 +1,6 @@
 -- A scope's name is captured exactly where a direct child needs it.
-use Rattle.std.proofs.Common.{◌≡◌, refl, sym, ap, ◌∙◌, subst, ℕ, zero, suc, ◌<◌, ◌≤◌, Bool, true, false, List, ◌∷◌, length, nat_eq, nat_le, if◌then◌else◌, slice_get, Option, Some, None, ◌⊎◌, inl, inr, arith}
+use Rattle.std.proofs.Common.{◌≡◌, refl, sym, ap, ◌∙◌, subst, ℕ, zero, suc, ◌<◌, ◌≤◌, Bool, true, false, List, ◌∷◌, length, nat_eq, nat_le}
+use Rattle.std.proofs.Common.{if◌then◌else◌, slice_get, Option, Some, None, ◌⊎◌, inl, inr, arith}
 use Rattle.py_scope.specs.declared.outward.Meets.{Meets}
 use Rattle.py_scope.specs.declared.outward.Meets.TheVariants.{Past, Binding, Explicit}
 use Rattle.py_scope.specs.declared.outward.Found.TheVariants.{FreeOf}
@@ -48,7 +49,8 @@ module _ (m : ℕ → Meets) (p : ℕ → ℕ) where
           (c.0, c.1, inr (here c.0 (nat_eq k c.0) refl c.2))
         where
           here : (c : ℕ) (b : Bool) → nat_eq k c ≡ b → (k ≡ c) ⊎ (touch m c (chain p k (p k)) ≡ Passes) → touch m c (k ∷ chain p k (p k)) ≡ Passes
-          here c b d (inl q) = (λ j. touch_here (x j) (nat_eq k c) (g j) (touch m c (chain p k (p k)))) ∙ ap (λ z. touch_here Past z (FreeOf s) (touch m c (chain p k (p k)))) (subst (λ z. nat_eq k z ≡ true) q (tells_same k))
+          here c b d (inl q) = (λ j. touch_here (x j) (nat_eq k c) (g j) (touch m c (chain p k (p k))))
+              ∙ ap (λ z. touch_here Past z (FreeOf s) (touch m c (chain p k (p k)))) (subst (λ z. nat_eq k z ≡ true) q (tells_same k))
           here c true d (inr q) = (λ j. touch_here (x j) (d j) (g j) (touch m c (chain p k (p k))))
           here c false d (inr q) = (λ j. touch_here (x j) (d j) (g j) (touch m c (chain p k (p k)))) ∙ q
       at Binding x is_w g ih = let q : k ≡ s = cc in (r, e ∙ sym is_w ∙ q, inl refl)
@@ -61,8 +63,8 @@ module _ (m : ℕ → Meets) (p : ℕ → ℕ) where
 
 module _ (rows : List Row) (numbered : IsNumbered rows) where
   -- the scopes around a child begin with the scope that it stands in
-  pub around_child : (s c : ℕ) → IsChild rows s c → enclosing_scopes (parents rows) c ≡ s ∷ enclosing_scopes (parents rows) s
-  around_child s c h = outward (parents rows) c s h.parent (subst (λ v. v < c) h.parent (numbered c h.above h.there))
+  pub outward_child : (s c : ℕ) → IsChild rows s c → enclosing_scopes (parents rows) c ≡ s ∷ enclosing_scopes (parents rows) s
+  outward_child s c h = outward (parents rows) c s h.parent (subst (λ v. v < c) h.parent (numbered c h.above h.there))
 
   -- a look that ends at a binding is not the module's
   pub not_the_module : (m : ℕ → Meets) (c b : ℕ) → look m (enclosing_scopes (parents rows) c) ≡ FreeOf b → 0 < c
@@ -117,7 +119,7 @@ module _ (rows : List Row) (numbered : IsNumbered rows) where
   }
     where
       decided : look (meetings rows n) (enclosing_scopes (parents rows) h.child) ≡ FreeOf s
-      decided = ap (look (meetings rows n)) (around_child s h.child h.within) ∙ ap (λ x. found_at s x (look (meetings rows n) (enclosing_scopes (parents rows) s))) met
+      decided = ap (look (meetings rows n)) (outward_child s h.child h.within) ∙ ap (λ x. found_at s x (look (meetings rows n) (enclosing_scopes (parents rows) s))) met
 
       by : (h.needs.asker ≡ h.child) ⊎ (touch_by rows h.needs.asker n h.child ≡ Passes) → look_from rows h.needs.asker n ≡ FreeOf s
       by (inl q) = ap (λ z. look_from rows z n) q ∙ decided

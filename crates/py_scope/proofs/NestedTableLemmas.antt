@@ -1,5 +1,6 @@
 -- The nested table, built from the last scope to the first.
-use Rattle.std.proofs.Common.{◌≡◌, refl, sym, ap, ◌∙◌, subst, ℕ, zero, suc, ◌<◌, ◌≤◌, Bool, true, false, List, [], ◌∷◌, ◌++◌, length, take, take_all, drop, reverse, replicate, nat_eq, if◌then◌else◌, slice_get, Some, option_map, arith}
+use Rattle.std.proofs.Common.{◌≡◌, refl, sym, ap, ◌∙◌, subst, ℕ, zero, suc, ◌<◌, ◌≤◌, Bool, true, false, List, [], ◌∷◌, ◌++◌, length, take}
+use Rattle.std.proofs.Common.{take_all, drop, reverse, replicate, nat_eq, if◌then◌else◌, slice_get, Some, option_map, arith}
 use Rattle.std.proofs.lemmas.List.{reverse-reverse}
 use Rattle.std.proofs.lemmas.Grind.{reverse_onto}
 use Rattle.py_scope.specs.declared.rows.Row.{Row}
@@ -67,7 +68,8 @@ nested_first all names waiting some same empty = record {
   rows_are = sym (take_all (length all) all (omega arith));
   symbols_are = sym (take_all (length all) names (omega arith));
   waits = ap length empty ∙ length_replicate (length all) [];
-  lists = λ j l. ap (λ ws. slice_get ws j) empty ∙ get_replicate (length all) [] j l ∙ ap Some (sym (ap (λ rs. reverse (children_of j rs (tables_from (length all) rs (drop (length all) names)))) (drop_whole all)));
+  lists = λ j l. ap (λ ws. slice_get ws j) empty ∙ get_replicate (length all) [] j l
+      ∙ ap Some (sym (ap (λ rs. reverse (children_of j rs (tables_from (length all) rs (drop (length all) names)))) (drop_whole all)));
 }
 
 module _ (all : List Row) (names : List (List Symbol)) (numbered : IsNumbered all) (same : length names ≡ length all) where
@@ -93,7 +95,8 @@ module _ (all : List Row) (names : List (List Symbol)) (numbered : IsNumbered al
 
     nested_table_children_are : reverse children ≡ children_of k (drop (suc k) all) nested_table_later
     nested_table_children_are =
-        let h : Some children ≡ Some (reverse (children_of k (drop (suc k) all) nested_table_later)) = sym (ap (slice_get (waiting ++ children ∷ [])) (sym shorter) ∙ get_push_new waiting children) ∙ lists k (omega arith) in
+        let h : Some children ≡ Some (reverse (children_of k (drop (suc k) all) nested_table_later)) =
+        sym (ap (slice_get (waiting ++ children ∷ [])) (sym shorter) ∙ get_push_new waiting children) ∙ lists k (omega arith) in
         ap reverse (unwrapped h) ∙ reverse-reverse (children_of k (drop (suc k) all) nested_table_later)
       where
         unwrapped : {A : Type 0} {x y : A} → Some x ≡ Some y → x ≡ y
@@ -116,16 +119,21 @@ module _ (all : List Row) (names : List (List Symbol)) (numbered : IsNumbered al
       rows_are = row_is.0;
       symbols_are = own_is.0;
       waits = ap length is_after ∙ length_changed (λ ts. ts ++ table ∷ []) row.parent waiting ∙ shorter;
-      lists = λ j l. ap (λ ws. slice_get ws j) is_after ∙ get_changed (λ ts. ts ++ table ∷ []) row.parent waiting j ∙ by j (nat_eq row.parent j) (sym (get_push_old waiting children j (subst (λ z. j < z) (sym shorter) l)) ∙ lists j (omega arith)) ∙ ap (λ ts. Some (reverse ts)) (sym (now j));
+      lists = λ j l. ap (λ ws. slice_get ws j) is_after ∙ get_changed (λ ts. ts ++ table ∷ []) row.parent waiting j
+          ∙ by j (nat_eq row.parent j) (sym (get_push_old waiting children j (subst (λ z. j < z) (sym shorter) l)) ∙ lists j (omega arith))
+          ∙ ap (λ ts. Some (reverse ts)) (sym (now j));
     }
       where
         by : (j : ℕ) (b : Bool) → slice_get waiting j ≡ Some (reverse (children_of j (drop (suc k) all) nested_table_later))
-            → (if b then option_map (λ ts. ts ++ table ∷ []) (slice_get waiting j) else slice_get waiting j) ≡ Some (reverse (if b then table ∷ children_of j (drop (suc k) all) nested_table_later else children_of j (drop (suc k) all) nested_table_later))
+            → (if b then option_map (λ ts. ts ++ table ∷ []) (slice_get waiting j) else slice_get waiting j)
+            ≡ Some (reverse (if b then table ∷ children_of j (drop (suc k) all) nested_table_later else children_of j
+            (drop (suc k) all) nested_table_later))
         by j true h = ap (option_map (λ ts. ts ++ table ∷ [])) h ∙ ap Some (sym (reverse_onto (children_of j (drop (suc k) all) nested_table_later) table []))
         by j false h = h
 
         now : (j : ℕ)
-            → children_of j (drop k all) (tables_from k (drop k all) (drop k names)) ≡ if nat_eq row.parent j then table ∷ children_of j (drop (suc k) all) nested_table_later else children_of j (drop (suc k) all) nested_table_later
+            → children_of j (drop k all) (tables_from k (drop k all) (drop k names)) ≡ if nat_eq row.parent j then table
+            ∷ children_of j (drop (suc k) all) nested_table_later else children_of j (drop (suc k) all) nested_table_later
         now j = λ i. children_of j (drop_at all k row row_is.1 i) (nested_table_tables_are i)
 
   nested_table_before : (n : ℕ) → 0 < n → (k : ℕ) × (n ≡ suc k)
@@ -152,7 +160,8 @@ module _ (all : List Row) (names : List (List Symbol)) (numbered : IsNumbered al
     waits' = ap length (sym is_waiting) ∙ h.waits ∙ k.1
 
     lists' : (j : ℕ) → j < suc k.0 → slice_get (waiting ++ children ∷ []) j ≡ Some (reverse (children_of j (drop (suc k.0) all) (tables_from (suc k.0) (drop (suc k.0) all) (drop (suc k.0) names))))
-    lists' j l = ap (λ ws. slice_get ws j) (sym is_waiting) ∙ h.lists j (subst (λ n. j < n) (sym k.1) l) ∙ ap (λ n. Some (reverse (children_of j (drop n all) (tables_from n (drop n all) (drop n names))))) k.1
+    lists' j l = ap (λ ws. slice_get ws j) (sym is_waiting) ∙ h.lists j (subst (λ n. j < n) (sym k.1) l)
+        ∙ ap (λ n. Some (reverse (children_of j (drop n all) (tables_from n (drop n all) (drop n names))))) k.1
 
     shorter' : length waiting ≡ k.0
     shorter' = let l = length_push waiting children in omega (arith, l, waits')

@@ -42,7 +42,8 @@ once_after_lift Holder k n u d = subst AreDistinct (sym (keys_put u.entries n _)
 
 once_after_lifts : (base : List Row) (pairs : List (ℕ × Name)) (t : ℕ) (u : Row) → AreDistinct (keys_of u.entries) → AreDistinct (keys_of (lifted_all base pairs t u).entries)
 once_after_lifts base [] t u d = d
-once_after_lifts base (q ∷ qs) t u d = once_after_lifts base qs t (lift_effect base q t u) (once_after_lift (lift_of (stages base q.1) t (outward_from base q.0)) (lifted_holds (stages base q.1) (outward_from base q.0)) q.1 u d)
+once_after_lifts base (q ∷ qs) t u d = once_after_lifts base qs t (lift_effect base q t u)
+    (once_after_lift (lift_of (stages base q.1) t (outward_from base q.0)) (lifted_holds (stages base q.1) (outward_from base q.0)) q.1 u d)
 
 pub once_lifted : (old new : List Row) (pairs : List (ℕ × Name)) → IsOnce old → IsLifted old pairs new → IsOnce new
 once_lifted old new pairs once h t = subst (λ o. AreDistinct (names_of o)) (sym (h t)) (by (slice_get old t) (once t))

@@ -1,5 +1,7 @@
 -- Each call of the scan keeps the scopes in order.
-use Rattle.std.proofs.Common.{◌≡◌, refl, sym, ap, ◌∙◌, subst, ℕ, zero, suc, ◌<◌, ◌≤◌, Bool, true, false, ◌||◌, List, [], ◌∷◌, ◌++◌, length, nat_eq, if◌then◌else◌, slice_get, slice_set, slice_index_or, Option, Some, None, option_map, ◌⊎◌, inl, inr, All, append_assoc, arith}
+use Rattle.std.proofs.Common.{◌≡◌, refl, sym, ap, ◌∙◌, subst, ℕ, zero, suc, ◌<◌, ◌≤◌, Bool, true, false, ◌||◌, List, [], ◌∷◌, ◌++◌, length}
+use Rattle.std.proofs.Common.{nat_eq, if◌then◌else◌, slice_get, slice_set, slice_index_or, Option, Some, None, option_map, ◌⊎◌, inl, inr}
+use Rattle.std.proofs.Common.{All, append_assoc, arith}
 use Rattle.std.specs.List.{list_any}
 use Rattle.std.proofs.lemmas.Option.{slice_get_read}
 use Rattle.std.proofs.lemmas.List.Elements.{All-append}
@@ -179,8 +181,10 @@ module _ (s : Scanned) (typ : SymbolTableType) (name : Name) (line : ℕ) (old :
       by true e = let q : k ≡ length s.rows = equal_numbers k (length s.rows) e in subst (λ z. parents scan_call_more z < z) (sym q) (subst (λ v. v < length s.rows) (sym parent_new) old.inside)
       by false e = let h : k < length s.rows = omega (arith, scan_call_longer, unequal_numbers k (length s.rows) e) in subst (λ v. v < k) (sym (parent_old k h)) (old.numbered k a h)
 
-  scan_call_around : enclosing_scopes (parents scan_call_more) (length s.rows) ≡ s.current ∷ enclosing_scopes (parents s.rows) s.current
-  scan_call_around = outward (parents scan_call_more) (length s.rows) s.current parent_new old.inside ∙ ap (λ es. s.current ∷ es) (enclosing_same (parents scan_call_more) (parents s.rows) s.current (λ j h. let i = old.inside in parent_old j (omega arith)))
+  scan_call_outward : enclosing_scopes (parents scan_call_more) (length s.rows) ≡ s.current ∷ enclosing_scopes (parents s.rows) s.current
+  scan_call_outward = outward (parents scan_call_more) (length s.rows) s.current parent_new old.inside
+      ∙ ap (λ es. s.current ∷ es) (enclosing_same (parents scan_call_more) (parents s.rows) s.current
+      (λ j h. let i = old.inside in parent_old j (omega arith)))
 
   pub scanned_entered : IsScanned (entered_scan s typ name line)
   scanned_entered = record {
@@ -189,7 +193,7 @@ module _ (s : Scanned) (typ : SymbolTableType) (name : Name) (line : ℕ) (old :
     only = λ k a l q. no_module k a q (get_push s.rows scan_call_row k) l;
     inside = omega (arith, scan_call_longer);
     below = λ k d h. let b = old.below k d h in omega (arith, scan_call_longer, b);
-    complete = λ k l. ap (λ es. list_any (nat_eq k) (s.left ++ length s.rows ∷ es)) scan_call_around ∙ whole k l;
+    complete = λ k l. ap (λ es. list_any (nat_eq k) (s.left ++ length s.rows ∷ es)) scan_call_outward ∙ whole k l;
     fresh = λ k. by k (get_push s.rows scan_call_row k);
   }
     where
@@ -217,25 +221,46 @@ module _ (s : Scanned) (typ : SymbolTableType) (name : Name) (line : ℕ) (old :
       whole k l = case (nat_eq k (length s.rows)) refl
         where
           case : (b : Bool) → nat_eq k (length s.rows) ≡ b → list_any (nat_eq k) (s.left ++ length s.rows ∷ s.current ∷ enclosing_scopes (parents s.rows) s.current) ≡ true
-          case true e = any_later (nat_eq k) s.left (length s.rows ∷ s.current ∷ enclosing_scopes (parents s.rows) s.current) (ap (λ b. b || list_any (nat_eq k) (s.current ∷ enclosing_scopes (parents s.rows) s.current)) e)
-          case false e = any_slips (nat_eq k) s.left (length s.rows) (s.current ∷ enclosing_scopes (parents s.rows) s.current) (old.complete k (omega (arith, scan_call_longer, unequal_numbers k (length s.rows) e)))
+          case true e = any_later (nat_eq k) s.left (length s.rows ∷ s.current ∷ enclosing_scopes (parents s.rows) s.current)
+              (ap (λ b. b || list_any (nat_eq k) (s.current ∷ enclosing_scopes (parents s.rows) s.current)) e)
+          case false e = any_slips (nat_eq k) s.left (length s.rows) (s.current ∷ enclosing_scopes (parents s.rows) s.current)
+              (old.complete k (omega (arith, scan_call_longer, unequal_numbers k (length s.rows) e)))
 
 -- the builder's fields after each call
-abbrev pub scanned : List Row → ℕ → List ℕ → Scanned
-scanned rows current left = record { rows = rows; current = current; left = left }
+abbrev pub scanned_rows : List Row → ℕ → List ℕ → Scanned
+scanned_rows rows current left = record { rows = rows; current = current; left = left }
 
 pub entered_within : (s : Scanned) (typ : SymbolTableType) (name : Name) (line : ℕ) → IsScanned s → IsWithin (entered_scan s typ name line)
 entered_within s typ name line old = record { above = (let i = old.inside in omega arith); inside = (let h = length_push s.rows (entered_row s.rows s.current typ name line) in omega arith) }
 
 pub after_leave : (s : Scanned) (row : Row) (left : List ℕ) → s.current < length s.rows → row ≡ slice_index_or s.rows s.current row
-    → left ≡ s.left ++ s.current ∷ [] → scanned s.rows row.parent left ≡ gone_out s
-after_leave s row left within is_row is_left = λ j. scanned s.rows (sym (ap parent_of (slice_get_read s.rows (length s.rows) s.current row refl within is_row)) j) (is_left j)
+    → left ≡ s.left ++ s.current ∷ [] → scanned_rows s.rows row.parent left ≡ gone_out s
+after_leave s row left within is_row is_left = λ j. scanned_rows s.rows (sym (ap parent_of (slice_get_read s.rows (length s.rows) s.current row refl within is_row)) j) (is_left j)
 
-pub after_enter : (s : Scanned) (rows : List Row) (number : ℕ) (around : Row) (nested : Bool) (typ kind : SymbolTableType) (name : Name) (line : ℕ)
-    → s.current < length s.rows → around ≡ slice_index_or s.rows s.current around → nested ≡ nests (Some around) → kind ≡ inner typ
-    → rows ≡ s.rows ++ record { kind = kind; parent = s.current; head = record { name = name; line_number = line; is_nested = nested }; entries = [] } ∷ [] → number ≡ length s.rows → scanned rows number s.left ≡ entered_scan s typ name line
-after_enter s rows number around nested typ kind name line within is_around is_nested is_kind is_rows is_number =
-    λ j. scanned ((is_rows ∙ ap (λ x. s.rows ++ record { kind = x; parent = s.current; head = record { name = name; line_number = line; is_nested = nested }; entries = [] } ∷ []) is_kind ∙ ap (λ b. s.rows ++ record { kind = inner typ; parent = s.current; head = record { name = name; line_number = line; is_nested = b }; entries = [] } ∷ []) (is_nested ∙ ap nests (sym (slice_get_read s.rows (length s.rows) s.current around refl within is_around)))) j) (is_number j) s.left
+pub after_enter : (s : Scanned) (rows : List Row) (number : ℕ) (outward_scopes : Row) (nested : Bool) (typ kind : SymbolTableType) (name : Name) (line : ℕ)
+    → s.current < length s.rows → outward_scopes ≡ slice_index_or s.rows s.current outward_scopes → nested ≡ nests (Some outward_scopes) → kind ≡ inner typ
+    → rows ≡ s.rows ++ record {
+      kind = kind;
+      parent = s.current;
+      head =
+          record { name = name; line_number = line; is_nested = nested };
+      entries = [];
+    } ∷ [] → number ≡ length s.rows
+    → scanned_rows rows number s.left ≡ entered_scan s typ name line
+after_enter s rows number outward_scopes nested typ kind name line within is_node_context is_nested is_kind is_rows is_number =
+    λ j. scanned_rows
+    ((is_rows ∙ ap
+    (λ x. s.rows ++ record {
+      kind = x;
+      parent = s.current;
+      head =
+          record { name = name; line_number = line; is_nested = nested };
+      entries =
+          [];
+    } ∷ []) is_kind ∙ ap (λ b. s.rows
+    ++ record { kind = inner typ; parent = s.current; head = record { name = name; line_number = line; is_nested = b }; entries = [] }
+    ∷ []) (is_nested ∙ ap nests (sym (slice_get_read s.rows (length s.rows) s.current outward_scopes refl within is_node_context)))) j)
+    (is_number j) s.left
 
 pub set_changed : {A : Type 0} (f : A → A) (xs : List A) (i : ℕ) (x : A) → slice_get xs i ≡ Some x → slice_set xs i (f x) ≡ changed_at f i xs
 set_changed f [] i x h = cc
@@ -243,8 +268,11 @@ set_changed f (y ∷ ys) zero x h = let e : y ≡ x = cc in ap (λ z. f z ∷ ys
 set_changed f (y ∷ ys) (suc i) x h = ap (λ zs. y ∷ zs) (set_changed f ys i x h)
 
 pub after_use : (s : Scanned) (n : Name) (role : Role) (row new : Row) → s.current < length s.rows → row ≡ slice_index_or s.rows s.current row
-    → new ≡ used_in n role row → scanned (slice_set s.rows s.current new) s.current s.left ≡ with_use s n role
-after_use s n role row new within is_row is_new = λ j. scanned ((ap (slice_set s.rows s.current) is_new ∙ set_changed (used_in n role) s.rows s.current row (slice_get_read s.rows (length s.rows) s.current row refl within is_row)) j) s.current s.left
+    → new ≡ used_in n role row → scanned_rows (slice_set s.rows s.current new) s.current s.left ≡ with_use s n role
+after_use s n role row new within is_row is_new = λ j.
+    scanned_rows
+    ((ap (slice_set s.rows s.current) is_new ∙ set_changed (used_in n role) s.rows s.current row
+    (slice_get_read s.rows (length s.rows) s.current row refl within is_row)) j) s.current s.left
 
 chain_below : (p : ℕ → ℕ) (k w i d : ℕ) → i < length (chain p k w) → slice_index_or (chain p k w) i d < k
 chain_below p zero w i d h = absurd (omega arith)

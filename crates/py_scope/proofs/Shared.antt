@@ -1,5 +1,6 @@
 -- Which names scopes directly inside the module declare global.
-use Rattle.std.proofs.Common.{◌≡◌, refl, sym, ap, ◌∙◌, subst, ℕ, zero, suc, ◌<◌, Bool, true, false, ◌||◌, ◌&&◌, List, [], ◌∷◌, length, drop, nat_eq, if◌then◌else◌, slice_get, Option, Some, None, ◌⊎◌, inl, inr, arith}
+use Rattle.std.proofs.Common.{◌≡◌, refl, sym, ap, ◌∙◌, subst, ℕ, zero, suc, ◌<◌, Bool, true, false, ◌||◌, ◌&&◌, List, [], ◌∷◌, length, drop}
+use Rattle.std.proofs.Common.{nat_eq, if◌then◌else◌, slice_get, Option, Some, None, ◌⊎◌, inl, inr, arith}
 use Rattle.std.specs.Prelude.{nat_lt}
 use Rattle.std.specs.List.{list_any}
 use Rattle.std.specs.Map.{keys_of}
@@ -91,7 +92,9 @@ module _ (s : Scanned) (old : IsScanned s) (fine : first_fault s ≡ None) where
       ∙ ap is_declared_global (based_held_is s old fine c n)
 
   parent_is : (c : ℕ) (r : Row) → slice_get shared_new c ≡ Some r → r.parent ≡ parents s.rows c
-  parent_is c r e = ap parent_of (sym e) ∙ ap (λ p. p c) (settling.mark_sum_same_parents (after_lifts s) shared_new (looks (after_lifts s) (order_of s)) (is_settled s old fine)) ∙ ap (λ p. p c) (parents_are s old fine)
+  parent_is c r e = ap parent_of (sym e) ∙ ap (λ p. p c)
+      (settling.mark_sum_same_parents (after_lifts s) shared_new (looks (after_lifts s) (order_of s)) (is_settled s old fine))
+      ∙ ap (λ p. p c) (parents_are s old fine)
 
   pub count_new : length shared_new ≡ length s.rows
   count_new = settling.mark_sum_same_length (after_lifts s) shared_new (looks (after_lifts s) (order_of s)) (is_settled s old fine) ∙ based_count_is s old fine

@@ -31,7 +31,7 @@ module _ (s : Scanned) (old : IsScanned s) (fine : first_fault s ≡ None) where
   abbrev shown_base : List Row
   shown_base = after_lifts s
 
-  -- what stands in a scope after the lifts it uses, or a walrus within stores it
+  -- what stands in a scope after the lifts it uses, or a nested walrus stores it
   based : (k : ℕ) (n : Name) → is_some (entry_at shown_base k n) ≡ true → is_used s.rows k n || (is_held s.rows k n || needs s.rows k n) ≡ true
   based k n i = by (slice_get s.rows k) refl
     where
@@ -47,14 +47,16 @@ module _ (s : Scanned) (old : IsScanned s) (fine : first_fault s ≡ None) where
       by None e = let z : false ≡ true = sym (ap (λ o. is_some (entry_of n o)) (lawful_is_lifted s old fine k ∙ ap (option_map (lifted_all s.rows (lifts s.rows (order_of s)) k)) e)) ∙ i in cc
       by (Some u) e = from (truth_either (is_some (entry_at s.rows k n)) _ (sym (based_some_is s old fine k n u e) ∙ i))
 
-  -- a scope shows the names that it uses, those that a walrus within stores, and those that it needs
+  -- a scope shows the names that it uses, those that a nested walrus stores, and those that it needs
   pub shown_names : (k : ℕ) (n : Name) → is_some (entry_at (after_looks s) k n) ≡ is_used s.rows k n || (is_held s.rows k n || needs s.rows k n)
   shown_names k n = same_truth _ _ forth back
     where
       brought : is_some (entry_at shown_base k n) ≡ false → list_any (touches shown_base k n) (looks shown_base (order_of s)) ≡ true → needs s.rows k n ≡ true
       brought i h =
           let none : entry_at shown_base k n ≡ None = needed_none_is (entry_at shown_base k n) i in
-          let past : meetings shown_base n k ≡ Past = stop_is s old fine n k ∙ (λ j. if counts (kind_at s.rows k) n then stop_of ((sym (based_held_is s old fine k n) ∙ ap holds_opt none) j) ((sym (bound_is s old fine k n) ∙ ap bound_opt none) j) else Past) ∙ none_stops (counts (kind_at s.rows k) n) in
+          let past : meetings shown_base n k ≡ Past = stop_is s old fine n k
+          ∙ (λ j. if counts (kind_at s.rows k) n then stop_of ((sym (based_held_is s old fine k n) ∙ ap holds_opt none) j)
+          ((sym (bound_is s old fine k n) ∙ ap bound_opt none) j) else Past) ∙ none_stops (counts (kind_at s.rows k) n) in
           needs_from s old fine k n (brought_needs s old fine k n past h)
 
       forth : is_some (entry_at (after_looks s) k n) ≡ true → is_used s.rows k n || (is_held s.rows k n || needs s.rows k n) ≡ true

@@ -11,7 +11,8 @@ use Rattle.py_scope.specs.Outward.{counts, stop_of}
 use Rattle.py_scope.specs.declared.outward.Meets.TheVariants.{Past}
 use Rattle.py_scope.specs.Entries.{entry_of}
 use Rattle.py_scope.specs.Roles.{bound_opt}
-use Rattle.py_scope.specs.Lifts.{Stays, Through, Holder, stages, stage_of, if_function, as_in, lifted_holds, lifted_by, lift_of, lift_here, lifts, lifts_of, walruses_of, outward_from, holds_opt, kind_of, is_comprehension}
+use Rattle.py_scope.specs.Lifts.{Stays, Through, Holder, stages, stage_of, if_function, as_in, lifted_holds, lifted_by, lift_of, lift_here}
+use Rattle.py_scope.specs.Lifts.{lifts, lifts_of, walruses_of, outward_from, holds_opt, kind_of, is_comprehension}
 use Rattle.py_scope.specs.Scanned.{is_function}
 use Rattle.py_scope.specs.Tables.{is_plain}
 use Rattle.py_scope.specs.Resolve.{among, kind_at, last_declaration, stores, way, holder, goes_through, is_held, lifted_to, holds_in, binds_in, stops_in}
@@ -142,7 +143,8 @@ module _ (rows : List Row) (first : kind_at rows 0 ≡ Module) where
         back h =
             let w = any_scope (λ q. stores rows q n && among k (way rows (outward_from rows q))) rows h in
             let z = truth_both (stores rows w.0 n) _ w.2 in
-            to_lifts (λ q. same_name n q.1 && is_through (lift_of (stages rows q.1) k (outward_from rows q.0))) rows order w.0 n (complete w.0 w.1) z.0 (and_both _ _ (names_same n) (through_way n k (outward_from rows w.0) ∙ z.1))
+            to_lifts (λ q. same_name n q.1 && is_through (lift_of (stages rows q.1) k (outward_from rows q.0))) rows order w.0 n
+            (complete w.0 w.1) z.0 (and_both _ _ (names_same n) (through_way n k (outward_from rows w.0) ∙ z.1))
 
     pub held_same : (k : ℕ) (n : Name) → by_lifts.is_held rows order k n ≡ is_held rows k n
     held_same k n = same_truth _ _ forth back
@@ -160,7 +162,8 @@ module _ (rows : List Row) (first : kind_at rows 0 ≡ Module) where
             let t = truth_both (is_function (kind_at rows k)) _ h in
             let w = any_scope (λ q. stores rows q n && nat_eq k (holder rows (outward_from rows q))) rows t.1 in
             let z = truth_both (stores rows w.0 n) _ w.2 in
-            to_lifts (λ q. same_name n q.1 && is_holder (lift_of (stages rows q.1) k (outward_from rows q.0))) rows order w.0 n (complete w.0 w.1) z.0 (and_both _ _ (names_same n) (holder_way n k (outward_from rows w.0) ∙ and_both _ _ t.0 z.1))
+            to_lifts (λ q. same_name n q.1 && is_holder (lift_of (stages rows q.1) k (outward_from rows q.0))) rows order w.0 n
+            (complete w.0 w.1) z.0 (and_both _ _ (names_same n) (holder_way n k (outward_from rows w.0) ∙ and_both _ _ t.0 z.1))
 
     pub holds_same : (k : ℕ) (n : Name) → by_lifts.holds_in rows order k n ≡ holds_in rows k n
     holds_same k n = λ j. if through_same k n j then lifted_way n (outward_from rows k) j else last_declaration rows k n

@@ -94,7 +94,9 @@ module _ (f : ℕ × Name → Bool) where
   -- a look that passes the test is one of a scope for a name for which it asks
   pub from_looks : (base : List Row) (order : List ℕ) → list_any f (looks base order) ≡ true → (r : ℕ) × (n : Name) × (asks_for base r n ≡ true) × (f (r, n) ≡ true)
   from_looks base [] h = cc
-  from_looks base (r ∷ rs) h = by (symbol_flag_either (list_any f (from_scope r (asking_of (slice_get base r)))) _ (sym (any_append (from_scope r (asking_of (slice_get base r))) (looks base rs)) ∙ h)) (from_looks base rs)
+  from_looks base (r ∷ rs) h = by
+      (symbol_flag_either (list_any f (from_scope r (asking_of (slice_get base r))))
+      _ (sym (any_append (from_scope r (asking_of (slice_get base r))) (looks base rs)) ∙ h)) (from_looks base rs)
     where
       by : (list_any f (from_scope r (asking_of (slice_get base r))) ≡ true) ⊎ (list_any f (looks base rs) ≡ true)
           → (list_any f (looks base rs) ≡ true → (r : ℕ) × (n : Name) × (asks_for base r n ≡ true) × (f (r, n) ≡ true))
@@ -109,5 +111,8 @@ module _ (f : ℕ × Name → Bool) where
     where
       by : (nat_eq r k ≡ true) ⊎ (list_any (nat_eq r) ks ≡ true) → (list_any (nat_eq r) ks ≡ true → list_any f (looks base ks) ≡ true)
           → list_any f (from_scope k (asking_of (slice_get base k))) || list_any f (looks base ks) ≡ true
-      by (inl e) ih = let q : r ≡ k = equal_numbers r k e in left_or (list_any f (from_scope k (asking_of (slice_get base k)))) _ (subst (λ z. list_any f (from_scope z (asking_of (slice_get base z))) ≡ true) q (to_names r (asking_of (slice_get base r)) n a g))
+      by (inl e) ih = let q : r ≡ k = equal_numbers r k e in left_or
+          (list_any f (from_scope k (asking_of (slice_get base k))))
+          _ (subst (λ z. list_any f (from_scope z (asking_of (slice_get base z))) ≡ true) q
+          (to_names r (asking_of (slice_get base r)) n a g))
       by (inr e) ih = symbol_flag_right_or (list_any f (from_scope k (asking_of (slice_get base k)))) _ (ih e)

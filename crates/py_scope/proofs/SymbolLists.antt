@@ -42,11 +42,13 @@ module _ (k : String Global) (v : Symbol) (is_k : string_bytes k ≡ v.name) whe
 
   pub values-insert : (es : Pairs) → IsNamed es → list_any (λ s. same_name v.name s.name) (values_of es) ≡ false → values_of (index_map.insert_entry string_eq es k v) ≡ values_of es ++ v ∷ []
   values-insert [] h g = refl
-  values-insert (e ∷ es) h g = ap (λ b. values_of (if b then (e.0, v) ∷ es else e ∷ index_map.insert_entry string_eq es k v)) (absent_first e es h g) ∙ ap (λ xs. e.1 ∷ xs) (values-insert es h.1 (absent_rest e es g))
+  values-insert (e ∷ es) h g = ap (λ b. values_of (if b then (e.0, v) ∷ es else e ∷ index_map.insert_entry string_eq es k v))
+      (absent_first e es h g) ∙ ap (λ xs. e.1 ∷ xs) (values-insert es h.1 (absent_rest e es g))
 
   pub named-insert : (es : Pairs) → IsNamed es → list_any (λ s. same_name v.name s.name) (values_of es) ≡ false → IsNamed (index_map.insert_entry string_eq es k v)
   named-insert [] h g = (is_k, tt)
-  named-insert (e ∷ es) h g = subst (λ b. IsNamed (if b then (e.0, v) ∷ es else e ∷ index_map.insert_entry string_eq es k v)) (sym (absent_first e es h g)) (h.0, named-insert es h.1 (absent_rest e es g))
+  named-insert (e ∷ es) h g = subst (λ b. IsNamed (if b then (e.0, v) ∷ es else e ∷ index_map.insert_entry string_eq es k v))
+      (sym (absent_first e es h g)) (h.0, named-insert es h.1 (absent_rest e es g))
 
 symbol_list_none_of : (n : Name) (es : Pairs) → IsNamed es → (k : String Global) → string_bytes k ≡ n → AllByRecursion (λ y. string_eq k y ≡ false) (keys_of es)
     → list_any (λ t. same_name n t.name) (values_of es) ≡ false

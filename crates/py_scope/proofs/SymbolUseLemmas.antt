@@ -23,7 +23,7 @@ bound_after es k n r = ap bound_opt (lookup_put es k n _) ∙ by (same_name n k)
   where
     same : (o : Option Entry) → bound_opt (Some (with_role r (or_absent o))) ≡ bound_opt o || binds r
     same None = refl
-    same (Some s) = ap (λ b. s.assigned_within || b) (intersects-or s.roles.0 (flags_of r) 0x096) ∙ sym (or_associates s.assigned_within (intersects s.roles.0 0x096) (binds r))
+    same (Some s) = ap (λ b. s.assigned_in_comprehension || b) (intersects-or s.roles.0 (flags_of r) 0x096) ∙ sym (or_associates s.assigned_in_comprehension (intersects s.roles.0 0x096) (binds r))
 
     by : (b : Bool) → same_name n k ≡ b → bound_opt (if b then Some (with_role r (or_absent (lookup k es))) else lookup n es) ≡ bound_opt (lookup n es) || (b && binds r)
     by true e = same (lookup k es) ∙ ap (λ x. bound_opt (lookup x es) || binds r) (sym (equal_names n k e))
@@ -32,7 +32,8 @@ bound_after es k n r = ap bound_opt (lookup_put es k n _) ∙ by (same_name n k)
 bound_from : (us : List (Name × Role)) (es : List (Name × Entry)) (n : Name)
     → bound_opt (lookup n (fold (λ es u. register es u.0 u.1) es us)) ≡ bound_opt (lookup n es) || list_any (is_binding_use n) us
 bound_from [] es n = sym (symbol_use_or_false (bound_opt (lookup n es)))
-bound_from (u ∷ us) es n = bound_from us (register es u.0 u.1) n ∙ ap (λ b. b || list_any (is_binding_use n) us) (bound_after es u.0 n u.1) ∙ or_associates (bound_opt (lookup n es)) (is_binding_use n u) (list_any (is_binding_use n) us)
+bound_from (u ∷ us) es n = bound_from us (register es u.0 u.1) n ∙ ap (λ b. b || list_any (is_binding_use n) us) (bound_after es u.0 n u.1)
+    ∙ or_associates (bound_opt (lookup n es)) (is_binding_use n u) (list_any (is_binding_use n) us)
 
 names_from : (us : List (Name × Role)) (es : List (Name × Entry)) → keys_of (fold (λ es u. register es u.0 u.1) es us) ≡ fold (λ ns u. add_name ns u.0) (keys_of es) us
 names_from [] es = refl

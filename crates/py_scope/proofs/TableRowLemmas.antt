@@ -1,5 +1,6 @@
 -- The kinds and the symbols of the scopes, one at a time.
-use Rattle.std.proofs.Common.{◌≡◌, refl, sym, ap, ◌∙◌, subst, ℕ, zero, suc, ◌+◌, ◌<◌, false, ◌||◌, List, [], ◌∷◌, ◌++◌, length, take, drop, slice_get, Option, Some, None, IsSome, MatchOption, map, add-one, zero-add, arith}
+use Rattle.std.proofs.Common.{◌≡◌, refl, sym, ap, ◌∙◌, subst, ℕ, zero, suc, ◌+◌, ◌<◌, false, ◌||◌, List, [], ◌∷◌, ◌++◌, length, take, drop}
+use Rattle.std.proofs.Common.{slice_get, Option, Some, None, IsSome, MatchOption, map, add-one, zero-add, arith}
 use Rattle.std.specs.List.{list_any}
 use Rattle.std.specs.Map.{keys_of}
 use Rattle.std.proofs.lemmas.Cmp.{nat_list_eq_equiv}
@@ -87,7 +88,9 @@ symbols_next es ks i p k g h = go es ks i g h ∙ ap (λ n. symbols_with (take n
 
 module _ (rows : List Row) (s : ℕ) where
   -- the kind of one name more
-  pub kinds_next : (es : List (Name × Entry)) (i : ℕ) → map {B = SymbolScope} (kind_at rows s) (take i es) ++ kinds_at rows s (slice_get es i) ≡ map {B = SymbolScope} (kind_at rows s) (take (i + 1) es)
+  pub kinds_next : (es : List (Name × Entry)) (i : ℕ)
+      → map {B = SymbolScope} (kind_at rows s) (take i es) ++ kinds_at rows s (slice_get es i)
+      ≡ map {B = SymbolScope} (kind_at rows s) (take (i + 1) es)
   kinds_next es i = go es i ∙ ap (λ n. map {B = SymbolScope} (kind_at rows s) (take n es)) (sym (add-one i))
     where
       go : (es : List (Name × Entry)) (i : ℕ) → map {B = SymbolScope} (kind_at rows s) (take i es) ++ kinds_at rows s (slice_get es i) ≡ map {B = SymbolScope} (kind_at rows s) (take (suc i) es)

@@ -129,7 +129,9 @@ module _ (s : Scanned) (old : IsScanned s) (fine : first_fault s ≡ None) where
 
       by : (r : ℕ) → asks_for touched_base r n ≡ true → (is_passes (touch_by touched_base r n k) ≡ true) ⊎ (is_captures (touch_by touched_base r n k) ≡ true) → Needs touched_base k n
       by r a (inl g) = passed_needs r k n a (is_passed _ g)
-      by r a (inr g) = absurd (none_meets (meetings touched_base n k) past (ends_bound (meetings touched_base n) (enclosing_scopes (parents touched_base) r) k (captures_ends (meetings touched_base n) k (enclosing_scopes (parents touched_base) r) (is_caught _ g))))
+      by r a (inr g) = absurd (none_meets (meetings touched_base n k) past
+          (ends_bound (meetings touched_base n) (enclosing_scopes (parents touched_base) r) k
+          (captures_ends (meetings touched_base n) k (enclosing_scopes (parents touched_base) r) (is_caught _ g))))
 
   pub passing_look : (f : ℕ × Name → Bool) (r : ℕ) (n : Name) → r < length touched_base → asks_for touched_base r n ≡ true → f (r, n) ≡ true → list_any f (looks touched_base touched_order) ≡ true
   passing_look f r n l a g = to_looks f touched_base touched_order r n (complete s old fine r l) a g

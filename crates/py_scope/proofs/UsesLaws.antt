@@ -27,7 +27,7 @@ use Rattle.py_scope.proofs.NeededNameLemmas.{captured_by_child}
 use Rattle.py_scope.proofs.Lawful as lawful
 use Rattle.py_scope.proofs.Apart.{passed_past}
 use Rattle.py_scope.proofs.Truth.{truth_both, and_both, any_scope, some_scope}
-use Rattle.py_scope.proofs.Based.{is_passed_on, based_held_is, bound_is, stop_is, around_is, based_count_is, never_passed}
+use Rattle.py_scope.proofs.Based.{is_passed_on, based_held_is, bound_is, stop_is, outward_is, based_count_is, never_passed}
 use Rattle.py_scope.proofs.Needed.{wants_some, wants_held, needs_to, needs_from, inside_from}
 use Rattle.py_scope.proofs.NeedLaws.{wants_not_own, needing_there}
 
@@ -118,12 +118,15 @@ module _ (s : Scanned) (old : IsScanned s) (fine : first_fault s ≡ None) where
       parts = cell_parts s.rows k n h
 
       bound : meetings uses_law_base n k ≡ Binding
-      bound = stop_is s old fine n k ∙ ap (λ c. if c then stop_of (holds_in s.rows k n) (binds_in s.rows k n) else Past) ((truth_both (counts (kind_at s.rows k) n) _ parts.1).0) ∙ own_binds (holds_in s.rows k n) (binds_in s.rows k n) parts.0
+      bound = stop_is s old fine n k ∙ ap (λ c. if c then stop_of (holds_in s.rows k n) (binds_in s.rows k n) else Past)
+          ((truth_both (counts (kind_at s.rows k) n) _ parts.1).0) ∙ own_binds (holds_in s.rows k n) (binds_in s.rows k n) parts.0
 
       clash : (need : Needs uses_law_base k n) → (need.asker ≡ k) ⊎ (touch_by uses_law_base need.asker n k ≡ Passes) → ⊥
       clash need (inl q) =
           let w : wants_for uses_law_base k n ≡ true = subst (λ z. wants_for uses_law_base z n ≡ true) q need.wants_there in
-          let wanted : wants_as (holds_in s.rows k n) (binds_in s.rows k n) ≡ true = sym (wants_held (entry_at uses_law_base k n) (wants_some (entry_at uses_law_base k n) w) ∙ (λ j. wants_as (based_held_is s old fine k n j) (bound_is s old fine k n j))) ∙ w in
+          let wanted : wants_as (holds_in s.rows k n) (binds_in s.rows k n) ≡ true =
+          sym (wants_held (entry_at uses_law_base k n) (wants_some (entry_at uses_law_base k n) w)
+          ∙ (λ j. wants_as (based_held_is s old fine k n j) (bound_is s old fine k n j))) ∙ w in
           let z : true ≡ false = sym parts.0 ∙ wants_not_own (holds_in s.rows k n) (binds_in s.rows k n) wanted in cc
       clash need (inr q) = let z : Binding ≡ Past = sym bound ∙ passed_past (meetings uses_law_base n) k (enclosing_scopes (parents uses_law_base) need.asker) q in cc
 
@@ -134,7 +137,10 @@ module _ (s : Scanned) (old : IsScanned s) (fine : first_fault s ≡ None) where
   -- a scope with a cell for a name resolves it to a cell
   cell_resolves : (e : ℕ) (n : Name) → HasCell uses_law_base e n → kind_by_uses s.rows e n ≡ Cell
   cell_resolves e n h = parts_cell s.rows e n
-      (binds_own (holds_in s.rows e n) (binds_in s.rows e n) (sym (ap (λ c. if c then stop_of (holds_in s.rows e n) (binds_in s.rows e n) else Past) counted) ∙ bound) (ap hands_on_as (sym (based_held_is s old fine e n)) ∙ sym (hands_held (entry_at uses_law_base e n)) ∙ h.own) (λ q. let z = never_passed s old fine e n in let y : true ≡ false = sym (ap is_passed_on q) ∙ z in cc))
+      (binds_own (holds_in s.rows e n) (binds_in s.rows e n)
+      (sym (ap (λ c. if c then stop_of (holds_in s.rows e n) (binds_in s.rows e n) else Past) counted) ∙ bound)
+      (ap hands_on_as (sym (based_held_is s old fine e n)) ∙ sym (hands_held (entry_at uses_law_base e n)) ∙ h.own)
+      (λ q. let z = never_passed s old fine e n in let y : true ≡ false = sym (ap is_passed_on q) ∙ z in cc))
       counted
       (inside_from s old fine e n (captured_by_child uses_law_base (lawful.lawful_numbered s old fine) e n h.captured))
     where
@@ -157,6 +163,6 @@ module _ (s : Scanned) (old : IsScanned s) (fine : first_fault s ≡ None) where
   names_lead c n h =
       let w = lawful.names_lead s old fine c n (needs_to s old fine c n h) in (
         w.0,
-        sym (λ j. binder (λ e. stop_is s old fine n e j) (λ e. (hands_held (entry_at uses_law_base e n) ∙ ap hands_on_as (based_held_is s old fine e n)) j) (around_is s old fine c j)) ∙ w.1,
-        subst (λ es. LeadsTo s.rows n es w.0) (around_is s old fine c) (leads_to n (enclosing_scopes (parents uses_law_base) c) w.0 w.2),
+        sym (λ j. binder (λ e. stop_is s old fine n e j) (λ e. (hands_held (entry_at uses_law_base e n) ∙ ap hands_on_as (based_held_is s old fine e n)) j) (outward_is s old fine c j)) ∙ w.1,
+        subst (λ es. LeadsTo s.rows n es w.0) (outward_is s old fine c) (leads_to n (enclosing_scopes (parents uses_law_base) c) w.0 w.2),
       )

@@ -13,7 +13,7 @@ no_roles = record { 0 = 0 }
 
 -- ASSIGNED, PARAMETER, IMPORTED or ITER among the roles, or a walrus in a nested comprehension binds the name here
 abbrev pub is_bound : Entry → Bool
-is_bound s = s.assigned_within || intersects s.roles.0 0x096
+is_bound s = s.assigned_in_comprehension || intersects s.roles.0 0x096
 
 -- ASSIGNED_IN_COMPREHENSION
 abbrev pub is_stored_by_walrus : Entry → Bool

@@ -21,12 +21,12 @@ abbrev pub first_by : {A : Type 0} → (A → Option Refusal) → List A → Opt
 first_by f [] = None
 first_by f (x ∷ xs) = first_of_two (f x) (first_by f xs)
 
--- no scope around binds the name
+-- no enclosing scope binds the name
 abbrev pub unfound : ℕ → Name → Option Refusal
 unfound zero n = Some (NoEnclosingScope n)
 unfound (suc s) n = Some (NoBinding n)
 
--- a name that is declared nonlocal needs a scope around that binds it
+-- a name that is declared nonlocal needs an enclosing scope that binds it
 abbrev pub wrong_nonlocal : ℕ → Name → Found → Holds → Option Refusal
 wrong_nonlocal s n found Plain = None
 wrong_nonlocal s n found DeclaredGlobal = None
@@ -46,7 +46,7 @@ is_type_params TypeParams = true
 -- a scope of type parameters that stands directly in a class uses no name that the class binds, but `__class__`
 abbrev pub hides : SymbolTableType → Option Row → Name → Entry → Bool
 hides kind None n e = false
-hides kind (Some around) n e = (is_type_params kind && is_class around.kind) && ((not (is_bound e) && bound_opt (lookup n around.entries)) && not (same_name n class_cell))
+hides kind (Some outward_scopes) n e = (is_type_params kind && is_class outward_scopes.kind) && ((not (is_bound e) && bound_opt (lookup n outward_scopes.entries)) && not (same_name n class_cell))
 
 abbrev pub is_class_name : List Row → ℕ → Name → Entry → Bool
 is_class_name rows s n e = hides (kind_of (slice_get rows s)) (slice_get rows (parents rows s)) n e

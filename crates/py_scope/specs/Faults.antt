@@ -1,4 +1,4 @@
--- What an error tells of a refusal.
+-- What an error gives of a refusal.
 use Rattle.std.specs.Prelude.{◌≡◌, Option, Some, None}
 use Rattle.py_base.specs.declared.location.SourceLocation.{SourceLocation}
 use Rattle.py_scope.specs.declared.error.ScanFault.{ScanFault}

@@ -17,7 +17,7 @@ use Rattle.py_scope.specs.Scanned.{Scanned, order_of}
 
 abbrev pub assigned_opt : Option Entry → Bool
 assigned_opt None = false
-assigned_opt (Some s) = s.assigned_within
+assigned_opt (Some s) = s.assigned_in_comprehension
 
 abbrev pub free_class_opt : Option Entry → Bool
 free_class_opt None = false

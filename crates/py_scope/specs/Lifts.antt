@@ -10,7 +10,7 @@ use Rattle.py_scope.specs.declared.refusal.Refusal.{Refusal}
 use Rattle.py_scope.specs.declared.refusal.Refusal.TheVariants.{RebindsIterated, InClassBody, InTypeParams}
 use Rattle.py_scope.specs.declared.refusal.Fault.{Fault}
 use Rattle.py_scope.specs.declared.refusal.Fault.TheVariants.{Refused, OutOfMemory}
-use Rattle.py_scope.specs.Names.{Name, lookup, put}
+use Rattle.py_scope.specs.Names.{Name, lookup, put_value}
 use Rattle.py_scope.specs.Bits.{no_roles, is_stored_by_walrus, is_iterated}
 use Rattle.py_scope.specs.Outward.{enclosing_scopes, parents}
 use Rattle.py_scope.specs.Marks.{with_entries, from_scope}
@@ -97,14 +97,14 @@ lift_of g t (e ∷ es) = lift_here (g e).kind (nat_eq e t) (lift_of g t es)
 
 -- a name that the scope did not hold
 abbrev pub absent : Entry
-absent = record { holds = Plain; roles = no_roles; assigned_within = false; free_class = false; captured = false }
+absent = record { holds = Plain; roles = no_roles; assigned_in_comprehension = false; free_class = false; captured = false }
 
 abbrev pub or_absent : Option Entry → Entry
 or_absent None = absent
 or_absent (Some s) = s
 
 abbrev pub held_as : Holds → Entry → Entry
-held_as k s = record { holds = k; roles = s.roles; assigned_within = s.assigned_within; free_class = s.free_class; captured = s.captured }
+held_as k s = record { holds = k; roles = s.roles; assigned_in_comprehension = s.assigned_in_comprehension; free_class = s.free_class; captured = s.captured }
 
 -- the holder binds the name, unless it declares it, and a comprehension within holds it as a free name
 abbrev pub assigned_as : Holds → Bool → Bool
@@ -117,13 +117,13 @@ assigned_as LiftedModule before = true
 assigned_as Passed before = true
 
 abbrev pub holding_entry : Entry → Entry
-holding_entry s = record { holds = s.holds; roles = s.roles; assigned_within = assigned_as s.holds s.assigned_within; free_class = s.free_class; captured = true }
+holding_entry s = record { holds = s.holds; roles = s.roles; assigned_in_comprehension = assigned_as s.holds s.assigned_in_comprehension; free_class = s.free_class; captured = true }
 
 -- the scope after one lift of n, which the comprehensions on the way hold as k
 abbrev pub after_lift : Lift → Holds → Name → Row → Row
 after_lift Stays k n t = t
-after_lift Through k n t = with_entries t (put t.entries n (held_as k (or_absent (lookup n t.entries))))
-after_lift Holder k n t = with_entries t (put t.entries n (holding_entry (or_absent (lookup n t.entries))))
+after_lift Through k n t = with_entries t (put_value t.entries n (held_as k (or_absent (lookup n t.entries))))
+after_lift Holder k n t = with_entries t (put_value t.entries n (holding_entry (or_absent (lookup n t.entries))))
 
 -- the rows after one lift along the list
 abbrev pub IsLiftedAlong : List Row → Name → List ℕ → List Row → Type 0

@@ -5,7 +5,7 @@ use Rattle.py_scope.specs.declared.table_type.SymbolTableType.TheVariants.{Modul
 use Rattle.py_scope.specs.declared.rows.Holds.TheVariants.{Passed}
 use Rattle.py_scope.specs.declared.rows.Entry.{Entry}
 use Rattle.py_scope.specs.declared.rows.Row.{Row}
-use Rattle.py_scope.specs.Names.{Name, lookup, put}
+use Rattle.py_scope.specs.Names.{Name, lookup, put_value}
 use Rattle.py_scope.specs.Bits.{no_roles}
 use Rattle.py_scope.specs.Outward.{Touch, Leaves, Passes, Captures, touch, enclosing_scopes, parents, meetings, asked_outward}
 
@@ -18,7 +18,7 @@ is_class TypeParams = false
 
 -- a name that the scope did not hold
 abbrev pub new_entry : Entry
-new_entry = record { holds = Passed; roles = no_roles; assigned_within = false; free_class = false; captured = false }
+new_entry = record { holds = Passed; roles = no_roles; assigned_in_comprehension = false; free_class = false; captured = false }
 
 abbrev pub or_new : Option Entry → Entry
 or_new None = new_entry
@@ -26,11 +26,11 @@ or_new (Some s) = s
 
 -- a look passed: a class notes it
 abbrev pub passed_entry : SymbolTableType → Entry → Entry
-passed_entry kind s = record { holds = s.holds; roles = s.roles; assigned_within = s.assigned_within; free_class = s.free_class || is_class kind; captured = s.captured }
+passed_entry kind s = record { holds = s.holds; roles = s.roles; assigned_in_comprehension = s.assigned_in_comprehension; free_class = s.free_class || is_class kind; captured = s.captured }
 
 -- a look ended
 abbrev pub captured_entry : Entry → Entry
-captured_entry s = record { holds = s.holds; roles = s.roles; assigned_within = s.assigned_within; free_class = s.free_class; captured = true }
+captured_entry s = record { holds = s.holds; roles = s.roles; assigned_in_comprehension = s.assigned_in_comprehension; free_class = s.free_class; captured = true }
 
 abbrev pub touched_entry : Touch → SymbolTableType → Entry → Entry
 touched_entry Leaves kind s = s
@@ -43,8 +43,8 @@ with_entries t es = record { kind = t.kind; parent = t.parent; head = t.head; en
 -- the scope after a look for n
 abbrev pub after : Touch → Name → Row → Row
 after Leaves n t = t
-after Passes n t = with_entries t (put t.entries n (passed_entry t.kind (or_new (lookup n t.entries))))
-after Captures n t = with_entries t (put t.entries n (captured_entry (or_new (lookup n t.entries))))
+after Passes n t = with_entries t (put_value t.entries n (passed_entry t.kind (or_new (lookup n t.entries))))
+after Captures n t = with_entries t (put_value t.entries n (captured_entry (or_new (lookup n t.entries))))
 
 -- what the look from scope s for name n does to scope t
 abbrev pub touch_by : List Row → ℕ → Name → ℕ → Touch

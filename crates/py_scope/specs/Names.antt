@@ -21,5 +21,5 @@ module _ {V : Type 0} where
   lookup n es = std_map.lookup (same_name n) es
 
   -- the name gets the value, in the place that it has or at the end
-  abbrev pub put : List (Name × V) → Name → V → List (Name × V)
-  put es n v = index_map.insert_entry same_name es n v
+  abbrev pub put_value : List (Name × V) → Name → V → List (Name × V)
+  put_value es n v = index_map.insert_entry same_name es n v

@@ -3,7 +3,9 @@ use Rattle.std.specs.Prelude.{ℕ, List, ◌++◌, codes}
 use Rattle.py_scope.specs.declared.refusal.Declaration.{Declaration}
 use Rattle.py_scope.specs.declared.refusal.Declaration.TheVariants.{Global, Nonlocal}
 use Rattle.py_scope.specs.declared.refusal.Refusal.{Refusal}
-use Rattle.py_scope.specs.declared.refusal.Refusal.TheVariants.{Parameter, Used, Annotated, Assigned, NonlocalAtTop, IteratedAndAssigned, RebindsIterated, InClassBody, InTypeParams, NoBinding, NoEnclosingScope, ClassName, Match, TypeParamKind, SameTypeParam, YieldInTypeParams}
+use Rattle.py_scope.specs.declared.refusal.Refusal.TheVariants.{Parameter, Used, Annotated, Assigned, NonlocalAtTop, IteratedAndAssigned}
+use Rattle.py_scope.specs.declared.refusal.Refusal.TheVariants.{RebindsIterated, InClassBody, InTypeParams, NoBinding, NoEnclosingScope}
+use Rattle.py_scope.specs.declared.refusal.Refusal.TheVariants.{ClassName, Match, TypeParamKind, SameTypeParam, YieldInTypeParams}
 use Rattle.py_scope.specs.Names.{Name}
 
 abbrev pub word_of : Declaration → List ℕ

@@ -54,8 +54,8 @@ abbrev pub kind_at : List Row → ℕ → SymbolTableType
 kind_at rows k = kind_of (slice_get rows k)
 
 -- the scopes around k, the nearest first
-abbrev pub around : List Row → ℕ → List ℕ
-around rows k = enclosing_scopes (parents rows) k
+abbrev pub outward_scopes : List Row → ℕ → List ℕ
+outward_scopes rows k = enclosing_scopes (parents rows) k
 
 -- c stands directly in k
 abbrev pub stands_in : List Row → ℕ → ℕ → Bool
@@ -80,7 +80,7 @@ abbrev pub holder : List Row → List ℕ → ℕ
 holder rows [] = 0
 holder rows (e ∷ es) = if is_comprehension (kind_at rows e) then holder rows es else e
 
--- n is lifted through the comprehension k: a walrus stores it there, or in a comprehension within with only comprehensions between
+-- n is lifted through the comprehension k: a walrus stores it there, or in a nested comprehension with only comprehensions between
 abbrev pub goes_through : List Row → ℕ → Name → Bool
 goes_through rows k n = list_any (λ q. stores rows q n && among k (way rows (outward_from rows q))) (scopes rows)
 
@@ -96,7 +96,7 @@ lifted_to rows h n = if is_function (kind_at rows h) then as_in (last_declaratio
 abbrev pub holds_in : List Row → ℕ → Name → Holds
 holds_in rows k n = if goes_through rows k n then lifted_to rows (holder rows (outward_from rows k)) n else last_declaration rows k n
 
--- a use in k binds n, or a walrus within does and k does not declare it
+-- a use in k binds n, or a nested walrus does and k does not declare it
 abbrev pub binds_in : List Row → ℕ → Name → Bool
 binds_in rows k n = bound_opt (entry_at rows k n) || (is_held rows k n && is_plain (last_declaration rows k n))
 
@@ -108,7 +108,7 @@ stops_in rows n e = if counts (kind_at rows e) n then stop_of (holds_in rows e n
 
 -- the look for n from k, which begins in the scope around k
 abbrev pub look_in : List Row → ℕ → Name → Found
-look_in rows k n = look (stops_in rows n) (around rows k)
+look_in rows k n = look (stops_in rows n) (outward_scopes rows k)
 
 -- the kind of n in k, but for cells and the module's shared names
 abbrev pub open_kind : List Row → ℕ → Name → SymbolScope
@@ -117,7 +117,7 @@ open_kind rows k n = kind_as (kind_at rows k) (look_in rows k n) (holds_in rows 
 -- Third: the scope that binds a free name is the nearest that stops the look and neither declares it nonlocal nor holds it lifted
 
 abbrev pub binder_in : List Row → ℕ → Name → Option ℕ
-binder_in rows k n = binder (stops_in rows n) (λ e. hands_on_as (holds_in rows e n)) (around rows k)
+binder_in rows k n = binder (stops_in rows n) (λ e. hands_on_as (holds_in rows e n)) (outward_scopes rows k)
 
 -- Fourth: which scopes need a free variable
 
@@ -145,7 +145,7 @@ ends_among (FreeOf b) ks = among b ks
 
 -- n is free in d, which stands within c, and the look from d ends outside c
 abbrev pub is_free_past : List Row → ℕ → Name → ℕ → Bool
-is_free_past rows c n d = is_free_in rows d n && (among c (around rows d) && ends_among (look_in rows d n) (around rows c))
+is_free_past rows c n d = is_free_in rows d n && (among c (outward_scopes rows d) && ends_among (look_in rows d n) (outward_scopes rows c))
 
 -- c needs n from outside: n is free in c itself, or in a nested scope whose look ends outside
 abbrev pub needs : List Row → ℕ → Name → Bool

@@ -6,7 +6,7 @@ use Rattle.py_scope.specs.declared.rows.Holds.TheVariants.{DeclaredGlobal, Decla
 use Rattle.py_scope.specs.declared.rows.Entry.{Entry}
 use Rattle.py_scope.specs.declared.roles.Role.{Role}
 use Rattle.py_scope.specs.declared.roles.Role.TheVariants.{Used, Assigned, Imported, Parameter, AnnotatedParameter, AnnotationAssigned, Walrus, Iterated, Global, Nonlocal}
-use Rattle.py_scope.specs.Names.{Name, same_name, lookup, put}
+use Rattle.py_scope.specs.Names.{Name, same_name, lookup, put_value}
 use Rattle.py_scope.specs.Bits.{intersects, is_bound}
 use Rattle.py_scope.specs.Lifts.{or_absent}
 use Rattle.py_scope.specs.Kinds.{add_name}
@@ -42,11 +42,18 @@ declares Global holds = DeclaredGlobal
 declares Nonlocal holds = DeclaredNonlocal
 
 abbrev pub with_role : Role → Entry → Entry
-with_role r s = record { holds = declares r s.holds; roles = record { 0 = bit_or s.roles.0 (flags_of r) }; assigned_within = s.assigned_within; free_class = s.free_class; captured = s.captured }
+with_role r s = record {
+  holds = declares r s.holds;
+  roles = record { 0 = bit_or s.roles.0 (flags_of r) };
+  assigned_in_comprehension =
+      s.assigned_in_comprehension;
+  free_class = s.free_class;
+  captured = s.captured;
+}
 
 -- one use more
 abbrev pub register : List (Name × Entry) → Name → Role → List (Name × Entry)
-register es n r = put es n (with_role r (or_absent (lookup n es)))
+register es n r = put_value es n (with_role r (or_absent (lookup n es)))
 
 -- the entries of a scope with these uses
 abbrev pub registered_entries : List (Name × Role) → List (Name × Entry)

@@ -50,7 +50,14 @@ inner Comprehension = Comprehension
 inner TypeParams = TypeParams
 
 abbrev pub entered_row : List Row → ℕ → SymbolTableType → Name → ℕ → Row
-entered_row rows around typ name line = record { kind = inner typ; parent = around; head = record { name = name; line_number = line; is_nested = nests (slice_get rows around) }; entries = [] }
+entered_row rows outward_scopes typ name line =
+    record {
+      kind = inner typ;
+      parent = outward_scopes;
+      head =
+          record { name = name; line_number = line; is_nested = nests (slice_get rows outward_scopes) };
+      entries = [];
+    }
 
 abbrev pub entered_scan : Scanned → SymbolTableType → Name → ℕ → Scanned
 entered_scan s typ name line = record { rows = s.rows ++ entered_row s.rows s.current typ name line ∷ []; current = length s.rows; left = s.left }

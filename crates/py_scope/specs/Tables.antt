@@ -51,7 +51,7 @@ kind_in rows s n e = if is_shared rows s n e then GlobalExplicit else kind_of_en
 
 -- the roles, ASSIGNED where a walrus in a nested comprehension binds the name, FREE_CLASS where a class hands it on
 abbrev pub flags_in : Entry → ℕ
-flags_in e = bit_or (bit_or e.roles.0 (if e.assigned_within then 0x002 else 0)) (if e.free_class then 0x100 else 0)
+flags_in e = bit_or (bit_or e.roles.0 (if e.assigned_in_comprehension then 0x002 else 0)) (if e.free_class then 0x100 else 0)
 
 abbrev pub symbol_in : List Row → ℕ → Name × Entry → Symbol
 symbol_in rows s p = record { name = p.0; scope = kind_in rows s p.0 p.1; flags = record { 0 = flags_in p.1 } }

@@ -52,7 +52,8 @@ ClosureShown = shown_tables closure ≡ ((codes "f", Local, 0x002) ∷ []) ∷ (
 abbrev pub passing_class : List Call
 passing_class =
     Enters Function (codes "f") ∷ Uses Parameter (codes "y") ∷ Enters Class (codes "A") ∷ Uses Assigned (codes "__class__") ∷ Uses Assigned (codes "y")
-    ∷ Enters Function (codes "g") ∷ Uses Used (codes "super") ∷ Uses Used (codes "__class__") ∷ Uses Used (codes "y") ∷ Leaves ∷ Uses Assigned (codes "g") ∷ Leaves ∷ Uses Assigned (codes "A") ∷ Leaves ∷ Uses Assigned (codes "f") ∷ []
+    ∷ Enters Function (codes "g") ∷ Uses Used (codes "super") ∷ Uses Used (codes "__class__") ∷ Uses Used (codes "y") ∷ Leaves
+    ∷ Uses Assigned (codes "g") ∷ Leaves ∷ Uses Assigned (codes "A") ∷ Leaves ∷ Uses Assigned (codes "f") ∷ []
 
 abbrev pub PassingClassShown : Type 0
 PassingClassShown =
@@ -65,7 +66,9 @@ PassingClassShown =
 
 -- def f(): return [y := v for v in z]
 abbrev pub walrus_in_function : List Call
-walrus_in_function = Enters Function (codes "f") ∷ Enters Comprehension (codes "genexpr") ∷ Uses Parameter (codes ".0") ∷ Uses Iterated (codes "v") ∷ Uses Used (codes "v") ∷ Uses Walrus (codes "y") ∷ Leaves ∷ Uses Used (codes "z") ∷ Leaves ∷ Uses Assigned (codes "f") ∷ []
+walrus_in_function = Enters Function (codes "f") ∷ Enters Comprehension (codes "genexpr") ∷ Uses Parameter (codes ".0")
+    ∷ Uses Iterated (codes "v") ∷ Uses Used (codes "v") ∷ Uses Walrus (codes "y") ∷ Leaves ∷ Uses Used (codes "z") ∷ Leaves
+    ∷ Uses Assigned (codes "f") ∷ []
 
 abbrev pub WalrusInFunctionShown : Type 0
 WalrusInFunctionShown =
@@ -77,7 +80,8 @@ WalrusInFunctionShown =
 
 -- [(lambda: y) for v in z if (y := v)]
 abbrev pub walrus_in_module : List Call
-walrus_in_module = Enters Comprehension (codes "genexpr") ∷ Uses Parameter (codes ".0") ∷ Uses Iterated (codes "v") ∷ Uses Used (codes "v") ∷ Uses Walrus (codes "y") ∷ Enters Function (codes "lambda") ∷ Uses Used (codes "y") ∷ Leaves ∷ Leaves ∷ Uses Used (codes "z") ∷ []
+walrus_in_module = Enters Comprehension (codes "genexpr") ∷ Uses Parameter (codes ".0") ∷ Uses Iterated (codes "v") ∷ Uses Used (codes "v")
+    ∷ Uses Walrus (codes "y") ∷ Enters Function (codes "lambda") ∷ Uses Used (codes "y") ∷ Leaves ∷ Leaves ∷ Uses Used (codes "z") ∷ []
 
 abbrev pub WalrusInModuleShown : Type 0
 WalrusInModuleShown =
@@ -89,7 +93,8 @@ WalrusInModuleShown =
 
 -- def f(x): global x
 abbrev pub GlobalParameterRefused : Type 0
-GlobalParameterRefused = refused_here (scan_of_calls (Enters Function (codes "f") ∷ Uses Parameter (codes "x") ∷ [])) (codes "x") Global ≡ Some (refusal.TheVariants.Parameter declaration.TheVariants.Global (codes "x"))
+GlobalParameterRefused = refused_here (scan_of_calls (Enters Function (codes "f") ∷ Uses Parameter (codes "x") ∷ [])) (codes "x") Global
+    ≡ Some (refusal.TheVariants.Parameter declaration.TheVariants.Global (codes "x"))
 
 -- [y := 0 for y in z], where y is both iterated and assigned
 abbrev pub IteratedWalrusRefused : Type 0
@@ -97,7 +102,9 @@ IteratedWalrusRefused = refused_here (scan_of_calls (Enters Comprehension (codes
 
 -- def f(): nonlocal x
 abbrev pub UnboundNonlocalRefused : Type 0
-UnboundNonlocalRefused = first_fault (scan_of_calls (Enters Function (codes "f") ∷ Uses Nonlocal (codes "x") ∷ Leaves ∷ Uses Assigned (codes "f") ∷ [])) ≡ Some (refusal.TheVariants.NoBinding (codes "x"))
+UnboundNonlocalRefused = first_fault
+    (scan_of_calls (Enters Function (codes "f") ∷ Uses Nonlocal (codes "x") ∷ Leaves ∷ Uses Assigned (codes "f") ∷ []))
+    ≡ Some (refusal.TheVariants.NoBinding (codes "x"))
 
 -- global x; nonlocal x
 abbrev pub ModuleNonlocalRefused : Type 0

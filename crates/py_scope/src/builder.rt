@@ -68,7 +68,8 @@ fn allow(
     location: SourceLocation,
 ) -> Result<(), SymbolTableError>
     ensures allowed { OnOk result (refused_use kind held name.now role ≡ None) }
-    ensures refused { IfErr result (λ e. Tells e (refused_use kind held name.now role) (Some location)) }
+    ensures refused { IfErr result
+        (λ e. Tells e (refused_use kind held name.now role) (Some location)) }
 {
     match refused_use(alloc, kind, held, name, role) {
         Ok(None) => Ok(()),
@@ -95,7 +96,8 @@ fn use_in(
     ensures ok { OnOk result (row.new ≡ used_in name.now role row.old) }
     ensures allowed { OnOk result (refused_in row.old name.now role ≡ None) }
     ensures err { OnErr result (row.new ≡ row.old) }
-    ensures refused { IfErr result (λ e. Tells e (refused_in row.old name.now role) (Some location)) }
+    ensures refused { IfErr result
+        (λ e. Tells e (refused_in row.old name.now role) (Some location)) }
 {
     let role = role_in(row.kind, role);
     let (place, held) = row.entries.find(name);
@@ -106,7 +108,7 @@ fn use_in(
     }
 }
 
-/// A scope within is no module.
+/// A nested scope is no module.
 fn inner(typ: SymbolTableType) -> SymbolTableType
     ensures { result ≡ inner typ }
 {
@@ -205,7 +207,8 @@ impl ScopeBuilder {
         ensures ok { OnOk result (self.new ≡ with_use self.old name.now role) }
         ensures allowed { OnOk result (refused_here self.old name.now role ≡ None) }
         ensures err { OnErr result (self.new ≡ self.old) }
-        ensures refused { IfErr result (λ e. Tells e (refused_here self.old name.now role) (Some location)) }
+        ensures refused { IfErr result
+            (λ e. Tells e (refused_here self.old name.now role) (Some location)) }
     {
         use_in(
             self.alloc,

@@ -18,7 +18,7 @@ use crate::table_type::SymbolTableType;
 use py_base::Text;
 use std::alloc::Global;
 
-/// The refusal of a nonlocal name that no scope around binds.
+/// The refusal of a nonlocal name that no enclosing scope binds.
 fn unfound(alloc: Global, scope: usize, name: &Text) -> Fault
     ensures { IsRefusal result (unfound scope name.now) }
 {
@@ -44,8 +44,11 @@ fn check_nonlocal(
 ) -> Result<(), Fault>
     requires numbered { IsNumbered rows.now }
     requires within { scope < length rows.now }
-    ensures allowed { OnOk result (wrong_nonlocal scope name.now (look_from rows.now scope name.now) holds ≡ None) }
-    ensures refused { IfErr result (λ e. IsRefusal e (wrong_nonlocal scope name.now (look_from rows.now scope name.now) holds)) }
+    ensures allowed { OnOk result (wrong_nonlocal scope name.now
+        (look_from rows.now scope name.now) holds ≡ None) }
+    ensures refused { IfErr result
+        (λ e. IsRefusal e (wrong_nonlocal scope name.now
+        (look_from rows.now scope name.now) holds)) }
 {
     match holds {
         Holds::DeclaredNonlocal => {
@@ -81,11 +84,11 @@ fn is_class(kind: SymbolTableType) -> bool
 }
 
 /// Whether a scope of this kind uses a name that the enclosing class binds, as type parameters may not.
-fn hides(kind: SymbolTableType, around: &Row, name: &Text, entry: Entry) -> bool
-    ensures { result ≡ hides kind (Some around.now) name.now entry }
+fn hides(kind: SymbolTableType, outward_scopes: &Row, name: &Text, entry: Entry) -> bool
+    ensures { result ≡ hides kind (Some outward_scopes.now) name.now entry }
 {
-    let in_class = is_type_params(kind) && is_class(around.kind);
-    let from_class = !entry.is_bound() && is_bound(around.entries.get(name));
+    let in_class = is_type_params(kind) && is_class(outward_scopes.kind);
+    let from_class = !entry.is_bound() && is_bound(outward_scopes.entries.get(name));
     in_class && (from_class && name.as_str() != "__class__")
 }
 
@@ -106,7 +109,7 @@ fn is_class_name(rows: &[Row], scope: usize, name: &Text, entry: Entry) -> bool
     let row = &rows[scope];
     match rows.get(row.parent) {
         None => false,
-        Some(around) => hides(row.kind, around, name, entry),
+        Some(outward_scopes) => hides(row.kind, outward_scopes, name, entry),
     }
 }
 
@@ -119,7 +122,8 @@ fn check_class_name(
 ) -> Result<(), Fault>
     requires { scope < length rows.now }
     ensures allowed { OnOk result (wrong_class_name rows.now scope name.now entry ≡ None) }
-    ensures refused { IfErr result (λ e. IsRefusal e (wrong_class_name rows.now scope name.now entry)) }
+    ensures refused { IfErr result
+        (λ e. IsRefusal e (wrong_class_name rows.now scope name.now entry)) }
 {
     if is_class_name(rows, scope, name, entry) {
         Err(class_name(alloc, name))
@@ -136,8 +140,10 @@ fn check_entry(
 ) -> Result<(), Fault>
     requires numbered { IsNumbered rows.now }
     requires within { scope < length rows.now }
-    ensures allowed { OnOk result (wrong_opt rows.now scope (option_map deref_pair entry.entry) ≡ None) }
-    ensures refused { IfErr result (λ e. IsRefusal e (wrong_opt rows.now scope (option_map deref_pair entry.entry))) }
+    ensures allowed { OnOk result (wrong_opt rows.now scope (option_map deref_pair entry.entry)
+        ≡ None) }
+    ensures refused { IfErr result
+        (λ e. IsRefusal e (wrong_opt rows.now scope (option_map deref_pair entry.entry))) }
 {
     let Some((name, entry)) = entry else {
         return Ok(());

@@ -36,7 +36,8 @@ impl Model for FlatScopes {
 
 /// Appends the scopes of the table.
 fn push_table(entries: &mut Vec<ScopeEntry>, table: SymbolTable) -> Result<(), AllocError>
-    ensures { OnOk result (entries.new.items ≡ entries.old.items ++ flat_table table (length entries.old.items)) }
+    ensures { OnOk result (entries.new.items ≡ entries.old.items
+        ++ flat_table table (length entries.old.items)) }
 {
     let at = entries.len();
     let SymbolTable {

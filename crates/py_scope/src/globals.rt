@@ -24,7 +24,9 @@ fn note(
     names: &mut IndexSet<Text>,
     entry: Option<(&Text, &Entry)>,
 ) -> Result<(), AllocError>
-    ensures { OnOk result ((n : Name) → list_any (same_name n) names.new.keys ≡ (list_any (same_name n) names.old.keys || declares_opt n (option_map deref_pair entry.entry))) }
+    ensures { OnOk result ((n : Name) → list_any (same_name n) names.new.keys
+        ≡ (list_any (same_name n) names.old.keys || declares_opt n
+        (option_map deref_pair entry.entry))) }
 {
     let Some((name, entry)) = entry else {
         return Ok(());
@@ -37,7 +39,8 @@ fn note(
 
 /// Notes the names that a scope directly inside the module declares global.
 fn note_row(alloc: Global, names: &mut IndexSet<Text>, row: &Row) -> Result<(), AllocError>
-    ensures { OnOk result ((n : Name) → list_any (same_name n) names.new.keys ≡ (list_any (same_name n) names.old.keys || declares_in n row.now)) }
+    ensures { OnOk result ((n : Name) → list_any (same_name n) names.new.keys
+        ≡ (list_any (same_name n) names.old.keys || declares_in n row.now)) }
 {
     if row.parent != 0 {
         return Ok(());
@@ -51,7 +54,8 @@ fn note_row(alloc: Global, names: &mut IndexSet<Text>, row: &Row) -> Result<(), 
 /// The names that scopes directly inside the module declare global.
 pub(crate) fn globals_within(alloc: Global, rows: &[Row]) -> Result<IndexSet<Text>, AllocError>
     requires { 0 < length rows.now }
-    ensures { IfOk result (λ names. (n : Name) → list_any (same_name n) names.keys ≡ global_within rows.now n) }
+    ensures { IfOk result (λ names. (n : Name)
+        → list_any (same_name n) names.keys ≡ global_within rows.now n) }
 {
     let mut names = IndexSet::new(alloc);
     for row in &rows[1..] {

@@ -24,7 +24,8 @@ pub enum SymbolScope {
 fn look_at(rows: &[Row], at: usize, name: &Text) -> Found
     requires numbered { IsNumbered rows.now }
     requires within { at < length rows.now }
-    ensures { result ≡ look (meetings rows.now name.now) (at ∷ enclosing_scopes (parents rows.now) at) }
+    ensures { result ≡ look (meetings rows.now name.now)
+        (at ∷ enclosing_scopes (parents rows.now) at) }
 {
     let row = &rows[at];
     let parent = row.parent;
@@ -89,7 +90,8 @@ fn own_kind(captured: bool) -> SymbolScope
 pub fn resolve(rows: &[Row], scope: usize, name: &Text, entry: Entry) -> SymbolScope
     requires numbered { IsNumbered rows.now }
     requires within { scope < length rows.now }
-    ensures { result ≡ kind_of_entry (kind_of (slice_get rows.now scope)) (look_from rows.now scope name.now) entry }
+    ensures { result ≡ kind_of_entry (kind_of (slice_get rows.now scope))
+        (look_from rows.now scope name.now) entry }
 {
     match entry.holds {
         Holds::DeclaredGlobal | Holds::LiftedGlobal => SymbolScope::GlobalExplicit,

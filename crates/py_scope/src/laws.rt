@@ -1,5 +1,5 @@
 //! Laws of the definitions. The bodies do nothing.
-ghost use Rattle.py_scope.specs.Answered.{ClosureResolves, PassingClassResolves, WalrusInFunctionResolves, WalrusInModuleResolves, ClassWithoutUseResolves, ClassWithGlobalResolves, SharedNameResolves, NonlocalWalrusResolves, GlobalWalrusResolves, WalrusWithinResolves};
+ghost use Rattle.py_scope.specs.Answered.{ClosureResolves, PassingClassResolves, WalrusInFunctionResolves, WalrusInModuleResolves, ClassWithoutUseResolves, ClassWithGlobalResolves, SharedNameResolves, NonlocalWalrusResolves, GlobalWalrusResolves, NestedWalrusResolves};
 ghost use Rattle.py_scope.specs.Worked.{ClosureShown, PassingClassShown, WalrusInFunctionShown, WalrusInModuleShown, GlobalParameterRefused, IteratedWalrusRefused, UnboundNonlocalRefused, ModuleNonlocalRefused};
 
 /// The scopes of small programs resolve as they are written here, and programs that Python refuses are refused.
@@ -25,5 +25,5 @@ pub fn worked_answers()
     ensures shared_name { SharedNameResolves }
     ensures nonlocal_walrus { NonlocalWalrusResolves }
     ensures global_walrus { GlobalWalrusResolves }
-    ensures walrus_within { WalrusWithinResolves }
+    ensures walrus_nested { NestedWalrusResolves }
 {}

@@ -23,7 +23,7 @@ pub(crate) fn or_absent(entry: Option<Entry>) -> Entry
         None => Entry {
             holds: Holds::Plain,
             roles: SymbolFlags::NONE,
-            assigned_within: false,
+            assigned_in_comprehension: false,
             free_class: false,
             captured: false,
         },
@@ -73,7 +73,7 @@ fn hold_as(alloc: Global, row: &mut Row, name: &Text, holds: Holds) -> Result<()
     let held = Entry {
         holds,
         roles: entry.roles,
-        assigned_within: entry.assigned_within,
+        assigned_in_comprehension: entry.assigned_in_comprehension,
         free_class: entry.free_class,
         captured: entry.captured,
     };
@@ -85,7 +85,9 @@ fn hold_as(alloc: Global, row: &mut Row, name: &Text, holds: Holds) -> Result<()
 
 /// The function binds the name.
 fn hold(alloc: Global, row: &mut Row, name: &Text) -> Result<Holds, Fault>
-    ensures ok { IfOk result (λ held. (held ≡ as_in (or_absent (lookup name.now row.old.entries)).holds) × (row.new ≡ after_lift Holder held name.now row.old)) }
+    ensures ok { IfOk result (λ held.
+        (held ≡ as_in (or_absent (lookup name.now row.old.entries)).holds)
+        × (row.new ≡ after_lift Holder held name.now row.old)) }
     ensures err { IfErr result (λ e. IsRefusal e None) }
 {
     let (place, before) = row.entries.find(name);
@@ -93,7 +95,7 @@ fn hold(alloc: Global, row: &mut Row, name: &Text) -> Result<Holds, Fault>
     let held = Entry {
         holds: entry.holds,
         roles: entry.roles,
-        assigned_within: assigned_as(entry.holds, entry.assigned_within),
+        assigned_in_comprehension: assigned_as(entry.holds, entry.assigned_in_comprehension),
         free_class: entry.free_class,
         captured: true,
     };
@@ -118,10 +120,16 @@ fn lift_from(alloc: Global, rows: &mut Vec<Row>, at: usize, name: &Text) -> Resu
     requires numbered { IsNumbered rows.old.items }
     requires within { at < length rows.old.items }
     requires module { (stages rows.old.items name.now 0).kind ≡ Module }
-    ensures held { IfOk result (λ held. held ≡ lifted_holds (stages rows.old.items name.now) (at ∷ enclosing_scopes (parents rows.old.items) at)) }
-    ensures allowed { OnOk result (refusal name.now (stages rows.old.items name.now) (at ∷ enclosing_scopes (parents rows.old.items) at) ≡ None) }
-    ensures lifted { OnOk result (IsLiftedAlong rows.old.items name.now (at ∷ enclosing_scopes (parents rows.old.items) at) rows.new.items) }
-    ensures refused { IfErr result (λ e. IsRefusal e (refusal name.now (stages rows.old.items name.now) (at ∷ enclosing_scopes (parents rows.old.items) at))) }
+    ensures held { IfOk result (λ held.
+        held ≡ lifted_holds (stages rows.old.items name.now)
+        (at ∷ enclosing_scopes (parents rows.old.items) at)) }
+    ensures allowed { OnOk result (refusal name.now (stages rows.old.items name.now)
+        (at ∷ enclosing_scopes (parents rows.old.items) at) ≡ None) }
+    ensures lifted { OnOk result (IsLiftedAlong rows.old.items name.now
+        (at ∷ enclosing_scopes (parents rows.old.items) at) rows.new.items) }
+    ensures refused { IfErr result
+        (λ e. IsRefusal e (refusal name.now (stages rows.old.items name.now)
+        (at ∷ enclosing_scopes (parents rows.old.items) at))) }
 {
     if at == 0 {
         return Ok(Holds::LiftedModule);
@@ -159,9 +167,13 @@ fn lift_one(alloc: Global, rows: &mut Vec<Row>, scope: usize, name: &Text) -> Re
     requires above { 0 < scope }
     requires module { (stages rows.old.items name.now 0).kind ≡ Module }
     requires comprehension { (stages rows.old.items name.now scope).kind ≡ Comprehension }
-    ensures allowed { OnOk result (refusal name.now (stages rows.old.items name.now) (enclosing_scopes (parents rows.old.items) scope) ≡ None) }
-    ensures lifted { OnOk result (IsLiftedAlong rows.old.items name.now (outward_from rows.old.items scope) rows.new.items) }
-    ensures refused { IfErr result (λ e. IsRefusal e (refusal name.now (stages rows.old.items name.now) (enclosing_scopes (parents rows.old.items) scope))) }
+    ensures allowed { OnOk result (refusal name.now (stages rows.old.items name.now)
+        (enclosing_scopes (parents rows.old.items) scope) ≡ None) }
+    ensures lifted { OnOk result (IsLiftedAlong rows.old.items name.now
+        (outward_from rows.old.items scope) rows.new.items) }
+    ensures refused { IfErr result
+        (λ e. IsRefusal e (refusal name.now (stages rows.old.items name.now)
+        (enclosing_scopes (parents rows.old.items) scope))) }
 {
     let parent = rows[scope].parent;
     match lift_from(alloc, rows, parent, name) {
@@ -178,7 +190,8 @@ fn push_walrus(
     names: &mut Vec<Text>,
     entry: Option<(&Text, &Entry)>,
 ) -> Result<(), AllocError>
-    ensures { OnOk result (names.new.items ≡ names.old.items ++ walruses_in (option_map deref_pair entry.entry)) }
+    ensures { OnOk result (names.new.items ≡ names.old.items
+        ++ walruses_in (option_map deref_pair entry.entry)) }
 {
     if let Some((name, entry)) = entry {
         if entry.is_stored_by_walrus() {
@@ -206,9 +219,12 @@ fn lift_names(alloc: Global, rows: &mut Vec<Row>, scope: usize, names: &[Text]) 
     requires above { 0 < scope }
     requires module { kind_of (slice_get rows.old.items 0) ≡ Module }
     requires comprehension { kind_of (slice_get rows.old.items scope) ≡ Comprehension }
-    ensures allowed { OnOk result (first_refusal rows.old.items (from_scope scope names.now) ≡ None) }
-    ensures lifted { OnOk result (IsLifted rows.old.items (from_scope scope names.now) rows.new.items) }
-    ensures refused { IfErr result (λ e. IsRefusal e (first_refusal rows.old.items (from_scope scope names.now))) }
+    ensures allowed { OnOk result (first_refusal rows.old.items (from_scope scope names.now)
+        ≡ None) }
+    ensures lifted { OnOk result (IsLifted rows.old.items
+        (from_scope scope names.now) rows.new.items) }
+    ensures refused { IfErr result
+        (λ e. IsRefusal e (first_refusal rows.old.items (from_scope scope names.now))) }
 {
     for name in names {
         match lift_one(alloc, rows, scope, name) {
@@ -225,9 +241,12 @@ fn lift_scope(alloc: Global, rows: &mut Vec<Row>, scope: usize) -> Result<(), Fa
     requires within { scope < length rows.old.items }
     requires module { kind_of (slice_get rows.old.items 0) ≡ Module }
     requires comprehensions { WalrusesInComprehensions rows.old.items }
-    ensures allowed { OnOk result (first_refusal rows.old.items (lifts_of rows.old.items scope) ≡ None) }
-    ensures lifted { OnOk result (IsLifted rows.old.items (lifts_of rows.old.items scope) rows.new.items) }
-    ensures refused { IfErr result (λ e. IsRefusal e (first_refusal rows.old.items (lifts_of rows.old.items scope))) }
+    ensures allowed { OnOk result (first_refusal rows.old.items (lifts_of rows.old.items scope)
+        ≡ None) }
+    ensures lifted { OnOk result (IsLifted rows.old.items
+        (lifts_of rows.old.items scope) rows.new.items) }
+    ensures refused { IfErr result
+        (λ e. IsRefusal e (first_refusal rows.old.items (lifts_of rows.old.items scope))) }
 {
     let row = &rows[scope];
     if scope == 0 || !is_comprehension(row.kind) {
@@ -249,9 +268,12 @@ pub fn lift_all(alloc: Global, rows: &mut Vec<Row>, order: &[usize]) -> Result<(
     requires within { All (λ s. s < length rows.old.items) order.now }
     requires module { kind_of (slice_get rows.old.items 0) ≡ Module }
     requires comprehensions { WalrusesInComprehensions rows.old.items }
-    ensures allowed { OnOk result (first_refusal rows.old.items (lifts rows.old.items order.now) ≡ None) }
-    ensures lifted { OnOk result (IsLifted rows.old.items (lifts rows.old.items order.now) rows.new.items) }
-    ensures refused { IfErr result (λ e. IsRefusal e (first_refusal rows.old.items (lifts rows.old.items order.now))) }
+    ensures allowed { OnOk result (first_refusal rows.old.items (lifts rows.old.items order.now)
+        ≡ None) }
+    ensures lifted { OnOk result (IsLifted rows.old.items
+        (lifts rows.old.items order.now) rows.new.items) }
+    ensures refused { IfErr result
+        (λ e. IsRefusal e (first_refusal rows.old.items (lifts rows.old.items order.now))) }
 {
     for scope in order {
         match lift_scope(alloc, rows, *scope) {

@@ -19,7 +19,7 @@ fn or_new(entry: Option<Entry>) -> Entry
         None => Entry {
             holds: Holds::Passed,
             roles: SymbolFlags::NONE,
-            assigned_within: false,
+            assigned_in_comprehension: false,
             free_class: false,
             captured: false,
         },
@@ -42,7 +42,7 @@ fn pass_on(alloc: Global, row: &mut Row, name: &Text) -> Result<(), AllocError>
     let passed = Entry {
         holds: entry.holds,
         roles: entry.roles,
-        assigned_within: entry.assigned_within,
+        assigned_in_comprehension: entry.assigned_in_comprehension,
         free_class,
         captured: entry.captured,
     };
@@ -58,7 +58,7 @@ fn capture(alloc: Global, row: &mut Row, name: &Text) -> Result<(), AllocError>
     let captured = Entry {
         holds: entry.holds,
         roles: entry.roles,
-        assigned_within: entry.assigned_within,
+        assigned_in_comprehension: entry.assigned_in_comprehension,
         free_class: entry.free_class,
         captured: true,
     };
@@ -74,8 +74,14 @@ fn mark_from(
 ) -> Result<Found, AllocError>
     requires numbered { IsNumbered rows.old.items }
     requires within { at < length rows.old.items }
-    ensures found { IfOk result (λ found. found ≡ look (meetings rows.old.items name.now) (at ∷ enclosing_scopes (parents rows.old.items) at)) }
-    ensures marked { OnOk result ((t : ℕ) → slice_get rows.new.items t ≡ option_map (after (touch (meetings rows.old.items name.now) t (at ∷ enclosing_scopes (parents rows.old.items) at)) name.now) (slice_get rows.old.items t)) }
+    ensures found { IfOk result (λ found.
+        found ≡ look (meetings rows.old.items name.now)
+        (at ∷ enclosing_scopes (parents rows.old.items) at)) }
+    ensures marked { OnOk result ((t : ℕ)
+        → slice_get rows.new.items t ≡ option_map
+        (after (touch (meetings rows.old.items name.now) t
+        (at ∷ enclosing_scopes (parents rows.old.items) at)) name.now)
+        (slice_get rows.old.items t)) }
 {
     match look_in(name, &rows[at]) {
         Meets::Explicit => Ok(Found::Globally),
@@ -116,7 +122,8 @@ fn push_asking(
     names: &mut Vec<Text>,
     entry: Option<(&Text, &Entry)>,
 ) -> Result<(), AllocError>
-    ensures { OnOk result (names.new.items ≡ names.old.items ++ asking_in (option_map deref_pair entry.entry)) }
+    ensures { OnOk result (names.new.items ≡ names.old.items
+        ++ asking_in (option_map deref_pair entry.entry)) }
 {
     if let Some((name, entry)) = entry {
         if asks(*entry) {
@@ -141,7 +148,8 @@ fn asking(alloc: Global, entries: &Entries) -> Result<Vec<Text>, AllocError>
 fn mark_scope(alloc: Global, rows: &mut Vec<Row>, scope: usize) -> Result<(), AllocError>
     requires numbered { IsNumbered rows.old.items }
     requires within { scope < length rows.old.items }
-    ensures { OnOk result (IsSettled rows.old.items (looks rows.old.items (scope ∷ [])) rows.new.items) }
+    ensures { OnOk result (IsSettled rows.old.items
+        (looks rows.old.items (scope ∷ [])) rows.new.items) }
 {
     let names = asking(alloc, &rows[scope].entries)?;
     for name in &names {
@@ -157,7 +165,8 @@ fn mark_scope(alloc: Global, rows: &mut Vec<Row>, scope: usize) -> Result<(), Al
 pub fn mark_all(alloc: Global, rows: &mut Vec<Row>, order: &[usize]) -> Result<(), AllocError>
     requires numbered { IsNumbered rows.old.items }
     requires within { All (λ s. s < length rows.old.items) order.now }
-    ensures { OnOk result (IsSettled rows.old.items (looks rows.old.items order.now) rows.new.items) }
+    ensures { OnOk result (IsSettled rows.old.items
+        (looks rows.old.items order.now) rows.new.items) }
 {
     for scope in order {
         mark_scope(alloc, rows, *scope)?;

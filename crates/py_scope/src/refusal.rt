@@ -33,7 +33,7 @@ pub enum Refusal {
     InClassBody,
     /// The holder of a walrus is a scope of type parameters.
     InTypeParams,
-    /// No scope around binds a name that is declared nonlocal.
+    /// No enclosing scope binds a name that is declared nonlocal.
     NoBinding(Text),
     /// A name of the module was declared nonlocal after it was declared global.
     NoEnclosingScope(Text),
@@ -68,7 +68,7 @@ impl Declaration {
 }
 
 /// A name between two texts.
-fn around(alloc: Global, before: &str, name: &Text, after: &str) -> Result<Text, AllocError>
+fn name_between(alloc: Global, before: &str, name: &Text, after: &str) -> Result<Text, AllocError>
     ensures { IfOk result (λ text. text ≡ (before.now ++ name.now) ++ after.now) }
 {
     let mut text = String::from_str(alloc, before)?;
@@ -85,7 +85,8 @@ fn declared(
     declaration: Declaration,
     after: &str,
 ) -> Result<Text, AllocError>
-    ensures { IfOk result (λ text. text ≡ (((codes "name '" ++ name.now) ++ middle.now) ++ word_of declaration) ++ after.now) }
+    ensures { IfOk result (λ text. text
+        ≡ (((codes "name '" ++ name.now) ++ middle.now) ++ word_of declaration) ++ after.now) }
 {
     let mut text = String::from_str(alloc, "name '")?;
     text.push_str(name.as_str())?;
@@ -121,10 +122,10 @@ impl Refusal {
                 declared(alloc, name, "' is used prior to ", *word, " declaration")
             }
             Refusal::Annotated(Declaration::Global, name) => {
-                around(alloc, "annotated name '", name, "' can't be global")
+                name_between(alloc, "annotated name '", name, "' can't be global")
             }
             Refusal::Annotated(Declaration::Nonlocal, name) => {
-                around(alloc, "annotated name '", name, "' can't be nonlocal")
+                name_between(alloc, "annotated name '", name, "' can't be nonlocal")
             }
             Refusal::Assigned(word, name) => {
                 declared(
@@ -136,13 +137,13 @@ impl Refusal {
                 )
             }
             Refusal::NonlocalAtTop(name) => {
-                around(alloc, "cannot define nonlocal '", name, "' at top level.")
+                name_between(alloc, "cannot define nonlocal '", name, "' at top level.")
             }
             Refusal::IteratedAndAssigned => alone(
                 alloc,
                 "assignment expression cannot be used in a comprehension iterable expression",
             ),
-            Refusal::RebindsIterated(name) => around(
+            Refusal::RebindsIterated(name) => name_between(
                 alloc,
                 "assignment expression cannot rebind comprehension iteration variable ",
                 name,
@@ -156,16 +157,16 @@ impl Refusal {
                 alone(alloc, "named expression cannot be used in type parameters")
             }
             Refusal::NoBinding(name) => {
-                around(alloc, "no binding for nonlocal '", name, "' found")
+                name_between(alloc, "no binding for nonlocal '", name, "' found")
             }
-            Refusal::NoEnclosingScope(name) => around(
+            Refusal::NoEnclosingScope(name) => name_between(
                 alloc,
                 "nonlocal ",
                 name,
                 " defined at place without an enclosing scope",
             ),
             Refusal::ClassName(name) => {
-                around(
+                name_between(
                     alloc,
                     "class name '",
                     name,
@@ -175,7 +176,7 @@ impl Refusal {
             Refusal::Match => alone(alloc, "match expression is not implemented yet"),
             Refusal::TypeParamKind => alone(alloc, "type parameters are not supported yet"),
             Refusal::SameTypeParam(name) => {
-                around(alloc, "duplicate type parameter '", name, "'")
+                name_between(alloc, "duplicate type parameter '", name, "'")
             }
             Refusal::YieldInTypeParams => {
                 alone(alloc, "yield expression cannot be used in type parameters")

@@ -15,11 +15,12 @@ use crate::table::SymbolTable;
 use crate::tables::table_of_rows;
 use std::alloc::{AllocError, Global};
 
-/// Leaves this scope and those around it.
+/// Leaves this scope and those that enclose it.
 pub(crate) fn close(rows: &[Row], current: usize, left: &mut Vec<usize>) -> Result<(), AllocError>
     requires numbered { IsNumbered rows.now }
     requires within { current < length rows.now }
-    ensures { OnOk result (left.new.items ≡ left.old.items ++ current ∷ enclosing_scopes (parents rows.now) current) }
+    ensures { OnOk result (left.new.items ≡ left.old.items ++ current
+        ∷ enclosing_scopes (parents rows.now) current) }
 {
     let mut at = current;
     left.push(at)?;

@@ -79,7 +79,7 @@ pub(crate) fn register_at(
     let entry = Entry {
         holds: declares(role, old.holds),
         roles: old.roles | role.flags(),
-        assigned_within: old.assigned_within,
+        assigned_in_comprehension: old.assigned_in_comprehension,
         free_class: old.free_class,
         captured: old.captured,
     };

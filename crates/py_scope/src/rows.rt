@@ -3,7 +3,7 @@ ghost use Rattle.std.specs.Prelude.{◌≡◌, ◌<◌, List, length, slice_get,
 ghost use Rattle.std.specs.Option.{option_map};
 ghost use Rattle.std.specs.Map.Iter.{deref_pair};
 ghost use Rattle.indexmap.specs.IndexMap.{set_value_at, index_map_len};
-ghost use Rattle.py_scope.specs.Names.{lookup, put};
+ghost use Rattle.py_scope.specs.Names.{lookup, put_value};
 ghost use Rattle.py_scope.specs.Making.{place_of};
 ghost use Rattle.py_scope.specs.Bits.{is_bound, is_stored_by_walrus, is_iterated};
 
@@ -42,7 +42,7 @@ pub struct Entry {
     /// The flags of the roles in which the scope uses the name.
     pub roles: SymbolFlags,
     /// A walrus in a nested comprehension binds the name here.
-    pub assigned_within: bool,
+    pub assigned_in_comprehension: bool,
     /// A class that a look outward passed.
     pub free_class: bool,
     /// A look outward ended here.
@@ -54,7 +54,7 @@ impl Entry {
     pub fn is_bound(self) -> bool
         ensures { result ≡ is_bound self }
     {
-        self.assigned_within || self.roles.intersects(SymbolFlags::BOUND)
+        self.assigned_in_comprehension || self.roles.intersects(SymbolFlags::BOUND)
     }
 
     /// Whether a walrus in this comprehension stores the name.
@@ -159,7 +159,7 @@ impl Entries {
         entry: Entry,
     ) -> Result<(), AllocError>
         requires { place ≡ place_of name.now self.old }
-        ensures ok { OnOk result (self.new ≡ put self.old name.now entry) }
+        ensures ok { OnOk result (self.new ≡ put_value self.old name.now entry) }
         ensures err { OnErr result (self.new ≡ self.old) }
     {
         if let Some(place) = place {

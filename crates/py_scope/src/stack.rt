@@ -68,8 +68,11 @@ impl<T> StackStack<T> {
     where
         F: FnOnce(&mut StackStack<T>) -> R,
         requires callable { FnOnceTakesAtMut F.FnOnce f (self.old ++ x ∷ []) }
-        requires keeps { (r : R) (after : List T) → FnOnceReturnsAtMut F.FnOnce f (self.old ++ x ∷ []) r after → length after ≡ length self.old + 1 }
-        ensures ok { IfOk result (λ p. FnOnceReturnsAtMut F.FnOnce f (self.old ++ x ∷ []) p.0 (self.new ++ p.1 ∷ [])) }
+        requires keeps { (r : R) (after : List T)
+            → FnOnceReturnsAtMut F.FnOnce f (self.old ++ x ∷ []) r after
+            → length after ≡ length self.old + 1 }
+        ensures ok { IfOk result (λ p. FnOnceReturnsAtMut F.FnOnce f (self.old ++ x ∷ []) p.0
+            (self.new ++ p.1 ∷ [])) }
         ensures back { IfErr result (λ y. y ≡ x) }
         ensures err { OnErr result (self.new ≡ self.old) }
     {

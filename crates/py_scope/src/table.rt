@@ -25,7 +25,8 @@ pub struct SymbolTable {
 impl SymbolTable {
     /// The symbol of this name. None exactly where the scope has none.
     pub fn lookup(&self, name: &str) -> Option<&Symbol>
-        ensures { option_copied result ≡ find (λ s. same_name name.now s.name) (symbols_of self.now) }
+        ensures { option_copied result ≡ find (λ s. same_name name.now s.name)
+            (symbols_of self.now) }
     {
         self.symbols.get(name)
     }

@@ -31,7 +31,7 @@ fn is_plain(holds: Holds) -> bool
 fn flags_of(entry: Entry) -> SymbolFlags
     ensures { result.0 ≡ flags_in entry }
 {
-    let assigned = if entry.assigned_within {
+    let assigned = if entry.assigned_in_comprehension {
         SymbolFlags::ASSIGNED
     } else {
         SymbolFlags::NONE
@@ -54,7 +54,8 @@ fn kind_of(
 ) -> SymbolScope
     requires numbered { IsNumbered rows.now }
     requires within { scope < length rows.now }
-    requires globals { (n : Name) → list_any (same_name n) globals.now.keys ≡ global_within rows.now n }
+    requires globals { (n : Name) → list_any (same_name n) globals.now.keys
+        ≡ global_within rows.now n }
     ensures { result ≡ kind_in rows.now scope name.now entry }
 {
     if scope == 0 && is_plain(entry.holds) && entry.is_bound() && globals.contains(name) {
@@ -74,8 +75,10 @@ fn push_kind(
 ) -> Result<(), AllocError>
     requires numbered { IsNumbered rows.now }
     requires within { scope < length rows.now }
-    requires globals { (n : Name) → list_any (same_name n) globals.now.keys ≡ global_within rows.now n }
-    ensures { OnOk result (kinds.new.items ≡ kinds.old.items ++ kinds_at rows.now scope (option_map deref_pair entry.entry)) }
+    requires globals { (n : Name) → list_any (same_name n) globals.now.keys
+        ≡ global_within rows.now n }
+    ensures { OnOk result (kinds.new.items ≡ kinds.old.items
+        ++ kinds_at rows.now scope (option_map deref_pair entry.entry)) }
 {
     if let Some((name, entry)) = entry {
         kinds.push(kind_of(rows, globals, scope, name, *entry))?;
@@ -92,7 +95,8 @@ fn kinds_of(
 ) -> Result<List<SymbolScope>, AllocError>
     requires numbered { IsNumbered rows.now }
     requires within { scope < length rows.now }
-    requires globals { (n : Name) → list_any (same_name n) globals.now.keys ≡ global_within rows.now n }
+    requires globals { (n : Name) → list_any (same_name n) globals.now.keys
+        ≡ global_within rows.now n }
     ensures { IfOk result (λ kinds. kinds ≡ kinds_in rows.now scope) }
 {
     let row = &rows[scope];
@@ -110,7 +114,8 @@ fn kinds_of_all(
     globals: &IndexSet<Text>,
 ) -> Result<Vec<List<SymbolScope>>, AllocError>
     requires numbered { IsNumbered rows.now }
-    requires globals { (n : Name) → list_any (same_name n) globals.now.keys ≡ global_within rows.now n }
+    requires globals { (n : Name) → list_any (same_name n) globals.now.keys
+        ≡ global_within rows.now n }
     ensures { IfOk result (λ kinds. kinds.items ≡ all_kinds rows.now 0 rows.now) }
 {
     let mut all = Vec::with_capacity(alloc, rows.len())?;
@@ -168,7 +173,8 @@ fn table_of(
 ) -> Result<SymbolTable, AllocError>
     requires same { length kinds ≡ length row.entries }
     requires once { AreDistinct (keys_of row.entries) }
-    ensures { IfOk result (λ table. table ≡ table_of row (symbols_with row.entries kinds) sub_tables) }
+    ensures { IfOk result (λ table. table
+        ≡ table_of row (symbols_with row.entries kinds) sub_tables) }
 {
     let Row {
         kind,
@@ -215,7 +221,8 @@ fn wait(
     table: SymbolTable,
 ) -> Result<(), AllocError>
     requires { scope < length waiting.old.items }
-    ensures { OnOk result (waiting.new.items ≡ changed_at (λ ts. ts ++ table ∷ []) scope waiting.old.items) }
+    ensures { OnOk result (waiting.new.items
+        ≡ changed_at (λ ts. ts ++ table ∷ []) scope waiting.old.items) }
 {
     push_table(&mut waiting[scope], table)?;
     Ok(())

@@ -116,7 +116,8 @@ fn scopes_in_slice(e: &ExprSlice, postponed: bool, count: usize) -> Option<usize
 
 #[cycle(scopes)]
 fn scopes_in_all(items: &[Expr], postponed: bool, count: usize) -> Option<usize>
-    ensures { IsSum result (count + counts.scopes_in_all postponed (view.exprs view.expr_tree items.now)) }
+    ensures { IsSum result (count + counts.scopes_in_all postponed
+        (view.exprs view.expr_tree items.now)) }
 {
     let mut sum = count;
     for e in items {
@@ -128,7 +129,8 @@ fn scopes_in_all(items: &[Expr], postponed: bool, count: usize) -> Option<usize>
 /// `count` and the scopes in the expression, `count` alone where it is missing.
 #[cycle(scopes)]
 pub fn scopes_in_opt(value: &Option<Box<Expr>>, postponed: bool, count: usize) -> Option<usize>
-    ensures { IsSum result (count + counts.scopes_in_opt postponed (view.opt_box view.expr_tree value.now)) }
+    ensures { IsSum result (count + counts.scopes_in_opt postponed
+        (view.opt_box view.expr_tree value.now)) }
 {
     match value {
         Some(e) => scopes_in_expr(e, postponed, count),
@@ -138,7 +140,8 @@ pub fn scopes_in_opt(value: &Option<Box<Expr>>, postponed: bool, count: usize) -
 
 #[cycle(scopes)]
 fn scopes_in_keys(keys: &[Option<Expr>], postponed: bool, count: usize) -> Option<usize>
-    ensures { IsSum result (count + counts.scopes_in_opts postponed (view.opt_exprs view.expr_tree keys.now)) }
+    ensures { IsSum result (count + counts.scopes_in_opts postponed
+        (view.opt_exprs view.expr_tree keys.now)) }
 {
     let mut sum = count;
     for key in keys {
@@ -149,7 +152,8 @@ fn scopes_in_keys(keys: &[Option<Expr>], postponed: bool, count: usize) -> Optio
 
 #[cycle(scopes)]
 fn scopes_in_key(key: &Option<Expr>, postponed: bool, count: usize) -> Option<usize>
-    ensures { IsSum result (count + counts.scopes_in_opt postponed (view.opt_expr view.expr_tree key.now)) }
+    ensures { IsSum result (count + counts.scopes_in_opt postponed
+        (view.opt_expr view.expr_tree key.now)) }
 {
     match key {
         Some(e) => scopes_in_expr(e, postponed, count),
@@ -159,7 +163,8 @@ fn scopes_in_key(key: &Option<Expr>, postponed: bool, count: usize) -> Option<us
 
 #[cycle(scopes)]
 fn scopes_in_keywords(items: &[Keyword], postponed: bool, count: usize) -> Option<usize>
-    ensures { IsSum result (count + counts.scopes_in_keywords postponed (view.keywords view.expr_tree items.now)) }
+    ensures { IsSum result (count + counts.scopes_in_keywords postponed
+        (view.keywords view.expr_tree items.now)) }
 {
     let mut sum = count;
     for keyword in items {
@@ -170,7 +175,8 @@ fn scopes_in_keywords(items: &[Keyword], postponed: bool, count: usize) -> Optio
 
 #[cycle(scopes)]
 fn scopes_in_clauses(clauses: &[Comprehension], postponed: bool, count: usize) -> Option<usize>
-    ensures { IsSum result (count + counts.scopes_in_clauses postponed (view.generators view.expr_tree clauses.now)) }
+    ensures { IsSum result (count + counts.scopes_in_clauses postponed
+        (view.generators view.expr_tree clauses.now)) }
 {
     let mut sum = count;
     for clause in clauses {
@@ -181,7 +187,10 @@ fn scopes_in_clauses(clauses: &[Comprehension], postponed: bool, count: usize) -
 
 #[cycle(scopes)]
 fn scopes_in_clause(clause: &Comprehension, postponed: bool, count: usize) -> Option<usize>
-    ensures { IsSum result (count + (counts.scopes_in postponed (view.expr_tree clause.now.iter.value) + (counts.scopes_in postponed (view.expr_tree clause.now.target.value) + counts.scopes_in_all postponed (view.exprs view.expr_tree clause.now.ifs)))) }
+    ensures { IsSum result
+        (count + (counts.scopes_in postponed (view.expr_tree clause.now.iter.value)
+        + (counts.scopes_in postponed (view.expr_tree clause.now.target.value)
+        + counts.scopes_in_all postponed (view.exprs view.expr_tree clause.now.ifs)))) }
 {
     let count = scopes_in_expr(&clause.iter, postponed, count)?;
     let count = scopes_in_expr(&clause.target, postponed, count)?;
@@ -191,7 +200,8 @@ fn scopes_in_clause(clause: &Comprehension, postponed: bool, count: usize) -> Op
 /// The defaults of the parameters.
 #[cycle(scopes)]
 fn scopes_in_defaults(params: &Arguments, postponed: bool, count: usize) -> Option<usize>
-    ensures { IsSum result (count + counts.scopes_in_defaults postponed (view.arguments view.expr_tree params.now)) }
+    ensures { IsSum result (count + counts.scopes_in_defaults postponed
+        (view.arguments view.expr_tree params.now)) }
 {
     let count = scopes_in_args(params.posonlyargs.as_slice(), postponed, count)?;
     let count = scopes_in_args(params.args.as_slice(), postponed, count)?;
@@ -200,7 +210,8 @@ fn scopes_in_defaults(params: &Arguments, postponed: bool, count: usize) -> Opti
 
 #[cycle(scopes)]
 fn scopes_in_args(items: &[ArgWithDefault], postponed: bool, count: usize) -> Option<usize>
-    ensures { IsSum result (count + counts.scopes_in_args postponed (view.args view.expr_tree items.now)) }
+    ensures { IsSum result (count + counts.scopes_in_args postponed
+        (view.args view.expr_tree items.now)) }
 {
     let mut sum = count;
     for item in items {
@@ -212,7 +223,8 @@ fn scopes_in_args(items: &[ArgWithDefault], postponed: bool, count: usize) -> Op
 /// `count` and the scopes in the annotations of the parameters, `count` alone where annotations are postponed.
 #[cycle(scopes)]
 pub fn scopes_in_annotations(params: &Arguments, postponed: bool, count: usize) -> Option<usize>
-    ensures { IsSum result (count + counts.scopes_in_annotations postponed (view.arguments view.expr_tree params.now)) }
+    ensures { IsSum result (count + counts.scopes_in_annotations postponed
+        (view.arguments view.expr_tree params.now)) }
 {
     if postponed {
         return Some(count);
@@ -226,7 +238,8 @@ pub fn scopes_in_annotations(params: &Arguments, postponed: bool, count: usize) 
 
 #[cycle(scopes)]
 fn scopes_in_notes(items: &[ArgWithDefault], count: usize) -> Option<usize>
-    ensures { IsSum result (count + counts.scopes_in_notes false (view.args view.expr_tree items.now)) }
+    ensures { IsSum result (count + counts.scopes_in_notes false
+        (view.args view.expr_tree items.now)) }
 {
     let mut sum = count;
     for item in items {
@@ -237,7 +250,8 @@ fn scopes_in_notes(items: &[ArgWithDefault], count: usize) -> Option<usize>
 
 #[cycle(scopes)]
 fn scopes_in_opt_arg(value: &Option<Box<Arg>>, count: usize) -> Option<usize>
-    ensures { IsSum result (count + counts.scopes_in_opt_arg false (view.opt_arg view.expr_tree value.now)) }
+    ensures { IsSum result (count + counts.scopes_in_opt_arg false
+        (view.opt_arg view.expr_tree value.now)) }
 {
     match value {
         Some(param) => scopes_in_arg(param, count),
@@ -247,7 +261,8 @@ fn scopes_in_opt_arg(value: &Option<Box<Arg>>, count: usize) -> Option<usize>
 
 #[cycle(scopes)]
 fn scopes_in_arg(param: &Arg, count: usize) -> Option<usize>
-    ensures { IsSum result (count + counts.scopes_in_arg false (view.arg view.expr_tree param.now)) }
+    ensures { IsSum result (count + counts.scopes_in_arg false
+        (view.arg view.expr_tree param.now)) }
 {
     scopes_in_opt(&param.annotation, false, count)
 }

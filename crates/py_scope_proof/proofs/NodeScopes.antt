@@ -1,5 +1,5 @@
 pub mod ScopeForestLemmas
-pub mod Groves
+pub mod ScopeForests
 pub mod ScanEntryLemmas
 pub mod EnteringNames
 pub mod EnteringParts
@@ -10,11 +10,11 @@ pub mod EnteringStatements
 pub mod EnteringPrograms
 pub mod ScopeListLemmas
 pub mod ListedTables
-pub mod OwnerTables
-pub mod OwnerSamples
+pub mod ScopeNodeTables
+pub mod ScopeNodeSamples
 pub mod Lengths
 pub mod StmtLengths
-pub mod Ownerless
+pub mod WithoutScopeNodes
 pub mod Kept
 pub mod KeptForms
 pub mod KeptScopes

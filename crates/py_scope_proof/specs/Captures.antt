@@ -1,4 +1,4 @@
--- Each use of a cell comes to the scope that binds its name, and to no other; and two uses come to one cell exactly where that scope's link and the name are one.
+-- Each use of a cell reaches the scope that binds its name, and to no other; and two uses come to one cell exactly where that scope's link and the name are one.
 use Rattle.std.specs.Prelude.{◌≡◌, ◌≢◌, ◌↔◌, ℕ, List, [], ◌∷◌, ◌++◌, Option, Some, None, Bool, false, nat_eq, if◌then◌else◌, slice_get}
 use Rattle.py_tree.specs.Tree as tree
 use Rattle.py_tree.specs.declared.modules.Mode.{Mode}
@@ -23,15 +23,15 @@ binder_of rows l n = (resolve rows (number_of l.scope) n).binder
 pub record EndsAt (binder : ℕ) (chain : List Link) (name : Name) (place : ℕ) : Type 0 where
   pub within : List Link
   pub link : Link
-  pub around : List Link
+  pub enclosing : List Link
   pub cell : ℕ
-  pub parts : chain ≡ within ++ link ∷ around
-  pub ends : cell_of chain place ≡ Some (link ∷ around, cell)
+  pub parts : chain ≡ within ++ link ∷ enclosing
+  pub ends : cell_of chain place ≡ Some (link ∷ enclosing, cell)
   pub binds : number_of link.scope ≡ binder
-  pub alone : AllOf (λ (m : Link). number_of m.scope ≢ binder) within × AllOf (λ (m : Link). number_of m.scope ≢ binder) around
+  pub alone : AllOf (λ (m : Link). number_of m.scope ≢ binder) within × AllOf (λ (m : Link). number_of m.scope ≢ binder) enclosing
   pub named : slice_get (head link.code).cellvars cell ≡ Some name
 
--- a use of a cell in the innermost code of a chain comes to the scope that binds its name
+-- a use of a cell in the innermost code of a chain reaches the scope that binds its name
 pub record EndsAtBinder (rows : List Row) (l : Link) (ls : List Link) (name : Name) (place : ℕ) : Type 0 where
   pub binder : ℕ
   pub resolves : binder_of rows l name ≡ Some binder
@@ -41,7 +41,7 @@ abbrev pub is_number : Option ℕ → ℕ → Bool
 is_number None n = false
 is_number (Some b) n = nat_eq b n
 
--- of links that go outward, the first whose scope has this number, and those around it
+-- of links that go outward, the first whose scope has this number, and those that enclose it
 abbrev pub outward_to : Option ℕ → List Link → List Link
 outward_to b [] = []
 outward_to b (l ∷ ls) = if is_number b (number_of l.scope) then l ∷ ls else outward_to b ls

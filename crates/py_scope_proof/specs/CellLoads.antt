@@ -1,4 +1,4 @@
--- A scan comes to few uses of names, a name that a scope needs from outside is used within it, and so the codes of a tree load few cells.
+-- A scan reaches few uses of names, a free name of a scope is used within it, and so the codes of a tree load few cells.
 use Rattle.std.specs.Prelude.{◌≡◌, ℕ, ◌+◌, ◌*◌, ◌≤◌, true, List, [], ◌∷◌, is_some, length}
 use Rattle.py_tree.specs.Tree as tree
 use Rattle.py_tree.specs.declared.modules.Mode.{Mode}
@@ -21,11 +21,11 @@ abbrev pub use_count : List Row → ℕ
 use_count [] = 0
 use_count (r ∷ rs) = length r.entries + use_count rs
 
--- the scan of a tree comes to no more than three for each unit of the tree's size
+-- the scan of a tree reaches no more than three for each unit of the tree's size
 abbrev pub UsesAreFew : Type 0
 UsesAreFew = (t : tree.Mod) (s : State) → ScansTo t s → use_count s.scopes.rows ≤ 3 * size_of t
 
--- a name that a scope needs from outside is used in that scope or in one within it
+-- a free name of a scope is used in that scope or in one nested in it
 abbrev pub NeededIsUsed : Type 0
 NeededIsUsed = (rows : List Row) → IsNumbered rows → (k : ℕ) (n : Name) → needs rows k n ≡ true → (q : ℕ) × (among k (outward_from rows q) ≡ true) × (is_some (entry_at rows q n) ≡ true)
 

@@ -1,4 +1,4 @@
--- No scope wants a cell that is not there: a free variable of a scope is a cell of the enclosing scope, or comes to that from outside in turn.
+-- No scope wants a cell that is not there: a free variable of a scope is a cell of the enclosing scope, or reaches that from outside in turn.
 use Rattle.std.specs.Prelude.{◌≡◌, ℕ, zero, suc, ◌<◌, Bool, true, List, [], ◌++◌, Some, length}
 use Rattle.std.specs.List.{list_any}
 use Rattle.py_tree.specs.Tree as tree
@@ -21,7 +21,7 @@ use Rattle.py_meaning.specs.Meaning.{body}
 use Rattle.py_scope_proof.specs.Entered.{ScansTo}
 use Rattle.py_scope_proof.specs.Own.{number_of}
 
--- the names that the scope with this number has from outside
+-- the free names of the scope with this number
 abbrev pub wanted_at : List ScopeEntry → (number : ℕ) → List Name
 wanted_at scopes k = frees_among (symbols_in scopes k)
 
@@ -33,13 +33,14 @@ at_hand scopes k = cells_among (symbols_in scopes k) ++ frees_among (symbols_in 
 abbrev pub is_one_of : Name → List Name → Bool
 is_one_of x names = list_any (text_eq x) names
 
--- each name that a scope within a tree without faults has from outside is at hand in the enclosing scope, by the scopes that the scan has come to
+-- each name that a scope within a tree without faults has from outside is at hand in the enclosing scope, by the scopes that the scan has reached
 abbrev pub FreeNamesStand : Type 0
 FreeNamesStand =
     (t : tree.Mod) (m : Mode) (level : ℕ) (s : State) → faults t m level ≡ [] → ScansTo t s
     → (k : ℕ) → 0 < k → k < length s.scopes.rows → (x : Name) → is_one_of x (wanted_at (scopes_of t) k) ≡ true → is_one_of x (at_hand (scopes_of t) (parents s.scopes.rows k)) ≡ true
 
--- what is free in a scope is at hand in the scope with this number, in which it stands, and so it is for those within it, down to n levels
+-- what is free in a scope is at hand in the scope with this number, in which it stands, and so it is for those nested in it, down to n
+-- levels
 abbrev pub StandUpTo : List ScopeEntry → (here n : ℕ) → Scope → Type 0
 StandUpTo scopes here zero s = Unit {0}
 StandUpTo scopes here (suc n) s = AllOf (λ x. is_one_of x (at_hand scopes here) ≡ true) (head_of s).free × AllOf (StandUpTo scopes (number_of s) n) (kids (form_of s))

@@ -59,8 +59,8 @@ IsChain o s [] = ⊥
 IsChain o s (l ∷ []) = l ≡ outermost o s
 IsChain o s (l ∷ m ∷ ls) = IsMadeIn m l × IsChain o s (m ∷ ls)
 
--- where a place leads: among a code's cells it ends, at the link whose code it is and those around it; that of free name number j goes on with
--- entry j of the closure, one link outward
+-- where a place leads: among a code's cells it ends, at the link whose code it is and those that enclose it; that of free name number j
+-- goes on with entry j of the closure, one link outward
 abbrev pub cell_of : List Link → (place : ℕ) → Option (List Link × ℕ)
 cell_of [] p = None
 cell_of (l ∷ ls) p =

@@ -13,59 +13,59 @@ use Rattle.py_name_uses.specs.Parts.{alias_name, generic_name, plain_name}
 use Rattle.py_scan.specs.Scan.{scan_program, scan_value}
 use Rattle.py_meaning.specs.Faults.{faults}
 use Rattle.py_meaning.specs.Scanned.{scopes_of}
-use Rattle.py_scope_proof.specs.Owners.{Owner, Whole, Value, Own, Hidden, Placed}
-use Rattle.py_scope_proof.specs.StmtOwners.{owners_of}
+use Rattle.py_scope_proof.specs.ScopeNodes.{ScopeNode, Whole, Value, Own, TypeParamScope, Placed}
+use Rattle.py_scope_proof.specs.StmtScopeNodes.{scope_nodes_of}
 
 -- what a scope is, its name, and the line where its node begins
-pub record Told : Type 0 where
+pub record ScopeReport : Type 0 where
   pub kind : SymbolTableType
   pub name : Name
   pub line : ℕ
 
 -- what a scan writes of a scope, and the number of the enclosing scope
-abbrev pub told_row : Row → Told × ℕ
-told_row r = (record { kind = r.kind; name = r.head.name; line = r.head.line_number }, r.parent)
+abbrev pub report_of_row : Row → ScopeReport × ℕ
+report_of_row r = (record { kind = r.kind; name = r.head.name; line = r.head.line_number }, r.parent)
 
 -- the scope of a node that stands there
-abbrev pub told_at : SymbolTableType → Name → SourceLocation → Told
-told_at kind n at = record { kind = kind; name = n; line = at.row }
+abbrev pub report_at : SymbolTableType → Name → SourceLocation → ScopeReport
+report_at kind n at = record { kind = kind; name = n; line = at.row }
 
 -- the scope of a whole tree
-abbrev pub told_whole : Told
+abbrev pub report_of_whole : ScopeReport
 told_whole = record { kind = scope.Module; name = codes "top"; line = 0 }
 
 -- the scope of a lambda or a comprehension; no other expression has one
-abbrev pub told_value : tree.Expr → Told
-told_value (tree.Lambda at params body) = told_at scope.Function (codes "lambda") at
-told_value (tree.ListComp at elt clauses) = told_at scope.Comprehension (codes "genexpr") at
-told_value (tree.SetComp at elt clauses) = told_at scope.Comprehension (codes "genexpr") at
-told_value (tree.DictComp at key value clauses) = told_at scope.Comprehension (codes "genexpr") at
-told_value (tree.GeneratorExp at elt clauses) = told_at scope.Comprehension (codes "genexpr") at
-told_value other = told_whole
+abbrev pub report_of_value : tree.Expr → ScopeReport
+report_of_value (tree.Lambda at params body) = report_at scope.Function (codes "lambda") at
+report_of_value (tree.ListComp at elt clauses) = report_at scope.Comprehension (codes "genexpr") at
+report_of_value (tree.SetComp at elt clauses) = report_at scope.Comprehension (codes "genexpr") at
+report_of_value (tree.DictComp at key value clauses) = report_at scope.Comprehension (codes "genexpr") at
+report_of_value (tree.GeneratorExp at elt clauses) = report_at scope.Comprehension (codes "genexpr") at
+report_of_value other = report_of_whole
 
 -- the scope of a function or a class; no other statement has one
-abbrev pub told_own : tree.Stmt → Told
-told_own (tree.FunctionDef at name params body decorators returns generic) = told_at scope.Function name at
-told_own (tree.ClassDef at name bases named body decorators generic) = told_at scope.Class name at
-told_own other = told_whole
+abbrev pub report_of_own : tree.Stmt → ScopeReport
+report_of_own (tree.FunctionDef at name params body decorators returns generic) = report_at scope.Function name at
+report_of_own (tree.ClassDef at name bases named body decorators generic) = report_at scope.Class name at
+report_of_own other = report_of_whole
 
 -- the scope around the type parameters of a function, a class or an alias
-abbrev pub told_hidden : tree.Stmt → Told
-told_hidden (tree.FunctionDef at name params body decorators returns generic) = told_at scope.TypeParams (generic_name name) at
-told_hidden (tree.ClassDef at name bases named body decorators generic) = told_at scope.TypeParams (generic_name name) at
-told_hidden (tree.TypeAlias at name generic value) = told_at scope.TypeParams (generic_name (alias_name (plain_name name))) at
-told_hidden other = told_whole
+abbrev pub report_of_type_params : tree.Stmt → ScopeReport
+report_of_type_params (tree.FunctionDef at name params body decorators returns generic) = report_at scope.TypeParams (generic_name name) at
+report_of_type_params (tree.ClassDef at name bases named body decorators generic) = report_at scope.TypeParams (generic_name name) at
+report_of_type_params (tree.TypeAlias at name generic value) = report_at scope.TypeParams (generic_name (alias_name (plain_name name))) at
+report_of_type_params other = report_of_whole
 
 -- the scope of a node
-abbrev pub told_owner : Owner → Told
-told_owner Whole = told_whole
-told_owner (Value e) = told_value e
-told_owner (Own s) = told_own s
-told_owner (Hidden s) = told_hidden s
+abbrev pub report_of_scope_node : ScopeNode → ScopeReport
+report_of_scope_node Whole = report_of_whole
+report_of_scope_node (Value e) = report_of_value e
+report_of_scope_node (Own s) = report_of_own s
+report_of_scope_node (TypeParamScope s) = report_of_type_params s
 
 -- and the number of the scope that the node stands in
-abbrev pub told_node : Placed → Told × ℕ
-told_node p = (told_owner p.owner, p.around)
+abbrev pub report_of_node : Placed → ScopeReport × ℕ
+report_of_node p = (report_of_scope_node p.scope_node, p.enclosing)
 
 -- the scan of the tree is done in this state; the type of a function, which is no tree of a program, is not scanned
 abbrev pub ScansTo : tree.Mod → State → Type 0
@@ -79,16 +79,16 @@ abbrev pub FaultlessScansEnd : Type 0
 FaultlessScansEnd = (t : tree.Mod) (m : Mode) (level : ℕ) → faults t m level ≡ [] → (s : State) × ScansTo t s
 
 -- a scan of a tree without faults enters the scopes of its nodes, in their order, each in the scope that its node stands in
-abbrev pub ScanEntersOwners : Type 0
-ScanEntersOwners = (t : tree.Mod) (m : Mode) (level : ℕ) (s : State) → faults t m level ≡ [] → ScansTo t s → map told_row s.scopes.rows ≡ map told_node (owners_of t m)
+abbrev pub ScanEntersScopeNodes : Type 0
+ScanEntersScopeNodes = (t : tree.Mod) (m : Mode) (level : ℕ) (s : State) → faults t m level ≡ [] → ScansTo t s → map report_of_row s.scopes.rows ≡ map report_of_node (scope_nodes_of t m)
 
 -- the kinds of scopes
 abbrev pub kind_in_table : ScopeEntry → SymbolTableType
 kind_in_table e = e.typ
 
-abbrev pub kind_of_owner : Placed → SymbolTableType
-kind_of_owner p = (told_owner p.owner).kind
+abbrev pub kind_of_scope_node : Placed → SymbolTableType
+kind_of_scope_node p = (report_of_scope_node p.scope_node).kind
 
 -- the scopes of the table of such a tree are those of its nodes, in their order
-abbrev pub TableHasOwners : Type 0
-TableHasOwners = (t : tree.Mod) (m : Mode) (level : ℕ) → faults t m level ≡ [] → map kind_in_table (scopes_of t) ≡ map kind_of_owner (owners_of t m)
+abbrev pub TableHasScopeNodes : Type 0
+TableHasScopeNodes = (t : tree.Mod) (m : Mode) (level : ℕ) → faults t m level ≡ [] → map kind_in_table (scopes_of t) ≡ map kind_of_scope_node (scope_nodes_of t m)

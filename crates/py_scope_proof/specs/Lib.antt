@@ -1,5 +1,5 @@
-pub mod Owners
-pub mod StmtOwners
+pub mod ScopeNodes
+pub mod StmtScopeNodes
 pub mod Entered
 pub mod Own
 pub mod Cells

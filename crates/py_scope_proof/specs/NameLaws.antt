@@ -35,7 +35,9 @@ ValuesRefusedExactly = (value : tree.Expr) (s : State) → scan_value value ≡ 
 -- a nonlocal name of a scan without faults is free, and has a binder
 abbrev pub NonlocalsResolve : Type 0
 NonlocalsResolve =
-    (body : tree.Stmts) (s : State) → scan_program body ≡ Done s → faults_of (scan_program body) ≡ [] → (k : ℕ) (n : Name) → declares_nonlocal s.scopes.rows k n ≡ true → ((resolve s.scopes.rows k n).kind ≡ Free) × (b : ℕ) × ((resolve s.scopes.rows k n).binder ≡ Some b)
+    (body : tree.Stmts) (s : State) → scan_program body ≡ Done s → faults_of (scan_program body) ≡ [] → (k : ℕ) (n : Name)
+    → declares_nonlocal s.scopes.rows k n ≡ true → ((resolve s.scopes.rows k n).kind ≡ Free) × (b : ℕ)
+    × ((resolve s.scopes.rows k n).binder ≡ Some b)
 
 -- no kind is both global and local
 abbrev pub NeverGlobalAndLocal : Type 0

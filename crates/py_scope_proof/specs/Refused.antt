@@ -16,7 +16,7 @@ use Rattle.py_scope.specs.Marks.{is_class}
 use Rattle.py_scope.specs.Names.{Name, class_cell, same_name}
 use Rattle.py_scope.specs.Entries.{entry_at}
 use Rattle.py_scope.specs.Outward.{is_free, parents}
-use Rattle.py_scope.specs.Resolve.{around, binds_in, holder, holds_in, kind_at, look_in, way}
+use Rattle.py_scope.specs.Resolve.{outward_scopes, binds_in, holder, holds_in, kind_at, look_in, way}
 
 -- n stands in a target of the comprehension e
 abbrev pub iterates : List Row → Name → ℕ → Bool
@@ -33,7 +33,7 @@ misplaced_walrus TypeParams = Some InTypeParams
 -- Why no walrus in the comprehension q may store n: n stands in a target of a comprehension around q, before the first scope that is none; or that
 -- scope, which holds the name, is no place for it.
 abbrev pub refused_walrus : List Row → (q : ℕ) → Name → Option Refusal
-refused_walrus rows q n = if list_any (iterates rows n) (way rows (around rows q)) then Some (RebindsIterated n) else misplaced_walrus (kind_at rows (holder rows (around rows q)))
+refused_walrus rows q n = if list_any (iterates rows n) (way rows (outward_scopes rows q)) then Some (RebindsIterated n) else misplaced_walrus (kind_at rows (holder rows (outward_scopes rows q)))
 
 -- the last declaration is nonlocal, and no walrus lifts the name
 abbrev pub is_nonlocal : Holds → Bool
@@ -50,20 +50,21 @@ abbrev pub declares_nonlocal : List Row → (k : ℕ) → Name → Bool
 declares_nonlocal rows k n = is_nonlocal (holds_in rows k n)
 
 -- a scope around k binds n: the look outward ends at one
-abbrev pub is_bound_around : List Row → (k : ℕ) → Name → Bool
-is_bound_around rows k n = is_free (look_in rows k n)
+abbrev pub is_bound_outward : List Row → (k : ℕ) → Name → Bool
+is_bound_outward rows k n = is_free (look_in rows k n)
 
--- why n may not be nonlocal in k: no scope around binds it
+-- why n may not be nonlocal in k: no enclosing scope binds it
 abbrev pub refused_nonlocal : List Row → (k : ℕ) → Name → Option Refusal
-refused_nonlocal rows k n = if declares_nonlocal rows k n && not (is_bound_around rows k n) then unfound k n else None
+refused_nonlocal rows k n = if declares_nonlocal rows k n && not (is_bound_outward rows k n) then unfound k n else None
 
 -- k is a scope of type parameters, directly in a class that binds n, and does not bind n itself; `__class__` is seen from there
-abbrev pub is_hidden : List Row → (k : ℕ) → Name → Bool
-is_hidden rows k n = (is_type_params (kind_at rows k) && is_class (kind_at rows (parents rows k))) && ((not (binds_in rows k n) && binds_in rows (parents rows k) n) && not (same_name n class_cell))
+abbrev pub is_type_param_scope : List Row → (k : ℕ) → Name → Bool
+is_type_param_scope rows k n = (is_type_params (kind_at rows k) && is_class (kind_at rows (parents rows k))) &&
+    ((not (binds_in rows k n) && binds_in rows (parents rows k) n) && not (same_name n class_cell))
 
 -- why k may not use n
 abbrev pub refused_name : List Row → (k : ℕ) → Name → Option Refusal
-refused_name rows k n = first_of_two (if is_hidden rows k n then Some (ClassName n) else None) (refused_nonlocal rows k n)
+refused_name rows k n = first_of_two (if is_type_param_scope rows k n then Some (ClassName n) else None) (refused_nonlocal rows k n)
 
 -- the first refusal of the walruses in a scope, and of the names that a scope uses, in the order of their first uses
 abbrev pub refused_walruses : List Row → (q : ℕ) → Option Refusal

@@ -1,8 +1,8 @@
 //! Laws of the cells that scopes want. Their bodies do nothing.
 ghost use Rattle.py_scope_proof.specs.Cells.{CellsStand, FreeNamesStand, ScopesStand, TablesFollow};
 
-/// No scope that the scan of a tree without faults enters wants a cell that is not there: each name that it has from outside
-/// is a cell of the enclosing scope, or comes to that scope from outside in turn.
+/// No scope that the scan of a tree without faults enters wants a cell that is not there: each free name of it
+/// is a cell of the enclosing scope, or reaches that scope from outside in turn.
 pub fn free_names_stand()
     ensures { FreeNamesStand }
 {}
@@ -13,14 +13,14 @@ pub fn cells_stand()
     ensures { CellsStand }
 {}
 
-/// The scopes of such a tree are numbered in preorder, a name that one needs from outside leads to the cell of its binder, and
+/// The scopes of such a tree are numbered in preorder, a free name of one leads to the cell of its binder, and
 /// no name is both a cell of a scope and needed there.
 pub fn scopes_stand()
     ensures { ScopesStand }
 {}
 
 /// The table to which the scopes of such a tree resolve follows from their uses: it nests them as they were entered, and the
-/// symbols of each are those of the names that it uses, that a walrus within stores or that it needs, with their kinds and flags.
+/// symbols of each are those of the names that it uses, that a nested walrus stores or that it needs, with their kinds and flags.
 pub fn tables_follow()
     ensures { TablesFollow }
 {}

@@ -1,5 +1,5 @@
 //! Laws of the scopes that a scan enters. Their bodies do nothing.
-ghost use Rattle.py_scope_proof.specs.Entered.{FaultlessScansEnd, ScanEntersOwners, TableHasOwners};
+ghost use Rattle.py_scope_proof.specs.Entered.{FaultlessScansEnd, ScanEntersScopeNodes, TableHasScopeNodes};
 
 /// The scan of a tree without faults ends in a state. So no law or clause that speaks of the state to which a scan of such a tree comes speaks of none.
 pub fn faultless_scans_end()
@@ -7,11 +7,11 @@ pub fn faultless_scans_end()
 {}
 
 /// A scan of a tree without faults enters the scopes of the nodes that have one, in their order, each within the scope that its node stands in.
-pub fn scan_enters_owners()
-    ensures { ScanEntersOwners }
+pub fn scan_enters_scope_nodes()
+    ensures { ScanEntersScopeNodes }
 {}
 
 /// The scopes of the table of such a tree are those of its nodes, in their order.
-pub fn table_has_owners()
-    ensures { TableHasOwners }
+pub fn table_has_scope_nodes()
+    ensures { TableHasScopeNodes }
 {}

@@ -10,11 +10,11 @@ use Rattle.py_base.specs.declared.shapes.Malformed.{Malformed}
 use Rattle.py_tree.proofs.View.{trees}
 
 -- the second, where nothing was wrong in the first
-abbrev pub followed : Result (Unit {0}) Malformed → Result (Unit {0}) Malformed → Result (Unit {0}) Malformed
-followed (Ok _) next = next
-followed (Err shape) next = Err shape
+abbrev pub followed_check : Result (Unit {0}) Malformed → Result (Unit {0}) Malformed → Result (Unit {0}) Malformed
+followed_check (Ok _) next = next
+followed_check (Err shape) next = Err shape
 
-pub checked_append : (a b : List Malformed) → first_malformed (a ++ b) ≡ followed (first_malformed a) (first_malformed b)
+pub checked_append : (a b : List Malformed) → first_malformed (a ++ b) ≡ followed_check (first_malformed a) (first_malformed b)
 checked_append [] b = refl
 checked_append (shape ∷ a) b = refl
 

@@ -56,6 +56,7 @@ ordered false anot bnot adis aany bdis = refl
 
 pub disordered_append : (xs ys : List Bool) → has_disorder (xs ++ ys) ≡ ((has_disorder xs || (list_any (λ given. given) xs && list_any not ys)) || has_disorder ys)
 disordered_append [] ys = refl
-disordered_append (g ∷ xs) ys = rw (list_any-append not xs ys, disordered_append xs ys) (ordered g (list_any not xs) (list_any not ys) (has_disorder xs) (list_any (λ given. given) xs) (has_disorder ys))
+disordered_append (g ∷ xs) ys = rw (list_any-append not xs ys, disordered_append xs ys)
+    (ordered g (list_any not xs) (list_any not ys) (has_disorder xs) (list_any (λ given. given) xs) (has_disorder ys))
 
 pub ruleset repeated_parts = (meeting_append, repeated_append, meeting_one, meeting_none)

@@ -37,7 +37,8 @@ wrong_value e = wrong (tree.StmtExpr shapes_row_at e)
 
 -- `if a OPS 1: pass`, with a name alone as its else part: those of a node stand before those of its children, and the body before the else part
 abbrev branch : List CmpOp → List ℕ → List Malformed
-branch ops id = wrong (tree.If shapes_row_at (tree.Compare shapes_row_at (row_name 97) ops (just row_one)) (line (tree.Pass shapes_row_at)) (line (tree.StmtExpr shapes_row_at (tree.Name shapes_row_at id))))
+branch ops id = wrong (tree.If shapes_row_at (tree.Compare shapes_row_at (row_name 97) ops (just row_one)) (line (tree.Pass shapes_row_at))
+    (line (tree.StmtExpr shapes_row_at (tree.Name shapes_row_at id))))
 
 pub branch_shapes : branch (Lt ∷ []) (98 ∷ []) ≡ []
 branch_shapes = refl
@@ -74,7 +75,9 @@ pub cause_shapes : wrong (tree.Raise shapes_row_at tree.no_expr (tree.some_expr 
 cause_shapes = refl
 
 -- a handler with a name alone, and its body
-pub handler_shapes : wrong (tree.Try shapes_row_at tree.no_stmts (tree.more_handlers tree.no_expr (Some (97 ∷ 46 ∷ [])) (line (tree.StmtExpr shapes_row_at row_blank)) tree.no_handlers) tree.no_stmts tree.no_stmts) ≡ NameWithoutType ∷ StrayDot ∷ EmptyName ∷ []
+pub handler_shapes : wrong (tree.Try shapes_row_at tree.no_stmts
+    (tree.more_handlers tree.no_expr (Some (97 ∷ 46 ∷ [])) (line (tree.StmtExpr shapes_row_at row_blank)) tree.no_handlers) tree.no_stmts
+    tree.no_stmts) ≡ NameWithoutType ∷ StrayDot ∷ EmptyName ∷ []
 handler_shapes = refl
 
 -- a program of another mode

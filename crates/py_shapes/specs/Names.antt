@@ -14,13 +14,13 @@ begins_empty [] = true
 begins_empty (b ∷ bs) = nat_eq b 46
 
 -- what follows one of the dots begins so
-abbrev pub empty_behind_dot : List ℕ → Bool
-empty_behind_dot [] = false
-empty_behind_dot (b ∷ bs) = (nat_eq b 46 && begins_empty bs) || empty_behind_dot bs
+abbrev pub empty_after_dot : List ℕ → Bool
+empty_after_dot [] = false
+empty_after_dot (b ∷ bs) = (nat_eq b 46 && begins_empty bs) || empty_after_dot bs
 
 -- a path is cut into segments by its dots
 abbrev pub has_empty_segment : List ℕ → Bool
-has_empty_segment path = begins_empty path || empty_behind_dot path
+has_empty_segment path = begins_empty path || empty_after_dot path
 
 -- whether there is a name that passes the test
 abbrev pub opt_any : (List ℕ → Bool) → Option (List ℕ) → Bool

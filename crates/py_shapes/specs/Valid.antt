@@ -83,7 +83,9 @@ abbrev mutual
   expr_shapes class (tree.Await at value) = expr_shapes class value
   expr_shapes class (tree.Yield at value) = opt_expr_shapes class value
   expr_shapes class (tree.YieldFrom at value) = expr_shapes class value
-  expr_shapes class (tree.Compare at left ops comparators) = when (nat_eq (length ops) 0) NoOperand ++ when (not (nat_eq (length ops) (count comparators))) UnevenLists ++ expr_shapes class left ++ exprs_shapes class comparators
+  expr_shapes class (tree.Compare at left ops comparators) =
+      when (nat_eq (length ops) 0) NoOperand ++ when (not (nat_eq (length ops) (count comparators))) UnevenLists ++ expr_shapes class left
+      ++ exprs_shapes class comparators
   expr_shapes class (tree.Call at func args named) = expr_shapes class func ++ exprs_shapes class args ++ keywords_shapes class named
   expr_shapes class (tree.FormattedValue at value conversion format_spec) = expr_shapes class value ++ opt_expr_shapes class format_spec
   expr_shapes class (tree.JoinedStr at values) = exprs_shapes class values
@@ -152,9 +154,15 @@ handler_own_shapes type_ name = when (opt_any (λ id. true) name && not (is_give
 -- within a class it is the innermost one
 abbrev mutual
   pub stmt_shapes : (class : Option (List ℕ)) → tree.Stmt → List Malformed
-  stmt_shapes class (tree.FunctionDef at name params body decorators returns generic) = name_shapes name ++ arguments_shapes class params ++ stmts_shapes class body ++ exprs_shapes class decorators ++ opt_expr_shapes class returns ++ type_params_shapes class generic
-  stmt_shapes class (tree.AsyncFunctionDef at name params body decorators returns generic) = name_shapes name ++ arguments_shapes class params ++ stmts_shapes class body ++ exprs_shapes class decorators ++ opt_expr_shapes class returns ++ type_params_shapes class generic
-  stmt_shapes class (tree.ClassDef at name bases named body decorators generic) = name_shapes name ++ exprs_shapes class bases ++ keywords_shapes class named ++ stmts_shapes (Some name) body ++ exprs_shapes class decorators ++ type_params_shapes class generic
+  stmt_shapes class (tree.FunctionDef at name params body decorators returns generic) =
+      name_shapes name ++ arguments_shapes class params ++ stmts_shapes class body ++ exprs_shapes class decorators
+      ++ opt_expr_shapes class returns ++ type_params_shapes class generic
+  stmt_shapes class (tree.AsyncFunctionDef at name params body decorators returns generic) =
+      name_shapes name ++ arguments_shapes class params ++ stmts_shapes class body ++ exprs_shapes class decorators
+      ++ opt_expr_shapes class returns ++ type_params_shapes class generic
+  stmt_shapes class (tree.ClassDef at name bases named body decorators generic) =
+      name_shapes name ++ exprs_shapes class bases ++ keywords_shapes class named ++ stmts_shapes (Some name) body
+      ++ exprs_shapes class decorators ++ type_params_shapes class generic
   stmt_shapes class (tree.Return at value) = opt_expr_shapes class value
   stmt_shapes class (tree.Delete at targets) = exprs_shapes class targets
   stmt_shapes class (tree.Assign at targets value) = when (nat_eq (count targets) 0) NoTarget ++ exprs_shapes class targets ++ expr_shapes class value

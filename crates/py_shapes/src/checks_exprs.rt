@@ -20,7 +20,8 @@ use py_tree::{
 #[cycle(shapes)]
 #[tactic(auto, using(crate::proofs::Checks::checks))]
 pub fn check_expr(class: Option<&str>, expr: &Expr) -> Result<(), Malformed>
-    ensures { result ≡ first_malformed (expr_shapes (option_copied class.entry) (view.expr_tree expr.now)) }
+    ensures { result ≡ first_malformed
+        (expr_shapes (option_copied class.entry) (view.expr_tree expr.now)) }
 {
     match expr {
         Expr::BoolOp(e) => {
@@ -81,7 +82,8 @@ pub fn check_expr(class: Option<&str>, expr: &Expr) -> Result<(), Malformed>
 #[cycle(shapes)]
 #[tactic(auto, using(crate::proofs::Checks::checks))]
 pub fn check_exprs(class: Option<&str>, items: &[Expr]) -> Result<(), Malformed>
-    ensures { result ≡ first_malformed (exprs_shapes (option_copied class.entry) (view.exprs view.expr_tree items.now)) }
+    ensures { result ≡ first_malformed
+        (exprs_shapes (option_copied class.entry) (view.exprs view.expr_tree items.now)) }
 {
     for e in items {
         check_expr(class, e)?;
@@ -96,7 +98,8 @@ pub fn check_exprs(class: Option<&str>, items: &[Expr]) -> Result<(), Malformed>
 #[cycle(shapes)]
 #[tactic(auto, using(crate::proofs::Checks::checks))]
 pub fn check_optional(class: Option<&str>, value: &Option<Box<Expr>>) -> Result<(), Malformed>
-    ensures { result ≡ first_malformed (opt_expr_shapes (option_copied class.entry) (view.opt_box view.expr_tree value.now)) }
+    ensures { result ≡ first_malformed
+        (opt_expr_shapes (option_copied class.entry) (view.opt_box view.expr_tree value.now)) }
 {
     match value {
         Some(e) => check_expr(class, e),
@@ -107,7 +110,8 @@ pub fn check_optional(class: Option<&str>, value: &Option<Box<Expr>>) -> Result<
 #[cycle(shapes)]
 #[tactic(auto, using(crate::proofs::Checks::checks))]
 fn check_if_exp(class: Option<&str>, e: &ExprIfExp) -> Result<(), Malformed>
-    ensures { result ≡ first_malformed (expr_shapes (option_copied class.entry) (view.if_exp_tree e.now)) }
+    ensures { result ≡ first_malformed
+        (expr_shapes (option_copied class.entry) (view.if_exp_tree e.now)) }
 {
     check_expr(class, &e.test)?;
     check_expr(class, &e.body)?;
@@ -117,7 +121,8 @@ fn check_if_exp(class: Option<&str>, e: &ExprIfExp) -> Result<(), Malformed>
 #[cycle(shapes)]
 #[tactic(auto, using(crate::proofs::Checks::checks))]
 fn check_list_comp(class: Option<&str>, e: &ExprListComp) -> Result<(), Malformed>
-    ensures { result ≡ first_malformed (expr_shapes (option_copied class.entry) (view.list_comp_tree e.now)) }
+    ensures { result ≡ first_malformed
+        (expr_shapes (option_copied class.entry) (view.list_comp_tree e.now)) }
 {
     check_generators_given(e.generators.as_slice())?;
     check_expr(class, &e.elt)?;
@@ -127,7 +132,8 @@ fn check_list_comp(class: Option<&str>, e: &ExprListComp) -> Result<(), Malforme
 #[cycle(shapes)]
 #[tactic(auto, using(crate::proofs::Checks::checks))]
 fn check_set_comp(class: Option<&str>, e: &ExprSetComp) -> Result<(), Malformed>
-    ensures { result ≡ first_malformed (expr_shapes (option_copied class.entry) (view.set_comp_tree e.now)) }
+    ensures { result ≡ first_malformed
+        (expr_shapes (option_copied class.entry) (view.set_comp_tree e.now)) }
 {
     check_generators_given(e.generators.as_slice())?;
     check_expr(class, &e.elt)?;
@@ -137,7 +143,8 @@ fn check_set_comp(class: Option<&str>, e: &ExprSetComp) -> Result<(), Malformed>
 #[cycle(shapes)]
 #[tactic(auto, using(crate::proofs::Checks::checks))]
 fn check_generator_exp(class: Option<&str>, e: &ExprGeneratorExp) -> Result<(), Malformed>
-    ensures { result ≡ first_malformed (expr_shapes (option_copied class.entry) (view.generator_exp_tree e.now)) }
+    ensures { result ≡ first_malformed
+        (expr_shapes (option_copied class.entry) (view.generator_exp_tree e.now)) }
 {
     check_generators_given(e.generators.as_slice())?;
     check_expr(class, &e.elt)?;
@@ -147,7 +154,8 @@ fn check_generator_exp(class: Option<&str>, e: &ExprGeneratorExp) -> Result<(), 
 #[cycle(shapes)]
 #[tactic(auto, using(crate::proofs::Checks::checks))]
 fn check_dict_comp(class: Option<&str>, e: &ExprDictComp) -> Result<(), Malformed>
-    ensures { result ≡ first_malformed (expr_shapes (option_copied class.entry) (view.dict_comp_tree e.now)) }
+    ensures { result ≡ first_malformed
+        (expr_shapes (option_copied class.entry) (view.dict_comp_tree e.now)) }
 {
     check_generators_given(e.generators.as_slice())?;
     check_expr(class, &e.key)?;
@@ -158,7 +166,8 @@ fn check_dict_comp(class: Option<&str>, e: &ExprDictComp) -> Result<(), Malforme
 #[cycle(shapes)]
 #[tactic(auto, using(crate::proofs::Checks::checks))]
 fn check_compare(class: Option<&str>, e: &ExprCompare) -> Result<(), Malformed>
-    ensures { result ≡ first_malformed (expr_shapes (option_copied class.entry) (view.compare_tree e.now)) }
+    ensures { result ≡ first_malformed
+        (expr_shapes (option_copied class.entry) (view.compare_tree e.now)) }
 {
     check_operands(e.ops.len())?;
     check_even(e.ops.len(), e.comparators.len())?;
@@ -169,7 +178,8 @@ fn check_compare(class: Option<&str>, e: &ExprCompare) -> Result<(), Malformed>
 #[cycle(shapes)]
 #[tactic(auto, using(crate::proofs::Checks::checks))]
 fn check_call(class: Option<&str>, e: &ExprCall) -> Result<(), Malformed>
-    ensures { result ≡ first_malformed (expr_shapes (option_copied class.entry) (view.call_tree e.now)) }
+    ensures { result ≡ first_malformed
+        (expr_shapes (option_copied class.entry) (view.call_tree e.now)) }
 {
     check_expr(class, &e.func)?;
     check_exprs(class, e.args.as_slice())?;
@@ -179,7 +189,8 @@ fn check_call(class: Option<&str>, e: &ExprCall) -> Result<(), Malformed>
 #[cycle(shapes)]
 #[tactic(auto, using(crate::proofs::Checks::checks))]
 fn check_dict(class: Option<&str>, e: &ExprDict) -> Result<(), Malformed>
-    ensures { result ≡ first_malformed (expr_shapes (option_copied class.entry) (view.dict_tree e.now)) }
+    ensures { result ≡ first_malformed
+        (expr_shapes (option_copied class.entry) (view.dict_tree e.now)) }
 {
     check_even(e.keys.len(), e.values.len())?;
     check_keys(class, e.keys.as_slice())?;
@@ -189,7 +200,8 @@ fn check_dict(class: Option<&str>, e: &ExprDict) -> Result<(), Malformed>
 #[cycle(shapes)]
 #[tactic(auto, using(crate::proofs::Checks::checks))]
 fn check_slice(class: Option<&str>, e: &ExprSlice) -> Result<(), Malformed>
-    ensures { result ≡ first_malformed (expr_shapes (option_copied class.entry) (view.slice_tree e.now)) }
+    ensures { result ≡ first_malformed
+        (expr_shapes (option_copied class.entry) (view.slice_tree e.now)) }
 {
     check_optional(class, &e.lower)?;
     check_optional(class, &e.upper)?;
@@ -199,7 +211,8 @@ fn check_slice(class: Option<&str>, e: &ExprSlice) -> Result<(), Malformed>
 #[cycle(shapes)]
 #[tactic(auto, using(crate::proofs::Checks::checks))]
 fn check_keys(class: Option<&str>, keys: &[Option<Expr>]) -> Result<(), Malformed>
-    ensures { result ≡ first_malformed (opt_exprs_shapes (option_copied class.entry) (view.opt_exprs view.expr_tree keys.now)) }
+    ensures { result ≡ first_malformed
+        (opt_exprs_shapes (option_copied class.entry) (view.opt_exprs view.expr_tree keys.now)) }
 {
     for key in keys {
         check_key(class, key)?;
@@ -210,7 +223,8 @@ fn check_keys(class: Option<&str>, keys: &[Option<Expr>]) -> Result<(), Malforme
 #[cycle(shapes)]
 #[tactic(auto, using(crate::proofs::Checks::checks))]
 fn check_key(class: Option<&str>, key: &Option<Expr>) -> Result<(), Malformed>
-    ensures { result ≡ first_malformed (opt_expr_shapes (option_copied class.entry) (view.opt_expr view.expr_tree key.now)) }
+    ensures { result ≡ first_malformed
+        (opt_expr_shapes (option_copied class.entry) (view.opt_expr view.expr_tree key.now)) }
 {
     match key {
         Some(e) => check_expr(class, e),
@@ -225,7 +239,8 @@ fn check_key(class: Option<&str>, key: &Option<Expr>) -> Result<(), Malformed>
 #[cycle(shapes)]
 #[tactic(auto, using(crate::proofs::Checks::checks))]
 pub fn check_keywords(class: Option<&str>, items: &[Keyword]) -> Result<(), Malformed>
-    ensures { result ≡ first_malformed (keywords_shapes (option_copied class.entry) (view.keywords view.expr_tree items.now)) }
+    ensures { result ≡ first_malformed
+        (keywords_shapes (option_copied class.entry) (view.keywords view.expr_tree items.now)) }
 {
     for keyword in items {
         check_keyword(class, keyword)?;
@@ -236,7 +251,9 @@ pub fn check_keywords(class: Option<&str>, items: &[Keyword]) -> Result<(), Malf
 #[cycle(shapes)]
 #[tactic(auto, using(crate::proofs::Checks::checks))]
 fn check_keyword(class: Option<&str>, keyword: &Keyword) -> Result<(), Malformed>
-    ensures { result ≡ first_malformed (opt_name_shapes keyword.now.arg ++ expr_shapes (option_copied class.entry) (view.expr_tree keyword.now.value)) }
+    ensures { result ≡ first_malformed
+        (opt_name_shapes keyword.now.arg ++ expr_shapes (option_copied class.entry)
+        (view.expr_tree keyword.now.value)) }
 {
     check_optional_name(&keyword.arg)?;
     check_expr(class, &keyword.value)
@@ -245,7 +262,9 @@ fn check_keyword(class: Option<&str>, keyword: &Keyword) -> Result<(), Malformed
 #[cycle(shapes)]
 #[tactic(auto, using(crate::proofs::Steps::generators_step))]
 fn check_generators(class: Option<&str>, clauses: &[Comprehension]) -> Result<(), Malformed>
-    ensures { result ≡ first_malformed (generators_shapes (option_copied class.entry) (view.generators view.expr_tree clauses.now)) }
+    ensures { result ≡ first_malformed
+        (generators_shapes (option_copied class.entry)
+        (view.generators view.expr_tree clauses.now)) }
 {
     for clause in clauses {
         check_generator(class, clause)?;
@@ -256,7 +275,10 @@ fn check_generators(class: Option<&str>, clauses: &[Comprehension]) -> Result<()
 #[cycle(shapes)]
 #[tactic(auto, using(crate::proofs::Checks::checks))]
 fn check_generator(class: Option<&str>, clause: &Comprehension) -> Result<(), Malformed>
-    ensures { result ≡ first_malformed (expr_shapes (option_copied class.entry) (view.expr_tree clause.now.target.value) ++ expr_shapes (option_copied class.entry) (view.expr_tree clause.now.iter.value) ++ exprs_shapes (option_copied class.entry) (view.exprs view.expr_tree clause.now.ifs)) }
+    ensures { result ≡ first_malformed
+        (expr_shapes (option_copied class.entry) (view.expr_tree clause.now.target.value)
+        ++ expr_shapes (option_copied class.entry) (view.expr_tree clause.now.iter.value)
+        ++ exprs_shapes (option_copied class.entry) (view.exprs view.expr_tree clause.now.ifs)) }
 {
     check_expr(class, &clause.target)?;
     check_expr(class, &clause.iter)?;
@@ -270,7 +292,8 @@ fn check_generator(class: Option<&str>, clause: &Comprehension) -> Result<(), Ma
 #[cycle(shapes)]
 #[tactic(auto, using(crate::proofs::Checks::checks))]
 pub fn check_arguments(class: Option<&str>, params: &Arguments) -> Result<(), Malformed>
-    ensures { result ≡ first_malformed (arguments_shapes (option_copied class.entry) (view.arguments view.expr_tree params.now)) }
+    ensures { result ≡ first_malformed
+        (arguments_shapes (option_copied class.entry) (view.arguments view.expr_tree params.now)) }
 {
     check_parameters(class, params)?;
     check_args(class, params.posonlyargs.as_slice())?;
@@ -283,7 +306,8 @@ pub fn check_arguments(class: Option<&str>, params: &Arguments) -> Result<(), Ma
 #[cycle(shapes)]
 #[tactic(auto, using(crate::proofs::Steps::args_step))]
 fn check_args(class: Option<&str>, items: &[ArgWithDefault]) -> Result<(), Malformed>
-    ensures { result ≡ first_malformed (args_shapes (option_copied class.entry) (view.args view.expr_tree items.now)) }
+    ensures { result ≡ first_malformed
+        (args_shapes (option_copied class.entry) (view.args view.expr_tree items.now)) }
 {
     for item in items {
         check_default_arg(class, item)?;
@@ -294,7 +318,10 @@ fn check_args(class: Option<&str>, items: &[ArgWithDefault]) -> Result<(), Malfo
 #[cycle(shapes)]
 #[tactic(auto, using(crate::proofs::Checks::checks))]
 fn check_default_arg(class: Option<&str>, item: &ArgWithDefault) -> Result<(), Malformed>
-    ensures { result ≡ first_malformed (arg_shapes (option_copied class.entry) (view.arg view.expr_tree item.now.def) ++ opt_expr_shapes (option_copied class.entry) (view.opt_box view.expr_tree item.now.default)) }
+    ensures { result ≡ first_malformed
+        (arg_shapes (option_copied class.entry) (view.arg view.expr_tree item.now.def)
+        ++ opt_expr_shapes (option_copied class.entry)
+        (view.opt_box view.expr_tree item.now.default)) }
 {
     check_arg(class, &item.def)?;
     check_optional(class, &item.default)
@@ -303,7 +330,8 @@ fn check_default_arg(class: Option<&str>, item: &ArgWithDefault) -> Result<(), M
 #[cycle(shapes)]
 #[tactic(auto, using(crate::proofs::Checks::checks))]
 fn check_optional_arg(class: Option<&str>, value: &Option<Box<Arg>>) -> Result<(), Malformed>
-    ensures { result ≡ first_malformed (opt_arg_shapes (option_copied class.entry) (view.opt_arg view.expr_tree value.now)) }
+    ensures { result ≡ first_malformed
+        (opt_arg_shapes (option_copied class.entry) (view.opt_arg view.expr_tree value.now)) }
 {
     match value {
         Some(param) => check_arg(class, param),
@@ -314,7 +342,8 @@ fn check_optional_arg(class: Option<&str>, value: &Option<Box<Arg>>) -> Result<(
 #[cycle(shapes)]
 #[tactic(auto, using(crate::proofs::Checks::checks))]
 fn check_arg(class: Option<&str>, param: &Arg) -> Result<(), Malformed>
-    ensures { result ≡ first_malformed (arg_shapes (option_copied class.entry) (view.arg view.expr_tree param.now)) }
+    ensures { result ≡ first_malformed
+        (arg_shapes (option_copied class.entry) (view.arg view.expr_tree param.now)) }
 {
     check_name(&param.arg)?;
     check_optional(class, &param.annotation)

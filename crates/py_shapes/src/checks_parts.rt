@@ -14,7 +14,8 @@ use py_tree::{Malformed, TypeParam, WithItem};
 /// The first of the shapes that the definition of the same name asks for and that is not there.
 #[tactic(auto, using(crate::proofs::Steps::type_params_step))]
 pub fn check_type_params(class: Option<&str>, items: &[TypeParam]) -> Result<(), Malformed>
-    ensures { result ≡ first_malformed (type_params_shapes (option_copied class.entry) (view.type_params items.now)) }
+    ensures { result ≡ first_malformed
+        (type_params_shapes (option_copied class.entry) (view.type_params items.now)) }
 {
     for item in items {
         check_type_param(class, item)?;
@@ -24,7 +25,8 @@ pub fn check_type_params(class: Option<&str>, items: &[TypeParam]) -> Result<(),
 
 #[tactic(auto, using(crate::proofs::Checks::checks))]
 fn check_type_param(class: Option<&str>, item: &TypeParam) -> Result<(), Malformed>
-    ensures { result ≡ first_malformed (type_param_shapes (option_copied class.entry) (view.type_param_tree item.now)) }
+    ensures { result ≡ first_malformed
+        (type_param_shapes (option_copied class.entry) (view.type_param_tree item.now)) }
 {
     match item {
         TypeParam::TypeVar(p) => {
@@ -42,7 +44,8 @@ fn check_type_param(class: Option<&str>, item: &TypeParam) -> Result<(), Malform
 /// The first of the shapes that the definition of the same name asks for and that is not there.
 #[tactic(auto, using(crate::proofs::Steps::items_step))]
 pub fn check_items(class: Option<&str>, items: &[WithItem]) -> Result<(), Malformed>
-    ensures { result ≡ first_malformed (with_items_shapes (option_copied class.entry) (view.with_items items.now)) }
+    ensures { result ≡ first_malformed
+        (with_items_shapes (option_copied class.entry) (view.with_items items.now)) }
 {
     for item in items {
         check_item(class, item)?;
@@ -52,7 +55,10 @@ pub fn check_items(class: Option<&str>, items: &[WithItem]) -> Result<(), Malfor
 
 #[tactic(auto, using(crate::proofs::Checks::checks))]
 fn check_item(class: Option<&str>, item: &WithItem) -> Result<(), Malformed>
-    ensures { result ≡ first_malformed (expr_shapes (option_copied class.entry) (view.expr_tree item.now.context_expr.value) ++ opt_expr_shapes (option_copied class.entry) (view.opt_box view.expr_tree item.now.optional_vars)) }
+    ensures { result ≡ first_malformed
+        (expr_shapes (option_copied class.entry) (view.expr_tree item.now.context_expr.value)
+        ++ opt_expr_shapes (option_copied class.entry)
+        (view.opt_box view.expr_tree item.now.optional_vars)) }
 {
     check_expr(class, &item.context_expr)?;
     check_optional(class, &item.optional_vars)

@@ -24,7 +24,8 @@ use py_tree::{
 #[cycle(body)]
 #[tactic(auto, using(crate::proofs::Checks::checks))]
 pub fn check_stmts(class: Option<&str>, body: &[Stmt]) -> Result<(), Malformed>
-    ensures { result ≡ first_malformed (stmts_shapes (option_copied class.entry) (view.stmts view.stmt_tree body.now)) }
+    ensures { result ≡ first_malformed
+        (stmts_shapes (option_copied class.entry) (view.stmts view.stmt_tree body.now)) }
 {
     for s in body {
         check_stmt(class, s)?;
@@ -35,7 +36,8 @@ pub fn check_stmts(class: Option<&str>, body: &[Stmt]) -> Result<(), Malformed>
 #[cycle(body)]
 #[tactic(auto, using(crate::proofs::Checks::checks))]
 fn check_stmt(class: Option<&str>, stmt: &Stmt) -> Result<(), Malformed>
-    ensures { result ≡ first_malformed (stmt_shapes (option_copied class.entry) (view.stmt_tree stmt.now)) }
+    ensures { result ≡ first_malformed
+        (stmt_shapes (option_copied class.entry) (view.stmt_tree stmt.now)) }
 {
     match stmt {
         Stmt::FunctionDef(s) => check_def(class, s),
@@ -112,7 +114,8 @@ fn check_stmt(class: Option<&str>, stmt: &Stmt) -> Result<(), Malformed>
 #[cycle(body)]
 #[tactic(auto, using(crate::proofs::Checks::checks))]
 fn check_def(class: Option<&str>, s: &StmtFunctionDef) -> Result<(), Malformed>
-    ensures { result ≡ first_malformed (stmt_shapes (option_copied class.entry) (view.function_def_tree s.now)) }
+    ensures { result ≡ first_malformed
+        (stmt_shapes (option_copied class.entry) (view.function_def_tree s.now)) }
 {
     check_name(&s.name)?;
     check_arguments(class, &s.args)?;
@@ -125,7 +128,8 @@ fn check_def(class: Option<&str>, s: &StmtFunctionDef) -> Result<(), Malformed>
 #[cycle(body)]
 #[tactic(auto, using(crate::proofs::Checks::checks))]
 fn check_async_def(class: Option<&str>, s: &StmtAsyncFunctionDef) -> Result<(), Malformed>
-    ensures { result ≡ first_malformed (stmt_shapes (option_copied class.entry) (view.async_function_def_tree s.now)) }
+    ensures { result ≡ first_malformed
+        (stmt_shapes (option_copied class.entry) (view.async_function_def_tree s.now)) }
 {
     check_name(&s.name)?;
     check_arguments(class, &s.args)?;
@@ -139,7 +143,8 @@ fn check_async_def(class: Option<&str>, s: &StmtAsyncFunctionDef) -> Result<(), 
 #[cycle(body)]
 #[tactic(auto, using(crate::proofs::Checks::checks))]
 fn check_class(class: Option<&str>, s: &StmtClassDef) -> Result<(), Malformed>
-    ensures { result ≡ first_malformed (stmt_shapes (option_copied class.entry) (view.class_def_tree s.now)) }
+    ensures { result ≡ first_malformed
+        (stmt_shapes (option_copied class.entry) (view.class_def_tree s.now)) }
 {
     check_name(&s.name)?;
     check_exprs(class, s.bases.as_slice())?;
@@ -152,7 +157,8 @@ fn check_class(class: Option<&str>, s: &StmtClassDef) -> Result<(), Malformed>
 #[cycle(body)]
 #[tactic(auto, using(crate::proofs::Checks::checks))]
 fn check_for(class: Option<&str>, s: &StmtFor) -> Result<(), Malformed>
-    ensures { result ≡ first_malformed (stmt_shapes (option_copied class.entry) (view.for_tree s.now)) }
+    ensures { result ≡ first_malformed
+        (stmt_shapes (option_copied class.entry) (view.for_tree s.now)) }
 {
     check_expr(class, &s.target)?;
     check_expr(class, &s.iter)?;
@@ -163,7 +169,8 @@ fn check_for(class: Option<&str>, s: &StmtFor) -> Result<(), Malformed>
 #[cycle(body)]
 #[tactic(auto, using(crate::proofs::Checks::checks))]
 fn check_async_for(class: Option<&str>, s: &StmtAsyncFor) -> Result<(), Malformed>
-    ensures { result ≡ first_malformed (stmt_shapes (option_copied class.entry) (view.async_for_tree s.now)) }
+    ensures { result ≡ first_malformed
+        (stmt_shapes (option_copied class.entry) (view.async_for_tree s.now)) }
 {
     check_expr(class, &s.target)?;
     check_expr(class, &s.iter)?;
@@ -174,7 +181,8 @@ fn check_async_for(class: Option<&str>, s: &StmtAsyncFor) -> Result<(), Malforme
 #[cycle(body)]
 #[tactic(auto, using(crate::proofs::Checks::checks))]
 fn check_try(class: Option<&str>, s: &StmtTry) -> Result<(), Malformed>
-    ensures { result ≡ first_malformed (stmt_shapes (option_copied class.entry) (view.try_tree s.now)) }
+    ensures { result ≡ first_malformed
+        (stmt_shapes (option_copied class.entry) (view.try_tree s.now)) }
 {
     check_stmts(class, s.body.as_slice())?;
     check_handlers(class, s.handlers.as_slice())?;
@@ -185,7 +193,8 @@ fn check_try(class: Option<&str>, s: &StmtTry) -> Result<(), Malformed>
 #[cycle(body)]
 #[tactic(auto, using(crate::proofs::Checks::checks))]
 fn check_try_star(class: Option<&str>, s: &StmtTryStar) -> Result<(), Malformed>
-    ensures { result ≡ first_malformed (stmt_shapes (option_copied class.entry) (view.try_star_tree s.now)) }
+    ensures { result ≡ first_malformed
+        (stmt_shapes (option_copied class.entry) (view.try_star_tree s.now)) }
 {
     check_stmts(class, s.body.as_slice())?;
     check_handlers(class, s.handlers.as_slice())?;
@@ -196,7 +205,8 @@ fn check_try_star(class: Option<&str>, s: &StmtTryStar) -> Result<(), Malformed>
 #[cycle(body)]
 #[tactic(auto, using(crate::proofs::Steps::handlers_step))]
 fn check_handlers(class: Option<&str>, handlers: &[ExceptHandler]) -> Result<(), Malformed>
-    ensures { result ≡ first_malformed (handlers_shapes (option_copied class.entry) (view.handlers view.stmt_tree handlers.now)) }
+    ensures { result ≡ first_malformed
+        (handlers_shapes (option_copied class.entry) (view.handlers view.stmt_tree handlers.now)) }
 {
     for handler in handlers {
         check_handler(class, handler)?;
@@ -207,7 +217,11 @@ fn check_handlers(class: Option<&str>, handlers: &[ExceptHandler]) -> Result<(),
 #[cycle(body)]
 #[tactic(auto, using(crate::proofs::Checks::checks))]
 fn check_handler(class: Option<&str>, handler: &ExceptHandler) -> Result<(), Malformed>
-    ensures { result ≡ first_malformed (handler_own_shapes (view.opt_box view.expr_tree handler.now.type_) handler.now.name ++ opt_expr_shapes (option_copied class.entry) (view.opt_box view.expr_tree handler.now.type_) ++ stmts_shapes (option_copied class.entry) (view.stmts view.stmt_tree handler.now.body)) }
+    ensures { result ≡ first_malformed
+        (handler_own_shapes (view.opt_box view.expr_tree handler.now.type_) handler.now.name
+        ++ opt_expr_shapes (option_copied class.entry)
+        (view.opt_box view.expr_tree handler.now.type_)
+        ++ stmts_shapes (option_copied class.entry) (view.stmts view.stmt_tree handler.now.body)) }
 {
     check_handler_type(&handler.type_, &handler.name)?;
     check_optional_name(&handler.name)?;
@@ -218,7 +232,8 @@ fn check_handler(class: Option<&str>, handler: &ExceptHandler) -> Result<(), Mal
 #[cycle(body)]
 #[tactic(auto, using(crate::proofs::Checks::checks))]
 fn check_cases(class: Option<&str>, cases: &[MatchCase]) -> Result<(), Malformed>
-    ensures { result ≡ first_malformed (cases_shapes (option_copied class.entry) (view.cases view.stmt_tree cases.now)) }
+    ensures { result ≡ first_malformed
+        (cases_shapes (option_copied class.entry) (view.cases view.stmt_tree cases.now)) }
 {
     for case in cases {
         check_case(class, case)?;
@@ -229,7 +244,8 @@ fn check_cases(class: Option<&str>, cases: &[MatchCase]) -> Result<(), Malformed
 #[cycle(body)]
 #[tactic(auto, using(crate::proofs::Checks::checks))]
 fn check_case(class: Option<&str>, case: &MatchCase) -> Result<(), Malformed>
-    ensures { result ≡ first_malformed (stmts_shapes (option_copied class.entry) (view.stmts view.stmt_tree case.now.body)) }
+    ensures { result ≡ first_malformed
+        (stmts_shapes (option_copied class.entry) (view.stmts view.stmt_tree case.now.body)) }
 {
     check_stmts(class, case.body.as_slice())
 }

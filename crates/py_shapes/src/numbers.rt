@@ -40,7 +40,8 @@ pub fn check_targets(count: usize) -> Result<(), Malformed>
 /// The first of the shapes that the definition of the same name asks for and that is not there.
 #[tactic(auto, using(crate::proofs::Checks::generators_given))]
 pub fn check_generators_given(clauses: &[Comprehension]) -> Result<(), Malformed>
-    ensures { result ≡ first_malformed (when (not (has_generator (view.generators view.expr_tree clauses.now))) NoGenerator) }
+    ensures { result ≡ first_malformed
+        (when (not (has_generator (view.generators view.expr_tree clauses.now))) NoGenerator) }
 {
     if clauses.is_empty() {
         return Err(Malformed::NoGenerator);
@@ -66,7 +67,9 @@ pub fn check_even(left: usize, right: usize) -> Result<(), Malformed>
 /// # Errors
 /// The first of the shapes that the definition of the same name asks for and that is not there.
 pub fn check_cause(exc: &Option<Box<Expr>>, cause: &Option<Box<Expr>>) -> Result<(), Malformed>
-    ensures { result ≡ first_malformed (when (is_given (view.opt_box view.expr_tree cause.now) && not (is_given (view.opt_box view.expr_tree exc.now))) CauseAlone) }
+    ensures { result ≡ first_malformed
+        (when (is_given (view.opt_box view.expr_tree cause.now) &&
+        not (is_given (view.opt_box view.expr_tree exc.now))) CauseAlone) }
 {
     match (exc, cause) {
         (None, Some(_)) => Err(Malformed::CauseAlone),
@@ -79,7 +82,9 @@ pub fn check_cause(exc: &Option<Box<Expr>>, cause: &Option<Box<Expr>>) -> Result
 /// # Errors
 /// The first of the shapes that the definition of the same name asks for and that is not there.
 pub fn check_handler_type(type_: &Option<Box<Expr>>, name: &Option<Text>) -> Result<(), Malformed>
-    ensures { result ≡ first_malformed (when (opt_any (λ id. true) name.now && not (is_given (view.opt_box view.expr_tree type_.now))) NameWithoutType) }
+    ensures { result ≡ first_malformed
+        (when (opt_any (λ id. true) name.now &&
+        not (is_given (view.opt_box view.expr_tree type_.now))) NameWithoutType) }
 {
     match (type_, name) {
         (None, Some(_)) => Err(Malformed::NameWithoutType),

@@ -13,7 +13,8 @@ use py_tree::{Arg, ArgWithDefault, Arguments, Malformed};
 
 /// Whether the class mangles the name of one of the parameters to the same as this name.
 fn is_among(class: Option<&str>, name: &str, items: &[ArgWithDefault]) -> bool
-    ensures { result ≡ among (mangled_in (option_copied class.entry) name.now) (args_names (option_copied class.entry) (view.args view.expr_tree items.now)) }
+    ensures { result ≡ among (mangled_in (option_copied class.entry) name.now)
+        (args_names (option_copied class.entry) (view.args view.expr_tree items.now)) }
 {
     for item in items {
         if same_mangled(class, name, item.def.arg.as_str()) {
@@ -25,7 +26,8 @@ fn is_among(class: Option<&str>, name: &str, items: &[ArgWithDefault]) -> bool
 
 /// Whether two of the parameters have one name.
 fn is_repeated(class: Option<&str>, items: &[ArgWithDefault]) -> bool
-    ensures { result ≡ has_repeat (args_names (option_copied class.entry) (view.args view.expr_tree items.now)) }
+    ensures { result ≡ has_repeat (args_names (option_copied class.entry)
+        (view.args view.expr_tree items.now)) }
 {
     for i in 0..items.len() {
         if is_among(class, items[i].def.arg.as_str(), &items[i + 1..]) {
@@ -37,7 +39,9 @@ fn is_repeated(class: Option<&str>, items: &[ArgWithDefault]) -> bool
 
 /// Whether a parameter of the first list has the name of one of the second.
 fn some_meet(class: Option<&str>, items: &[ArgWithDefault], others: &[ArgWithDefault]) -> bool
-    ensures { result ≡ names_meet (args_names (option_copied class.entry) (view.args view.expr_tree items.now)) (args_names (option_copied class.entry) (view.args view.expr_tree others.now)) }
+    ensures { result ≡ names_meet (args_names (option_copied class.entry)
+        (view.args view.expr_tree items.now))
+        (args_names (option_copied class.entry) (view.args view.expr_tree others.now)) }
 {
     for item in items {
         if is_among(class, item.def.arg.as_str(), others) {
@@ -50,7 +54,9 @@ fn some_meet(class: Option<&str>, items: &[ArgWithDefault], others: &[ArgWithDef
 /// Whether a parameter of the list has the name of the other one, where there is one.
 #[tactic(auto, using(crate::proofs::Repeated::repeated_parts))]
 fn some_meets(class: Option<&str>, items: &[ArgWithDefault], other: &Option<Box<Arg>>) -> bool
-    ensures { result ≡ names_meet (args_names (option_copied class.entry) (view.args view.expr_tree items.now)) (opt_arg_names (option_copied class.entry) (view.opt_arg view.expr_tree other.now)) }
+    ensures { result ≡ names_meet (args_names (option_copied class.entry)
+        (view.args view.expr_tree items.now))
+        (opt_arg_names (option_copied class.entry) (view.opt_arg view.expr_tree other.now)) }
 {
     match other {
         Some(param) => is_among(class, param.arg.as_str(), items),
@@ -60,7 +66,9 @@ fn some_meets(class: Option<&str>, items: &[ArgWithDefault], other: &Option<Box<
 
 /// Whether both are there and have one name.
 fn both_meet(class: Option<&str>, param: &Option<Box<Arg>>, other: &Option<Box<Arg>>) -> bool
-    ensures { result ≡ names_meet (opt_arg_names (option_copied class.entry) (view.opt_arg view.expr_tree param.now)) (opt_arg_names (option_copied class.entry) (view.opt_arg view.expr_tree other.now)) }
+    ensures { result ≡ names_meet (opt_arg_names (option_copied class.entry)
+        (view.opt_arg view.expr_tree param.now))
+        (opt_arg_names (option_copied class.entry) (view.opt_arg view.expr_tree other.now)) }
 {
     match (param, other) {
         (Some(param), Some(other)) => {
@@ -73,7 +81,9 @@ fn both_meet(class: Option<&str>, param: &Option<Box<Arg>>, other: &Option<Box<A
 /// Whether a parameter of the list has the name of `*args` or `**kwargs`.
 #[tactic(auto, using(crate::proofs::Repeated::repeated_parts))]
 fn meets_ends(class: Option<&str>, items: &[ArgWithDefault], params: &Arguments) -> bool
-    ensures { result ≡ names_meet (args_names (option_copied class.entry) (view.args view.expr_tree items.now)) (end_names (option_copied class.entry) (view.arguments view.expr_tree params.now)) }
+    ensures { result ≡ names_meet (args_names (option_copied class.entry)
+        (view.args view.expr_tree items.now))
+        (end_names (option_copied class.entry) (view.arguments view.expr_tree params.now)) }
 {
     some_meets(class, items, &params.vararg) || some_meets(class, items, &params.kwarg)
 }
@@ -81,7 +91,10 @@ fn meets_ends(class: Option<&str>, items: &[ArgWithDefault], params: &Arguments)
 /// Whether a parameter of the list has the name of one that is no positional one.
 #[tactic(auto, using(crate::proofs::Repeated::repeated_parts))]
 fn meets_keyword(class: Option<&str>, items: &[ArgWithDefault], params: &Arguments) -> bool
-    ensures { result ≡ names_meet (args_names (option_copied class.entry) (view.args view.expr_tree items.now)) (args_names (option_copied class.entry) (view.args view.expr_tree params.now.kwonlyargs) ++ end_names (option_copied class.entry) (view.arguments view.expr_tree params.now)) }
+    ensures { result ≡ names_meet (args_names (option_copied class.entry)
+        (view.args view.expr_tree items.now))
+        (args_names (option_copied class.entry) (view.args view.expr_tree params.now.kwonlyargs)
+        ++ end_names (option_copied class.entry) (view.arguments view.expr_tree params.now)) }
 {
     some_meet(class, items, params.kwonlyargs.as_slice()) || meets_ends(class, items, params)
 }
@@ -89,7 +102,9 @@ fn meets_keyword(class: Option<&str>, items: &[ArgWithDefault], params: &Argumen
 /// Whether two keyword-only parameters, `*args` and `**kwargs` have one name.
 #[tactic(auto, using(crate::proofs::Repeated::repeated_parts))]
 fn keyword_repeated(class: Option<&str>, params: &Arguments) -> bool
-    ensures { result ≡ has_repeat (args_names (option_copied class.entry) (view.args view.expr_tree params.now.kwonlyargs) ++ end_names (option_copied class.entry) (view.arguments view.expr_tree params.now)) }
+    ensures { result ≡ has_repeat (args_names (option_copied class.entry)
+        (view.args view.expr_tree params.now.kwonlyargs)
+        ++ end_names (option_copied class.entry) (view.arguments view.expr_tree params.now)) }
 {
     let kwonlyargs = params.kwonlyargs.as_slice();
     is_repeated(class, kwonlyargs)
@@ -100,7 +115,8 @@ fn keyword_repeated(class: Option<&str>, params: &Arguments) -> bool
 /// Whether two parameters have one name.
 #[tactic(auto, using(crate::proofs::Repeated::repeated_parts))]
 fn same_parameter(class: Option<&str>, params: &Arguments) -> bool
-    ensures { result ≡ has_repeat (parameter_names (option_copied class.entry) (view.arguments view.expr_tree params.now)) }
+    ensures { result ≡ has_repeat (parameter_names (option_copied class.entry)
+        (view.arguments view.expr_tree params.now)) }
 {
     let posonlyargs = params.posonlyargs.as_slice();
     let args = params.args.as_slice();
@@ -163,7 +179,9 @@ fn is_disordered(items: &[ArgWithDefault]) -> bool
 /// Whether a positional parameter without a default stands after one with a default.
 #[tactic(auto, using(crate::proofs::Repeated::disordered_append))]
 fn wrong_order(params: &Arguments) -> bool
-    ensures { result ≡ has_disorder (defaults (view.args view.expr_tree params.now.posonlyargs) ++ defaults (view.args view.expr_tree params.now.args)) }
+    ensures { result ≡ has_disorder
+        (defaults (view.args view.expr_tree params.now.posonlyargs)
+        ++ defaults (view.args view.expr_tree params.now.args)) }
 {
     let posonlyargs = params.posonlyargs.as_slice();
     let args = params.args.as_slice();
@@ -175,7 +193,8 @@ fn wrong_order(params: &Arguments) -> bool
 /// # Errors
 /// The first of the shapes that the definition of the same name asks for and that is not there.
 pub fn check_parameters(class: Option<&str>, params: &Arguments) -> Result<(), Malformed>
-    ensures { result ≡ first_malformed (parameters_shapes (option_copied class.entry) (view.arguments view.expr_tree params.now)) }
+    ensures { result ≡ first_malformed
+        (parameters_shapes (option_copied class.entry) (view.arguments view.expr_tree params.now)) }
 {
     if same_parameter(class, params) {
         return Err(Malformed::SameParameter);

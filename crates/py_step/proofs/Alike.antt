@@ -1,7 +1,9 @@
--- Runs that are the same but for children are told alike.
+-- Runs that are the same but for children are reported alike.
 use Rattle.std.proofs.Common.{◌≡◌, List, [], ◌∷◌, ◌++◌, refl, ap, ◌∙◌}
 use Rattle.py_bytecode.specs.declared.instruction.Instruction.TheVariants as op
-use Rattle.py_bytecode.specs.Values.{operation, Number, Value, Constant, Given, Child, Entry, It, Cells, Event, Operates, Makes, Accesses, StoresCells, AsksTruth, AsksNext, Unsaid, Outcome, Returned, RaisedOut, Stopped, Wrong, Leaked, Going, Ran, ran}
+use Rattle.py_bytecode.specs.Values.{operation, Number, Value, Constant, Given, Child, Entry, It, Cells, Event, Operates, Makes, Accesses}
+use Rattle.py_bytecode.specs.Values.{StoresCells, AsksTruth, AsksNext, Unsaid, Outcome, Returned, RaisedOut, Stopped, Wrong, Leaked, Going}
+use Rattle.py_bytecode.specs.Values.{Ran, ran}
 use Rattle.py_control.specs.Agree.{SameEntry, SameEvent, SameEvents, SameOutcome, SameRan, SameValue, SameValues}
 use Rattle.py_control.specs.View.{event_to, events_to, outcome_to, plain, ran_to, value_to, values_to}
 use Rattle.py_answers.specs.Told.{short, short_event, short_events, short_outcome, short_returned, short_value, short_values}
@@ -26,8 +28,12 @@ module _ {K L : Type 0} (R : K → L → Type 0) where
 
   event_alike : (x : Event K) (y : Event L) → SameEvent R x y → short_event x ≡ short_event y
   event_alike (Operates o xs) (Operates p ys) h = ap (λ q. Operates q (short_values xs) ∷ []) h.0 ∙ ap (λ zs. Operates p zs ∷ []) (values_alike xs ys h.1)
-  event_alike (Makes f xs cs) (Makes g ys ds) h = ap (λ n. Operates (operation op.MakeFunction (Number n)) (short_values xs) ∷ []) h.0 ∙ ap (λ zs. Operates (operation op.MakeFunction (Number g)) zs ∷ []) (values_alike xs ys h.1)
-  event_alike (Accesses k u n p xs) (Accesses l t m q ys) h = ap (λ z. Accesses Unsaid z n 0 (short_values xs) ∷ []) h.1 ∙ ap (λ z. Accesses Unsaid t z 0 (short_values xs) ∷ []) h.2 ∙ ap (λ zs. Accesses Unsaid t m 0 zs ∷ []) (values_alike xs ys h.4)
+  event_alike (Makes f xs cs) (Makes g ys ds) h =
+      ap (λ n. Operates (operation op.MakeFunction (Number n)) (short_values xs) ∷ []) h.0
+      ∙ ap (λ zs. Operates (operation op.MakeFunction (Number g)) zs ∷ []) (values_alike xs ys h.1)
+  event_alike (Accesses k u n p xs) (Accesses l t m q ys) h =
+      ap (λ z. Accesses Unsaid z n 0 (short_values xs) ∷ []) h.1 ∙ ap (λ z. Accesses Unsaid t z 0 (short_values xs) ∷ []) h.2
+      ∙ ap (λ zs. Accesses Unsaid t m 0 zs ∷ []) (values_alike xs ys h.4)
   event_alike (StoresCells cs) (StoresCells ds) h = refl
   event_alike (AsksTruth x) (AsksTruth y) h = ap (λ z. AsksTruth z ∷ []) (value_alike x y h)
   event_alike (AsksNext x) (AsksNext y) h = ap (λ z. AsksNext z ∷ []) (value_alike x y h)
@@ -115,7 +121,7 @@ module _ {K L : Type 0} (R : K → L → Type 0) where
   pub runs_alike : (a : Ran K) (b : Ran L) → SameRan R a b → short a ≡ short b
   runs_alike a b h = ap (λ es. ran es (short_outcome a.outcome)) (events_alike a.events b.events h.events) ∙ ap (ran (short_events b.events)) (outcome_alike a.outcome b.outcome h.outcome)
 
--- what the plain view leaves out is not told
+-- what the plain view leaves out is not reported
 module _ {K : Type 0} where
   abbrev shown_value : Value K → Value K
   shown_value x = value_to (λ k. k) plain x

@@ -1,4 +1,4 @@
--- A code that agrees with a tree runs as the tree, as both runs are told.
+-- A code that agrees with a tree runs as the tree, as both runs are reported.
 use Rattle.std.specs.Prelude.{◌≡◌, ℕ, List}
 use Rattle.py_tree.specs.Tree as tree
 use Rattle.py_tree.specs.declared.modules.Mode.{Mode}

@@ -15,7 +15,8 @@ impl StepReport {
     pub fn to_text(&self, alloc: Global) -> Result<String, AllocError>
         requires code { all_told self.now.code.events ≡ true }
         requires tree { all_told self.now.tree.events ≡ true }
-        ensures { IfOk result (λ s. string_bytes s ≡ report_text (trace_of self.now.code) (trace_of self.now.tree)) }
+        ensures { IfOk result (λ s. string_bytes s
+            ≡ report_text (trace_of self.now.code) (trace_of self.now.tree)) }
     {
         let mut text = String::from_str(alloc, "code\n")?;
         push_trace(&mut text, &self.code)?;

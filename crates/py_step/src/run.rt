@@ -16,7 +16,7 @@ use py_step_machine::run_code;
 use py_tree::{Mod, Mode};
 use std::alloc::{AllocError, Global};
 
-/// What the run of a code object over a script is told as, and that of a tree.
+/// What the run of a code object over a script is reported as, and that of a tree.
 #[derive(PartialEq, Eq, Drop)]
 pub struct StepReport {
     pub code: Trace,
@@ -29,7 +29,7 @@ pub struct StepReport {
 ///
 /// # Errors
 /// There is no memory for the runs.
-#[tactic(auto, using(py_interp::proofs::Walked::meanings_walk))]
+#[tactic(auto, using(py_interp::proofs::Interpreted::interprets_meanings))]
 pub fn run_script(
     alloc: Global,
     code: &CodeObject,
@@ -38,9 +38,14 @@ pub fn run_script(
     level: u8,
     script: &Script,
 ) -> Result<StepReport, AllocError>
-    ensures machine { IfOk result (λ r. trace_of r.code ≡ short (machine (object code.now) (answers_of script.now.answers))) }
-    ensures walk { IfOk result (λ r. trace_of r.tree ≡ tree_run (mod_tree tree.now) mode level (answers_of script.now.answers)) }
-    ensures meaning { IfOk result (λ r. (scopes : List ScopeEntry) → trace_of r.tree ≡ short (meaning (body scopes (mod_tree tree.now) mode level) (answers_of script.now.answers))) }
+    ensures machine { IfOk result (λ r.
+        trace_of r.code ≡ short (machine (object code.now) (answers_of script.now.answers))) }
+    ensures interpreter { IfOk result
+        (λ r. trace_of r.tree ≡ tree_run (mod_tree tree.now) mode level
+        (answers_of script.now.answers)) }
+    ensures meaning { IfOk result (λ r. (scopes : List ScopeEntry)
+        → trace_of r.tree ≡ short (meaning (body scopes (mod_tree tree.now) mode level)
+        (answers_of script.now.answers))) }
     ensures code_told { IfOk result (λ r. all_told r.code.events ≡ true) }
     ensures tree_told { IfOk result (λ r. all_told r.tree.events ≡ true) }
 {

@@ -1,7 +1,10 @@
--- Entries and instructions, shortened as runs are told.
+-- Entries and instructions, shortened as runs are reported.
 use Rattle.std.specs.Prelude.{ℕ, List, [], ◌∷◌, Bool, Option, Some, None}
 use Rattle.py_bytecode.specs.Values.{Value, Entry, It, Cells, Usage, Load, Store, Delete, Kind, ByName, Unsaid, choose}
-use Rattle.py_bytecode.specs.Machine.{Instr, Push, Access, Operate, MakeFunction, Import, Append, Unpack, Nop, Pop, Rotate2, Rotate3, Duplicate, Duplicate2, JumpIf, JumpIfOrPop, Jump, SetupLoop, PopBlock, Break, Continue, ReturnValue, ReturnConst, SetupExcept, SetupFinally, PopException, EnterFinally, EndFinally, Reraise, ForIter, SetupWith, WithCleanupStart, WithCleanupFinish, is_silent}
+use Rattle.py_bytecode.specs.Machine.{Instr, Push, Access, Operate, MakeFunction, Import, Append, Unpack, Nop, Pop, Rotate2, Rotate3}
+use Rattle.py_bytecode.specs.Machine.{Duplicate, Duplicate2, JumpIf, JumpIfOrPop, Jump, SetupLoop, PopBlock, Break, Continue, ReturnValue}
+use Rattle.py_bytecode.specs.Machine.{ReturnConst, SetupExcept, SetupFinally, PopException, EnterFinally, EndFinally, Reraise, ForIter}
+use Rattle.py_bytecode.specs.Machine.{SetupWith, WithCleanupStart, WithCleanupFinish, is_silent}
 use Rattle.py_answers.specs.Told.{Known, short_value}
 
 -- of the kind of an access no more is kept than whether a store of cells is silent

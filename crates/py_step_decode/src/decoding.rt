@@ -49,7 +49,9 @@ fn cell_at(code: &CodeObject, n: u32) -> Option<&Text>
 
 // A constant as a value: a code is a child.
 fn value_at(code: &CodeObject, n: u32) -> Option<Value<'_>>
-    ensures { option_map value_of result ≡ option_map (λ c. short_value (decode.value_of c)) (slice_get (tables (object code.now)).constants n) }
+    ensures { option_map value_of result
+        ≡ option_map (λ c. short_value (decode.value_of c))
+        (slice_get (tables (object code.now)).constants n) }
 {
     match code.constants.get(n as usize)? {
         ConstantData::Code { .. } => Some(Value::Child),
@@ -70,7 +72,8 @@ fn target_at(code: &CodeObject, n: u32) -> Option<usize>
 }
 
 fn operation<'c>(op: Instruction, operand: Operand<'c>, takes: u32, gives: u32) -> Instr<'c>
-    ensures { instr_of result ≡ m.Operate (values.operation op (operand_of operand.entry)) takes (Some gives) }
+    ensures { instr_of result ≡ m.Operate (values.operation op (operand_of operand.entry)) takes
+        (Some gives) }
 {
     Instr::Operate {
         operation: Operation { op, operand },
@@ -81,13 +84,17 @@ fn operation<'c>(op: Instruction, operand: Operand<'c>, takes: u32, gives: u32) 
 
 // An operation with a name.
 fn named(op: Instruction, name: Option<&Text>, takes: u32, gives: u32) -> Option<Instr<'_>>
-    ensures { decoded_instr result ≡ short_found (for_some (option_copied name.entry) (λ x. m.Operate (values.operation op (values.Named x)) takes (Some gives))) }
+    ensures { decoded_instr result ≡ short_found
+        (for_some (option_copied name.entry)
+        (λ x. m.Operate (values.operation op (values.Named x)) takes (Some gives))) }
 {
     Some(operation(op, Operand::Named(name?), takes, gives))
 }
 
 fn import(op: Instruction, name: Option<&Text>) -> Option<Instr<'_>>
-    ensures { decoded_instr result ≡ short_found (for_some (option_copied name.entry) (λ x. m.Import (values.operation op (values.Named x)))) }
+    ensures { decoded_instr result ≡ short_found
+        (for_some (option_copied name.entry)
+        (λ x. m.Import (values.operation op (values.Named x)))) }
 {
     let operand = Operand::Named(name?);
     Some(Instr::Import(Operation { op, operand }))
@@ -95,20 +102,36 @@ fn import(op: Instruction, name: Option<&Text>) -> Option<Instr<'_>>
 
 // A load, of whatever kind.
 fn load(name: Option<&Text>) -> Option<Instr<'_>>
-    ensures fast { decoded_instr result ≡ short_found (for_some (option_copied name.entry) (λ x. m.Access values.Fast values.Load x 0)) }
-    ensures by_name { decoded_instr result ≡ short_found (for_some (option_copied name.entry) (λ x. m.Access values.ByName values.Load x 0)) }
-    ensures global { decoded_instr result ≡ short_found (for_some (option_copied name.entry) (λ x. m.Access values.Global values.Load x 0)) }
-    ensures deref { (place : ℕ) → decoded_instr result ≡ short_found (for_some (option_copied name.entry) (λ x. m.Access values.Deref values.Load x place)) }
-    ensures class_deref { (place : ℕ) → decoded_instr result ≡ short_found (for_some (option_copied name.entry) (λ x. m.Access values.ClassDeref values.Load x place)) }
+    ensures fast { decoded_instr result
+        ≡ short_found (for_some (option_copied name.entry)
+        (λ x. m.Access values.Fast values.Load x 0)) }
+    ensures by_name { decoded_instr result
+        ≡ short_found (for_some (option_copied name.entry)
+        (λ x. m.Access values.ByName values.Load x 0)) }
+    ensures global { decoded_instr result
+        ≡ short_found (for_some (option_copied name.entry)
+        (λ x. m.Access values.Global values.Load x 0)) }
+    ensures deref { (place : ℕ) → decoded_instr result
+        ≡ short_found (for_some (option_copied name.entry)
+        (λ x. m.Access values.Deref values.Load x place)) }
+    ensures class_deref { (place : ℕ) → decoded_instr result
+        ≡ short_found (for_some (option_copied name.entry)
+        (λ x. m.Access values.ClassDeref values.Load x place)) }
 {
     Some(Instr::Load(name?))
 }
 
 // A store of a kind that is never silent.
 fn store(name: Option<&Text>) -> Option<Instr<'_>>
-    ensures fast { decoded_instr result ≡ short_found (for_some (option_copied name.entry) (λ x. m.Access values.Fast values.Store x 0)) }
-    ensures global { decoded_instr result ≡ short_found (for_some (option_copied name.entry) (λ x. m.Access values.Global values.Store x 0)) }
-    ensures deref { (place : ℕ) → decoded_instr result ≡ short_found (for_some (option_copied name.entry) (λ x. m.Access values.Deref values.Store x place)) }
+    ensures fast { decoded_instr result
+        ≡ short_found (for_some (option_copied name.entry)
+        (λ x. m.Access values.Fast values.Store x 0)) }
+    ensures global { decoded_instr result
+        ≡ short_found (for_some (option_copied name.entry)
+        (λ x. m.Access values.Global values.Store x 0)) }
+    ensures deref { (place : ℕ) → decoded_instr result
+        ≡ short_found (for_some (option_copied name.entry)
+        (λ x. m.Access values.Deref values.Store x place)) }
 {
     let silent = false;
     Some(Instr::Store {
@@ -119,7 +142,8 @@ fn store(name: Option<&Text>) -> Option<Instr<'_>>
 
 // A store by name: cells are stored to `__classcell__` silently.
 fn store_by_name(name: Option<&Text>) -> Option<Instr<'_>>
-    ensures { decoded_instr result ≡ short_found (for_some (option_copied name.entry) (λ x. m.Access values.ByName values.Store x 0)) }
+    ensures { decoded_instr result ≡ short_found
+        (for_some (option_copied name.entry) (λ x. m.Access values.ByName values.Store x 0)) }
 {
     let name = name?;
     let silent = name.as_str() == "__classcell__";
@@ -128,58 +152,75 @@ fn store_by_name(name: Option<&Text>) -> Option<Instr<'_>>
 
 // A deletion, of whatever kind.
 fn delete(name: Option<&Text>) -> Option<Instr<'_>>
-    ensures fast { decoded_instr result ≡ short_found (for_some (option_copied name.entry) (λ x. m.Access values.Fast values.Delete x 0)) }
-    ensures by_name { decoded_instr result ≡ short_found (for_some (option_copied name.entry) (λ x. m.Access values.ByName values.Delete x 0)) }
-    ensures global { decoded_instr result ≡ short_found (for_some (option_copied name.entry) (λ x. m.Access values.Global values.Delete x 0)) }
-    ensures deref { (place : ℕ) → decoded_instr result ≡ short_found (for_some (option_copied name.entry) (λ x. m.Access values.Deref values.Delete x place)) }
+    ensures fast { decoded_instr result
+        ≡ short_found (for_some (option_copied name.entry)
+        (λ x. m.Access values.Fast values.Delete x 0)) }
+    ensures by_name { decoded_instr result
+        ≡ short_found (for_some (option_copied name.entry)
+        (λ x. m.Access values.ByName values.Delete x 0)) }
+    ensures global { decoded_instr result
+        ≡ short_found (for_some (option_copied name.entry)
+        (λ x. m.Access values.Global values.Delete x 0)) }
+    ensures deref { (place : ℕ) → decoded_instr result
+        ≡ short_found (for_some (option_copied name.entry)
+        (λ x. m.Access values.Deref values.Delete x place)) }
 {
     Some(Instr::Delete(name?))
 }
 
 // A cell, wherever it stands.
 fn load_closure(name: Option<&Text>) -> Option<Instr<'_>>
-    ensures { (place : ℕ) → decoded_instr result ≡ short_found (for_some (option_copied name.entry) (λ x. m.Push (values.Cells (record { name = x; place = place } ∷ [])))) }
+    ensures { (place : ℕ) → decoded_instr result
+        ≡ short_found (for_some (option_copied name.entry)
+        (λ x. m.Push (values.Cells (record { name = x; place = place } ∷ [])))) }
 {
     name?;
     Some(Instr::Push(Entry::Cells))
 }
 
 fn load_const(code: &CodeObject, n: u32) -> Option<Instr<'_>>
-    ensures { decoded_instr result ≡ short_found (decode.constant (tables (object code.now)) n (λ v. m.Push (values.It v))) }
+    ensures { decoded_instr result ≡ short_found
+        (decode.constant (tables (object code.now)) n (λ v. m.Push (values.It v))) }
 {
     Some(Instr::Push(Entry::It(value_at(code, n)?)))
 }
 
 fn return_const(code: &CodeObject, n: u32) -> Option<Instr<'_>>
-    ensures { decoded_instr result ≡ short_found (decode.constant (tables (object code.now)) n m.ReturnConst) }
+    ensures { decoded_instr result ≡ short_found
+        (decode.constant (tables (object code.now)) n m.ReturnConst) }
 {
     Some(Instr::ReturnConst(value_at(code, n)?))
 }
 
 // An instruction whose operand is below a bound.
 fn below<'c>(n: u32, bound: u32, instr: Instr<'c>) -> Option<Instr<'c>>
-    ensures { (i : m.Instr Object ℕ) → short_instr i ≡ instr_of instr.entry → decoded_instr result ≡ short_found (decode.below (Some bound) n i) }
+    ensures { (i : m.Instr Object ℕ) → short_instr i ≡ instr_of instr.entry
+        → decoded_instr result ≡ short_found (decode.below (Some bound) n i) }
 {
     if n < bound { Some(instr) } else { None }
 }
 
 // An instruction without operand.
 fn bare<'c>(n: u32, instr: Instr<'c>) -> Option<Instr<'c>>
-    ensures { (i : m.Instr Object ℕ) → short_instr i ≡ instr_of instr.entry → decoded_instr result ≡ short_found (decode.bare n i) }
+    ensures { (i : m.Instr Object ℕ) → short_instr i ≡ instr_of instr.entry
+        → decoded_instr result ≡ short_found (decode.bare n i) }
 {
     below(n, 1, instr)
 }
 
 // An operation without operand.
 fn done<'c>(op: Instruction, n: u32, takes: u32, gives: u32) -> Option<Instr<'c>>
-    ensures { decoded_instr result ≡ short_found (decode.bare n (m.Operate (values.operation op values.Bare) takes (Some gives))) }
+    ensures { decoded_instr result ≡ short_found
+        (decode.bare n (m.Operate (values.operation op values.Bare) takes (Some gives))) }
 {
     bare(n, operation(op, Operand::Bare, takes, gives))
 }
 
 // An operation whose operand is a number below a bound.
 fn numbered<'c>(op: Instruction, n: u32, bound: u32, takes: u32) -> Option<Instr<'c>>
-    ensures { decoded_instr result ≡ short_found (decode.below (Some bound) n (m.Operate (values.operation op (values.Number n)) takes (Some 1))) }
+    ensures { decoded_instr result ≡ short_found
+        (decode.below (Some bound) n (m.Operate (values.operation op (values.Number n)) takes
+        (Some 1))) }
 {
     below(n, bound, operation(op, Operand::Number(n), takes, 1))
 }
@@ -187,7 +228,9 @@ fn numbered<'c>(op: Instruction, n: u32, bound: u32, takes: u32) -> Option<Instr
 // An operation on as many values as it counts, and so many more.
 fn counted<'c>(op: Instruction, n: u32, more: u32) -> Option<Instr<'c>>
     requires { more < 5 }
-    ensures { decoded_instr result ≡ short_found (decode.below (Some (2 ^ 30)) n (m.Operate (values.operation op (values.Number n)) (n + more) (Some 1))) }
+    ensures { decoded_instr result ≡ short_found
+        (decode.below (Some (2 ^ 30)) n
+        (m.Operate (values.operation op (values.Number n)) (n + more) (Some 1))) }
 {
     numbered(op, n, 1 << 30, n.saturating_add(more))
 }
@@ -195,19 +238,24 @@ fn counted<'c>(op: Instruction, n: u32, more: u32) -> Option<Instr<'c>>
 // An operation on so many values, and one more where its bit is set.
 fn flagged<'c>(op: Instruction, n: u32, takes: u32) -> Option<Instr<'c>>
     requires { takes < 5 }
-    ensures { decoded_instr result ≡ short_found (decode.below (Some 2) n (m.Operate (values.operation op (values.Number n)) (n + takes) (Some 1))) }
+    ensures { decoded_instr result ≡ short_found
+        (decode.below (Some 2) n (m.Operate (values.operation op (values.Number n)) (n + takes)
+        (Some 1))) }
 {
     numbered(op, n, 2, n.saturating_add(takes))
 }
 
 fn build_map<'c>(n: u32) -> Option<Instr<'c>>
-    ensures { decoded_instr result ≡ short_found (decode.below (Some (2 ^ 30)) n (m.Operate (values.operation op.BuildMap (values.Number n)) (2 * n) (Some 1))) }
+    ensures { decoded_instr result ≡ short_found
+        (decode.below (Some (2 ^ 30)) n
+        (m.Operate (values.operation op.BuildMap (values.Number n)) (2 * n) (Some 1))) }
 {
     numbered(Instruction::BuildMap, n, 1 << 30, n.saturating_mul(2))
 }
 
 fn append<'c>(op: Instruction, n: u32, others: u32) -> Option<Instr<'c>>
-    ensures { decoded_instr result ≡ short_found (decode.below (Some (2 ^ 30)) n (m.Append (values.operation op values.Bare) others n)) }
+    ensures { decoded_instr result ≡ short_found
+        (decode.below (Some (2 ^ 30)) n (m.Append (values.operation op values.Bare) others n)) }
 {
     let operand = Operand::Bare;
     let operation = Operation { op, operand };
@@ -224,7 +272,8 @@ fn append<'c>(op: Instruction, n: u32, others: u32) -> Option<Instr<'c>>
 }
 
 fn unpack<'c>(op: Instruction, n: u32, bound: u32, count: u32) -> Option<Instr<'c>>
-    ensures { decoded_instr result ≡ short_found (decode.below (Some bound) n (m.Unpack (values.operation op (values.Number n)) count)) }
+    ensures { decoded_instr result ≡ short_found
+        (decode.below (Some bound) n (m.Unpack (values.operation op (values.Number n)) count)) }
 {
     let operand = Operand::Number(n);
     let operation = Operation { op, operand };
@@ -233,7 +282,9 @@ fn unpack<'c>(op: Instruction, n: u32, bound: u32, count: u32) -> Option<Instr<'
 
 // Values before a starred one, so many after it, and the starred one.
 fn unpack_ex<'c>(n: u32) -> Option<Instr<'c>>
-    ensures { decoded_instr result ≡ short_found (decode.below (Some (2 ^ 16)) n (m.Unpack (values.operation op.UnpackEx (values.Number n)) (n % 256 + n / 256 + 1))) }
+    ensures { decoded_instr result ≡ short_found
+        (decode.below (Some (2 ^ 16)) n
+        (m.Unpack (values.operation op.UnpackEx (values.Number n)) (n % 256 + n / 256 + 1))) }
 {
     unpack(Instruction::UnpackEx, n, 1 << 16, n % 256 + n / 256 + 1)
 }
@@ -247,7 +298,8 @@ fn bits(n: u32) -> u32
 }
 
 fn make_function<'c>(n: u32) -> Option<Instr<'c>>
-    ensures { decoded_instr result ≡ short_found (decode.below (Some 32) n (m.MakeFunction (n - n % 2) (n % 2 == 1) (bits_of (n - n % 2)))) }
+    ensures { decoded_instr result ≡ short_found
+        (decode.below (Some 32) n (m.MakeFunction (n - n % 2) (n % 2 == 1) (bits_of (n - n % 2)))) }
 {
     if n >= 32 {
         return None;
@@ -343,7 +395,9 @@ fn set_up_with<'c>(target: Option<usize>) -> Option<Instr<'c>>
 
 /// What an instruction is with this operand; None where the operand is outside its table or range.
 pub fn decode(code: &CodeObject, op: Instruction, n: u32) -> Option<Instr<'_>>
-    ensures { decoded_instr result ≡ short_found (decode.instr_of (tables (object code.now)) (place_in (length (head (object code.now)).instructions) n) op n) }
+    ensures { decoded_instr result ≡ short_found
+        (decode.instr_of (tables (object code.now))
+        (place_in (length (head (object code.now)).instructions) n) op n) }
 {
     let target = target_at(code, n);
     match op {

@@ -4,7 +4,8 @@ use Rattle.std.specs.Prelude.{nat_le, Ok, Err, ◌||◌}
 use Rattle.std.proofs.lemmas.List.{drop_more, drop_all, length-map}
 use Rattle.std.proofs.lemmas.Option.{slice_get_within, slice_get_cases, get_or_from_slice_get}
 use Rattle.py_bytecode.specs.Values.{Value, Entry, It, Event, World, Outcome, Wrong, choose, ran}
-use Rattle.py_bytecode.specs.Machine.{Reason, BreakTo, ContinueTo, ReturnOf, RaiseOf, Block, Loop, Except, Finally, ExceptHandler, FinallyHandler, Config, has_loop, wrong, unwind, unwind_out, slot_for}
+use Rattle.py_bytecode.specs.Machine.{Reason, BreakTo, ContinueTo, ReturnOf, RaiseOf, Block, Loop, Except, Finally, ExceptHandler}
+use Rattle.py_bytecode.specs.Machine.{FinallyHandler, Config, has_loop, wrong, unwind, unwind_out, slot_for}
 use Rattle.py_answers.specs.Told.{Known}
 use Rattle.py_step_machine.specs.declared.held.Block.{Block as Block1}
 use Rattle.py_step_machine.specs.declared.held.End.{End}
@@ -44,11 +45,16 @@ module _ (h : ℕ) (s : List (Entry Known)) (bs : List (Block Known ℕ)) (slot 
   except_left q (BreakTo p) = by_cut on _ w _ _ (λ d. (d >>= (λ u. Ok (None, u.1))) >>= after_block (BreakTo p)) refl refl
   except_left q (ContinueTo p) = by_cut on _ w _ _ (λ d. (d >>= (λ u. Ok (None, u.1))) >>= after_block (ContinueTo p)) refl refl
   except_left q (ReturnOf e) = by_cut on _ w _ _ (λ d. (d >>= (λ u. Ok (None, u.1))) >>= after_block (ReturnOf e)) refl refl
-  except_left q (RaiseOf e) = by_cut on _ w _ _ (λ d. (d >>= (λ u. Ok (Some q, state (It e ∷ u.1.stack) (ExceptHandler h u.1.slot ∷ u.1.blocks) (Some e) u.1.world))) >>= after_block (RaiseOf e)) refl refl
+  except_left q (RaiseOf e) = by_cut on _ w _ _ (λ d.
+      (d >>= (λ u. Ok (Some q, state (It e ∷ u.1.stack) (ExceptHandler h u.1.slot ∷ u.1.blocks) (Some e) u.1.world))) >>= after_block
+      (RaiseOf e)) refl refl
 
   finally_left : (q : ℕ) (r : Reason Known ℕ) → run_of_config (unwind r s (Finally h q ∷ bs) slot w) ≡ (leaving_finally h q r Z >>= after_block r)
   unfolding leaving_finally cut_stack
-  finally_left q r = by_cut on _ w _ _ (λ d. (d >>= (λ u. Ok (Some q, record u.1 { blocks = FinallyHandler h (Some r) u.1.slot ∷ u.1.blocks; slot = slot_for r u.1.slot }))) >>= after_block r) refl refl
+  finally_left q r = by_cut on _ w
+      _ _ (λ d. (d >>=
+      (λ u. Ok (Some q, record u.1 { blocks = FinallyHandler h (Some r) u.1.slot ∷ u.1.blocks; slot = slot_for r u.1.slot }))) >>=
+      after_block r) refl refl
 
   handler_left : (old : Option (Value Known)) (r : Reason Known ℕ) → run_of_config (unwind r s (ExceptHandler h old ∷ bs) slot w) ≡ (leaving_handler h old Z >>= after_block r)
   unfolding leaving_handler cut_stack unwind_run
@@ -120,9 +126,9 @@ block_keeps (FinallyHandler h k old) r s = handler_keeps h s old
 -- so fewer are left
 pub fewer_left : (bs rest after : List Block1) (b : Block1) (r : Reason Known ℕ) (s t : State) → bs ≡ b ∷ rest → s.blocks ≡ machine_blocks rest
     → t.blocks ≡ machine_blocks after → leaving_block (block_of b) r s ≡ Ok (None, t) → length after < length bs
-fewer_left bs rest after b r s t top before behind none =
+fewer_left bs rest after b r s t top before after_is none =
     let kept : t.blocks ≡ s.blocks = subst (λ d. BlocksLeftKeeps s d) none (block_keeps (block_of b) r s) in
-    let same : machine_blocks after ≡ machine_blocks rest = sym behind ∙ kept ∙ before in
+    let same : machine_blocks after ≡ machine_blocks rest = sym after_is ∙ kept ∙ before in
     omega (arith, length-map after block_of, length-map rest block_of, ap length same, ap length top)
 
 -- ---- no block takes the reason
@@ -188,8 +194,8 @@ loop_first (FinallyHandler h k old) rest = refl
 pub loop_here : (b : Block Known ℕ) (rest : List (Block Known ℕ)) → has_loop (b ∷ []) ≡ true → has_loop (b ∷ rest) ≡ true
 loop_here b rest h = loop_first b rest ∙ ap (λ x. x || has_loop rest) h
 
-pub loop_behind : (b : Block Known ℕ) (rest : List (Block Known ℕ)) → has_loop (b ∷ []) ≡ false → has_loop (b ∷ rest) ≡ has_loop rest
-loop_behind b rest h = loop_first b rest ∙ ap (λ x. x || has_loop rest) h
+pub loop_after : (b : Block Known ℕ) (rest : List (Block Known ℕ)) → has_loop (b ∷ []) ≡ false → has_loop (b ∷ rest) ≡ has_loop rest
+loop_after b rest h = loop_first b rest ∙ ap (λ x. x || has_loop rest) h
 
 pub loop_at : (bs : List Block1) (k : ℕ) (b : Block1) → slice_get bs k ≡ Some b → has_loop (machine_blocks (drop k bs)) ≡ has_loop (block_of b ∷ machine_blocks (drop (k + 1) bs))
 loop_at bs k b e =

@@ -46,7 +46,7 @@ top_alone (Finally h q) rest s = refl
 top_alone (ExceptHandler h old) rest s = refl
 top_alone (FinallyHandler h r old) rest s = refl
 
--- the handler of a last part that is seen
+-- the handler of a finally block that is seen
 abbrev pub peek_last_at : Option Block1 → State → Did (Option (Reason Known ℕ))
 peek_last_at None s = ends Wrong s
 peek_last_at (Some b) s = seen_last (block_of b ∷ []) s

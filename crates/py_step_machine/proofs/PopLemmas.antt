@@ -11,7 +11,7 @@ use Rattle.py_step_machine.specs.Does.{pop_entry, pop_value, as_value, pop_value
 use Rattle.py_step_machine.specs.Leaving.{settled_run}
 
 module _ {K : Type 0} where
-  -- what a configuration is told as
+  -- what a configuration is reported as
   abbrev pub pop_told : Config K ℕ → Run ℕ
   pop_told c = run_of_config (short_config c)
 
@@ -110,9 +110,10 @@ module _ {K : Type 0} where
     closure_short true (Cells cs ∷ s) k k1 h = h cs s
 
   module _ (s : List (Entry K)) (slot : Option (Value K)) (w : World K) where
-    -- the handler of a last part, which stays
+    -- the handler of a finally block, which stays
     pub last_short : (bs : List (Block K ℕ)) (k : ℕ → Option (Reason K ℕ) → Option (Value K) → List (Block K ℕ) → Config K ℕ) (k1 : Option (Reason Known ℕ) × State → Did ℕ)
-        → ((h : ℕ) (r : Option (Reason K ℕ)) (old : Option (Value K)) (rest : List (Block K ℕ)) → bs ≡ FinallyHandler h r old ∷ rest → pop_told (k h r old rest) ≡ settled_run (k1 (short_kept r, short_state s (FinallyHandler h r old ∷ rest) slot w)))
+        → ((h : ℕ) (r : Option (Reason K ℕ)) (old : Option (Value K)) (rest : List (Block K ℕ)) → bs ≡ FinallyHandler h r old ∷ rest
+        → pop_told (k h r old rest) ≡ settled_run (k1 (short_kept r, short_state s (FinallyHandler h r old ∷ rest) slot w)))
         → pop_told (on_last bs w k) ≡ settled_run (last_block (short_state s bs slot w) >>= k1)
     unfolding last_block
     last_short [] k k1 h = refl

@@ -1,7 +1,9 @@
 -- What is asked of a run, and of the same run shortened.
 use Rattle.std.proofs.Common.{◌≡◌, ℕ, zero, suc, List, [], ◌∷◌, ◌++◌, Bool, true, false, Option, Some, None, refl, sym, ap, ◌∙◌, append_assoc}
 use Rattle.std.specs.Prelude.{nat_eq, if◌then◌else◌}
-use Rattle.py_bytecode.specs.Values.{Value, Given, Answer, Gives, Truth, End, Raised, Event, AsksTruth, AsksNext, World, Got, Fine, Raises, Stops, then_get, ask, ask_of, ask_for, fits, fits_truth, fits_next, given_values, gives_of, for_one, for_none, one_of, none_of, truth_of, next_of}
+use Rattle.py_bytecode.specs.Values.{Value, Given, Answer, Gives, Truth, End, Raised, Event, AsksTruth, AsksNext, World, Got, Fine, Raises}
+use Rattle.py_bytecode.specs.Values.{Stops, then_get, ask, ask_of, ask_for, fits, fits_truth, fits_next, given_values, gives_of, for_one}
+use Rattle.py_bytecode.specs.Values.{for_none, one_of, none_of, truth_of, next_of}
 use Rattle.py_answers.specs.Told.{Known, short_value, short_values, short_event, short_events}
 use Rattle.py_step_machine.specs.Short.{short_slot, short_world}
 
@@ -29,7 +31,8 @@ module _ {K : Type 0} where
 
   fits_short : (k : Option ℕ) (a : Answer) (i : ℕ) (w : World K) → fits k a i (short_world w) ≡ short_got short_values (fits k a i w)
   fits_short (Some n) (Gives k) i w =
-      ap (λ x. if nat_eq n k then Fine x (short_world w) else Stops (short_world w).events) (sym (given_short K n i 0)) ∙ sym (if_short short_values (nat_eq n k) (Fine (given_values n i 0) w) (Stops w.events))
+      ap (λ x. if nat_eq n k then Fine x (short_world w) else Stops (short_world w).events) (sym (given_short K n i 0))
+      ∙ sym (if_short short_values (nat_eq n k) (Fine (given_values n i 0) w) (Stops w.events))
   fits_short (Some n) (Truth b) i w = refl
   fits_short (Some n) End i w = refl
   fits_short (Some n) Raised i w = refl
@@ -50,7 +53,7 @@ module _ {K : Type 0} where
   next_fits_short End i w = refl
   next_fits_short Raised i w = refl
 
-  -- an event that is told is asked alike
+  -- an event that is reported is asked alike
   ask_of_short : {A B : Type 0} (f : A → B) (k : Answer → ℕ → World K → Got K A) (k1 : Answer → ℕ → World Known → Got Known B)
       → ((a : Answer) (i : ℕ) (w : World K) → k1 a i (short_world w) ≡ short_got f (k a i w)) → (es : List (Event K)) (answers : List Answer) (i : ℕ)
       → ask_of (short_events es) answers i k1 ≡ short_got f (ask_of es answers i k)

@@ -1,4 +1,4 @@
--- A run told is the run of what is told.
+-- A run told is the run of what is reported.
 use Rattle.std.proofs.Common.{◌≡◌, ◌<◌, ◌-◌, arith, ℕ, zero, suc, List, [], length, Bool, true, false, Option, None, refl, sym, ap, ◌∙◌}
 use Rattle.std.specs.Prelude.{nat_le, Result, Ok, Err}
 use Rattle.py_bytecode.specs.Objects.{Object, head}
@@ -30,7 +30,8 @@ module _ {K : Type 0} (at : ℕ → Fetched K ℕ) (h : ℕ) where
   choose_told false x y = refl
 
   limited_short : (c : Config K ℕ) → pop_told (limited_config h c) ≡ (pop_told c >>= (λ p. keep_to_limit h p.0 p.1))
-  limited_short (At p s bs slot w) = choose_told (nat_le (length s) h) _ _ ∙ ap (λ n. choose (nat_le n h) (Ok (p, short_state s bs slot w)) (fails Wrong (short_state s bs slot w))) (sym (length_short s))
+  limited_short (At p s bs slot w) = choose_told (nat_le (length s) h) _ _ ∙ ap
+      (λ n. choose (nat_le n h) (Ok (p, short_state s bs slot w)) (fails Wrong (short_state s bs slot w))) (sym (length_short s))
   limited_short (Over events o) = refl
 
   -- one step from a state, told
@@ -86,7 +87,9 @@ module _ (o : Object) where
   run_on n h place to s s1 e = ap (λ m. run_steps o m place s) (run_view_one_less n h) ∙ first_step (n - 1) place s ∙ ap (λ d. d >>= (λ p. run_steps o (n - 1) p.0 p.1)) e
 
   pub run_fails : (n : ℕ) → 0 < n → (place : ℕ) (s : State) (events : List (Event Known)) (e : End) → Fails e events (unit_step o place s) → Fails e events (run_steps o n place s)
-  run_fails n h place s events e f = fails_same e events (unit_step o place s >>= (λ p. run_steps o (n - 1) p.0 p.1)) (run_steps o n place s) (ap (λ m. run_steps o m place s) (run_view_one_less n h) ∙ first_step (n - 1) place s) (fails_on e events (unit_step o place s) (λ p. run_steps o (n - 1) p.0 p.1) f)
+  run_fails n h place s events e f = fails_same e events (unit_step o place s >>= (λ p. run_steps o (n - 1) p.0 p.1))
+      (run_steps o n place s) (ap (λ m. run_steps o m place s) (run_view_one_less n h) ∙ first_step (n - 1) place s)
+      (fails_on e events (unit_step o place s) (λ p. run_steps o (n - 1) p.0 p.1) f)
 
   pub run_view_run_ends : (n : ℕ) → n ≡ 0 → (place : ℕ) (s : State) → run_steps o n place s ≡ Ok (place, s)
   unfolding run_steps
@@ -99,7 +102,7 @@ module _ (o : Object) where
       machine_told o answers
       ∙ ap told_run (ap (λ k. run_steps o k 0 (state [] [] None (start answers))) (sym m) ∙ ap (run_steps o n 0) (sym e))
 
--- ---- how it is told
+-- ---- how it is reported
 
 told_fails : (e : End) (events : List (Event Known)) (d : Run ℕ) → lacks_memory (Err e) ≡ false → Fails e events d → told_run d ≡ ran events (final (ending_of e))
 told_fails (End.Returned x) events d n h = ap told_run h

@@ -1,7 +1,9 @@
 -- What each instruction does, step by step.
 use Rattle.std.specs.Prelude.{ℕ, zero, suc, List, [], ◌∷◌, ◌++◌, length, drop, Bool, true, false, Option, Some, None, Ok, Err}
 use Rattle.py_bytecode.specs.declared.instruction.Instruction.TheVariants as op
-use Rattle.py_bytecode.specs.Values.{Operation, operation, Number, raise_again, enter_with, exit_with, Value, Entry, It, Cells, Usage, Load, Store, Delete, Kind, Unsaid, ByName, Operates, Accesses, Got, Fine, Raises, Stops, ask_for, for_one, for_none, truth_of, next_of, meets, choose, Stopped, Wrong, Leaked, ran}
+use Rattle.py_bytecode.specs.Values.{Operation, operation, Number, raise_again, enter_with, exit_with, Value, Entry, It, Cells, Usage, Load}
+use Rattle.py_bytecode.specs.Values.{Store, Delete, Kind, Unsaid, ByName, Operates, Accesses, Got, Fine, Raises, Stops, ask_for, for_one}
+use Rattle.py_bytecode.specs.Values.{for_none, truth_of, next_of, meets, choose, Stopped, Wrong, Leaked, ran}
 use Rattle.py_bytecode.specs.Machine as m
 use Rattle.py_bytecode.specs.Machine.{Instr, Reason, BreakTo, ContinueTo, ReturnOf, RaiseOf, Block, Loop, Except, Finally, ExceptHandler, FinallyHandler, has_loop, is_tuple, exception, push, stack_of}
 use Rattle.py_answers.specs.Told.{Known}
@@ -295,9 +297,9 @@ return_top s = do
   e ← pop_entry s
   leaves (ReturnOf e.0) e.1
 
--- ---- last parts
+-- ---- finally blocks
 
--- the handler of a last part, by its reason
+-- the handler of a finally block, by its reason
 abbrev pub seen_last : List (Block Known ℕ) → Doing (Option (Reason Known ℕ))
 seen_last [] s = ends Wrong s
 seen_last (Loop h ∷ bs) s = ends Wrong s

@@ -1,4 +1,4 @@
--- The run of a code object: so many steps, each with the limit of height, and what the run is told as.
+-- The run of a code object: so many steps, each with the limit of height, and what the run is reported as.
 use Rattle.std.specs.Prelude.{ℕ, zero, suc, Bool, true, false, Result, Ok, Err}
 use Rattle.py_bytecode.specs.Objects as const
 use Rattle.py_bytecode.specs.Objects.{Object, head}
@@ -43,7 +43,7 @@ final Wrong = Wrong
 final Leaked = Leaked
 final Going = Going
 
--- how it is told that a run went so, unless it lacked memory
+-- how it is reported that a run went so, unless it lacked memory
 abbrev pub went_to : Result ℕ End → Outcome Known
 went_to (Ok place) = Going
 went_to (Err e) = final (ending_of e)
@@ -57,7 +57,7 @@ lacks_memory (Err End.Wrong) = false
 lacks_memory (Err End.Leaked) = false
 lacks_memory (Err End.OutOfMemory) = true
 
--- what a run is told as
+-- what a run is reported as
 abbrev pub told_run : Run ℕ → Ran Known
 told_run (Ok x) = ran x.1.world.events Going
 told_run (Err r) = ran r.events (final r.outcome)

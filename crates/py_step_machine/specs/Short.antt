@@ -1,4 +1,4 @@
--- A machine's states and instructions, shortened as runs are told.
+-- A machine's states and instructions, shortened as runs are reported.
 use Rattle.std.specs.Prelude.{ℕ, List, [], ◌∷◌, Option, Some, None}
 use Rattle.py_bytecode.specs.Values.{Value, Entry, World, Outcome, Returned, RaisedOut, Stopped, Wrong, Leaked, Going}
 use Rattle.py_bytecode.specs.Machine.{Fetched, Found, Nothing, Reason, BreakTo, ContinueTo, ReturnOf, RaiseOf, Block, Loop, Except, Finally, ExceptHandler, FinallyHandler, Config, At, Over}

@@ -11,7 +11,8 @@ impl<'c> Machine<'c> {
     /// Does an instruction, and gives the place where the run goes on; `next` is that of the next instruction.
     #[tactic(auto, unfolding(crate::specs::Does::does))]
     pub fn act(&mut self, instr: Instr<'c>, next: usize) -> Result<usize, Stop<'c>>
-        ensures { Does (λ p. p) result (state_of self.new) (does (instr_of instr.entry) next (state_of self.old)) }
+        ensures { Does (λ p. p) result (state_of self.new)
+            (does (instr_of instr.entry) next (state_of self.old)) }
     {
         match instr {
             Instr::Push(entry) => {

@@ -25,7 +25,8 @@ impl<'c> Machine<'c> {
 
     #[tactic(auto, using(crate::proofs::Heights::stacked_height), unfolding(crate::specs::Does::setting_except))]
     pub fn set_up_except(&mut self, handler: usize, next: usize) -> Result<usize, Stop<'c>>
-        ensures { Does (λ p. p) result (state_of self.new) (setting_except handler next (state_of self.old)) }
+        ensures { Does (λ p. p) result (state_of self.new)
+            (setting_except handler next (state_of self.old)) }
     {
         let height = self.stack.height();
         self.blocks.push(Block::Except { height, handler })?;
@@ -34,7 +35,8 @@ impl<'c> Machine<'c> {
 
     #[tactic(auto, using(crate::proofs::Heights::stacked_height), unfolding(crate::specs::Does::setting_finally))]
     pub fn set_up_finally(&mut self, handler: usize, next: usize) -> Result<usize, Stop<'c>>
-        ensures { Does (λ p. p) result (state_of self.new) (setting_finally handler next (state_of self.old)) }
+        ensures { Does (λ p. p) result (state_of self.new)
+            (setting_finally handler next (state_of self.old)) }
     {
         let height = self.stack.height();
         self.blocks.push(Block::Finally { height, handler })?;
@@ -43,7 +45,8 @@ impl<'c> Machine<'c> {
 
     #[tactic(auto, using(crate::proofs::Heights::stacked_height), unfolding(crate::specs::Does::entering_finally))]
     pub fn enter_finally(&mut self, next: usize) -> Result<usize, Stop<'c>>
-        ensures { Does (λ p. p) result (state_of self.new) (entering_finally next (state_of self.old)) }
+        ensures { Does (λ p. p) result (state_of self.new)
+            (entering_finally next (state_of self.old)) }
     {
         let height = self.stack.height();
         let old = self.slot;
@@ -58,7 +61,8 @@ impl<'c> Machine<'c> {
 
     #[tactic(auto, unfolding(crate::specs::Does::popping_block))]
     pub fn pop_block(&mut self, next: usize) -> Result<usize, Stop<'c>>
-        ensures { Does (λ p. p) result (state_of self.new) (popping_block next (state_of self.old)) }
+        ensures { Does (λ p. p) result (state_of self.new)
+            (popping_block next (state_of self.old)) }
     {
         match self.blocks.pop() {
             Some(Block::Loop { .. } | Block::Except { .. } | Block::Finally { .. }) => Ok(next),
@@ -70,7 +74,8 @@ impl<'c> Machine<'c> {
 
     #[tactic(auto, unfolding(crate::specs::Does::popping_exception))]
     pub fn pop_exception(&mut self, next: usize) -> Result<usize, Stop<'c>>
-        ensures { Does (λ p. p) result (state_of self.new) (popping_exception next (state_of self.old)) }
+        ensures { Does (λ p. p) result (state_of self.new)
+            (popping_exception next (state_of self.old)) }
     {
         match self.blocks.pop() {
             Some(Block::ExceptHandler { old, .. }) => {
@@ -105,7 +110,8 @@ impl<'c> Machine<'c> {
     /// Leaves blocks for a `break` or `continue`; outside a loop it is wrong.
     #[tactic(auto, unfolding(crate::specs::Does::leave_in_loop))]
     pub fn leave(&mut self, reason: Reason<'c>) -> Result<usize, Stop<'c>>
-        ensures { Does (λ p. p) result (state_of self.new) (leave_in_loop (reason_of reason.entry) (state_of self.old)) }
+        ensures { Does (λ p. p) result (state_of self.new)
+            (leave_in_loop (reason_of reason.entry) (state_of self.old)) }
     {
         if self.has_loop() {
             Err(Stop::Leaves(reason))
@@ -122,7 +128,7 @@ impl<'c> Machine<'c> {
         Err(Stop::Leaves(Reason::Return(entry)))
     }
 
-    // The reason that the handler of a last part on top keeps.
+    // The reason that the handler of a finally block on top keeps.
     #[tactic(auto, using(crate::proofs::PeekLemmas::last_seen), unfolding(crate::specs::Does::last_block))]
     fn last_reason(&mut self) -> Result<Option<Reason<'c>>, Stop<'c>>
         ensures { Does kept_of result (state_of self.new) (last_block (state_of self.old)) }
@@ -161,7 +167,8 @@ impl<'c> Machine<'c> {
 
     #[tactic(auto, unfolding(crate::specs::Does::ending_finally))]
     pub fn end_finally(&mut self, next: usize) -> Result<usize, Stop<'c>>
-        ensures { Does (λ p. p) result (state_of self.new) (ending_finally next (state_of self.old)) }
+        ensures { Does (λ p. p) result (state_of self.new)
+            (ending_finally next (state_of self.old)) }
     {
         match self.pop_last()? {
             Some(reason) => Err(Stop::Leaves(reason)),
@@ -182,7 +189,8 @@ impl<'c> Machine<'c> {
 
     #[tactic(auto, using(crate::proofs::Heights::stacked_height), unfolding(crate::specs::Does::setting_with))]
     pub fn set_up_with(&mut self, handler: usize, next: usize) -> Result<usize, Stop<'c>>
-        ensures { Does (λ p. p) result (state_of self.new) (setting_with handler next (state_of self.old)) }
+        ensures { Does (λ p. p) result (state_of self.new)
+            (setting_with handler next (state_of self.old)) }
     {
         let manager = self.pop_operand()?;
         let operands = alone(self.alloc, manager)?;
@@ -203,7 +211,8 @@ impl<'c> Machine<'c> {
     /// Calls an exit with the exception that is raised, or None; the answer takes the place of the exit.
     #[tactic(auto, unfolding(crate::specs::Does::starting_cleanup))]
     pub fn start_cleanup(&mut self, next: usize) -> Result<usize, Stop<'c>>
-        ensures { Does (λ p. p) result (state_of self.new) (starting_cleanup next (state_of self.old)) }
+        ensures { Does (λ p. p) result (state_of self.new)
+            (starting_cleanup next (state_of self.old)) }
     {
         let reason = self.last_reason()?;
         let exit = self.operand_below(0)?;
@@ -222,7 +231,8 @@ impl<'c> Machine<'c> {
     /// Goes on with the kept reason, but not with a raise where the answer of the exit is true.
     #[tactic(auto, unfolding(crate::specs::Does::finishing_cleanup))]
     pub fn finish_cleanup(&mut self, next: usize) -> Result<usize, Stop<'c>>
-        ensures { Does (λ p. p) result (state_of self.new) (finishing_cleanup next (state_of self.old)) }
+        ensures { Does (λ p. p) result (state_of self.new)
+            (finishing_cleanup next (state_of self.old)) }
     {
         let reason = self.pop_last()?;
         let asked = self.pop_operand()?;

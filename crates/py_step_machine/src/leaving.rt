@@ -35,7 +35,8 @@ impl<'c> Machine<'c> {
 
     #[tactic(auto, unfolding(crate::specs::Leaving::leaving_loop))]
     fn leave_loop(&mut self, height: usize, reason: Reason<'c>) -> Result<Option<usize>, End<'c>>
-        ensures { Runs (λ p. p) result (state_of self.new) (leaving_loop height (reason_of reason.entry) (state_of self.old)) }
+        ensures { Runs (λ p. p) result (state_of self.new)
+            (leaving_loop height (reason_of reason.entry) (state_of self.old)) }
     {
         match reason {
             Reason::Break(target) => {
@@ -59,7 +60,8 @@ impl<'c> Machine<'c> {
         handler: usize,
         answer: u32,
     ) -> Result<Option<usize>, End<'c>>
-        ensures { Runs (λ p. p) result (state_of self.new) (handle_at height handler (raised_value answer) (state_of self.old)) }
+        ensures { Runs (λ p. p) result (state_of self.new)
+            (handle_at height handler (raised_value answer) (state_of self.old)) }
     {
         self.cut(height)?;
         let old = self.slot;
@@ -76,7 +78,8 @@ impl<'c> Machine<'c> {
         handler: usize,
         reason: Reason<'c>,
     ) -> Result<Option<usize>, End<'c>>
-        ensures { Runs (λ p. p) result (state_of self.new) (leaving_except height handler (reason_of reason.entry) (state_of self.old)) }
+        ensures { Runs (λ p. p) result (state_of self.new)
+            (leaving_except height handler (reason_of reason.entry) (state_of self.old)) }
     {
         match reason {
             Reason::Break(_) => self.pass(height),
@@ -93,7 +96,8 @@ impl<'c> Machine<'c> {
         handler: usize,
         reason: Reason<'c>,
     ) -> Result<Option<usize>, End<'c>>
-        ensures { Runs (λ p. p) result (state_of self.new) (leaving_finally height handler (reason_of reason.entry) (state_of self.old)) }
+        ensures { Runs (λ p. p) result (state_of self.new)
+            (leaving_finally height handler (reason_of reason.entry) (state_of self.old)) }
     {
         self.cut(height)?;
         let old = self.slot;
@@ -108,7 +112,8 @@ impl<'c> Machine<'c> {
 
     #[tactic(auto, unfolding(crate::specs::Leaving::leaving_handler))]
     fn leave_handler(&mut self, height: usize, old: Option<u32>) -> Result<Option<usize>, End<'c>>
-        ensures { Runs (λ p. p) result (state_of self.new) (leaving_handler height (slot_of old) (state_of self.old)) }
+        ensures { Runs (λ p. p) result (state_of self.new)
+            (leaving_handler height (slot_of old) (state_of self.old)) }
     {
         self.cut(height)?;
         self.slot = old;
@@ -121,7 +126,8 @@ impl<'c> Machine<'c> {
         block: Block<'c>,
         reason: Reason<'c>,
     ) -> Result<Option<usize>, End<'c>>
-        ensures { Runs (λ p. p) result (state_of self.new) (leaving_block (block_of block.entry) (reason_of reason.entry) (state_of self.old)) }
+        ensures { Runs (λ p. p) result (state_of self.new)
+            (leaving_block (block_of block.entry) (reason_of reason.entry) (state_of self.old)) }
     {
         match block {
             Block::Loop { height } => self.leave_loop(height, reason),
@@ -134,7 +140,8 @@ impl<'c> Machine<'c> {
 
     // Leaves blocks until one takes the reason, and gives the place where the run goes on.
     fn unwind(&mut self, reason: Reason<'c>) -> Result<usize, End<'c>>
-        ensures { Runs (λ p. p) result (state_of self.new) (unwind_run (reason_of reason.entry) (state_of self.old)) }
+        ensures { Runs (λ p. p) result (state_of self.new)
+            (unwind_run (reason_of reason.entry) (state_of self.old)) }
     {
         while let Some(block) = self.blocks.pop() {
             if let Some(place) = self.leave_block(block, reason)? {
@@ -146,7 +153,8 @@ impl<'c> Machine<'c> {
 
     /// Does an instruction, and leaves blocks where it says so.
     pub fn perform(&mut self, instr: Instr<'c>, next: usize) -> Result<usize, End<'c>>
-        ensures { Runs (λ p. p) result (state_of self.new) (settled_run (does (instr_of instr.entry) next (state_of self.old))) }
+        ensures { Runs (λ p. p) result (state_of self.new)
+            (settled_run (does (instr_of instr.entry) next (state_of self.old))) }
     {
         match self.act(instr, next) {
             Ok(place) => Ok(place),
@@ -159,7 +167,7 @@ impl<'c> Machine<'c> {
     }
 }
 
-// The exception that a last part handles.
+// The exception that a finally block handles.
 fn slot_for(reason: Reason<'_>, old: Option<u32>) -> Option<u32>
     ensures { slot_of result ≡ slot_for (reason_of reason.entry) (slot_of old) }
 {

@@ -84,7 +84,8 @@ impl<'c> Machine<'c> {
 
     /// Takes so many values, as operands: the lowest comes first.
     pub fn pop_values(&mut self, count: u32) -> Result<List<StepValue>, Stop<'c>>
-        ensures { Does told.values_of result (state_of self.new) (pop_values count [] (state_of self.old)) }
+        ensures { Does told.values_of result (state_of self.new)
+            (pop_values count [] (state_of self.old)) }
     {
         let mut operands = Vec::new(self.alloc);
         let mut left = count;
@@ -107,7 +108,8 @@ impl<'c> Machine<'c> {
 
     /// The value that is to lie so many below the top, as an operand; it stays.
     pub fn operand_below(&mut self, depth: usize) -> Result<StepValue, Stop<'c>>
-        ensures { Does told.value_of result (state_of self.new) (value_below depth (state_of self.old)) }
+        ensures { Does told.value_of result (state_of self.new)
+            (value_below depth (state_of self.old)) }
     {
         let value = self.value_below(depth)?;
         Ok(shortened(self.alloc, value)?)
@@ -126,7 +128,8 @@ impl<'c> Machine<'c> {
 
     /// Takes a closure, where there is to be one.
     pub fn pop_closure(&mut self, closure: bool) -> Result<(), Stop<'c>>
-        ensures { Does (λ u. u) result (state_of self.new) (pop_closure closure (state_of self.old)) }
+        ensures { Does (λ u. u) result (state_of self.new)
+            (pop_closure closure (state_of self.old)) }
     {
         if closure {
             self.pop_cell_tuple()

@@ -41,7 +41,8 @@ impl<'c> Machine<'c> {
 
     #[tactic(auto, unfolding(crate::specs::Does::duplicate_top))]
     pub fn duplicate(&mut self, next: usize) -> Result<usize, Stop<'c>>
-        ensures { Does (λ p. p) result (state_of self.new) (duplicate_top next (state_of self.old)) }
+        ensures { Does (λ p. p) result (state_of self.new)
+            (duplicate_top next (state_of self.old)) }
     {
         let top = self.entry_below(0)?;
         self.stack.push(top)?;
@@ -61,7 +62,8 @@ impl<'c> Machine<'c> {
 
     #[tactic(auto, unfolding(crate::specs::Does::jumping_if))]
     pub fn jump_if(&mut self, truth: bool, target: usize, next: usize) -> Result<usize, Stop<'c>>
-        ensures { Does (λ p. p) result (state_of self.new) (jumping_if truth target next (state_of self.old)) }
+        ensures { Does (λ p. p) result (state_of self.new)
+            (jumping_if truth target next (state_of self.old)) }
     {
         let asked = self.pop_operand()?;
         let answer = self.ask_truth(asked)?;
@@ -79,7 +81,8 @@ impl<'c> Machine<'c> {
         target: usize,
         next: usize,
     ) -> Result<usize, Stop<'c>>
-        ensures { Does (λ p. p) result (state_of self.new) (jumping_if_or_pop truth target next (state_of self.old)) }
+        ensures { Does (λ p. p) result (state_of self.new)
+            (jumping_if_or_pop truth target next (state_of self.old)) }
     {
         let value = self.pop_value()?;
         let asked = shortened(self.alloc, value)?;
@@ -95,7 +98,8 @@ impl<'c> Machine<'c> {
     /// The iterator stays where it is, and goes where there is no next value.
     #[tactic(auto, unfolding(crate::specs::Does::for_iter))]
     pub fn iterate(&mut self, target: usize, next: usize) -> Result<usize, Stop<'c>>
-        ensures { Does (λ p. p) result (state_of self.new) (for_iter target next (state_of self.old)) }
+        ensures { Does (λ p. p) result (state_of self.new)
+            (for_iter target next (state_of self.old)) }
     {
         let iterator = self.operand_below(0)?;
         match self.ask_next(iterator)? {

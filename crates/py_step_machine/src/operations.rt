@@ -28,7 +28,8 @@ impl<'c> Machine<'c> {
         gives: Option<u32>,
         next: usize,
     ) -> Result<usize, Stop<'c>>
-        ensures { Does (λ p. p) result (state_of self.new) (run_operation (operation_of operation.entry) takes gives next (state_of self.old)) }
+        ensures { Does (λ p. p) result (state_of self.new)
+            (run_operation (operation_of operation.entry) takes gives next (state_of self.old)) }
     {
         if self.joins(operation.op, takes) {
             self.join_cells(takes, next)
@@ -45,7 +46,8 @@ impl<'c> Machine<'c> {
         gives: Option<u32>,
         next: usize,
     ) -> Result<usize, Stop<'c>>
-        ensures { Does (λ p. p) result (state_of self.new) (apply_operation (operation_of operation.entry) takes gives next (state_of self.old)) }
+        ensures { Does (λ p. p) result (state_of self.new)
+            (apply_operation (operation_of operation.entry) takes gives next (state_of self.old)) }
     {
         let operands = self.pop_values(takes)?;
         let answer = self.ask_for(operation, operands, gives)?;
@@ -55,7 +57,8 @@ impl<'c> Machine<'c> {
 
     #[tactic(auto, unfolding(crate::specs::Does::join_cell_tuple))]
     fn join_cells(&mut self, count: u32, next: usize) -> Result<usize, Stop<'c>>
-        ensures { Does (λ p. p) result (state_of self.new) (join_cell_tuple count next (state_of self.old)) }
+        ensures { Does (λ p. p) result (state_of self.new)
+            (join_cell_tuple count next (state_of self.old)) }
     {
         self.pop_cells(count)?;
         self.stack.push(Entry::Cells)?;
@@ -84,7 +87,8 @@ impl<'c> Machine<'c> {
         others: u32,
         next: usize,
     ) -> Result<usize, Stop<'c>>
-        ensures { Does (λ p. p) result (state_of self.new) (build_function flags closure others next (state_of self.old)) }
+        ensures { Does (λ p. p) result (state_of self.new)
+            (build_function flags closure others next (state_of self.old)) }
     {
         let named = self.pop_values(2)?;
         self.pop_closure(closure)?;
@@ -101,7 +105,8 @@ impl<'c> Machine<'c> {
     /// Does an operation on the value on top, which stays.
     #[tactic(auto, unfolding(crate::specs::Does::import_member))]
     pub fn import(&mut self, operation: Operation<'_>, next: usize) -> Result<usize, Stop<'c>>
-        ensures { Does (λ p. p) result (state_of self.new) (import_member (operation_of operation.entry) next (state_of self.old)) }
+        ensures { Does (λ p. p) result (state_of self.new)
+            (import_member (operation_of operation.entry) next (state_of self.old)) }
     {
         let module = self.operand_below(0)?;
         let operands = alone(self.alloc, module)?;
@@ -118,7 +123,8 @@ impl<'c> Machine<'c> {
         depth: u32,
         next: usize,
     ) -> Result<usize, Stop<'c>>
-        ensures { Does (λ p. p) result (state_of self.new) (append_value (operation_of operation.entry) others depth next (state_of self.old)) }
+        ensures { Does (λ p. p) result (state_of self.new)
+            (append_value (operation_of operation.entry) others depth next (state_of self.old)) }
     {
         let elements = self.pop_values(others)?;
         let collection = self.operand_below(depth as usize)?;
@@ -136,7 +142,8 @@ impl<'c> Machine<'c> {
         count: u32,
         next: usize,
     ) -> Result<usize, Stop<'c>>
-        ensures { Does (λ p. p) result (state_of self.new) (unpack_top (operation_of operation.entry) count next (state_of self.old)) }
+        ensures { Does (λ p. p) result (state_of self.new)
+            (unpack_top (operation_of operation.entry) count next (state_of self.old)) }
     {
         let value = self.pop_operand()?;
         let operands = alone(self.alloc, value)?;

@@ -36,7 +36,8 @@ pub fn alone(alloc: Global, operand: StepValue) -> Result<List<StepValue>, Alloc
 
 /// Puts so many values of an answer on a stack, the last on top.
 pub fn push_given(stack: &mut Pile<Entry<'_>>, answer: u32, count: u32) -> Result<(), AllocError>
-    ensures { OnOk result (machine_stack stack.new ≡ push (given_values count answer 0) (machine_stack stack.old)) }
+    ensures { OnOk result (machine_stack stack.new
+        ≡ push (given_values count answer 0) (machine_stack stack.old)) }
 {
     for index in 0..count {
         stack.push(Entry::It(Value::Given { answer, index }))?;
@@ -46,7 +47,8 @@ pub fn push_given(stack: &mut Pile<Entry<'_>>, answer: u32, count: u32) -> Resul
 
 /// Puts so many values of an answer on a stack, the first on top.
 pub fn push_reversed(stack: &mut Pile<Entry<'_>>, answer: u32, count: u32) -> Result<(), AllocError>
-    ensures { OnOk result (machine_stack stack.new ≡ stack_of (given_values count answer 0) (machine_stack stack.old)) }
+    ensures { OnOk result (machine_stack stack.new
+        ≡ stack_of (given_values count answer 0) (machine_stack stack.old)) }
 {
     let mut index = count;
     while index > 0 {

@@ -16,7 +16,8 @@ impl<'c> Machine<'c> {
     /// Loads a name. The value is that of the answer with this number.
     #[tactic(auto, unfolding(crate::specs::Does::asks_load))]
     pub fn ask_load(&mut self, name: &Text) -> Result<u32, Stop<'c>>
-        ensures { Does raised_value result (state_of self.new) (asks_load name.now (state_of self.old)) }
+        ensures { Does raised_value result (state_of self.new)
+            (asks_load name.now (state_of self.old)) }
     {
         Ok(self.log.load(name)?)
     }
@@ -24,7 +25,8 @@ impl<'c> Machine<'c> {
     /// Stores a value to a name.
     #[tactic(auto, unfolding(crate::specs::Does::asks_store))]
     pub fn ask_store(&mut self, name: &Text, value: StepValue) -> Result<(), Stop<'c>>
-        ensures { Does (λ u. u) result (state_of self.new) (asks_store name.now (told.value_of value) (state_of self.old)) }
+        ensures { Does (λ u. u) result (state_of self.new)
+            (asks_store name.now (told.value_of value) (state_of self.old)) }
     {
         Ok(self.log.store(name, value)?)
     }
@@ -32,7 +34,8 @@ impl<'c> Machine<'c> {
     /// Deletes a name.
     #[tactic(auto, unfolding(crate::specs::Does::asks_delete))]
     pub fn ask_delete(&mut self, name: &Text) -> Result<(), Stop<'c>>
-        ensures { Does (λ u. u) result (state_of self.new) (asks_delete name.now (state_of self.old)) }
+        ensures { Does (λ u. u) result (state_of self.new)
+            (asks_delete name.now (state_of self.old)) }
     {
         Ok(self.log.delete(name)?)
     }
@@ -45,7 +48,9 @@ impl<'c> Machine<'c> {
         operands: List<StepValue>,
         gives: Option<u32>,
     ) -> Result<u32, Stop<'c>>
-        ensures { Does (counted_by gives) result (state_of self.new) (asks_for (operation_of operation.entry) gives (told.values_of operands) (state_of self.old)) }
+        ensures { Does (counted_by gives) result (state_of self.new)
+            (asks_for (operation_of operation.entry) gives (told.values_of operands)
+            (state_of self.old)) }
     {
         Ok(self.log.operate(operation, operands, gives)?)
     }
@@ -57,7 +62,9 @@ impl<'c> Machine<'c> {
         operation: Operation<'_>,
         operands: List<StepValue>,
     ) -> Result<u32, Stop<'c>>
-        ensures { Does raised_value result (state_of self.new) (asks_for_one (operation_of operation.entry) (told.values_of operands) (state_of self.old)) }
+        ensures { Does raised_value result (state_of self.new)
+            (asks_for_one (operation_of operation.entry) (told.values_of operands)
+            (state_of self.old)) }
     {
         Ok(self.log.operate(operation, operands, Some(1))?)
     }
@@ -69,7 +76,9 @@ impl<'c> Machine<'c> {
         operation: Operation<'_>,
         operands: List<StepValue>,
     ) -> Result<(), Stop<'c>>
-        ensures { Does (λ u. u) result (state_of self.new) (asks_for_none (operation_of operation.entry) (told.values_of operands) (state_of self.old)) }
+        ensures { Does (λ u. u) result (state_of self.new)
+            (asks_for_none (operation_of operation.entry) (told.values_of operands)
+            (state_of self.old)) }
     {
         self.log.operate(operation, operands, Some(0))?;
         Ok(())
@@ -91,7 +100,8 @@ impl<'c> Machine<'c> {
     /// Asks for the truth of a value.
     #[tactic(auto, unfolding(crate::specs::Does::asks_truth))]
     pub fn ask_truth(&mut self, value: StepValue) -> Result<bool, Stop<'c>>
-        ensures { Does (λ b. b) result (state_of self.new) (asks_truth (told.value_of value) (state_of self.old)) }
+        ensures { Does (λ b. b) result (state_of self.new)
+            (asks_truth (told.value_of value) (state_of self.old)) }
     {
         Ok(self.log.truth(value)?)
     }
@@ -99,7 +109,8 @@ impl<'c> Machine<'c> {
     /// Asks for the next value of an iterator: that of the answer with this number, or None at its end.
     #[tactic(auto, unfolding(crate::specs::Does::asks_next))]
     pub fn ask_next(&mut self, iterator: StepValue) -> Result<Option<u32>, Stop<'c>>
-        ensures { Does next_given result (state_of self.new) (asks_next (told.value_of iterator) (state_of self.old)) }
+        ensures { Does next_given result (state_of self.new)
+            (asks_next (told.value_of iterator) (state_of self.old)) }
     {
         Ok(self.log.next(iterator)?)
     }

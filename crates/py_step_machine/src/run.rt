@@ -22,7 +22,7 @@ use py_decode::{UnitRead, read_all, read_in};
 use py_step_decode::{Entry, Instr, decode};
 use std::alloc::{AllocError, Global};
 
-/// Runs a code object over a script, and tells the run as `machine` of py_bytecode's `specs/Units.antt` has it,
+/// Runs a code object over a script, and reports the run as `machine` of py_bytecode's `specs/Units.antt` has it,
 /// shortened. Codes within are values of the run, and are not looked at.
 ///
 /// # Errors
@@ -32,7 +32,8 @@ pub fn run_code<'c>(
     code: &'c CodeObject,
     script: &'c Script,
 ) -> Result<Trace, AllocError>
-    ensures trace { IfOk result (λ t. trace_of t ≡ short (machine (object code.now) (answers_of script.now.answers))) }
+    ensures trace { IfOk result (λ t. trace_of t
+        ≡ short (machine (object code.now) (answers_of script.now.answers))) }
     ensures told { IfOk result (λ t. all_told t.events ≡ true) }
 {
     let reads = read_all(alloc, code)?;
@@ -45,7 +46,8 @@ pub fn run_code<'c>(
 
 // The most steps of a run.
 fn fuel(code: &CodeObject, script: &Script) -> u128
-    ensures { result ≡ fuel (length (head (object code.now)).instructions) (answers_of script.now.answers) }
+    ensures { result ≡ fuel (length (head (object code.now)).instructions)
+        (answers_of script.now.answers) }
 {
     let answers = script.answers.len() as u128 + 1;
     let units = 2 * code.instructions.len() as u128 + 2;
@@ -96,7 +98,8 @@ impl<'c> Machine<'c> {
         place: usize,
     ) -> Result<usize, End<'c>>
         requires { IsReading (object code.now) reads.now }
-        ensures { Runs (λ p. p) result (state_of self.new) (unit_step (object code.now) place (state_of self.old)) }
+        ensures { Runs (λ p. p) result (state_of self.new)
+            (unit_step (object code.now) place (state_of self.old)) }
     {
         let Some((instr, next)) = fetch(code, reads, place) else {
             return Err(End::Wrong);
@@ -108,7 +111,8 @@ impl<'c> Machine<'c> {
     // A state above the code's limit of height is wrong.
     #[tactic(auto, using(crate::proofs::Heights::stacked_height))]
     fn keep(&mut self, code: &CodeObject, place: usize) -> Result<usize, End<'c>>
-        ensures { Runs (λ p. p) result (state_of self.new) (keep_to_limit (head (object code.now)).max_stackdepth place (state_of self.old)) }
+        ensures { Runs (λ p. p) result (state_of self.new)
+            (keep_to_limit (head (object code.now)).max_stackdepth place (state_of self.old)) }
     {
         if self.stack.height() > code.max_stackdepth as usize {
             return Err(End::Wrong);
@@ -124,7 +128,8 @@ impl<'c> Machine<'c> {
         fuel: u128,
     ) -> Result<usize, End<'c>>
         requires { IsReading (object code.now) reads.now }
-        ensures { Runs (λ p. p) result (state_of self.new) (run_steps (object code.now) fuel 0 (state_of self.old)) }
+        ensures { Runs (λ p. p) result (state_of self.new)
+            (run_steps (object code.now) fuel 0 (state_of self.old)) }
     {
         let mut place = 0;
         let mut left = fuel;
@@ -136,7 +141,7 @@ impl<'c> Machine<'c> {
     }
 }
 
-// How a run is told that went so; returned cells count as None.
+// How a run is reported that went so; returned cells count as None.
 fn outcome(alloc: Global, went: Result<usize, End<'_>>) -> Result<Outcome, AllocError>
     ensures outcome { IfOk result (λ o. outcome_of o ≡ went_to went.entry) }
     ensures memory { OnOk result (lacks_memory went.entry ≡ false) }

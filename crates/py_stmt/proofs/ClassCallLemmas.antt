@@ -10,11 +10,11 @@ use Rattle.py_bytecode.specs.declared.instruction.Instruction.TheVariants as op
 use Rattle.py_bytecode.specs.Objects as const
 use Rattle.py_emission_parts.specs.Children.{child, emission_of_defaults, made_function}
 use Rattle.py_emission_parts.specs.Running.{Action, ◌▹◌, code_head, on_done, on_sealed, run}
-use Rattle.py_emission_parts.specs.Within.{behind_name, class_path, hidden_inside, hidden_name}
+use Rattle.py_emission_parts.specs.NestedScopes.{after_name, class_path, type_param_scope_inside, type_param_scope_name}
 use Rattle.py_emission_parts.specs.Elements.{Element, Function, Single, Spread, bare, groups, has_starred}
 use Rattle.py_emission_parts.specs.Emitting.{Emission, State, ◌▸◌, initial_state, by_context, emit, emit_constant, emit_count, keep}
 use Rattle.py_emission_parts.specs.EmissionParts.{Keywords, counted_build, keyword_checks, elements, in_turn}
-use Rattle.py_emission_parts.specs.TypeParameters.{hidden, hidden_shape, no_defaults}
+use Rattle.py_emission_parts.specs.TypeParameters.{in_type_param_scope, type_param_scope_shape, no_defaults}
 use Rattle.py_emission.specs.Emission.{all_emissions, keyword_emissions}
 use Rattle.py_emission.specs.EmissionDefs.{class_call as emission_of_class_call, emission_of_built, emission_of_class, emission_of_generic_class}
 use Rattle.py_emission.specs.EmissionStmts.{emission_of_rest}
@@ -78,7 +78,9 @@ module _ (f x : Emission) where
     plain_tuple : has_starred es ≡ false → run (argument_tuple 0 class_call_plain ks) ≡ run (f ▸ x ▸ argument_tuple 2 es ks)
     plain_tuple e =
         let hs = groups (counted_build op.BuildTuple) [] class_call_plain in
-        ap (λ (b : Bool). run (if b then closed_run 0 ▸ in_turn hs ▸ keyword_checks ks ▸ emit_count op.BuildTupleUnpack (0 + length hs) else in_turn (f ∷ x ∷ bare es) ▸ keyword_checks ks ▸ emit_count op.BuildTuple (0 + suc (suc (length es))))) e
+        ap (λ (b : Bool). run (if b then closed_run 0 ▸ in_turn hs ▸ keyword_checks ks
+        ▸ emit_count op.BuildTupleUnpack (0 + length hs) else in_turn (f ∷ x ∷ bare es) ▸ keyword_checks ks
+        ▸ emit_count op.BuildTuple (0 + suc (suc (length es))))) e
         ∙ ap (λ n. run (in_turn (f ∷ x ∷ bare es) ▸ keyword_checks ks ▸ emit_count op.BuildTuple n)) two_more
         ∙ two_then (in_turn (bare es)) (keyword_checks ks ▸ emit_count op.BuildTuple (2 + length es))
         ∙ ap (λ b. run (f ▸ x ▸ tuple_by b)) (sym e)
@@ -88,7 +90,8 @@ module _ (f x : Emission) where
     call_of a b n = (a ▸ keyword_arguments b ks) ▸ call_of_type false (type_of b n (length ks))
 
     after_two : (a : Emission) (b : Bool) (n : ℕ) → run (call_of (f ▸ x ▸ a) b n) ≡ run (f ▸ x ▸ call_of a b n)
-    after_two a b n = before_same _ _ (run (call_of_type false (type_of b n (length ks)))) (two_then a (keyword_arguments b ks)) ∙ two_then (a ▸ keyword_arguments b ks) (call_of_type false (type_of b n (length ks)))
+    after_two a b n = before_same _ _ (run (call_of_type false (type_of b n (length ks)))) (two_then a (keyword_arguments b ks))
+        ∙ two_then (a ▸ keyword_arguments b ks) (call_of_type false (type_of b n (length ks)))
 
     -- by what the arguments are
     call_by : (a c : Emission) (b : Bool) (n : ℕ) → run a ≡ run c → run (call_of a b n) ≡ run (call_of c b n)
@@ -106,14 +109,17 @@ module _ (f x : Emission) where
     plain_call e true = packed_call (argument_tuple 0 class_call_plain ks) (0 + length class_call_plain) (plain_tuple e)
     plain_call e false = after_two (in_turn (bare es)) false (0 + length class_call_plain) ∙ ap (λ n. run (f ▸ x ▸ call_of (in_turn (bare es)) false n)) two_more
 
-    by_star : (s : Bool) → has_starred es ≡ s → (let es = if s then spread else class_call_plain in run (arguments 0 es ks ▸ call_of_type false (taken_type 0 es ks))) ≡ run (f ▸ x ▸ arguments 2 es ks ▸ call_of_type false (taken_type 2 es ks))
+    by_star : (s : Bool) → has_starred es ≡ s
+        → (let es = if s then spread else class_call_plain in run (arguments 0 es ks ▸ call_of_type false (taken_type 0 es ks)))
+        ≡ run (f ▸ x ▸ arguments 2 es ks ▸ call_of_type false (taken_type 2 es ks))
     by_star true e =
         packed_call (argument_tuple 0 spread ks) (0 + length spread) (spread_tuple e)
         ∙ ap (λ b. run (f ▸ x ▸ call_of (positional (b || has_starred ks) 2 es ks) (b || has_starred ks) (2 + length es))) (sym e)
     by_star false e = plain_call e (has_starred es || has_starred ks)
 
     -- the call of what builds a class
-    pub class_call : run (emit op.LoadBuildClass 0 ▸ arguments 0 (behind_name (counted_build op.BuildTuple) f x es) ks ▸ call_of_type false (taken_type 0 (behind_name (counted_build op.BuildTuple) f x es) ks)) ≡ run (class_built f x es ks)
+    pub class_call : run (emit op.LoadBuildClass 0 ▸ arguments 0 (after_name (counted_build op.BuildTuple) f x es) ks
+        ▸ call_of_type false (taken_type 0 (after_name (counted_build op.BuildTuple) f x es) ks)) ≡ run (class_built f x es ks)
     class_call = after_same (run (emit op.LoadBuildClass 0)) _ _ (by_star (has_starred es) refl)
 
 -- a class of this function, as its parts are emitted
@@ -121,14 +127,17 @@ built_is : (name : List ℕ) (f : Emission) (bases : tree.Exprs) (ks : tree.Keyw
 built_is name f bases ks =
     let x = emit_constant op.LoadConst (const.str name) in
     let es = elements (all_emissions bases) in
-    call_is (Function (emit op.LoadBuildClass 0)) (behind_name (counted_build op.BuildTuple) f x es) (keyword_emissions ks) ∙ class_call f x es (keyword_emissions ks)
+    call_is (Function (emit op.LoadBuildClass 0)) (after_name (counted_build op.BuildTuple) f x es) (keyword_emissions ks) ∙ class_call f x es (keyword_emissions ks)
 
 -- what a type-parameter scope makes may be emitted otherwise
-hidden_same : (name : List ℕ) (v w : Emission) → run v ≡ run w → run (hidden name no_defaults v) ≡ run (hidden name no_defaults w)
+type_param_scope_same : (name : List ℕ) (v w : Emission) → run v ≡ run w → run (in_type_param_scope name no_defaults v) ≡ run (in_type_param_scope name no_defaults w)
 unfolding child
-hidden_same name v w e = λ i s.
-    let c = hidden_inside s.around.context s.next in
-    on_done (on_sealed c.level (code_head c (hidden_shape 0 name) s.location) s ((e i ▹ run (emit op.ReturnValue 0)) (initial_state c s.location (suc s.next))) (λ o. run (made_function 0 (hidden_name name) o))) (run (emission_of_defaults no_defaults ▸ emit_count op.CallFunctionPositional 0))
+type_param_scope_same name v w e = λ i s.
+    let c = type_param_scope_inside s.node_context.context s.next in
+    on_done (on_sealed c.level (code_head c (type_param_scope_shape 0 name) s.location) s
+    ((e i ▹ run (emit op.ReturnValue 0)) (initial_state c s.location (suc s.next)))
+    (λ o. run (made_function 0 (type_param_scope_name name) o)))
+    (run (emission_of_defaults no_defaults ▸ emit_count op.CallFunctionPositional 0))
 
 -- a class with type parameters or without, whose qualified name is that of the scope in which it stands
 module _ (s : StmtClassDefOf Stmt) where
@@ -154,13 +163,16 @@ module _ (s : StmtClassDefOf Stmt) where
       built_is s.name f bases ks ∙ unled f ∙ ap (λ us. run (built_of s.name (class_call_part path us) bases ks)) (sym e)
 
   by_params : (ts : tree.TypeParams) → class_params s ≡ ts → (r : State)
-      → run (emission_of_built s.name bases ks (class_body s) ts (emission_of_rest (class_body s))) r ≡ run (emitted_class (class_path r.around.context s.name) s ts) r
+      → run (emission_of_built s.name bases ks (class_body s) ts (emission_of_rest (class_body s))) r ≡ run (emitted_class (class_path r.node_context.context s.name) s ts) r
   unfolding by_context emission_of_class emission_of_generic_class
-  by_params tree.no_type_params e r = ap (λ (a : Action). a r) (plain_at e (class_path r.around.context s.name))
+  by_params tree.no_type_params e r = ap (λ (a : Action). a r) (plain_at e (class_path r.node_context.context s.name))
   by_params (tree.more_type_params t ts) e r =
-      ap (λ (a : Action). a r) (hidden_same s.name (emission_of_class_call s.name (class_call_part (class_path r.around.context s.name) (tree.more_type_params t ts)) bases ks) (built_emission (class_path r.around.context s.name) s) (at_path (tree.more_type_params t ts) e (class_path r.around.context s.name)))
+      ap (λ (a : Action). a r) (type_param_scope_same s.name
+      (emission_of_class_call s.name (class_call_part (class_path r.node_context.context s.name) (tree.more_type_params t ts)) bases ks)
+      (built_emission (class_path r.node_context.context s.name) s)
+      (at_path (tree.more_type_params t ts) e (class_path r.node_context.context s.name)))
 
-  pub class_is : (r : State) → run (class_emission s) r ≡ run (emitted_class (class_path r.around.context s.name) s (class_params s)) r
+  pub class_is : (r : State) → run (class_emission s) r ≡ run (emitted_class (class_path r.node_context.context s.name) s (class_params s)) r
   class_is r = by_params (class_params s) refl r
 
   -- one that has some

@@ -7,7 +7,7 @@ use Rattle.py_tree.specs.View.{stmt_tree, stmts}
 use Rattle.py_tree.specs.declared.statements.Stmt.{Stmt}
 use Rattle.py_emission.specs.Texts.{after_doc, stmt_text, unless_text}
 use Rattle.py_scope.specs.declared.table_type.SymbolTableType.TheVariants as kind
-use Rattle.py_emission_parts.specs.Within.{function_inside}
+use Rattle.py_emission_parts.specs.NestedScopes.{function_inside}
 use Rattle.py_emission_parts.specs.Context.{Context, function_path, inside, with_path}
 use Rattle.py_emission_parts.specs.Emitting.{Emission, State, ◌▸◌, keep}
 use Rattle.py_emission_parts.specs.Running.{run}
@@ -17,7 +17,7 @@ use Rattle.py_emission.specs.Parameters.{function_shape}
 use Rattle.py_expr_scopes.proofs.Scopes.{child_as}
 use Rattle.py_emission.specs.EmissionStmts.{emission_of_rest, emission_of_stmt, emission_of_stmts}
 use Rattle.py_emission.specs.Predicates.{but_doc}
-use Rattle.py_stmt.specs.Functions.{inner_emission, scope_emission, within_path}
+use Rattle.py_stmt.specs.Functions.{inner_emission, scope_emission, nested_path}
 use Rattle.py_stmt_simple.specs.Functions.{params_of}
 
 -- all but a docstring
@@ -42,13 +42,13 @@ pub function_part_none_left : (xs : List Stmt) (i : ℕ) → i ≡ length xs →
 function_part_none_left xs i e = ap (λ j. emission_of_stmts (stmts stmt_tree (drop j xs))) e ∙ ap (λ ys. emission_of_stmts (stmts stmt_tree ys)) (drop-length xs)
 
 -- the qualified names within a function stand after its own
-pub within_is : (name path : List ℕ) (c : Context) (n : ℕ) → path ≡ function_path c name → function_inside name c n ≡ within_path path c n
+pub nested_is : (name path : List ℕ) (c : Context) (n : ℕ) → path ≡ function_path c name → function_inside name c n ≡ nested_path path c n
 unfolding inside with_path
-within_is name path c n e = λ i. with_path (sym e i) (inside kind.Function n c)
+nested_is name path c n e = λ i. with_path (sym e i) (inside kind.Function n c)
 
 pub function_part_scope_as : (s : StmtFunctionDefOf Stmt) (name path : List ℕ) (k : Object → Emission) (r : State) → name ≡ s.name
-    → path ≡ function_path r.around.context s.name
-    → run (scope_emission (function_inside s.name) s.name s k) r ≡ run (scope_emission (within_path path) name s k) r
+    → path ≡ function_path r.node_context.context s.name
+    → run (scope_emission (function_inside s.name) s.name s k) r ≡ run (scope_emission (nested_path path) name s k) r
 function_part_scope_as s name path k r a e =
-    child_as (function_inside s.name) (within_path path) (function_shape (params_of s) s.name) (inner_emission s) k r (within_is s.name path r.around.context r.next e)
-    ∙ ap (λ x. run (scope_emission (within_path path) x s k) r) (sym a)
+    child_as (function_inside s.name) (nested_path path) (function_shape (params_of s) s.name) (inner_emission s) k r (nested_is s.name path r.node_context.context r.next e)
+    ∙ ap (λ x. run (scope_emission (nested_path path) x s k) r) (sym a)

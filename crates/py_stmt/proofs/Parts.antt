@@ -42,7 +42,9 @@ handler_first last end matches body others s =
 handlers_first : (t : tree.OptExpr) (name : Option (List ℕ)) (body : tree.Stmts) (ts : tree.Handlers) (last : Bool) (end : ℕ) (s : State)
     → run (emission_of_handlers (tree.more_handlers t name body ts) last end) s ≡ (emission_of_handler t name body last end ▹ run (emission_of_handlers ts last end)) s
 handlers_first tree.no_expr name body ts last end = handler_first last end any_match (emission_of_stmts body) (emission_of_handlers ts last end)
-handlers_first (tree.some_expr e) name body ts last end = handler_first last end (typed_match (emission e) (caught_name name)) (named_body name (emission_of_stmts body)) (emission_of_handlers ts last end)
+handlers_first (tree.some_expr e) name body ts last end =
+    handler_first last end (typed_match (emission e) (caught_name name)) (named_body name (emission_of_stmts body))
+    (emission_of_handlers ts last end)
 
 abbrev pub handler_emission : ExceptHandlerOf Stmt → (last : Bool) → (end : ℕ) → Action
 handler_emission x = emission_of_handler (opt_box expr_tree x.type_) x.name (stmts stmt_tree x.body)

@@ -1,4 +1,4 @@
--- Statements on an emitter that is told whether a future import may still stand.
+-- Statements on an emitter that is reported whether a future import may still stand.
 use Rattle.std.proofs.Common.{◌≡◌, ◌≢◌, Bool, true, false, ◌||◌, Result, Ok, Err, refl, sym, ap, ◌∙◌}
 use Rattle.std.specs.Prelude.{if◌then◌else◌, Option}
 use Rattle.py_base.specs.declared.location.SourceLocation.{SourceLocation}
@@ -7,7 +7,7 @@ use Rattle.py_base.specs.declared.errors.CodegenErrorType.{CodegenErrorType}
 use Rattle.py_tree.specs.Tree as tree
 use Rattle.py_emission_parts.specs.Emitting.{Done, Emission, Outcome, Refused, State, with_postponed}
 use Rattle.py_emission_parts.specs.Running.{run}
-use Rattle.py_emission.specs.EmissionFutures.{emission_behind}
+use Rattle.py_emission.specs.EmissionFutures.{emission_after}
 use Rattle.py_emission.specs.EmissionStmts.{emission_of_stmts}
 use Rattle.py_emit.specs.States.{Emits, Rest, rest, state, told_rest}
 use Rattle.py_emit.specs.declared.context.EmitContext.{EmitContext}
@@ -18,7 +18,7 @@ use Rattle.py_stmt_parts.proofs.FutureImportLemmas.{flag, flag_is}
 -- annotations are postponed as they are
 same_flag : (t : State) (p : Bool) → p ≡ flag t → with_postponed p t ≡ t
 unfolding with_postponed
-same_flag t p e = ap (λ (b : Bool). record t { around = record t.around { context = record t.around.context { postponed = b } } }) e
+same_flag t p e = ap (λ (b : Bool). record t { node_context = record t.node_context { context = record t.node_context.context { postponed = b } } }) e
 
 either_or : (x c : Bool) → (x || c) ≡ (if c then true else x)
 either_or true true = refl
@@ -33,7 +33,7 @@ refused_after p o e at h = ap (postponed_after p) h
 -- where no future import may stand, nothing changes
 module _ (ss : tree.Stmts) (before after : Emitter) (over : (rest before).context.future_over ≡ true) where
   over_emission : emission_placed (rest before).context.future_over ss ≡ emission_of_stmts ss
-  over_emission = ap (λ (b : Bool). if b then emission_of_stmts ss else emission_behind emission_of_stmts ss) over
+  over_emission = ap (λ (b : Bool). if b then emission_of_stmts ss else emission_after emission_of_stmts ss) over
 
   over_context : context_after (rest before).context ss ≡ (rest before).context
   over_context =

@@ -17,7 +17,7 @@ use Rattle.py_emission.specs.Emission.{all_emissions, keyword_emissions}
 use Rattle.py_emission.specs.EmissionDefs.{class_function, class_scope, emission_of_built}
 use Rattle.py_emission.specs.EmissionStmts.{emission_of_rest}
 use Rattle.py_expr_parts.specs.Calls.{arguments, call_of_type, taken_type}
-use Rattle.py_stmt_simple.specs.Generics.{hidden_made, some_params}
+use Rattle.py_stmt_simple.specs.Generics.{type_param_scope_made, some_params}
 use Rattle.py_stmt_parts.specs.Generics.{params_flag}
 
 abbrev pub class_body : StmtClassDefOf Stmt → tree.Stmts
@@ -52,7 +52,7 @@ built_emission path s = built_of s.name (part_emission path s) (exprs expr_tree 
 
 -- one with type parameters, which is built in a type-parameter scope
 abbrev pub generic_emission : (path : List ℕ) → StmtClassDefOf Stmt → Emission
-generic_emission path s = hidden_made 0 s.name (built_emission path s) ▸ emit_count op.CallFunctionPositional 0
+generic_emission path s = type_param_scope_made 0 s.name (built_emission path s) ▸ emit_count op.CallFunctionPositional 0
 
 -- one by whether it has some
 abbrev pub emitted_class : (path : List ℕ) → StmtClassDefOf Stmt → tree.TypeParams → Emission
@@ -64,5 +64,5 @@ abbrev pub own_emission : tree.Stmts → Emission
 own_emission body = class_scope body (emission_of_rest body)
 
 -- its own scope, and what follows with its code object
-abbrev pub own_scope : (within : Context → (number : ℕ) → Context) → (name : List ℕ) → tree.Stmts → (Object → Emission) → Emission
-own_scope within name body k = child within (class_shape name) (own_emission body) k
+abbrev pub own_scope : (nested : Context → (number : ℕ) → Context) → (name : List ℕ) → tree.Stmts → (Object → Emission) → Emission
+own_scope nested name body k = child nested (class_shape name) (own_emission body) k

@@ -18,7 +18,7 @@ use Rattle.py_emission.specs.EmissionDefs.{emission_of_def, emission_of_end, emi
 use Rattle.py_emission.specs.EmissionStmts.{emission_of_rest}
 use Rattle.py_expr_scopes.specs.declared.functions.Defaults.{Defaults}
 use Rattle.py_stmt_parts.specs.Generics.{given_flags, handed_by}
-use Rattle.py_stmt_simple.specs.Generics.{hidden_made}
+use Rattle.py_stmt_simple.specs.Generics.{type_param_scope_made}
 use Rattle.py_stmt_simple.specs.Functions.{params_of}
 
 -- the statements of a function but its docstring, and a return of None where no return ends them
@@ -45,21 +45,21 @@ abbrev pub value_emission : (flags : ℕ) → StmtFunctionDefOf Stmt → Emissio
 value_emission flags s = function_value flags s.name (params_of s) (body_of s) (opt_box expr_tree s.returns) (body_emission (body_of s))
 
 -- in its type-parameter scope, which is handed these defaults
-abbrev pub hidden_value : Defaults → StmtFunctionDefOf Stmt → Emission
-hidden_value d s = load_handed (handed_by d) ▸ emission_of_params (type_params s.type_params) ▸ value_emission (given_flags d true) s
+abbrev pub type_param_scope_value : Defaults → StmtFunctionDefOf Stmt → Emission
+type_param_scope_value d s = load_handed (handed_by d) ▸ emission_of_params (type_params s.type_params) ▸ value_emission (given_flags d true) s
 
 -- and what is made of this scope
-abbrev pub hidden_function : Defaults → StmtFunctionDefOf Stmt → Emission
-hidden_function d s = hidden_made (length (handed_by d)) s.name (hidden_value d s)
+abbrev pub type_param_scope_function : Defaults → StmtFunctionDefOf Stmt → Emission
+type_param_scope_function d s = type_param_scope_made (length (handed_by d)) s.name (type_param_scope_value d s)
 
 -- what is emitted in the function's own scope
 abbrev pub inner_emission : StmtFunctionDefOf Stmt → Emission
 inner_emission s = function_scope (parameters (params_of s)) (body_emission (body_of s))
 
 -- its own scope, which its code object names so, and what follows with its code object
-abbrev pub scope_emission : (within : Context → (number : ℕ) → Context) → (name : List ℕ) → StmtFunctionDefOf Stmt → (Object → Emission) → Emission
-scope_emission within name s k = child within (function_shape (params_of s) name) (inner_emission s) k
+abbrev pub scope_emission : (nested : Context → (number : ℕ) → Context) → (name : List ℕ) → StmtFunctionDefOf Stmt → (Object → Emission) → Emission
+scope_emission nested name s k = child nested (function_shape (params_of s) name) (inner_emission s) k
 
 -- the scope of a function around whose names this path stands
-abbrev pub within_path : (path : List ℕ) → Context → (number : ℕ) → Context
-within_path path c n = inside kind.Function n (named_in (naming.Function path) c)
+abbrev pub nested_path : (path : List ℕ) → Context → (number : ℕ) → Context
+nested_path path c n = inside kind.Function n (named_in (naming.Function path) c)

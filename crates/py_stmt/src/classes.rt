@@ -3,14 +3,14 @@ ghost use Rattle.std.specs.Prelude.{◌≡◌};
 ghost use Rattle.py_tree.specs.View.{class_def_tree, expr_tree, exprs, stmt_tree, stmts};
 ghost use Rattle.py_emission_parts.specs.Running.{run};
 ghost use Rattle.py_emission_parts.specs.Children.{decorated_value};
-ghost use Rattle.py_emission_parts.specs.Within.{class_within};
+ghost use Rattle.py_emission_parts.specs.NestedScopes.{nested_class};
 ghost use Rattle.py_emission_parts.specs.EmissionParts.{values};
 ghost use Rattle.py_emission.specs.Emission.{all_emissions};
 ghost use Rattle.py_emission.specs.EmissionStmts.{emission_of_stmt};
 ghost use Rattle.py_emit.specs.States.{AreMade, Emits, Same, rest, state};
 ghost use Rattle.py_expr_scopes.specs.Functions.{Gives};
 ghost use Rattle.py_stmt.specs.Classes.{built_emission, class_emission, class_params, function_emission, generic_emission, own_emission, own_scope, part_emission, emitted_class};
-ghost use Rattle.py_stmt_simple.specs.Generics.{hidden_made, hidden_scope, returned_value};
+ghost use Rattle.py_stmt_simple.specs.Generics.{type_param_scope_made, type_param_scope, returned_value};
 
 use crate::functions::compile_rest;
 use py_base::CodegenError;
@@ -18,8 +18,8 @@ use py_bytecode::{CodeObject, Instruction, MakeFunctionFlags};
 use py_emit::{Emitter, NameUsage, emit};
 use py_expr::compile_expressions;
 use py_stmt_parts::{
-    begin_class, call_decorators, emit_setup, end_class, enter_class, enter_hidden, find_ann,
-    make_class, make_hidden, params_flag,
+    begin_class, call_decorators, emit_setup, end_class, enter_class, enter_type_param_scope,
+    find_ann, make_class, make_type_param_scope, params_flag,
 };
 use py_stmt_simple::{call_builder, compile_some_params};
 use py_tree::{StmtClassDef, Stmts, Text};
@@ -39,7 +39,9 @@ pub(crate) fn compile_class_def(em: &mut Emitter, s: &StmtClassDef) -> Result<()
 /// functions are).
 #[cycle(code)]
 pub(crate) fn compile_decorated(em: &mut Emitter, s: &StmtClassDef) -> Result<(), CodegenError>
-    ensures { Emits result (decorated_value (values (all_emissions (exprs expr_tree s.now.decorator_list))) (class_emission s.now)) em.old em.new }
+    ensures { Emits result (decorated_value
+        (values (all_emissions (exprs expr_tree s.now.decorator_list)))
+        (class_emission s.now)) em.old em.new }
 {
     compile_expressions(em, s.decorator_list.as_slice())?;
     compile_class(em, s)?;
@@ -72,30 +74,32 @@ fn compile_placed(em: &mut Emitter, s: &StmtClassDef, path: Text) -> Result<(), 
 fn compile_generic(em: &mut Emitter, s: &StmtClassDef, path: Text) -> Result<(), CodegenError>
     ensures { Emits result (generic_emission path s.now) em.old em.new }
 {
-    make_around(em, s, path)?;
+    make_in_type_params(em, s, path)?;
     em.emit_count(Instruction::CallFunctionPositional, 0)
 }
 
 /// Emits the function of a type-parameter scope, in which a class is built.
 #[cycle(code)]
-fn make_around(em: &mut Emitter, s: &StmtClassDef, path: Text) -> Result<(), CodegenError>
-    ensures { Emits result (hidden_made 0 s.now.name (built_emission path s.now)) em.old em.new }
+fn make_in_type_params(em: &mut Emitter, s: &StmtClassDef, path: Text) -> Result<(), CodegenError>
+    ensures { Emits result (type_param_scope_made 0 s.now.name (built_emission path s.now)) em.old
+        em.new }
 {
-    let code = compile_hidden_scope(em, s, path)?;
-    make_hidden(em, s.name.as_str(), code)
+    let code = compile_type_param_scope(em, s, path)?;
+    make_type_param_scope(em, s.name.as_str(), code)
 }
 
 /// Emits the type-parameter scope of a class, and lays its code out.
 #[cycle(code)]
-fn compile_hidden_scope(
+fn compile_type_param_scope(
     em: &mut Emitter,
     s: &StmtClassDef,
     path: Text,
 ) -> Result<CodeObject, CodegenError>
-    ensures goes { Gives result (state em.new) (λ k. run (hidden_scope 0 s.now.name (built_emission path s.now) k) (state em.old)) }
+    ensures goes { Gives result (state em.new)
+        (λ k. run (type_param_scope 0 s.now.name (built_emission path s.now) k) (state em.old)) }
     ensures same { Same result (rest em.new) (rest em.old) }
 {
-    enter_hidden(em, s.name.as_str(), 0)?;
+    enter_type_param_scope(em, s.name.as_str(), 0)?;
     return_built(em, s, path)?;
     em.leave_scope()
 }
@@ -139,7 +143,8 @@ fn compile_class_function(
     path: Text,
     flags: MakeFunctionFlags,
 ) -> Result<(), CodegenError>
-    ensures { Emits result (function_emission path flags.0 name.now (stmts stmt_tree body.now)) em.old em.new }
+    ensures { Emits result (function_emission path flags.0 name.now (stmts stmt_tree body.now))
+        em.old em.new }
 {
     let code = compile_class_scope(em, name, body, path)?;
     make_class(em, name, flags, code)
@@ -153,7 +158,9 @@ fn compile_class_scope(
     body: &Stmts,
     path: Text,
 ) -> Result<CodeObject, CodegenError>
-    ensures goes { Gives result (state em.new) (λ k. run (own_scope (class_within path name.now) name.now (stmts stmt_tree body.now) k) (state em.old)) }
+    ensures goes { Gives result (state em.new)
+        (λ k. run (own_scope (nested_class path name.now) name.now (stmts stmt_tree body.now) k)
+        (state em.old)) }
     ensures same { Same result (rest em.new) (rest em.old) }
 {
     let full = em.text(path.as_str())?;
@@ -167,7 +174,7 @@ fn compile_class_scope(
 #[tactic(auto, using(crate::proofs::FunctionParts::function_part_rest_is))]
 fn compile_inner(em: &mut Emitter, body: &Stmts, path: Text) -> Result<(), CodegenError>
     requires loops { AreMade (rest em.old).context.loop_blocks }
-    requires path { path ≡ (state em.old).around.context.path }
+    requires path { path ≡ (state em.old).node_context.context.path }
     ensures { Emits result (own_emission (stmts stmt_tree body.now)) em.old em.new }
 {
     let from = begin_class(em, body, path)?;

@@ -3,16 +3,16 @@ ghost use Rattle.std.specs.Prelude.{◌≡◌, ◌≤◌, drop, length};
 ghost use Rattle.py_tree.specs.View.{expr_tree, exprs, function_def_tree, stmt_tree, stmts};
 ghost use Rattle.py_emission_parts.specs.Running.{run};
 ghost use Rattle.py_emission_parts.specs.Children.{decorated_value};
-ghost use Rattle.py_emission_parts.specs.Within.{function_inside};
+ghost use Rattle.py_emission_parts.specs.NestedScopes.{function_inside};
 ghost use Rattle.py_emission_parts.specs.EmissionParts.{values};
 ghost use Rattle.py_emission.specs.Emission.{all_emissions};
 ghost use Rattle.py_emission.specs.EmissionStmts.{emission_of_stmt, emission_of_stmts};
 ghost use Rattle.py_emit.specs.States.{AreMade, Emits, Same, rest, state};
 ghost use Rattle.py_expr_scopes.specs.Functions.{Gives};
-ghost use Rattle.py_stmt.specs.Functions.{body_emission, def_emission, generic_emission, hidden_function, hidden_value, inner_emission, plain_emission, scope_emission, value_emission, within_path};
+ghost use Rattle.py_stmt.specs.Functions.{body_emission, def_emission, generic_emission, type_param_scope_function, type_param_scope_value, inner_emission, plain_emission, scope_emission, value_emission, nested_path};
 ghost use Rattle.py_stmt_simple.specs.Functions.{made_emission};
 ghost use Rattle.py_stmt_parts.specs.Generics.{given_flags, handed_by};
-ghost use Rattle.py_stmt_simple.specs.Generics.{hidden_scope, returned_value};
+ghost use Rattle.py_stmt_simple.specs.Generics.{type_param_scope, returned_value};
 
 use crate::statements::compile_statement;
 use py_base::{CodegenError, CodegenErrorType};
@@ -21,10 +21,10 @@ use py_emit::{Emitter, NameUsage, Naming, emit, refuse};
 use py_expr::{compile_defaults, compile_expressions};
 use py_expr_scopes::functions::{Defaults, begin_function, enter_function};
 use py_stmt_parts::{
-    call_decorators, end_function, enter_hidden, given_defaults, handed_count, load_defaults,
-    make_hidden, split_doc, statements_from, store_doc,
+    call_decorators, end_function, enter_type_param_scope, given_defaults, handed_count,
+    load_defaults, make_type_param_scope, split_doc, statements_from, store_doc,
 };
-use py_stmt_simple::{call_hidden, compile_type_params, make_noted};
+use py_stmt_simple::{call_type_param_scope, compile_type_params, make_noted};
 use py_tree::{Stmt, StmtFunctionDef, Stmts, Text};
 
 /// Emits the definition of a function, and what stores it under its name.
@@ -44,7 +44,9 @@ pub(crate) fn compile_function_def(
 /// Emits decorators, the function and their calls.
 #[cycle(code)]
 pub(crate) fn compile_decorated(em: &mut Emitter, s: &StmtFunctionDef) -> Result<(), CodegenError>
-    ensures { Emits result (decorated_value (values (all_emissions (exprs expr_tree s.now.decorator_list))) (def_emission s.now)) em.old em.new }
+    ensures { Emits result (decorated_value
+        (values (all_emissions (exprs expr_tree s.now.decorator_list)))
+        (def_emission s.now)) em.old em.new }
 {
     compile_expressions(em, s.decorator_list.as_slice())?;
     compile_function(em, s)?;
@@ -78,34 +80,36 @@ fn compile_generic(em: &mut Emitter, s: &StmtFunctionDef) -> Result<(), CodegenE
     ensures { Emits result (generic_emission s.now) em.old em.new }
 {
     let defaults = given_defaults(&s.args);
-    make_around(em, s, defaults)?;
-    call_hidden(em, &s.args, handed_count(defaults))
+    make_in_type_params(em, s, defaults)?;
+    call_type_param_scope(em, &s.args, handed_count(defaults))
 }
 
 /// Emits the function of a type-parameter scope, in which a function is made.
 #[cycle(code)]
-fn make_around(
+fn make_in_type_params(
     em: &mut Emitter,
     s: &StmtFunctionDef,
     defaults: Defaults,
 ) -> Result<(), CodegenError>
-    ensures { Emits result (hidden_function defaults s.now) em.old em.new }
+    ensures { Emits result (type_param_scope_function defaults s.now) em.old em.new }
 {
-    let code = compile_hidden_scope(em, s, defaults)?;
-    make_hidden(em, s.name.as_str(), code)
+    let code = compile_type_param_scope(em, s, defaults)?;
+    make_type_param_scope(em, s.name.as_str(), code)
 }
 
 /// Emits the type-parameter scope of a function, which is handed these defaults, and lays its code out.
 #[cycle(code)]
-fn compile_hidden_scope(
+fn compile_type_param_scope(
     em: &mut Emitter,
     s: &StmtFunctionDef,
     defaults: Defaults,
 ) -> Result<CodeObject, CodegenError>
-    ensures goes { Gives result (state em.new) (λ k. run (hidden_scope (length (handed_by defaults)) s.now.name (hidden_value defaults s.now) k) (state em.old)) }
+    ensures goes { Gives result (state em.new)
+        (λ k. run (type_param_scope (length (handed_by defaults)) s.now.name
+        (type_param_scope_value defaults s.now) k) (state em.old)) }
     ensures same { Same result (rest em.new) (rest em.old) }
 {
-    enter_hidden(em, s.name.as_str(), handed_count(defaults))?;
+    enter_type_param_scope(em, s.name.as_str(), handed_count(defaults))?;
     return_value(em, s, defaults)?;
     em.leave_scope()
 }
@@ -117,21 +121,21 @@ fn return_value(
     s: &StmtFunctionDef,
     defaults: Defaults,
 ) -> Result<(), CodegenError>
-    ensures { Emits result (returned_value (hidden_value defaults s.now)) em.old em.new }
+    ensures { Emits result (returned_value (type_param_scope_value defaults s.now)) em.old em.new }
 {
-    compile_within(em, s, defaults)?;
+    compile_nested(em, s, defaults)?;
     emit!(em, Instruction::ReturnValue);
     Ok(())
 }
 
 /// Emits a function after the defaults that its type-parameter scope is handed and after its type parameters.
 #[cycle(code)]
-fn compile_within(
+fn compile_nested(
     em: &mut Emitter,
     s: &StmtFunctionDef,
     defaults: Defaults,
 ) -> Result<(), CodegenError>
-    ensures { Emits result (hidden_value defaults s.now) em.old em.new }
+    ensures { Emits result (type_param_scope_value defaults s.now) em.old em.new }
 {
     load_defaults(em, defaults)?;
     compile_type_params(em, s.type_params.as_slice())?;
@@ -161,7 +165,8 @@ fn compile_made(
     defaults: Defaults,
     generic: bool,
 ) -> Result<(), CodegenError>
-    ensures { Emits result (scope_emission (function_inside s.now.name) s.now.name s.now (made_emission (given_flags defaults generic) s.now)) em.old em.new }
+    ensures { Emits result (scope_emission (function_inside s.now.name) s.now.name s.now
+        (made_emission (given_flags defaults generic) s.now)) em.old em.new }
 {
     let name = em.text(s.name.as_str())?;
     let path = em.function_path(s.name.as_str())?;
@@ -177,7 +182,8 @@ fn compile_function_scope(
     name: Text,
     path: Text,
 ) -> Result<CodeObject, CodegenError>
-    ensures goes { Gives result (state em.new) (λ k. run (scope_emission (within_path path) name s.now k) (state em.old)) }
+    ensures goes { Gives result (state em.new)
+        (λ k. run (scope_emission (nested_path path) name s.now k) (state em.old)) }
     ensures same { Same result (rest em.new) (rest em.old) }
 {
     enter_function(em, &s.args, name, Naming::Function { path })?;
@@ -214,7 +220,8 @@ fn compile_body(em: &mut Emitter, body: &Stmts) -> Result<(), CodegenError>
 pub(crate) fn compile_rest(em: &mut Emitter, body: &[Stmt], from: usize) -> Result<(), CodegenError>
     requires loops { AreMade (rest em.old).context.loop_blocks }
     requires from { from ≤ length body.now }
-    ensures { Emits result (emission_of_stmts (stmts stmt_tree (drop from body.now))) em.old em.new }
+    ensures { Emits result (emission_of_stmts (stmts stmt_tree (drop from body.now))) em.old
+        em.new }
 {
     for i in from..body.len() {
         compile_statement(em, &body[i])?;

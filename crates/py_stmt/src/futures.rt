@@ -1,7 +1,7 @@
 //! Statements after imports from the future.
 ghost use Rattle.std.specs.Prelude.{◌≡◌, false};
 ghost use Rattle.py_tree.specs.View.{stmt_tree, stmts};
-ghost use Rattle.py_emission.specs.EmissionFutures.{emission_behind};
+ghost use Rattle.py_emission.specs.EmissionFutures.{emission_after};
 ghost use Rattle.py_emission.specs.EmissionMods.{emission_of_block, emission_of_prompt};
 ghost use Rattle.py_emission.specs.EmissionStmts.{emission_of_stmts};
 ghost use Rattle.py_emit.specs.States.{AreMade, Emits, rest};
@@ -21,7 +21,8 @@ use py_tree::Stmt;
 /// The first compile fault of the statements, with its location; MissingCell; or OutOfMemory.
 pub fn compile_file(em: &mut Emitter, body: &[Stmt]) -> Result<(), CodegenError>
     requires loops { AreMade (rest em.old).context.loop_blocks }
-    ensures { Emits result (emission_behind emission_of_stmts (stmts stmt_tree body.now)) em.old em.new }
+    ensures { Emits result (emission_after emission_of_stmts (stmts stmt_tree body.now)) em.old
+        em.new }
 {
     let before = em.context().future_annotations;
     let opening = compile_futures(em, body)?;
@@ -36,7 +37,8 @@ pub fn compile_file(em: &mut Emitter, body: &[Stmt]) -> Result<(), CodegenError>
 /// The first compile fault of the statements, with its location; MissingCell; or OutOfMemory.
 pub fn compile_whole_block(em: &mut Emitter, body: &[Stmt]) -> Result<(), CodegenError>
     requires loops { AreMade (rest em.old).context.loop_blocks }
-    ensures { Emits result (emission_behind emission_of_block (stmts stmt_tree body.now)) em.old em.new }
+    ensures { Emits result (emission_after emission_of_block (stmts stmt_tree body.now)) em.old
+        em.new }
 {
     let before = em.context().future_annotations;
     let opening = compile_futures(em, body)?;
@@ -62,14 +64,16 @@ pub fn compile_prompt(em: &mut Emitter, body: &[Stmt]) -> Result<(), CodegenErro
 }
 
 /// Emits statements from here on. Where an import from `__future__` may still stand, those that stand first are taken, and
-/// postpone the annotations of all that follows where they say so; behind another statement none may stand any more.
+/// postpone the annotations of all that follows where they say so; after another statement none may stand any more.
 ///
 /// # Errors
 /// The first compile fault of the statements, with its location; MissingCell; or OutOfMemory.
 #[tactic(auto, using(crate::proofs::PlacedStatementLemmas::emits_over))]
 pub fn compile_placed(em: &mut Emitter, body: &[Stmt]) -> Result<(), CodegenError>
     requires loops { AreMade (rest em.old).context.loop_blocks }
-    ensures { EmitsInto result (emission_placed (rest em.old).context.future_over (stmts stmt_tree body.now)) (context_after (rest em.old).context (stmts stmt_tree body.now)) em.old em.new }
+    ensures { EmitsInto result (emission_placed (rest em.old).context.future_over
+        (stmts stmt_tree body.now)) (context_after (rest em.old).context (stmts stmt_tree body.now))
+        em.old em.new }
 {
     if em.context().future_over {
         return compile_statements(em, body);
@@ -81,7 +85,8 @@ pub fn compile_placed(em: &mut Emitter, body: &[Stmt]) -> Result<(), CodegenErro
 fn compile_opened(em: &mut Emitter, body: &[Stmt]) -> Result<(), CodegenError>
     requires loops { AreMade (rest em.old).context.loop_blocks }
     requires opened { (rest em.old).context.future_over ≡ false }
-    ensures { EmitsInto result (emission_behind emission_of_stmts (stmts stmt_tree body.now)) (context_after (rest em.old).context (stmts stmt_tree body.now)) em.old em.new }
+    ensures { EmitsInto result (emission_after emission_of_stmts (stmts stmt_tree body.now))
+        (context_after (rest em.old).context (stmts stmt_tree body.now)) em.old em.new }
 {
     let opening = compile_futures(em, body)?;
     compile_statements(em, &body[opening.count..])?;

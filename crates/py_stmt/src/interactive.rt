@@ -36,7 +36,8 @@ pub(crate) fn compile_single(em: &mut Emitter, body: &[Stmt]) -> Result<(), Code
 /// Emits statements at a prompt, the last of which is given apart.
 fn compile_single_parts(em: &mut Emitter, first: &[Stmt], last: &Stmt) -> Result<(), CodegenError>
     requires loops { AreMade (rest em.old).context.loop_blocks }
-    ensures { Emits result (all_prompted (stmts stmt_tree first.now) ▸ shown_stmt (stmt_tree last.now)) em.old em.new }
+    ensures { Emits result (all_prompted (stmts stmt_tree first.now)
+        ▸ shown_stmt (stmt_tree last.now)) em.old em.new }
 {
     compile_prompted(em, first)?;
     compile_shown(em, last)
@@ -81,7 +82,8 @@ fn compile_shown(em: &mut Emitter, statement: &Stmt) -> Result<(), CodegenError>
 #[tactic(auto, using(py_bytecode::proofs::View::views))]
 fn compile_ended(em: &mut Emitter, statement: &Stmt) -> Result<(), CodegenError>
     requires loops { AreMade (rest em.old).context.loop_blocks }
-    ensures { Emits result (emission_of_stmt (stmt_tree statement.now) ▸ emit_constant Instruction.ReturnConst none) em.old em.new }
+    ensures { Emits result (emission_of_stmt (stmt_tree statement.now)
+        ▸ emit_constant Instruction.ReturnConst none) em.old em.new }
 {
     compile_statement(em, statement)?;
     em.return_const(ConstantData::None)
@@ -107,7 +109,8 @@ pub(crate) fn compile_block(em: &mut Emitter, body: &[Stmt]) -> Result<(), Codeg
 /// Emits a block, the last statement of which is given apart.
 fn compile_block_parts(em: &mut Emitter, first: &[Stmt], last: &Stmt) -> Result<(), CodegenError>
     requires loops { AreMade (rest em.old).context.loop_blocks }
-    ensures { Emits result (emission_of_stmts (stmts stmt_tree first.now) ▸ emission_of_value (stmt_tree last.now)) em.old em.new }
+    ensures { Emits result (emission_of_stmts (stmts stmt_tree first.now)
+        ▸ emission_of_value (stmt_tree last.now)) em.old em.new }
 {
     compile_statements(em, first)?;
     compile_value(em, last)

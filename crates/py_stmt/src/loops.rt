@@ -22,7 +22,10 @@ use py_tree::{Stmt, StmtFor, StmtWhile};
 #[tactic(auto, using(py_stmt_parts::proofs::Steps::step_steps))]
 pub(crate) fn compile_for(em: &mut Emitter, s: &StmtFor) -> Result<(), CodegenError>
     requires loops { AreMade (rest em.old).context.loop_blocks }
-    ensures { Emits result (for_each (emission (expr_tree s.now.iter.value)) (emission_of_store (expr_tree s.now.target.value)) (emission_of_stmts (stmts stmt_tree s.now.body)) (emission_of_stmts (stmts stmt_tree s.now.orelse))) em.old em.new }
+    ensures { Emits result (for_each (emission (expr_tree s.now.iter.value))
+        (emission_of_store (expr_tree s.now.target.value))
+        (emission_of_stmts (stmts stmt_tree s.now.body))
+        (emission_of_stmts (stmts stmt_tree s.now.orelse))) em.old em.new }
 {
     let start = em.new_block()?;
     let other = em.new_block()?;
@@ -48,7 +51,8 @@ fn compile_turn(
     requires start { start.0 < 0xffff_ffff }
     requires other { other.0 < 0xffff_ffff }
     requires end { end.0 < 0xffff_ffff }
-    ensures { Emits result (each_turn (emission_of_store (expr_tree s.now.target.value)) (emission_of_stmts (stmts stmt_tree s.now.body)) start.0 other.0 end.0) em.old em.new }
+    ensures { Emits result (each_turn (emission_of_store (expr_tree s.now.target.value))
+        (emission_of_stmts (stmts stmt_tree s.now.body)) start.0 other.0 end.0) em.old em.new }
 {
     emit!(em, Instruction::ForIter => other);
     compile_store(em, &s.target)?;
@@ -61,7 +65,8 @@ fn compile_turn(
 #[cycle(code)]
 fn end_each(em: &mut Emitter, orelse: &[Stmt]) -> Result<(), CodegenError>
     requires loops { AreMade (rest em.old).context.loop_blocks }
-    ensures { Emits result (each_ended (emission_of_stmts (stmts stmt_tree orelse.now))) em.old em.new }
+    ensures { Emits result (each_ended (emission_of_stmts (stmts stmt_tree orelse.now))) em.old
+        em.new }
 {
     emit!(em, Instruction::PopBlock);
     compile_statements(em, orelse)
@@ -101,10 +106,11 @@ fn compile_loop_body(
 ) -> Result<(), CodegenError>
     requires start { start.0 < 0xffff_ffff }
     requires end { end.0 < 0xffff_ffff }
-    ensures { Emits result (in_loop (record { on_break = end.0; on_continue = start.0 }) (emission_of_stmts (stmts stmt_tree body.now))) em.old em.new }
+    ensures { Emits result (in_loop (record { on_break = end.0; on_continue = start.0 })
+        (emission_of_stmts (stmts stmt_tree body.now))) em.old em.new }
 {
-    let around = em.set_loops(Some((start, end)));
+    let enclosing = em.set_loops(Some((start, end)));
     compile_statements(em, body)?;
-    em.set_loops(around);
+    em.set_loops(enclosing);
     Ok(())
 }

@@ -105,7 +105,8 @@ fn compile_if(em: &mut Emitter, s: &StmtIf) -> Result<(), CodegenError>
 #[tactic(auto, using(py_stmt_parts::proofs::Steps::step_steps))]
 fn compile_only(em: &mut Emitter, s: &StmtIf) -> Result<(), CodegenError>
     requires loops { AreMade (rest em.old).context.loop_blocks }
-    ensures { Emits result (only (emission_of_test (expr_tree s.now.test.value)) (emission_of_stmts (stmts stmt_tree s.now.body))) em.old em.new }
+    ensures { Emits result (only (emission_of_test (expr_tree s.now.test.value))
+        (emission_of_stmts (stmts stmt_tree s.now.body))) em.old em.new }
 {
     let end = em.new_block()?;
     compile_jump_if(em, &s.test, false, end)?;
@@ -119,7 +120,9 @@ fn compile_only(em: &mut Emitter, s: &StmtIf) -> Result<(), CodegenError>
 #[tactic(auto, using(py_stmt_parts::proofs::Steps::step_steps))]
 fn compile_choice(em: &mut Emitter, s: &StmtIf) -> Result<(), CodegenError>
     requires loops { AreMade (rest em.old).context.loop_blocks }
-    ensures { Emits result (choice (emission_of_test (expr_tree s.now.test.value)) (emission_of_stmts (stmts stmt_tree s.now.body)) (emission_of_stmts (stmts stmt_tree s.now.orelse))) em.old em.new }
+    ensures { Emits result (choice (emission_of_test (expr_tree s.now.test.value))
+        (emission_of_stmts (stmts stmt_tree s.now.body))
+        (emission_of_stmts (stmts stmt_tree s.now.orelse))) em.old em.new }
 {
     let other = em.new_block()?;
     let end = em.new_block()?;

@@ -1,7 +1,7 @@
 //! `try`, its handlers and its finally block.
 ghost use Rattle.std.specs.Prelude.{◌≡◌, ◌<◌};
 ghost use Rattle.py_tree.specs.View.{expr_tree, handlers as handler_trees, opt_box, stmt_tree, stmts, try_tree};
-ghost use Rattle.py_emission.specs.ControlEmissions.{finally_do, forgotten, named_body, try_body};
+ghost use Rattle.py_emission.specs.ControlEmissions.{finally_do, handler_name_removal, named_body, try_body};
 ghost use Rattle.py_emission.specs.EmissionStmts.{emission_of_handlers, emission_of_last, emission_of_stmt, emission_of_stmts};
 ghost use Rattle.py_emit.specs.States.{AreMade, Does, Emits, rest, state};
 ghost use Rattle.py_stmt.specs.Parts.{emission_of_caught, emission_of_handler, guarded_body, unguarded_else};
@@ -31,7 +31,11 @@ pub(crate) fn compile_try(em: &mut Emitter, s: &StmtTry) -> Result<(), CodegenEr
 #[tactic(auto, using(py_stmt_parts::proofs::Steps::step_steps))]
 fn compile_parts(em: &mut Emitter, s: &StmtTry, last: bool) -> Result<(), CodegenError>
     requires loops { AreMade (rest em.old).context.loop_blocks }
-    ensures { Emits result (try_body last (emission_of_stmts (stmts stmt_tree s.now.body)) (emission_of_handlers (handler_trees stmt_tree s.now.handlers) last) (emission_of_stmts (stmts stmt_tree s.now.orelse)) (emission_of_last (stmts stmt_tree s.now.finalbody) (emission_of_stmts (stmts stmt_tree s.now.finalbody)))) em.old em.new }
+    ensures { Emits result (try_body last (emission_of_stmts (stmts stmt_tree s.now.body))
+        (emission_of_handlers (handler_trees stmt_tree s.now.handlers) last)
+        (emission_of_stmts (stmts stmt_tree s.now.orelse))
+        (emission_of_last (stmts stmt_tree s.now.finalbody)
+        (emission_of_stmts (stmts stmt_tree s.now.finalbody)))) em.old em.new }
 {
     let catch = em.new_block()?;
     let other = em.new_block()?;
@@ -58,7 +62,9 @@ fn compile_guarded(
     requires catch { blocks.0.0 < 0xffff_ffff }
     requires other { blocks.1.0 < 0xffff_ffff }
     requires end { blocks.2.0 < 0xffff_ffff }
-    ensures { Emits result (guarded_body last (emission_of_stmts (stmts stmt_tree body.now)) blocks.0.0 blocks.1.0 blocks.2.0) em.old em.new }
+    ensures { Emits result (guarded_body last
+        (emission_of_stmts (stmts stmt_tree body.now)) blocks.0.0 blocks.1.0 blocks.2.0) em.old
+        em.new }
 {
     let (catch, other, end) = blocks;
     set_up_last(em, last, end)?;
@@ -73,7 +79,8 @@ fn compile_guarded(
 #[cycle(code)]
 fn compile_unguarded(em: &mut Emitter, orelse: &[Stmt], last: bool) -> Result<(), CodegenError>
     requires loops { AreMade (rest em.old).context.loop_blocks }
-    ensures { Emits result (unguarded_else last (emission_of_stmts (stmts stmt_tree orelse.now))) em.old em.new }
+    ensures { Emits result (unguarded_else last (emission_of_stmts (stmts stmt_tree orelse.now)))
+        em.old em.new }
 {
     compile_statements(em, orelse)?;
     enter_last(em, last)
@@ -83,7 +90,8 @@ fn compile_unguarded(em: &mut Emitter, orelse: &[Stmt], last: bool) -> Result<()
 #[cycle(code)]
 fn compile_last(em: &mut Emitter, body: &[Stmt]) -> Result<(), CodegenError>
     requires loops { AreMade (rest em.old).context.loop_blocks }
-    ensures { Emits result (emission_of_last (stmts stmt_tree body.now) (emission_of_stmts (stmts stmt_tree body.now))) em.old em.new }
+    ensures { Emits result (emission_of_last (stmts stmt_tree body.now)
+        (emission_of_stmts (stmts stmt_tree body.now))) em.old em.new }
 {
     if body.is_empty() {
         return Ok(());
@@ -103,7 +111,8 @@ fn compile_handlers(
 ) -> Result<(), CodegenError>
     requires loops { AreMade (rest em.old).context.loop_blocks }
     requires end { end.0 < 0xffff_ffff }
-    ensures { Emits result (emission_of_handlers (handler_trees stmt_tree handlers.now) last end.0) em.old em.new }
+    ensures { Emits result (emission_of_handlers (handler_trees stmt_tree handlers.now) last end.0)
+        em.old em.new }
 {
     for handler in handlers {
         compile_handler(em, handler, last, end)?;
@@ -123,7 +132,9 @@ fn compile_handler(
 ) -> Result<(), CodegenError>
     requires loops { AreMade (rest em.old).context.loop_blocks }
     requires end { end.0 < 0xffff_ffff }
-    ensures { Does result (emission_of_handler (opt_box expr_tree handler.now.type_) handler.now.name (stmts stmt_tree handler.now.body) last end.0) em.old em.new }
+    ensures { Does result (emission_of_handler
+        (opt_box expr_tree handler.now.type_) handler.now.name
+        (stmts stmt_tree handler.now.body) last end.0) em.old em.new }
 {
     let next = em.new_block()?;
     compile_match(em, &handler.type_, &handler.name, next)?;
@@ -137,7 +148,9 @@ fn compile_handler(
 #[cycle(code)]
 fn compile_caught(em: &mut Emitter, handler: &ExceptHandler) -> Result<(), CodegenError>
     requires loops { AreMade (rest em.old).context.loop_blocks }
-    ensures { Emits result (emission_of_caught (opt_box expr_tree handler.now.type_) handler.now.name (emission_of_stmts (stmts stmt_tree handler.now.body))) em.old em.new }
+    ensures { Emits result (emission_of_caught
+        (opt_box expr_tree handler.now.type_) handler.now.name
+        (emission_of_stmts (stmts stmt_tree handler.now.body))) em.old em.new }
 {
     match &handler.type_ {
         None => compile_statements(em, handler.body.as_slice()),
@@ -149,7 +162,8 @@ fn compile_caught(em: &mut Emitter, handler: &ExceptHandler) -> Result<(), Codeg
 #[cycle(code)]
 fn compile_named(em: &mut Emitter, name: &Option<Text>, body: &[Stmt]) -> Result<(), CodegenError>
     requires loops { AreMade (rest em.old).context.loop_blocks }
-    ensures { Emits result (named_body name.now (emission_of_stmts (stmts stmt_tree body.now))) em.old em.new }
+    ensures { Emits result (named_body name.now (emission_of_stmts (stmts stmt_tree body.now)))
+        em.old em.new }
 {
     match name {
         None => compile_statements(em, body),
@@ -161,7 +175,8 @@ fn compile_named(em: &mut Emitter, name: &Option<Text>, body: &[Stmt]) -> Result
 #[tactic(auto, using(py_stmt_parts::proofs::Steps::step_steps))]
 fn compile_forgetting(em: &mut Emitter, name: &Text, body: &[Stmt]) -> Result<(), CodegenError>
     requires loops { AreMade (rest em.old).context.loop_blocks }
-    ensures { Emits result (finally_do (emission_of_stmts (stmts stmt_tree body.now)) (forgotten name.now)) em.old em.new }
+    ensures { Emits result (finally_do (emission_of_stmts (stmts stmt_tree body.now))
+        (handler_name_removal name.now)) em.old em.new }
 {
     let end = em.new_block()?;
     emit!(em, Instruction::SetupFinally => end);

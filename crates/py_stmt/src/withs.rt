@@ -15,7 +15,8 @@ use py_tree::{Stmt, StmtWith};
 #[cycle(code)]
 pub(crate) fn compile_with(em: &mut Emitter, s: &StmtWith) -> Result<(), CodegenError>
     requires loops { AreMade (rest em.old).context.loop_blocks }
-    ensures { Emits result (some_items s.now.location (with_items s.now.items) (full_body (stmts stmt_tree s.now.body))) em.old em.new }
+    ensures { Emits result (some_items s.now.location (with_items s.now.items)
+        (full_body (stmts stmt_tree s.now.body))) em.old em.new }
 {
     if s.items.is_empty() {
         refuse!(em, CodegenErrorType::EmptyWithItems);
@@ -27,7 +28,8 @@ pub(crate) fn compile_with(em: &mut Emitter, s: &StmtWith) -> Result<(), Codegen
 #[cycle(code)]
 fn compile_managed(em: &mut Emitter, s: &StmtWith) -> Result<(), CodegenError>
     requires loops { AreMade (rest em.old).context.loop_blocks }
-    ensures { Emits result (emission_of_items s.now.location (with_items s.now.items) (full_body (stmts stmt_tree s.now.body))) em.old em.new }
+    ensures { Emits result (emission_of_items s.now.location (with_items s.now.items)
+        (full_body (stmts stmt_tree s.now.body))) em.old em.new }
 {
     let ends = enter_items(em, &s.location, s.items.as_slice())?;
     compile_body(em, s.body.as_slice())?;

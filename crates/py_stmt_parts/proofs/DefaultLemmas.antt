@@ -7,7 +7,7 @@ use Rattle.py_tree.specs.declared.statements.TypeParam.{TypeParam}
 use Rattle.py_name_uses.specs.Parts.{has_default}
 use Rattle.py_bytecode.specs.declared.instruction.Instruction.TheVariants as op
 use Rattle.py_emission_parts.specs.Children.{flags_of_defaults}
-use Rattle.py_emission_parts.specs.Within.{passed_defaults, some_flag, some_name}
+use Rattle.py_emission_parts.specs.NestedScopes.{passed_defaults, some_flag, some_name}
 use Rattle.py_emission_parts.specs.Emitting.{◌▸◌, State, emit_varname}
 use Rattle.py_emission_parts.specs.Running.{Action, on_done, run}
 use Rattle.py_emission_parts.specs.TypeParameters.{load_handed}
@@ -61,9 +61,12 @@ default_flags_are (tree.arguments posonly args vararg kwonly kwarg) =
 -- the loads of two lists of names
 load_both : (xs ys : List (List ℕ)) → run (load_handed (xs ++ ys)) ≡ run (load_handed xs ▸ load_handed ys)
 load_both [] ys = refl
-load_both (x ∷ xs) ys = ap {A = Action} {B = Action} (λ (w : Action) (s : State). on_done (run (emit_varname op.LoadFast x) s) w) (load_both xs ys) ∙ sym (joined_actions (emit_varname op.LoadFast x) (load_handed xs) (load_handed ys))
+load_both (x ∷ xs) ys = ap {A = Action} {B = Action} (λ (w : Action) (s : State). on_done (run (emit_varname op.LoadFast x) s) w)
+    (load_both xs ys) ∙ sym (joined_actions (emit_varname op.LoadFast x) (load_handed xs) (load_handed ys))
 
-pub handed_in_turn : (d : Defaults) (s : State) → run (load_handed (handed_by d)) s ≡ run (load_handed (name_if (codes ".defaults") d.positional) ▸ load_handed (name_if (codes ".kwdefaults") d.keyword)) s
+pub handed_in_turn : (d : Defaults) (s : State)
+    → run (load_handed (handed_by d)) s
+    ≡ run (load_handed (name_if (codes ".defaults") d.positional) ▸ load_handed (name_if (codes ".kwdefaults") d.keyword)) s
 handed_in_turn d s = ap (λ (f : Action). f s) (load_both (name_if (codes ".defaults") d.positional) (name_if (codes ".kwdefaults") d.keyword))
 
 -- the flags of a function without type parameters

@@ -1,5 +1,6 @@
 -- Future imports that stand before other statements, one after another, and what is restored after statements.
-use Rattle.std.proofs.Common.{◌≡◌, ℕ, zero, suc, ◌+◌, ◌-◌, ◌<◌, ◌≤◌, List, [], ◌∷◌, length, drop, take, get_or, Bool, true, false, ◌||◌, Option, Some, None, Result, Err, refl, sym, ap, ◌∙◌, subst, arith}
+use Rattle.std.proofs.Common.{◌≡◌, ℕ, zero, suc, ◌+◌, ◌-◌, ◌<◌, ◌≤◌, List, [], ◌∷◌, length, drop, take, get_or, Bool, true, false, ◌||◌}
+use Rattle.std.proofs.Common.{Option, Some, None, Result, Err, refl, sym, ap, ◌∙◌, subst, arith}
 use Rattle.std.proofs.lemmas.Bool.{le-ltb, lt-ltb}
 use Rattle.std.proofs.Math.Seq.{drop-cons}
 use Rattle.std.proofs.lemmas.List.{length-drop, take_all}
@@ -14,7 +15,7 @@ use Rattle.py_base.specs.declared.errors.CodegenErrorType.{CodegenErrorType}
 use Rattle.py_base.specs.declared.errors.CodegenErrorType.TheVariants as error
 use Rattle.py_emission_parts.specs.Emitting.{Done, Emission, Outcome, Refused, State, TooWide, ◌▸◌, postponed_part, refuse, with_postponed}
 use Rattle.py_emission_parts.specs.Running.{on_done, run}
-use Rattle.py_emission.specs.EmissionFutures.{check_features, emission_behind, emission_of_future, after_future_import}
+use Rattle.py_emission.specs.EmissionFutures.{check_features, emission_after, emission_of_future, after_future_import}
 use Rattle.py_emission.specs.Futures.{Future, future_of, is_feature, postpones}
 use Rattle.py_emit.specs.States.{Rest, rest, state}
 use Rattle.py_emit.specs.declared.emitter.Emitter.{Emitter}
@@ -23,7 +24,7 @@ use Rattle.py_stmt_parts.specs.Futures.{BeginsOtherwise, Entered, IsRefusing, Le
 use Rattle.py_stmt_parts.specs.declared.futures.Opening.{Opening}
 
 abbrev pub flag : State → Bool
-flag s = s.around.context.postponed
+flag s = s.node_context.context.postponed
 
 -- nothing is restored where nothing has changed
 pub unrestored : (o : Outcome) (p : Bool) → on_done o (restore_postponed false p) ≡ o
@@ -44,24 +45,40 @@ restored_so true q p o h = restored_twice o q p
 restored_so false q p o h = unrestored (on_done o (λ t. Done (with_postponed q t))) p ∙ ap (λ b. on_done o (λ t. Done (with_postponed b t))) (h refl)
 
 -- what the state and the rest say of it is the same
-pub flag_is : (e : Emitter) → (state e).around.context.postponed ≡ (rest e).context.future_annotations
+pub flag_is : (e : Emitter) → (state e).node_context.context.postponed ≡ (rest e).context.future_annotations
 unfolding rest
 flag_is e = refl
 
 -- where nothing has changed
-pub flag_as : (e f : Emitter) (c : Bool) → rest e ≡ changed_rest c (rest f) → c ≡ false → (state e).around.context.postponed ≡ (state f).around.context.postponed
+pub flag_as : (e f : Emitter) (c : Bool) → rest e ≡ changed_rest c (rest f) → c ≡ false → (state e).node_context.context.postponed ≡ (state f).node_context.context.postponed
 flag_as e f true h n = absurd cc
 flag_as e f false h n = flag_is e ∙ ap (λ (r : Rest). r.context.future_annotations) h ∙ sym (flag_is f)
 
-pub flag_kept : (e f : Emitter) → rest e ≡ rest f → (state e).around.context.postponed ≡ (state f).around.context.postponed
+pub flag_kept : (e f : Emitter) → rest e ≡ rest f → (state e).node_context.context.postponed ≡ (state f).node_context.context.postponed
 flag_kept e f h = flag_as e f false h refl
 
 -- an emission that postpones annotations, and one that does not
 pub entered_postponed : (a : Emission) (p : Bool) (s n r : State) (before : Bool) → run a s ≡ Done n → flag n ≡ flag s → p ≡ true → r ≡ with_postponed true n → Entered a p s r before true
-entered_postponed a p s n r before g k e h = record { mid = n; goes = g; kept = k; state_is = h ∙ ap (λ (b : Bool). restored_state b true n) (sym e); after_is = ap (λ (b : Bool). if b then true else before) (sym e) }
+entered_postponed a p s n r before g k e h =
+    record {
+      mid = n;
+      goes = g;
+      kept = k;
+      state_is = h ∙ ap (λ (b : Bool). restored_state b true n) (sym e);
+      after_is =
+          ap (λ (b : Bool). if b then true else before) (sym e);
+    }
 
 pub entered_on : (a : Emission) (p : Bool) (s n : State) (before : Bool) → run a s ≡ Done n → flag n ≡ flag s → p ≡ false → Entered a p s n before before
-entered_on a p s n before g k e = record { mid = n; goes = g; kept = k; state_is = ap (λ (b : Bool). restored_state b true n) (sym e); after_is = ap (λ (b : Bool). if b then true else before) (sym e) }
+entered_on a p s n before g k e =
+    record {
+      mid = n;
+      goes = g;
+      kept = k;
+      state_is = ap (λ (b : Bool). restored_state b true n) (sym e);
+      after_is =
+          ap (λ (b : Bool). if b then true else before) (sym e);
+    }
 
 -- where the last is emitted, what is postponed is as it was before
 pub restored_last : (o : Outcome) (c before flag : Bool) (t r : State) → o ≡ Done t → r ≡ restored_state c before t → before ≡ flag → on_done o (restore_postponed c flag) ≡ Done r
@@ -73,16 +90,16 @@ slice_rest xs i = let l = length-drop i xs in take_all (length xs - i) (drop i x
 
 -- what is emitted of a future import at a place, and after it
 future_first : (emission : tree.Stmts → Emission) (s : tree.Stmt) (ss : tree.Stmts) (f : Future) → future_of s ≡ Some f
-    → emission_behind emission (tree.more_stmts s ss) ≡ emission_of_future f ▸ after_future_import f (emission_behind emission ss)
-future_first emission s ss f e = ap (λ (o : Option Future). elim o [ None ↦ emission (tree.more_stmts s ss) | Some g ↦ emission_of_future g ▸ after_future_import g (emission_behind emission ss) ]) e
+    → emission_after emission (tree.more_stmts s ss) ≡ emission_of_future f ▸ after_future_import f (emission_after emission ss)
+future_first emission s ss f e = ap (λ (o : Option Future). elim o [ None ↦ emission (tree.more_stmts s ss) | Some g ↦ emission_of_future g ▸ after_future_import g (emission_after emission ss) ]) e
 
 future_here : (emission : tree.Stmts → Emission) (all : List Stmt) (i : ℕ) (d : Stmt) (f : Future) → i < length all
     → future_of (stmt_tree (get_or all i d)) ≡ Some f
-    → emission_behind emission (stmts stmt_tree (drop i all)) ≡ emission_of_future f ▸ after_future_import f (emission_behind emission (stmts stmt_tree (drop (i + 1) all)))
+    → emission_after emission (stmts stmt_tree (drop i all)) ≡ emission_of_future f ▸ after_future_import f (emission_after emission (stmts stmt_tree (drop (i + 1) all)))
 future_here emission all i d f lt e =
-    ap (λ xs. emission_behind emission (stmts stmt_tree xs)) (drop-cons all i d lt)
+    ap (λ xs. emission_after emission (stmts stmt_tree xs)) (drop-cons all i d lt)
     ∙ future_first emission (stmt_tree (get_or all i d)) (stmts stmt_tree (drop (suc i) all)) f e
-    ∙ ap (λ j. emission_of_future f ▸ after_future_import f (emission_behind emission (stmts stmt_tree (drop j all)))) (suc_is_plus_one i)
+    ∙ ap (λ j. emission_of_future f ▸ after_future_import f (emission_after emission (stmts stmt_tree (drop j all)))) (suc_is_plus_one i)
 
 -- whether another statement stands after it, and whether one of those that stand first postpones annotations
 pub others_next : (all : List Stmt) (i : ℕ) (d : Stmt) (f : Future) → i < length all → future_of (stmt_tree (get_or all i d)) ≡ Some f
@@ -176,23 +193,31 @@ features_at names i x m n is lt h =
 -- a future import at a place, where what is emitted goes on from there
 module _ (s m : State) (all : List Stmt) (i : ℕ) (c : Bool) (f : Future) (lt : i < length all) (is : (d : Stmt) → future_of (stmt_tree (get_or all i d)) ≡ Some f) (leads : Leads s m all i c) where
   future_import_here : (emission : tree.Stmts → Emission)
-      → run (emission_behind emission (stmts stmt_tree all)) s ≡ on_done (run (emission_of_future f ▸ after_future_import f (emission_behind emission (stmts stmt_tree (drop (i + 1) all)))) m) (restore_postponed c (flag s))
-  future_import_here emission = leads emission ∙ ap (λ (v : Emission). on_done (run v m) (restore_postponed c (flag s))) (future_here emission all i (future_import_one_of all i lt) f lt (is (future_import_one_of all i lt)))
+      → run (emission_after emission (stmts stmt_tree all)) s
+      ≡ on_done (run (emission_of_future f ▸ after_future_import f (emission_after emission (stmts stmt_tree (drop (i + 1) all)))) m)
+      (restore_postponed c (flag s))
+  future_import_here emission = leads emission ∙ ap (λ (v : Emission). on_done (run v m) (restore_postponed c (flag s)))
+      (future_here emission all i (future_import_one_of all i lt) f lt (is (future_import_one_of all i lt)))
 
-  future_import_behind : (n : State) → run (emission_of_future f) m ≡ Done n → (emission : tree.Stmts → Emission)
-      → run (emission_behind emission (stmts stmt_tree all)) s ≡ on_done (run (after_future_import f (emission_behind emission (stmts stmt_tree (drop (i + 1) all)))) n) (restore_postponed c (flag s))
-  future_import_behind n done emission = future_import_here emission ∙ ap (λ o. on_done o (restore_postponed c (flag s))) (went _ (run (after_future_import f (emission_behind emission (stmts stmt_tree (drop (i + 1) all))))) n done)
+  future_import_after : (n : State) → run (emission_of_future f) m ≡ Done n → (emission : tree.Stmts → Emission)
+      → run (emission_after emission (stmts stmt_tree all)) s ≡ on_done (run (after_future_import f (emission_after emission (stmts stmt_tree (drop (i + 1) all)))) n) (restore_postponed c (flag s))
+  future_import_after n done emission = future_import_here emission
+      ∙ ap (λ o. on_done o (restore_postponed c (flag s)))
+      (went _ (run (after_future_import f (emission_after emission (stmts stmt_tree (drop (i + 1) all))))) n done)
 
   -- one that postpones nothing
   future_import_leads_on : (n : State) → run (emission_of_future f) m ≡ Done n → postpones f ≡ false → Leads s n all (i + 1) c
-  future_import_leads_on n done e emission = future_import_behind n done emission ∙ ap (λ b. on_done (run (if b then postponed_part (emission_behind emission (stmts stmt_tree (drop (i + 1) all))) else emission_behind emission (stmts stmt_tree (drop (i + 1) all))) n) (restore_postponed c (flag s))) e
+  future_import_leads_on n done e emission = future_import_after n done emission
+      ∙ ap (λ b. on_done
+      (run (if b then postponed_part (emission_after emission (stmts stmt_tree (drop (i + 1) all))) else emission_after emission
+      (stmts stmt_tree (drop (i + 1) all))) n) (restore_postponed c (flag s))) e
 
   -- and one that postpones annotations
   leads_postponed : (n : State) → run (emission_of_future f) m ≡ Done n → postpones f ≡ true → (c ≡ false → flag n ≡ flag s) → Leads s (with_postponed true n) all (i + 1) true
   unfolding postponed_part
   leads_postponed n done e h emission =
-      let rest = emission_behind emission (stmts stmt_tree (drop (i + 1) all)) in
-      future_import_behind n done emission
+      let rest = emission_after emission (stmts stmt_tree (drop (i + 1) all)) in
+      future_import_after n done emission
       ∙ ap (λ b. on_done (run (if b then postponed_part rest else rest) n) (restore_postponed c (flag s))) e
       ∙ restored_so c (flag n) (flag s) (run rest (with_postponed true n)) h
 
@@ -202,7 +227,7 @@ module _ (s m : State) (all : List Stmt) (i : ℕ) (c : Bool) (f : Future) (lt :
       go (postpones f) refl e.state_is e.after_is
     where
       as_is : (n r : State) (p after : Bool) → Leads s n all (i + 1) p → r ≡ n → after ≡ p → Leads s r all (i + 1) after
-      as_is n r p after l h k = λ emission. l emission ∙ (λ j. on_done (run (emission_behind emission (stmts stmt_tree (drop (i + 1) all))) (sym h j)) (restore_postponed (sym k j) (flag s)))
+      as_is n r p after l h k = λ emission. l emission ∙ (λ j. on_done (run (emission_after emission (stmts stmt_tree (drop (i + 1) all))) (sym h j)) (restore_postponed (sym k j) (flag s)))
 
       go : (p : Bool) → postpones f ≡ p → r ≡ (if p then with_postponed true e.mid else e.mid) → after ≡ (if p then true else c) → Leads s r all (i + 1) after
       go true b h k = as_is (with_postponed true e.mid) r true after (leads_postponed e.mid e.goes b (λ q. e.kept ∙ same q)) h k
@@ -211,4 +236,7 @@ module _ (s m : State) (all : List Stmt) (i : ℕ) (c : Bool) (f : Future) (lt :
   -- one that is refused
   pub leads_refused : (o : Result Opening (LocatedError CodegenErrorType)) (x : LocatedError CodegenErrorType) (r : State) → o ≡ Err x → IsRefusing x (run (emission_of_future f) m) → Opens o s r all
   leads_refused o x r e h =
-      subst (λ y. Opens y s r all) (sym e) (λ emission n. future_import_here emission ∙ ap (λ y. on_done (on_done y (run (after_future_import f (emission_behind emission (stmts stmt_tree (drop (i + 1) all)))))) (restore_postponed c (flag s))) (h n))
+      subst (λ y. Opens y s r all) (sym e)
+      (λ emission n. future_import_here emission ∙ ap
+      (λ y. on_done (on_done y (run (after_future_import f (emission_after emission (stmts stmt_tree (drop (i + 1) all))))))
+      (restore_postponed c (flag s))) (h n))

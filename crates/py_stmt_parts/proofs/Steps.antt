@@ -12,11 +12,11 @@ use Rattle.py_emission_parts.specs.Context.{Context}
 use Rattle.py_emission.specs.Predicates.{itemless, none}
 use Rattle.py_expr_parts.proofs.Steps.{level_goes, located_at, many_emissions, move_goes, one_goes, refuse_goes, step_stays, three_goes, two_goes}
 
-pub loops_go : (a : Option LoopBlocks → Emission) (s : State) → run (by_loops a) s ≡ run (a s.around.loops) s
+pub loops_go : (a : Option LoopBlocks → Emission) (s : State) → run (by_loops a) s ≡ run (a s.node_context.loops) s
 unfolding by_loops
 loops_go a s = refl
 
-pub context_goes : (a : Context → Emission) (s : State) → run (by_context a) s ≡ run (a s.around.context) s
+pub context_goes : (a : Context → Emission) (s : State) → run (by_context a) s ≡ run (a s.node_context.context) s
 unfolding by_context
 context_goes a s = refl
 

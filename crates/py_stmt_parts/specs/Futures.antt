@@ -11,7 +11,7 @@ use Rattle.py_emission.specs.Emission.{emission}
 use Rattle.py_tree.specs.declared.statements.Alias.{Alias}
 use Rattle.py_emission_parts.specs.Emitting.{Done, Emission, Outcome, Refused, State, refuse, with_postponed}
 use Rattle.py_emission_parts.specs.Running.{Action, on_done, run}
-use Rattle.py_emission.specs.EmissionFutures.{check_features, emission_behind}
+use Rattle.py_emission.specs.EmissionFutures.{check_features, emission_after}
 use Rattle.py_emission.specs.EmissionStmts.{emission_of_stmts}
 use Rattle.py_emission.specs.Futures.{Future, future_of, postpones}
 use Rattle.py_emit.specs.States.{Goes, Rest, Same, postponed_rest, rest, state, told_rest}
@@ -38,11 +38,11 @@ changed_rest changed r = if changed then postponed_rest true r else r
 abbrev pub AreChanged : (before after : Bool) → (old new : Rest) → Type 0
 AreChanged before after old new = (r : Rest) → old ≡ changed_rest before r → new ≡ changed_rest after r
 
--- an emission comes to a state, in which annotations are postponed where it says so; and whether they are postponed by now
+-- an emission reaches a state, in which annotations are postponed where it says so; and whether they are postponed by now
 pub record Entered (a : Emission) (postpones : Bool) (s r : State) (before after : Bool) : Type 0 where
   pub mid : State
   pub goes : run a s ≡ Done mid
-  pub kept : mid.around.context.postponed ≡ s.around.context.postponed
+  pub kept : mid.node_context.context.postponed ≡ s.node_context.context.postponed
   pub state_is : r ≡ restored_state postpones true mid
   pub after_is : after ≡ (if postpones then true else before)
 
@@ -52,16 +52,20 @@ IsRefusing e o = e.error ≢ error.OutOfMemory → o ≡ Refused e.error e.locat
 
 -- what is emitted after future imports goes on here, from the statements that are left
 abbrev pub Leads : (before now : State) → List Stmt → (count : ℕ) → (postponed : Bool) → Type 0
-Leads s m all n c = (emission : tree.Stmts → Emission) → run (emission_behind emission (stmts stmt_tree all)) s ≡ on_done (run (emission_behind emission (stmts stmt_tree (drop n all))) m) (restore_postponed c s.around.context.postponed)
+Leads s m all n c = (emission : tree.Stmts → Emission)
+    → run (emission_after emission (stmts stmt_tree all)) s
+    ≡ on_done (run (emission_after emission (stmts stmt_tree (drop n all))) m) (restore_postponed c s.node_context.context.postponed)
 
 -- or it is refused
 abbrev pub Opens : Result Opening (LocatedError CodegenErrorType) → (before now : State) → List Stmt → Type 0
-Opens (Ok o) s m all = (emission : tree.Stmts → Emission) → run (emission_behind emission (stmts stmt_tree all)) s ≡ on_done (run (emission (stmts stmt_tree (drop o.count all))) m) (restore_postponed o.postponed s.around.context.postponed)
-Opens (Err x) s m all = (emission : tree.Stmts → Emission) → x.error ≢ error.OutOfMemory → run (emission_behind emission (stmts stmt_tree all)) s ≡ Refused x.error x.location
+Opens (Ok o) s m all = (emission : tree.Stmts → Emission)
+    → run (emission_after emission (stmts stmt_tree all)) s
+    ≡ on_done (run (emission (stmts stmt_tree (drop o.count all))) m) (restore_postponed o.postponed s.node_context.context.postponed)
+Opens (Err x) s m all = (emission : tree.Stmts → Emission) → x.error ≢ error.OutOfMemory → run (emission_after emission (stmts stmt_tree all)) s ≡ Refused x.error x.location
 
 -- no future import begins these statements
 abbrev pub NoFuture : List Stmt → Type 0
-NoFuture all = (emission : tree.Stmts → Emission) → emission_behind emission (stmts stmt_tree all) ≡ emission (stmts stmt_tree all)
+NoFuture all = (emission : tree.Stmts → Emission) → emission_after emission (stmts stmt_tree all) ≡ emission (stmts stmt_tree all)
 
 -- these statements begin with another statement, or there is none
 abbrev pub BeginsOtherwise : List Stmt → Type 0
@@ -78,13 +82,13 @@ abbrev pub opens_postponed : tree.Stmts → Bool
 opens_postponed tree.no_stmts = false
 opens_postponed (tree.more_stmts s ss) = elim (future_of s) [ None ↦ false | Some f ↦ postpones f || opens_postponed ss ]
 
--- what the enclosing code says after statements: behind another statement no future import may stand
+-- what the enclosing code says after statements: after another statement no future import may stand
 abbrev pub context_after : EmitContext → tree.Stmts → EmitContext
 context_after x ss = if x.future_over then x else record x { future_over = has_other ss; future_annotations = x.future_annotations || opens_postponed ss }
 
 -- statements where a future import may stand, and where none may
 abbrev pub emission_placed : (over : Bool) → tree.Stmts → Emission
-emission_placed over ss = if over then emission_of_stmts ss else emission_behind emission_of_stmts ss
+emission_placed over ss = if over then emission_of_stmts ss else emission_after emission_of_stmts ss
 
 -- what is taken from the future
 abbrev pub emission_of_features : (over : Bool) → List Alias → Emission

@@ -12,7 +12,7 @@ use py_emit::{Emitter, emit};
 use py_node_values::annotations::has_annotation;
 use py_tree::Stmts;
 
-/// Whether an annotated assignment stands among the statements of a body from a place on, or in those within them that are
+/// Whether an annotated assignment stands among the statements of a body from a place on, or in those nested in them that are
 /// no handlers. The place is at most the length of the body.
 pub fn find_ann(body: &Stmts, from: usize) -> bool
     requires { from ≤ length body.now }

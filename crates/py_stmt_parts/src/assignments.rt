@@ -38,7 +38,9 @@ fn keep_annotation(em: &mut Emitter, e: &ExprName) -> Result<(), CodegenError>
 /// Emits what stores the value that lies there under a key, as the innermost class writes it, in the map that a name
 /// stands for.
 fn store_key(em: &mut Emitter, map: &str, key: &str) -> Result<(), CodegenError>
-    ensures { Emits result (emit_name Instruction.LoadNameAny map.now ▸ by_context (λ c. emit_constant Instruction.LoadConst (str (mangled_by c key.now))) ▸ emitting Instruction.StoreSubscript 0) em.old em.new }
+    ensures { Emits result (emit_name Instruction.LoadNameAny map.now
+        ▸ by_context (λ c. emit_constant Instruction.LoadConst (str (mangled_by c key.now)))
+        ▸ emitting Instruction.StoreSubscript 0) em.old em.new }
 {
     em.emit_name(Instruction::LoadNameAny, map)?;
     load_mangled(em, key)?;
@@ -52,7 +54,8 @@ fn store_key(em: &mut Emitter, map: &str, key: &str) -> Result<(), CodegenError>
 /// OutOfMemory alone.
 #[tactic(auto, unfolding(py_emission_parts::specs::Emitting::by_context))]
 pub fn load_mangled(em: &mut Emitter, name: &str) -> Result<(), CodegenError>
-    ensures { Emits result (by_context (λ c. emit_constant Instruction.LoadConst (str (mangled_by c name.now)))) em.old em.new }
+    ensures { Emits result (by_context
+        (λ c. emit_constant Instruction.LoadConst (str (mangled_by c name.now)))) em.old em.new }
 {
     match em.mangled_if_private(name)? {
         Some(other) => load_text(em, other.as_str()),

@@ -6,10 +6,10 @@ ghost use Rattle.py_bytecode.specs.View.{constant, object};
 ghost use Rattle.py_emission_parts.specs.Children.{made_function};
 ghost use Rattle.py_emission_parts.specs.Running.{code_head};
 ghost use Rattle.py_emission_parts.specs.Classes.{cell_returned, class_end, class_names, class_shape};
-ghost use Rattle.py_emission_parts.specs.Within.{doc_const};
+ghost use Rattle.py_emission_parts.specs.NestedScopes.{doc_const};
 ghost use Rattle.py_emission_parts.specs.Emitting.{initial_state, by_level};
 ghost use Rattle.py_emission.specs.Texts.{after_doc, doc_of};
-ghost use Rattle.py_emit.specs.States.{Emits, IsStarved, nested_context, entered_rest, rest, state};
+ghost use Rattle.py_emit.specs.States.{Emits, IsOutOfMemory, nested_context, entered_rest, rest, state};
 ghost use Rattle.py_stmt_parts.specs.Classes.{cell_kept, cells_kept, copied_name, stored_as};
 
 use crate::docs::split_doc;
@@ -41,9 +41,14 @@ pub fn make_class(
 /// # Errors
 /// OutOfMemory alone.
 pub fn enter_class(em: &mut Emitter, name: &str, path: Text) -> Result<(), CodegenError>
-    ensures state { OnOk result (state em.new ≡ initial_state (nested_context SymbolTableType.Class (Naming.Class name.now path) (state em.old)) (state em.old).location (suc (state em.old).next)) }
-    ensures rest { OnOk result (rest em.new ≡ entered_rest (Naming.Class name.now path) em.old.scope (code_head (nested_context SymbolTableType.Class (Naming.Class name.now path) (state em.old)) (class_shape name.now) (state em.old).location) (rest em.old)) }
-    ensures err { IfErr result (λ e. IsStarved e (rest em.old).path) }
+    ensures state { OnOk result (state em.new
+        ≡ initial_state (nested_context SymbolTableType.Class (Naming.Class name.now path)
+        (state em.old)) (state em.old).location (suc (state em.old).next)) }
+    ensures rest { OnOk result (rest em.new
+        ≡ entered_rest (Naming.Class name.now path) em.old.scope
+        (code_head (nested_context SymbolTableType.Class (Naming.Class name.now path)
+        (state em.old)) (class_shape name.now) (state em.old).location) (rest em.old)) }
+    ensures err { IfErr result (λ e. IsOutOfMemory e (rest em.old).path) }
 {
     let obj_name = em.text(name)?;
     let name = em.text(name)?;
@@ -64,9 +69,11 @@ pub fn enter_class(em: &mut Emitter, name: &str, path: Text) -> Result<(), Codeg
 /// OutOfMemory alone.
 #[tactic(auto, unfolding(py_emission_parts::specs::Emitting::by_level, py_emit::specs::States::rest))]
 pub fn begin_class(em: &mut Emitter, body: &Stmts, path: Text) -> Result<usize, CodegenError>
-    requires path { path ≡ (state em.old).around.context.path }
-    ensures emits { Emits result (by_level (λ l. class_names (doc_of l (stmts stmt_tree body.now)))) em.old em.new }
-    ensures from { IfOk result (λ from. stmts stmt_tree (drop from body.now) ≡ after_doc (stmts stmt_tree body.now)) }
+    requires path { path ≡ (state em.old).node_context.context.path }
+    ensures emits { Emits result (by_level (λ l. class_names (doc_of l (stmts stmt_tree body.now))))
+        em.old em.new }
+    ensures from { IfOk result (λ from.
+        stmts stmt_tree (drop from body.now) ≡ after_doc (stmts stmt_tree body.now)) }
     ensures within { IfOk result (λ from. from ≤ length body.now) }
 {
     match split_doc(em.alloc(), body, em.opts()) {
@@ -81,7 +88,7 @@ pub fn begin_class(em: &mut Emitter, body: &Stmts, path: Text) -> Result<usize, 
 /// Emits the names with which a class begins: `__module__`, `__qualname__` and `__doc__`, which is None where no docstring
 /// is kept.
 fn name_class(em: &mut Emitter, path: Text, doc: Option<Text>) -> Result<(), CodegenError>
-    requires path { path ≡ (state em.old).around.context.path }
+    requires path { path ≡ (state em.old).node_context.context.path }
     ensures { Emits result (class_names doc) em.old em.new }
 {
     copy_name(em, "__name__", "__module__")?;

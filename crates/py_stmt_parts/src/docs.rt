@@ -19,7 +19,8 @@ pub fn split_doc(
     opts: CompileOpts,
 ) -> Result<(Option<Text>, usize), AllocError>
     ensures doc { IfOk result (λ r. r.0 ≡ doc_of opts.optimize (stmts stmt_tree body.now)) }
-    ensures from { IfOk result (λ r. stmts stmt_tree (drop r.1 body.now) ≡ after_doc (stmts stmt_tree body.now)) }
+    ensures from { IfOk result (λ r. stmts stmt_tree (drop r.1 body.now)
+        ≡ after_doc (stmts stmt_tree body.now)) }
     ensures within { IfOk result (λ r. r.1 ≤ length body.now) }
 {
     doc_and_rest(alloc, opts.optimize, body.as_slice())

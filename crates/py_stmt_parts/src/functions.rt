@@ -23,7 +23,8 @@ use py_tree::{Expr, Stmt, Stmts, Text};
 /// # Errors
 /// OutOfMemory alone.
 pub fn call_decorators(em: &mut Emitter, items: &[Expr]) -> Result<(), CodegenError>
-    ensures { Emits result (decorations (values (all_emissions (exprs expr_tree items.now)))) em.old em.new }
+    ensures { Emits result (decorations (values (all_emissions (exprs expr_tree items.now)))) em.old
+        em.new }
 {
     for _decorator in items {
         em.emit_count(Instruction::CallFunctionPositional, 1)?;
@@ -74,7 +75,8 @@ pub fn make_named(
     flags: MakeFunctionFlags,
     code: CodeObject,
 ) -> Result<(), CodegenError>
-    ensures { Emits result (by_context (λ c. made_function flags.0 (qualified_under c name.now) (object code))) em.old em.new }
+    ensures { Emits result (by_context
+        (λ c. made_function flags.0 (qualified_under c name.now) (object code))) em.old em.new }
 {
     let full = em.qualified(name)?;
     em.make_function(flags, full, code)
@@ -86,7 +88,8 @@ pub fn make_named(
 /// OutOfMemory alone.
 #[tactic(auto, unfolding(py_emission_parts::specs::Emitting::by_level, py_emit::specs::States::rest))]
 pub fn store_doc(em: &mut Emitter, body: &Stmts) -> Result<(), CodegenError>
-    ensures { Emits result (by_level (λ l. docstring_store (doc_of l (stmts stmt_tree body.now)))) em.old em.new }
+    ensures { Emits result (by_level (λ l. docstring_store (doc_of l (stmts stmt_tree body.now))))
+        em.old em.new }
 {
     match split_doc(em.alloc(), body, em.opts()) {
         Ok((doc, _)) => store_text(em, doc),

@@ -5,7 +5,7 @@ ghost use Rattle.py_name_uses.specs.Parts.{names_annotations};
 ghost use Rattle.py_emission.specs.EmissionFutures.{check_features, emission_of_future};
 ghost use Rattle.py_emission.specs.Futures.{future_of, is_feature};
 ghost use Rattle.py_emission_parts.specs.Running.{run};
-ghost use Rattle.py_emit.specs.States.{Emits, IsTold, postponed_rest, rest, state};
+ghost use Rattle.py_emit.specs.States.{Emits, IsReported, postponed_rest, rest, state};
 ghost use Rattle.py_stmt_parts.specs.Futures.{AreChanged, BeginsOtherwise, Entered, IsRefusing, NoFuture, Opens, changed_rest, future, has_other, opens_postponed, restored_state};
 
 use crate::imports::import_from;
@@ -26,7 +26,8 @@ pub struct Opening {
 /// Says again whether annotations are postponed, as it was said before, where that has changed.
 pub fn restore(em: &mut Emitter, changed: bool, before: bool)
     ensures state { state em.new ≡ restored_state changed before (state em.old) }
-    ensures rest { rest em.new ≡ (if changed then postponed_rest before (rest em.old) else rest em.old) }
+    ensures rest { rest em.new ≡ (if changed then postponed_rest before
+        (rest em.old) else rest em.old) }
 {
     if !changed {
         return;
@@ -43,10 +44,12 @@ pub fn restore(em: &mut Emitter, changed: bool, before: bool)
 pub fn compile_futures(em: &mut Emitter, body: &[Stmt]) -> Result<Opening, CodegenError>
     ensures opens { Opens result (state em.old) (state em.new) body.now }
     ensures within { IfOk result (λ o. o.count ≤ length body.now) }
-    ensures others { IfOk result (λ o. has_other (stmts stmt_tree body.now) ≡ nat_lt o.count (length body.now)) }
-    ensures postponed { IfOk result (λ o. opens_postponed (stmts stmt_tree body.now) ≡ o.postponed) }
+    ensures others { IfOk result (λ o.
+        has_other (stmts stmt_tree body.now) ≡ nat_lt o.count (length body.now)) }
+    ensures postponed { IfOk result
+        (λ o. opens_postponed (stmts stmt_tree body.now) ≡ o.postponed) }
     ensures rest { IfOk result (λ o. rest em.new ≡ changed_rest o.postponed (rest em.old)) }
-    ensures told { IfErr result (λ e. IsTold e (rest em.old).path) }
+    ensures told { IfErr result (λ e. IsReported e (rest em.old).path) }
 {
     let mut count = 0;
     let mut postponed = false;
@@ -58,7 +61,7 @@ pub fn compile_futures(em: &mut Emitter, body: &[Stmt]) -> Result<Opening, Codeg
 }
 
 /// Emits a future import, and postpones the annotations of what follows where it says so. Answers whether they are
-/// postponed by it or, as is told, by one before.
+/// postponed by it or, as is reported, by one before.
 ///
 /// # Errors
 /// InvalidFutureFeature for the first name that cannot be taken from the future, SyntaxError where a name that is stored
@@ -68,10 +71,13 @@ pub fn enter_future(
     s: &StmtImportFrom,
     postponed: bool,
 ) -> Result<bool, CodegenError>
-    ensures entered { IfOk result (λ after. Entered (emission_of_future (future s.now)) (names_annotations s.now.names) (state em.old) (state em.new) postponed after) }
-    ensures refused { IfErr result (λ e. IsRefusing e (run (emission_of_future (future s.now)) (state em.old))) }
+    ensures entered { IfOk result (λ after.
+        Entered (emission_of_future (future s.now)) (names_annotations s.now.names) (state em.old)
+        (state em.new) postponed after) }
+    ensures refused { IfErr result
+        (λ e. IsRefusing e (run (emission_of_future (future s.now)) (state em.old))) }
     ensures rest { IfOk result (λ after. AreChanged postponed after (rest em.old) (rest em.new)) }
-    ensures told { IfErr result (λ e. IsTold e (rest em.old).path) }
+    ensures told { IfErr result (λ e. IsReported e (rest em.old).path) }
 {
     if compile_future(em, s)? {
         em.set_postponed(true);
@@ -86,7 +92,8 @@ fn future_at(body: &[Stmt], place: usize) -> Option<&StmtImportFrom>
     ensures none { IfNone result (NoFuture (drop place body.now)) }
     ensures first { IfNone result (BeginsOtherwise (drop place body.now)) }
     ensures within { IfSome result (λ s. place < length body.now) }
-    ensures is { IfSome result (λ s. (d : Stmt) → future_of (stmt_tree (get_or body.now place d)) ≡ Some (future s.now)) }
+    ensures is { IfSome result (λ s. (d : Stmt)
+        → future_of (stmt_tree (get_or body.now place d)) ≡ Some (future s.now)) }
 {
     if place == body.len() {
         return None;

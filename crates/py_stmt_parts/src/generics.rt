@@ -7,10 +7,10 @@ ghost use Rattle.py_bytecode.specs.View.{object};
 ghost use Rattle.py_emission_parts.specs.Children.{made_function};
 ghost use Rattle.py_emission_parts.specs.Running.{code_head};
 ghost use Rattle.py_emission_parts.specs.Emitting.{initial_state, emit_constant};
-ghost use Rattle.py_emission_parts.specs.TypeParameters.{hidden_shape, kept_as, load_handed, plain};
-ghost use Rattle.py_emission_parts.specs.Within.{hidden_name};
+ghost use Rattle.py_emission_parts.specs.TypeParameters.{type_param_scope_shape, kept_as, load_handed, plain};
+ghost use Rattle.py_emission_parts.specs.NestedScopes.{type_param_scope_name};
 ghost use Rattle.py_emission.specs.Emission.{unsupported_node};
-ghost use Rattle.py_emit.specs.States.{Emits, IsStarved, nested_context, entered_rest, rest, state};
+ghost use Rattle.py_emit.specs.States.{Emits, IsOutOfMemory, nested_context, entered_rest, rest, state};
 ghost use Rattle.py_expr_scopes.specs.Functions.{flag_if};
 ghost use Rattle.py_stmt_parts.specs.Generics.{defaults_of, given_flags, handed_by, name_if, params_flag};
 
@@ -139,12 +139,17 @@ fn load_if(em: &mut Emitter, name: &str, handed: bool) -> Result<(), CodegenErro
 ///
 /// # Errors
 /// OutOfMemory alone.
-pub fn enter_hidden(em: &mut Emitter, name: &str, count: u32) -> Result<(), CodegenError>
-    ensures state { OnOk result (state em.new ≡ initial_state (nested_context SymbolTableType.TypeParams Naming.AsAround (state em.old)) (state em.old).location (suc (state em.old).next)) }
-    ensures rest { OnOk result (rest em.new ≡ entered_rest Naming.AsAround em.old.scope (code_head (nested_context SymbolTableType.TypeParams Naming.AsAround (state em.old)) (hidden_shape count name.now) (state em.old).location) (rest em.old)) }
-    ensures err { IfErr result (λ e. IsStarved e (rest em.old).path) }
+pub fn enter_type_param_scope(em: &mut Emitter, name: &str, count: u32) -> Result<(), CodegenError>
+    ensures state { OnOk result (state em.new
+        ≡ initial_state (nested_context SymbolTableType.TypeParams Naming.AsEnclosing
+        (state em.old)) (state em.old).location (suc (state em.old).next)) }
+    ensures rest { OnOk result (rest em.new
+        ≡ entered_rest Naming.AsEnclosing em.old.scope
+        (code_head (nested_context SymbolTableType.TypeParams Naming.AsEnclosing (state em.old))
+        (type_param_scope_shape count name.now) (state em.old).location) (rest em.old)) }
+    ensures err { IfErr result (λ e. IsOutOfMemory e (rest em.old).path) }
 {
-    let obj_name = hidden_text(em, name)?;
+    let obj_name = type_param_scope_text(em, name)?;
     let head = ScopeHead {
         flags: CodeFlags::from_bits_retain(0x21),
         posonlyarg_count: count,
@@ -152,17 +157,22 @@ pub fn enter_hidden(em: &mut Emitter, name: &str, count: u32) -> Result<(), Code
         kwonlyarg_count: 0,
         obj_name,
     };
-    em.open_scope(head, SymbolTableType::TypeParams, Naming::AsAround)
+    em.open_scope(head, SymbolTableType::TypeParams, Naming::AsEnclosing)
 }
 
 /// Makes a function of the code of a type-parameter scope, under the name of the scope.
 ///
 /// # Errors
 /// MissingCell, as `Emitter::make_function` has it, or OutOfMemory.
-pub fn make_hidden(em: &mut Emitter, name: &str, code: CodeObject) -> Result<(), CodegenError>
-    ensures { Emits result (made_function 0 (hidden_name name.now) (object code)) em.old em.new }
+pub fn make_type_param_scope(
+    em: &mut Emitter,
+    name: &str,
+    code: CodeObject,
+) -> Result<(), CodegenError>
+    ensures { Emits result (made_function 0 (type_param_scope_name name.now) (object code)) em.old
+        em.new }
 {
-    let full = hidden_text(em, name)?;
+    let full = type_param_scope_text(em, name)?;
     make_named(em, full, code)
 }
 
@@ -177,12 +187,12 @@ fn make_named(em: &mut Emitter, name: Text, code: CodeObject) -> Result<(), Code
 ///
 /// # Errors
 /// OutOfMemory alone.
-fn hidden_text(em: &mut Emitter, name: &str) -> Result<Text, CodegenError>
-    ensures data { IfOk result (λ full. full ≡ hidden_name name.now) }
+fn type_param_scope_text(em: &mut Emitter, name: &str) -> Result<Text, CodegenError>
+    ensures data { IfOk result (λ full. full ≡ type_param_scope_name name.now) }
     ensures same { OnOk result (em.new ≡ em.old) }
-    ensures err { IfErr result (λ e. IsStarved e (rest em.old).path) }
+    ensures err { IfErr result (λ e. IsOutOfMemory e (rest em.old).path) }
 {
-    match hidden_name(em.alloc(), name) {
+    match type_param_scope_name(em.alloc(), name) {
         Ok(full) => Ok(full),
         Err(_) => Err(em.error(CodegenErrorType::OutOfMemory)),
     }
@@ -193,8 +203,8 @@ fn hidden_text(em: &mut Emitter, name: &str) -> Result<Text, CodegenError>
 /// # Errors
 /// There is no memory for it.
 #[tactic(auto, using(crate::proofs::DefaultLemmas::name_within))]
-fn hidden_name(alloc: Global, name: &str) -> Result<Text, AllocError>
-    ensures { IfOk result (λ full. full ≡ hidden_name name.now) }
+fn type_param_scope_name(alloc: Global, name: &str) -> Result<Text, AllocError>
+    ensures { IfOk result (λ full. full ≡ type_param_scope_name name.now) }
 {
     let mut full = String::new(alloc);
     full.push_str("<generic parameters of ")?;

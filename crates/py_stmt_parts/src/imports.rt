@@ -15,7 +15,7 @@ use py_emit::{Emitter, NameUsage, emit, refuse};
 use py_expr_parts::yields::is_function;
 use py_name_uses::names::is_future;
 use py_node_values::paths::{
-    asked_names, behind_dot, first_segment, has_star, name_taken, single_name,
+    after_dot, asked_names, first_segment, has_star, name_taken, single_name,
 };
 use py_tree::{Alias, StmtImportFrom, Text};
 
@@ -44,7 +44,8 @@ fn import_alias(em: &mut Emitter, alias: &Alias) -> Result<(), CodegenError>
 
 /// Emits the import of a module, and what stores its outermost package.
 fn import_package(em: &mut Emitter, path: &str) -> Result<(), CodegenError>
-    ensures { Emits result (emission_of_module (Some path.now) 0 none ▸ emission_of_stored (package_name path.now)) em.old em.new }
+    ensures { Emits result (emission_of_module (Some path.now) 0 none
+        ▸ emission_of_stored (package_name path.now)) em.old em.new }
 {
     import_whole(em, path)?;
     em.compile_name(NameUsage::Store, first_segment(path))
@@ -52,7 +53,8 @@ fn import_package(em: &mut Emitter, path: &str) -> Result<(), CodegenError>
 
 /// Emits the import of a module, and what stores it under a name of its own.
 fn import_renamed(em: &mut Emitter, path: &str, name: &str) -> Result<(), CodegenError>
-    ensures { Emits result (emission_of_imported path.now (Some name.now) ▸ emission_of_stored name.now) em.old em.new }
+    ensures { Emits result (emission_of_imported path.now (Some name.now)
+        ▸ emission_of_stored name.now) em.old em.new }
 {
     import_itself(em, path)?;
     em.compile_name(NameUsage::Store, name)
@@ -60,7 +62,8 @@ fn import_renamed(em: &mut Emitter, path: &str, name: &str) -> Result<(), Codege
 
 /// Emits the import of a module, and what comes from its outermost package to itself.
 fn import_itself(em: &mut Emitter, path: &str) -> Result<(), CodegenError>
-    ensures { Emits result (emission_of_module (Some path.now) 0 none ▸ emission_of_attributes (further_segments path.now)) em.old em.new }
+    ensures { Emits result (emission_of_module (Some path.now) 0 none
+        ▸ emission_of_attributes (further_segments path.now)) em.old em.new }
 {
     import_whole(em, path)?;
     load_segments(em, path)
@@ -79,9 +82,9 @@ fn load_segments(em: &mut Emitter, path: &str) -> Result<(), CodegenError>
     ensures { Emits result (emission_of_attributes (further_segments path.now)) em.old em.new }
 {
     let mut left = path;
-    while let Some(behind) = behind_dot(left) {
-        em.emit_mangled(Instruction::LoadAttr, first_segment(behind))?;
-        left = behind;
+    while let Some(after) = after_dot(left) {
+        em.emit_mangled(Instruction::LoadAttr, first_segment(after))?;
+        left = after;
     }
     Ok(())
 }
@@ -93,7 +96,8 @@ fn import_path(
     level: u32,
     names: ConstantData,
 ) -> Result<(), CodegenError>
-    ensures { Emits result (emission_of_module (Some path.now) level (constant names)) em.old em.new }
+    ensures { Emits result (emission_of_module (Some path.now) level (constant names)) em.old
+        em.new }
 {
     load_level(em, level)?;
     em.load_const(names)?;
@@ -128,7 +132,8 @@ fn import_module(
 /// Emits the load of a number.
 #[tactic(auto, using(py_bytecode::proofs::View::views))]
 fn load_level(em: &mut Emitter, level: u32) -> Result<(), CodegenError>
-    ensures { Emits result (emit_constant Instruction.LoadConst (integer (pos level))) em.old em.new }
+    ensures { Emits result (emit_constant Instruction.LoadConst (integer (pos level))) em.old
+        em.new }
 {
     em.load_const(ConstantData::Integer {
         value: i128::from(level),
@@ -142,7 +147,8 @@ fn load_level(em: &mut Emitter, level: u32) -> Result<(), CodegenError>
 /// name that is stored is `__debug__`, or OutOfMemory.
 #[tactic(auto, using(crate::proofs::Steps::step_steps))]
 pub fn compile_import_from(em: &mut Emitter, s: &StmtImportFrom) -> Result<(), CodegenError>
-    ensures { Emits result (emission_of_import_from s.now.«module» s.now.names s.now.level) em.old em.new }
+    ensures { Emits result (emission_of_import_from s.now.«module» s.now.names s.now.level) em.old
+        em.new }
 {
     if is_future(&s.module) {
         refuse!(em, CodegenErrorType::InvalidFuturePlacement);
@@ -173,7 +179,8 @@ fn import_star(em: &mut Emitter, s: &StmtImportFrom) -> Result<(), CodegenError>
 
 /// Emits the import of all names of a module.
 fn import_all(em: &mut Emitter, s: &StmtImportFrom) -> Result<(), CodegenError>
-    ensures { Emits result (emission_of_module s.now.«module» s.now.level asked_all ▸ emitting Instruction.ImportStar 0) em.old em.new }
+    ensures { Emits result (emission_of_module s.now.«module» s.now.level asked_all
+        ▸ emitting Instruction.ImportStar 0) em.old em.new }
 {
     ask_all(em, s)?;
     emit!(em, Instruction::ImportStar);
@@ -193,7 +200,8 @@ fn ask_all(em: &mut Emitter, s: &StmtImportFrom) -> Result<(), CodegenError>
 
 /// Emits the import of a module that is asked for some names, and takes each of them from it.
 fn import_names(em: &mut Emitter, s: &StmtImportFrom) -> Result<(), CodegenError>
-    ensures { Emits result (emission_of_module s.now.«module» s.now.level (asked_tuple s.now.names) ▸ emission_of_names s.now.names) em.old em.new }
+    ensures { Emits result (emission_of_module s.now.«module» s.now.level (asked_tuple s.now.names)
+        ▸ emission_of_names s.now.names) em.old em.new }
 {
     ask_names(em, s)?;
     take_names(em, s.names.as_slice())
@@ -201,7 +209,8 @@ fn import_names(em: &mut Emitter, s: &StmtImportFrom) -> Result<(), CodegenError
 
 /// Emits the import of a module that is asked for some names.
 fn ask_names(em: &mut Emitter, s: &StmtImportFrom) -> Result<(), CodegenError>
-    ensures { Emits result (emission_of_module s.now.«module» s.now.level (asked_tuple s.now.names)) em.old em.new }
+    ensures { Emits result (emission_of_module s.now.«module» s.now.level (asked_tuple s.now.names))
+        em.old em.new }
 {
     match asked_names(em.alloc(), s.names.as_slice()) {
         Ok(names) => import_module(em, &s.module, s.level, names),

@@ -22,8 +22,8 @@ pub use docs::{split_doc, statements_from};
 pub use functions::{call_decorators, end_function, make_named, store_doc};
 pub use futures::{Opening, compile_future_features, compile_futures, enter_future, restore};
 pub use generics::{
-    compile_unbounded, enter_hidden, given_defaults, handed_count, keep_param, load_defaults,
-    load_text, made_flags, make_hidden, params_flag, refuse_param,
+    compile_unbounded, enter_type_param_scope, given_defaults, handed_count, keep_param,
+    load_defaults, load_text, made_flags, make_type_param_scope, params_flag, refuse_param,
 };
 pub use imports::{compile_import, compile_import_from};
 pub use loops::{compile_break, compile_continue};

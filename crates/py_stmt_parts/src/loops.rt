@@ -13,7 +13,9 @@ use py_emit::{Emitter, emit, refuse};
 #[tactic(auto, unfolding(py_emit::specs::States::rest), using(crate::proofs::Steps::step_steps))]
 pub fn compile_break(em: &mut Emitter) -> Result<(), CodegenError>
     requires loops { AreMade (rest em.old).context.loop_blocks }
-    ensures { Emits result (leave_loop Instruction.Break (λ x. x.on_break) CodegenErrorType.InvalidBreak (state em.old).around.loops) em.old em.new }
+    ensures { Emits result (leave_loop Instruction.Break
+        (λ x. x.on_break) CodegenErrorType.InvalidBreak
+        (state em.old).node_context.loops) em.old em.new }
 {
     match em.context().loop_blocks {
         Some((_, end)) => {
@@ -31,7 +33,9 @@ pub fn compile_break(em: &mut Emitter) -> Result<(), CodegenError>
 #[tactic(auto, unfolding(py_emit::specs::States::rest), using(crate::proofs::Steps::step_steps))]
 pub fn compile_continue(em: &mut Emitter) -> Result<(), CodegenError>
     requires loops { AreMade (rest em.old).context.loop_blocks }
-    ensures { Emits result (leave_loop Instruction.Continue (λ x. x.on_continue) CodegenErrorType.InvalidContinue (state em.old).around.loops) em.old em.new }
+    ensures { Emits result (leave_loop Instruction.Continue
+        (λ x. x.on_continue) CodegenErrorType.InvalidContinue
+        (state em.old).node_context.loops) em.old em.new }
 {
     match em.context().loop_blocks {
         Some((start, _)) => {

@@ -16,7 +16,8 @@ use py_tree::{Expr, Text};
 /// NotImplementedYet where an f-string stands in it, or OutOfMemory.
 #[tactic(auto, using(py_bytecode::proofs::View::views, py_expr_parts::proofs::Steps::refuse_goes))]
 pub fn load_annotation(em: &mut Emitter, annotation: &Expr) -> Result<(), CodegenError>
-    ensures { Emits result (emission_of_text (annotation_of (expr_tree annotation.now))) em.old em.new }
+    ensures { Emits result (emission_of_text (annotation_of (expr_tree annotation.now))) em.old
+        em.new }
 {
     match annotation_text(em.alloc(), annotation) {
         Ok(text) => em.load_const(ConstantData::Str {

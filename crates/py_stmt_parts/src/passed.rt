@@ -17,7 +17,8 @@ use py_tree::{Expr, StmtAssert};
 /// OutOfMemory alone.
 #[tactic(auto, unfolding(py_emit::specs::States::rest))]
 pub fn pass_expression(em: &mut Emitter, e: &Expr) -> Result<(), CodegenError>
-    ensures { Emits result (pass_scopes (λ postponed. scopes_in postponed (expr_tree e.now))) em.old em.new }
+    ensures { Emits result (pass_scopes (λ postponed. scopes_in postponed (expr_tree e.now))) em.old
+        em.new }
 {
     let postponed = em.context().future_annotations;
     let next = scopes_in_expr(e, postponed, em.next_scope());
@@ -30,7 +31,8 @@ pub fn pass_expression(em: &mut Emitter, e: &Expr) -> Result<(), CodegenError>
 /// OutOfMemory alone.
 #[tactic(auto, unfolding(py_emit::specs::States::rest))]
 pub fn pass_annotation(em: &mut Emitter, e: &Expr) -> Result<(), CodegenError>
-    ensures { Emits result (pass_scopes (λ postponed. scopes_in_note postponed (expr_tree e.now))) em.old em.new }
+    ensures { Emits result (pass_scopes (λ postponed. scopes_in_note postponed (expr_tree e.now)))
+        em.old em.new }
 {
     let postponed = em.context().future_annotations;
     let next = scopes_in_annotation(e, postponed, em.next_scope());
@@ -54,7 +56,9 @@ fn scopes_in_annotation(e: &Expr, postponed: bool, count: usize) -> Option<usize
 /// OutOfMemory alone.
 #[tactic(auto, unfolding(py_emit::specs::States::rest))]
 pub fn pass_assertion(em: &mut Emitter, s: &StmtAssert) -> Result<(), CodegenError>
-    ensures { Emits result (pass_scopes (λ postponed. scopes_in postponed (expr_tree s.now.test.value) + scopes_in_opt postponed (opt_box expr_tree s.now.msg))) em.old em.new }
+    ensures { Emits result (pass_scopes
+        (λ postponed. scopes_in postponed (expr_tree s.now.test.value)
+        + scopes_in_opt postponed (opt_box expr_tree s.now.msg))) em.old em.new }
 {
     let postponed = em.context().future_annotations;
     let next = scopes_in_assertion(s, postponed, em.next_scope());
@@ -63,7 +67,9 @@ pub fn pass_assertion(em: &mut Emitter, s: &StmtAssert) -> Result<(), CodegenErr
 
 /// `count` and the scopes in an assertion. None exactly where the sum has no usize.
 fn scopes_in_assertion(s: &StmtAssert, postponed: bool, count: usize) -> Option<usize>
-    ensures { IsSum result (count + (scopes_in postponed (expr_tree s.now.test.value) + scopes_in_opt postponed (opt_box expr_tree s.now.msg))) }
+    ensures { IsSum result
+        (count + (scopes_in postponed (expr_tree s.now.test.value)
+        + scopes_in_opt postponed (opt_box expr_tree s.now.msg))) }
 {
     let count = scopes_in_expr(&s.test, postponed, count)?;
     scopes_in_opt(&s.msg, postponed, count)

@@ -1,6 +1,6 @@
 //! The parts of a `try` that hold no statements: what goes to its finally block, and how its handlers end.
 ghost use Rattle.std.specs.Prelude.{◌<◌};
-ghost use Rattle.py_emission.specs.ControlEmissions.{before_last, caught_name, forgotten, to_last};
+ghost use Rattle.py_emission.specs.ControlEmissions.{before_last, caught_name, handler_name_removal, to_last};
 ghost use Rattle.py_emit.specs.States.{Emits};
 ghost use Rattle.py_stmt_parts.specs.Parts.{handler_exit};
 
@@ -60,7 +60,7 @@ pub fn store_caught(em: &mut Emitter, name: &Option<Text>) -> Result<(), Codegen
 /// OutOfMemory alone.
 #[tactic(auto, using(py_bytecode::proofs::View::views))]
 pub fn forget(em: &mut Emitter, name: &Text) -> Result<(), CodegenError>
-    ensures { Emits result (forgotten name.now) em.old em.new }
+    ensures { Emits result (handler_name_removal name.now) em.old em.new }
 {
     em.load_const(ConstantData::None)?;
     em.access(NameUsage::Store, name.as_str())?;

@@ -1,6 +1,6 @@
 //! What leaves the items of a `with`.
 ghost use Rattle.std.specs.Prelude.{◌≡◌, ◌<◌, [], ◌∷◌, ◌++◌, IfErr, OnOk};
-ghost use Rattle.py_emit.specs.States.{Does, IsStarved, rest, state};
+ghost use Rattle.py_emit.specs.States.{Does, IsOutOfMemory, rest, state};
 ghost use Rattle.py_emit.specs.Steps.{IsOpen};
 ghost use Rattle.py_stmt_parts.specs.Managing.{AllOpen, item_exit, left_all};
 
@@ -21,7 +21,7 @@ pub fn keep_end(
 ) -> Result<(), CodegenError>
     ensures kept { OnOk result (ends.new ≡ ends.old ++ end ∷ []) }
     ensures same { OnOk result (em.new ≡ em.old) }
-    ensures err { IfErr result (λ e. IsStarved e (rest em.old).path) }
+    ensures err { IfErr result (λ e. IsOutOfMemory e (rest em.old).path) }
 {
     match ends.push(end) {
         Ok(()) => Ok(()),

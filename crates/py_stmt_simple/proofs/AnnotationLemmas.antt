@@ -28,7 +28,11 @@ many_both [] ys = omega arith
 many_both (x ∷ xs) ys = let h = many_both xs ys in omega (arith, h)
 
 -- each group after those before it
-notes_alike : (p : ArgumentsOf Expr) (returns : tree.OptExpr) → run (in_turn (notes (arguments expr_tree p) returns)) ≡ run (in_turn (opt_note (codes "return") returns) ▸ in_turn (arg_notes (args expr_tree p.posonlyargs)) ▸ in_turn (arg_notes (args expr_tree p.args)) ▸ in_turn (arg_notes (args expr_tree p.kwonlyargs)) ▸ in_turn (opt_arg_note (opt_arg expr_tree p.vararg)) ▸ in_turn (opt_arg_note (opt_arg expr_tree p.kwarg)))
+notes_alike : (p : ArgumentsOf Expr) (returns : tree.OptExpr)
+    → run (in_turn (notes (arguments expr_tree p) returns))
+    ≡ run (in_turn (opt_note (codes "return") returns) ▸ in_turn (arg_notes (args expr_tree p.posonlyargs))
+    ▸ in_turn (arg_notes (args expr_tree p.args)) ▸ in_turn (arg_notes (args expr_tree p.kwonlyargs))
+    ▸ in_turn (opt_arg_note (opt_arg expr_tree p.vararg)) ▸ in_turn (opt_arg_note (opt_arg expr_tree p.kwarg)))
 notes_alike p returns =
     let a = opt_note (codes "return") returns in
     let b = arg_notes (args expr_tree p.posonlyargs) in
@@ -42,10 +46,18 @@ notes_alike p returns =
     ∙ after_same (run (in_turn c)) _ _ (turn_append d (e ++ f)
     ∙ after_same (run (in_turn d)) _ _ (turn_append e f))))
 
-pub notes_are : (p : ArgumentsOf Expr) (returns : tree.OptExpr) (s : State) → run (in_turn (notes (arguments expr_tree p) returns)) s ≡ run (in_turn (opt_note (codes "return") returns) ▸ in_turn (arg_notes (args expr_tree p.posonlyargs)) ▸ in_turn (arg_notes (args expr_tree p.args)) ▸ in_turn (arg_notes (args expr_tree p.kwonlyargs)) ▸ in_turn (opt_arg_note (opt_arg expr_tree p.vararg)) ▸ in_turn (opt_arg_note (opt_arg expr_tree p.kwarg))) s
+pub notes_are : (p : ArgumentsOf Expr) (returns : tree.OptExpr) (s : State)
+    → run (in_turn (notes (arguments expr_tree p) returns)) s
+    ≡ run (in_turn (opt_note (codes "return") returns) ▸ in_turn (arg_notes (args expr_tree p.posonlyargs))
+    ▸ in_turn (arg_notes (args expr_tree p.args)) ▸ in_turn (arg_notes (args expr_tree p.kwonlyargs))
+    ▸ in_turn (opt_arg_note (opt_arg expr_tree p.vararg)) ▸ in_turn (opt_arg_note (opt_arg expr_tree p.kwarg))) s
 notes_are p returns s = ap (λ (a : Action). a s) (notes_alike p returns)
 
-pub many_notes : (p : ArgumentsOf Expr) (returns : tree.OptExpr) → length (notes (arguments expr_tree p) returns) ≡ length (opt_note (codes "return") returns) + length (arg_notes (args expr_tree p.posonlyargs)) + length (arg_notes (args expr_tree p.args)) + length (arg_notes (args expr_tree p.kwonlyargs)) + length (opt_arg_note (opt_arg expr_tree p.vararg)) + length (opt_arg_note (opt_arg expr_tree p.kwarg))
+pub many_notes : (p : ArgumentsOf Expr) (returns : tree.OptExpr)
+    → length (notes (arguments expr_tree p) returns) ≡ length (opt_note (codes "return") returns)
+    + length (arg_notes (args expr_tree p.posonlyargs)) + length (arg_notes (args expr_tree p.args))
+    + length (arg_notes (args expr_tree p.kwonlyargs)) + length (opt_arg_note (opt_arg expr_tree p.vararg))
+    + length (opt_arg_note (opt_arg expr_tree p.kwarg))
 many_notes p returns =
     let a = opt_note (codes "return") returns in
     let b = arg_notes (args expr_tree p.posonlyargs) in

@@ -21,7 +21,9 @@ use Rattle.py_stmt_simple.specs.Assigning.{assigned_to, assigned_to_all, some_ta
 pub assign_is : (e : tree.Expr) (es : tree.Exprs) → run (emission_of_assign (tree.more_exprs e es)) ≡ run (assigned_to_all (tree.more_exprs e es))
 assign_is e tree.no_exprs = sym (keep_last (emission_of_store e))
 assign_is e (tree.more_exprs g es) =
-    after_same (run (emit op.Duplicate 0)) (run (emission_of_store e) ▹ run (emission_of_assign (tree.more_exprs g es))) (run (emission_of_store e) ▹ run (assigned_to_all (tree.more_exprs g es))) (after_same (run (emission_of_store e)) _ _ (assign_is g es))
+    after_same (run (emit op.Duplicate 0)) (run (emission_of_store e) ▹ run (emission_of_assign (tree.more_exprs g es)))
+    (run (emission_of_store e) ▹ run (assigned_to_all (tree.more_exprs g es)))
+    (after_same (run (emission_of_store e)) _ _ (assign_is g es))
     ∙ sym (joined_actions (emit op.Duplicate 0) (emission_of_store e) (assigned_to_all (tree.more_exprs g es)))
 
 pub assign_none : (xs : List Expr) → nat_eq (length xs) 0 ≡ true → emission_of_assign (exprs expr_tree xs) ≡ refuse (error.MalformedTree shape.NoTarget)

@@ -9,7 +9,7 @@ use Rattle.py_emission_parts.specs.Running.{run}
 use Rattle.py_emission_parts.specs.TypeParameters.{generic_alias}
 use Rattle.py_emission.specs.Emission.{emission}
 use Rattle.py_emission.specs.EmissionDefs.{alias_value, emission_of_params, param_emissions}
-use Rattle.py_stmt_simple.specs.Generics.{hidden_made, some_params}
+use Rattle.py_stmt_simple.specs.Generics.{type_param_scope_made, some_params}
 
 -- one emission a type parameter
 pub many_params : (xs : List TypeParam) → length (param_emissions (type_params xs)) ≡ length xs
@@ -23,6 +23,6 @@ params_there (x ∷ xs) h = refl
 
 -- an alias with some
 pub alias_there : (name : List ℕ) (xs : List TypeParam) (e : tree.Expr) → 1 ≤ length xs
-    → run (alias_value name (type_params xs) e) ≡ run (hidden_made 0 name (generic_alias name (emission_of_params (type_params xs)) (emission e)) ▸ emit_count op.CallFunctionPositional 0)
+    → run (alias_value name (type_params xs) e) ≡ run (type_param_scope_made 0 name (generic_alias name (emission_of_params (type_params xs)) (emission e)) ▸ emit_count op.CallFunctionPositional 0)
 alias_there name [] e h = absurd (omega (arith, h))
 alias_there name (x ∷ xs) e h = refl

@@ -34,7 +34,9 @@ managed_by at item store body s =
 
 -- one item more is entered
 pub entered_more : (at : SourceLocation) (e : tree.Expr) (t : tree.OptExpr) (ts : tree.WithItems) (body : Emission) (ends : List BlockIdx) (end : BlockIdx) (s r : State) →
-    item_entry at (emission e) (emission_of_item t) s ≡ Done r → end.0 ≡ s.blocks → (run (emission_of_items at (tree.more_items e t ts) body) ▹ left_all at ends) s ≡ (run (emission_of_items at ts body) ▹ left_all at (ends ++ end ∷ [])) r
+    item_entry at (emission e) (emission_of_item t) s ≡ Done r → end.0 ≡ s.blocks
+    → (run (emission_of_items at (tree.more_items e t ts) body) ▹ left_all at ends) s
+    ≡ (run (emission_of_items at ts body) ▹ left_all at (ends ++ end ∷ [])) r
 entered_more at e t ts body ends end s r h n =
     let inner = emission_of_items at ts body in
     ap (λ o. on_done o (left_all at ends)) (managed_by at (emission e) (emission_of_item t) inner s ∙ ap (λ o. on_done o (run inner ▹ item_exit at s.blocks)) h)

@@ -11,4 +11,5 @@ use Rattle.py_expr_parts.specs.Calls.{arguments, call_of_type, taken_type}
 -- the call of what builds a class, after its function
 abbrev pub builder_called : (name : List ℕ) → (bases : tree.Exprs) → tree.Keywords → Emission
 builder_called name bases ks =
-    emit_constant op.LoadConst (const.str name) ▸ arguments 2 (elements (all_emissions bases)) (keyword_emissions ks) ▸ call_of_type false (taken_type 2 (elements (all_emissions bases)) (keyword_emissions ks))
+    emit_constant op.LoadConst (const.str name) ▸ arguments 2 (elements (all_emissions bases)) (keyword_emissions ks)
+    ▸ call_of_type false (taken_type 2 (elements (all_emissions bases)) (keyword_emissions ks))

@@ -47,11 +47,13 @@ followers (begin.Value s) = 1
 
 -- what is emitted at a prompt goes on here, from the statements that are left
 abbrev pub Prompted : (before now : State) → List Stmt → (count : ℕ) → (postponed : Bool) → Type 0
-Prompted s m all n c = run (emission_of_prompt (stmts stmt_tree all)) s ≡ on_done (run (emission_of_prompt (stmts stmt_tree (drop n all))) m) (restore_postponed c s.around.context.postponed)
+Prompted s m all n c = run (emission_of_prompt (stmts stmt_tree all)) s ≡ on_done (run (emission_of_prompt (stmts stmt_tree (drop n all))) m) (restore_postponed c s.node_context.context.postponed)
 
 -- or it is refused
 abbrev pub Prompts : Result Opening (LocatedError CodegenErrorType) → (before now : State) → List Stmt → Type 0
-Prompts (Ok o) s m all = run (emission_of_prompt (stmts stmt_tree all)) s ≡ on_done (run (emission_of_single (stmts stmt_tree (drop o.count all))) m) (restore_postponed o.postponed s.around.context.postponed)
+Prompts (Ok o) s m all = run (emission_of_prompt (stmts stmt_tree all)) s
+    ≡ on_done (run (emission_of_single (stmts stmt_tree (drop o.count all))) m)
+    (restore_postponed o.postponed s.node_context.context.postponed)
 Prompts (Err x) s m all = x.error ≢ error.OutOfMemory → run (emission_of_prompt (stmts stmt_tree all)) s ≡ Refused x.error x.location
 
 -- neither a future import nor an expression that others follow begins these statements

@@ -5,8 +5,8 @@ use Rattle.py_bytecode.specs.declared.instruction.Instruction.TheVariants as op
 use Rattle.py_bytecode.specs.Objects.{Object}
 use Rattle.py_emission_parts.specs.Children.{child, emission_of_defaults, made_function}
 use Rattle.py_emission_parts.specs.Emitting.{Emission, ◌▸◌, emit, emit_count, keep}
-use Rattle.py_emission_parts.specs.TypeParameters.{hidden_shape}
-use Rattle.py_emission_parts.specs.Within.{hidden_inside, hidden_name}
+use Rattle.py_emission_parts.specs.TypeParameters.{type_param_scope_shape}
+use Rattle.py_emission_parts.specs.NestedScopes.{type_param_scope_inside, type_param_scope_name}
 use Rattle.py_emission.specs.Emission.{default_emissions}
 use Rattle.py_emission.specs.EmissionDefs.{emission_of_params}
 
@@ -15,16 +15,16 @@ abbrev pub returned_value : (value : Emission) → Emission
 returned_value v = v ▸ emit op.ReturnValue 0
 
 -- a type-parameter scope, which takes so many values, and what follows with its code object
-abbrev pub hidden_scope : (count : ℕ) → (name : List ℕ) → (value : Emission) → (Object → Emission) → Emission
-hidden_scope n name v k = child hidden_inside (hidden_shape n name) (returned_value v) k
+abbrev pub type_param_scope : (count : ℕ) → (name : List ℕ) → (value : Emission) → (Object → Emission) → Emission
+type_param_scope n name v k = child type_param_scope_inside (type_param_scope_shape n name) (returned_value v) k
 
 -- the function of a type-parameter scope
-abbrev pub hidden_made : (count : ℕ) → (name : List ℕ) → (value : Emission) → Emission
-hidden_made n name v = hidden_scope n name v (made_function 0 (hidden_name name))
+abbrev pub type_param_scope_made : (count : ℕ) → (name : List ℕ) → (value : Emission) → Emission
+type_param_scope_made n name v = type_param_scope n name v (made_function 0 (type_param_scope_name name))
 
 -- its call with the defaults
-abbrev pub hidden_called : tree.Arguments → (count : ℕ) → Emission
-hidden_called params n = emission_of_defaults (default_emissions params) ▸ emit_count op.CallFunctionPositional n
+abbrev pub type_param_scope_called : tree.Arguments → (count : ℕ) → Emission
+type_param_scope_called params n = emission_of_defaults (default_emissions params) ▸ emit_count op.CallFunctionPositional n
 
 -- type parameters, where there are any
 abbrev pub some_params : tree.TypeParams → Emission

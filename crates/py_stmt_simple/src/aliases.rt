@@ -11,7 +11,7 @@ ghost use Rattle.py_emission.specs.EmissionDefs.{alias_value, emission_of_alias,
 ghost use Rattle.py_emission.specs.EmissionStmts.{emission_of_stmt};
 ghost use Rattle.py_emit.specs.States.{Emits, Same, rest, state};
 ghost use Rattle.py_expr_scopes.specs.Functions.{Gives};
-ghost use Rattle.py_stmt_simple.specs.Generics.{hidden_made, hidden_scope, returned_value};
+ghost use Rattle.py_stmt_simple.specs.Generics.{type_param_scope_made, type_param_scope, returned_value};
 
 use crate::generics::compile_type_params;
 use py_base::CodegenError;
@@ -19,7 +19,7 @@ use py_bytecode::{CodeObject, Instruction};
 use py_emit::{Emitter, NameUsage, emit};
 use py_expr::compile_expression;
 use py_expr_parts::targets::refuse_store;
-use py_stmt_parts::{enter_hidden, load_text, make_hidden};
+use py_stmt_parts::{enter_type_param_scope, load_text, make_type_param_scope};
 use py_tree::{Expr, StmtTypeAlias, TypeParam};
 
 /// Emits an alias, and what stores it under its name.
@@ -42,7 +42,8 @@ fn compile_alias(
     params: &[TypeParam],
     value: &Expr,
 ) -> Result<(), CodegenError>
-    ensures { Emits result (emission_of_alias (expr_tree target.now) (param_trees params.now) (expr_tree value.now)) em.old em.new }
+    ensures { Emits result (emission_of_alias (expr_tree target.now) (param_trees params.now)
+        (expr_tree value.now)) em.old em.new }
 {
     match target {
         Expr::Name(e) => store_alias(em, e.id.as_str(), params, value),
@@ -57,7 +58,8 @@ fn store_alias(
     params: &[TypeParam],
     value: &Expr,
 ) -> Result<(), CodegenError>
-    ensures { Emits result (alias_value name.now (param_trees params.now) (expr_tree value.now) ▸ emission_of_stored name.now) em.old em.new }
+    ensures { Emits result (alias_value name.now (param_trees params.now) (expr_tree value.now)
+        ▸ emission_of_stored name.now) em.old em.new }
 {
     compile_alias_value(em, name, params, value)?;
     em.compile_name(NameUsage::Store, name)
@@ -71,7 +73,8 @@ fn compile_alias_value(
     params: &[TypeParam],
     value: &Expr,
 ) -> Result<(), CodegenError>
-    ensures { Emits result (alias_value name.now (param_trees params.now) (expr_tree value.now)) em.old em.new }
+    ensures { Emits result (alias_value name.now (param_trees params.now) (expr_tree value.now))
+        em.old em.new }
 {
     match params {
         [] => make_plain(em, name, value),
@@ -97,7 +100,9 @@ fn call_generic(
     params: &[TypeParam],
     value: &Expr,
 ) -> Result<(), CodegenError>
-    ensures { Emits result (hidden_made 0 name.now (generic_alias name.now (emission_of_params (param_trees params.now)) (emission (expr_tree value.now))) ▸ emit_count op.CallFunctionPositional 0) em.old em.new }
+    ensures { Emits result (type_param_scope_made 0 name.now
+        (generic_alias name.now (emission_of_params (param_trees params.now))
+        (emission (expr_tree value.now))) ▸ emit_count op.CallFunctionPositional 0) em.old em.new }
 {
     make_generic(em, name, params, value)?;
     em.emit_count(Instruction::CallFunctionPositional, 0)
@@ -110,10 +115,12 @@ fn make_generic(
     params: &[TypeParam],
     value: &Expr,
 ) -> Result<(), CodegenError>
-    ensures { Emits result (hidden_made 0 name.now (generic_alias name.now (emission_of_params (param_trees params.now)) (emission (expr_tree value.now)))) em.old em.new }
+    ensures { Emits result (type_param_scope_made 0 name.now
+        (generic_alias name.now (emission_of_params (param_trees params.now))
+        (emission (expr_tree value.now)))) em.old em.new }
 {
     let code = compile_alias_scope(em, name, params, value)?;
-    make_hidden(em, name, code)
+    make_type_param_scope(em, name, code)
 }
 
 /// Emits the type-parameter scope of an alias, and lays its code out.
@@ -123,10 +130,13 @@ fn compile_alias_scope(
     params: &[TypeParam],
     value: &Expr,
 ) -> Result<CodeObject, CodegenError>
-    ensures goes { Gives result (state em.new) (λ k. run (hidden_scope 0 name.now (generic_alias name.now (emission_of_params (param_trees params.now)) (emission (expr_tree value.now))) k) (state em.old)) }
+    ensures goes { Gives result (state em.new)
+        (λ k. run (type_param_scope 0 name.now
+        (generic_alias name.now (emission_of_params (param_trees params.now))
+        (emission (expr_tree value.now))) k) (state em.old)) }
     ensures same { Same result (rest em.new) (rest em.old) }
 {
-    enter_hidden(em, name, 0)?;
+    enter_type_param_scope(em, name, 0)?;
     return_alias(em, name, params, value)?;
     em.leave_scope()
 }
@@ -138,7 +148,9 @@ fn return_alias(
     params: &[TypeParam],
     value: &Expr,
 ) -> Result<(), CodegenError>
-    ensures { Emits result (returned_value (generic_alias name.now (emission_of_params (param_trees params.now)) (emission (expr_tree value.now)))) em.old em.new }
+    ensures { Emits result (returned_value
+        (generic_alias name.now (emission_of_params (param_trees params.now))
+        (emission (expr_tree value.now)))) em.old em.new }
 {
     make_alias(em, name, params, value)?;
     emit!(em, Instruction::ReturnValue);
@@ -152,7 +164,8 @@ fn make_alias(
     params: &[TypeParam],
     value: &Expr,
 ) -> Result<(), CodegenError>
-    ensures { Emits result (generic_alias name.now (emission_of_params (param_trees params.now)) (emission (expr_tree value.now))) em.old em.new }
+    ensures { Emits result (generic_alias name.now (emission_of_params (param_trees params.now))
+        (emission (expr_tree value.now))) em.old em.new }
 {
     compile_type_params(em, params)?;
     compile_expression(em, value)?;

@@ -63,7 +63,8 @@ fn compile_target(em: &mut Emitter, more: bool, target: &Expr) -> Result<(), Cod
 /// The first compile fault of the assignment, with its location; MissingCell; or OutOfMemory.
 #[tactic(auto, using(py_tree::proofs::View::trees))]
 pub fn compile_aug_assign(em: &mut Emitter, s: &StmtAugAssign) -> Result<(), CodegenError>
-    ensures { Emits result (emission_of_augment (expr_tree s.now.target.value) s.now.op (emission (expr_tree s.now.value.value))) em.old em.new }
+    ensures { Emits result (emission_of_augment (expr_tree s.now.target.value) s.now.op
+        (emission (expr_tree s.now.value.value))) em.old em.new }
 {
     match &*s.target {
         Expr::Name(e) => augment_name(em, e, s),
@@ -75,7 +76,8 @@ pub fn compile_aug_assign(em: &mut Emitter, s: &StmtAugAssign) -> Result<(), Cod
 
 /// Emits the operand of an augmented assignment, and its operation.
 fn compile_operand(em: &mut Emitter, s: &StmtAugAssign) -> Result<(), CodegenError>
-    ensures { Emits result (emission_of_operand s.now.op (emission (expr_tree s.now.value.value))) em.old em.new }
+    ensures { Emits result (emission_of_operand s.now.op (emission (expr_tree s.now.value.value)))
+        em.old em.new }
 {
     compile_expression(em, &s.value)?;
     emit!(em, Instruction::BinaryOperationInplace, case_of(s.op));
@@ -83,7 +85,8 @@ fn compile_operand(em: &mut Emitter, s: &StmtAugAssign) -> Result<(), CodegenErr
 }
 
 fn augment_name(em: &mut Emitter, e: &ExprName, s: &StmtAugAssign) -> Result<(), CodegenError>
-    ensures { Emits result (emission_of_augment (name_tree e.now) s.now.op (emission (expr_tree s.now.value.value))) em.old em.new }
+    ensures { Emits result (emission_of_augment (name_tree e.now) s.now.op
+        (emission (expr_tree s.now.value.value))) em.old em.new }
 {
     em.compile_name(NameUsage::Load, e.id.as_str())?;
     compile_operand(em, s)?;
@@ -95,7 +98,8 @@ fn augment_attribute(
     e: &ExprAttribute,
     s: &StmtAugAssign,
 ) -> Result<(), CodegenError>
-    ensures { Emits result (emission_of_augment (attribute_tree e.now) s.now.op (emission (expr_tree s.now.value.value))) em.old em.new }
+    ensures { Emits result (emission_of_augment (attribute_tree e.now) s.now.op
+        (emission (expr_tree s.now.value.value))) em.old em.new }
 {
     if is_debug(e.attr.as_str()) {
         refuse!(em, SyntaxError: "cannot assign to __debug__");
@@ -113,7 +117,8 @@ fn augment_subscript(
     e: &ExprSubscript,
     s: &StmtAugAssign,
 ) -> Result<(), CodegenError>
-    ensures { Emits result (emission_of_augment (subscript_tree e.now) s.now.op (emission (expr_tree s.now.value.value))) em.old em.new }
+    ensures { Emits result (emission_of_augment (subscript_tree e.now) s.now.op
+        (emission (expr_tree s.now.value.value))) em.old em.new }
 {
     compile_expression(em, &e.value)?;
     compile_expression(em, &e.slice)?;
@@ -141,7 +146,8 @@ pub fn compile_ann_assign(em: &mut Emitter, s: &StmtAnnAssign) -> Result<(), Cod
 /// Emits an annotation and what keeps it, but in a function, which only has it scanned.
 #[tactic(auto, unfolding(py_emission_parts::specs::Emitting::by_context))]
 fn compile_annotated(em: &mut Emitter, s: &StmtAnnAssign) -> Result<(), CodegenError>
-    ensures { Emits result (emission_of_annotated (expr_tree s.now.target.value) (expr_tree s.now.annotation.value)) em.old em.new }
+    ensures { Emits result (emission_of_annotated (expr_tree s.now.target.value)
+        (expr_tree s.now.annotation.value)) em.old em.new }
 {
     if is_function(em.scope_type()) {
         return pass_annotation(em, &s.annotation);
@@ -152,7 +158,8 @@ fn compile_annotated(em: &mut Emitter, s: &StmtAnnAssign) -> Result<(), CodegenE
 
 /// Emits the value of an annotated target and its store, where there is one. Else the target is only scanned.
 fn compile_declared(em: &mut Emitter, s: &StmtAnnAssign) -> Result<(), CodegenError>
-    ensures { Emits result (emission_of_declared (expr_tree s.now.target.value) (opt_box expr_tree s.now.value)) em.old em.new }
+    ensures { Emits result (emission_of_declared (expr_tree s.now.target.value)
+        (opt_box expr_tree s.now.value)) em.old em.new }
 {
     match &s.value {
         Some(value) => {

@@ -21,7 +21,8 @@ pub fn call_builder(
     bases: &Exprs,
     keywords: &List<Keyword>,
 ) -> Result<(), CodegenError>
-    ensures { Emits result (builder_called name.now (exprs expr_tree bases.now) (keyword_trees expr_tree keywords.now)) em.old em.new }
+    ensures { Emits result (builder_called name.now (exprs expr_tree bases.now)
+        (keyword_trees expr_tree keywords.now)) em.old em.new }
 {
     load_text(em, name)?;
     let call = compile_call_inner(em, 2, bases, keywords)?;

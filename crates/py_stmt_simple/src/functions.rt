@@ -23,7 +23,8 @@ pub fn make_noted(
     generic: bool,
     code: CodeObject,
 ) -> Result<(), CodegenError>
-    ensures { Emits result (made_emission (given_flags defaults generic) s.now (object code)) em.old em.new }
+    ensures { Emits result (made_emission (given_flags defaults generic) s.now (object code)) em.old
+        em.new }
 {
     let annotated = compile_notes(em, &s.args, &s.returns)?;
     let flags = made_flags(defaults, annotated, generic);

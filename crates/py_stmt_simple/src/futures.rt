@@ -4,7 +4,7 @@ ghost use Rattle.py_tree.specs.View.{expr_tree, stmt_tree};
 ghost use Rattle.py_emission_parts.specs.Emitting.{◌▸◌, emit as emitting};
 ghost use Rattle.py_emission_parts.specs.Running.{run};
 ghost use Rattle.py_emission.specs.Emission.{emission};
-ghost use Rattle.py_emit.specs.States.{IsTold, rest, state};
+ghost use Rattle.py_emit.specs.States.{IsReported, rest, state};
 ghost use Rattle.py_stmt_parts.specs.Futures.{AreChanged, Entered, IsRefusing, changed_rest};
 ghost use Rattle.py_stmt_simple.specs.Futures.{Begins, NoBegin, Prompts, begin_emission, begin_postpones, begins, followers};
 
@@ -31,7 +31,7 @@ pub fn compile_openings(em: &mut Emitter, body: &[Stmt]) -> Result<Opening, Code
     ensures opens { Prompts result (state em.old) (state em.new) body.now }
     ensures within { IfOk result (λ o. o.count ≤ length body.now) }
     ensures rest { IfOk result (λ o. rest em.new ≡ changed_rest o.postponed (rest em.old)) }
-    ensures told { IfErr result (λ e. IsTold e (rest em.old).path) }
+    ensures told { IfErr result (λ e. IsReported e (rest em.old).path) }
 {
     let mut count = 0;
     let mut postponed = false;
@@ -71,12 +71,15 @@ fn as_begin(statement: &Stmt, more: bool) -> Option<Begin<'_>>
 }
 
 /// Emits what stands before other statements at a prompt, and postpones the annotations of what follows where it says
-/// so. Answers whether they are postponed by it or, as is told, by one before.
+/// so. Answers whether they are postponed by it or, as is reported, by one before.
 fn enter_begin(em: &mut Emitter, begin: Begin<'_>, postponed: bool) -> Result<bool, CodegenError>
-    ensures entered { IfOk result (λ after. Entered (begin_emission begin.entry) (begin_postpones begin.entry) (state em.old) (state em.new) postponed after) }
-    ensures refused { IfErr result (λ e. IsRefusing e (run (begin_emission begin.entry) (state em.old))) }
+    ensures entered { IfOk result (λ after.
+        Entered (begin_emission begin.entry) (begin_postpones begin.entry) (state em.old)
+        (state em.new) postponed after) }
+    ensures refused { IfErr result
+        (λ e. IsRefusing e (run (begin_emission begin.entry) (state em.old))) }
     ensures rest { IfOk result (λ after. AreChanged postponed after (rest em.old) (rest em.new)) }
-    ensures told { IfErr result (λ e. IsTold e (rest em.old).path) }
+    ensures told { IfErr result (λ e. IsReported e (rest em.old).path) }
 {
     match begin {
         Begin::Future(s) => enter_future(em, s, postponed),
@@ -84,12 +87,17 @@ fn enter_begin(em: &mut Emitter, begin: Begin<'_>, postponed: bool) -> Result<bo
     }
 }
 
-/// Emits an expression that stands at a prompt, and what prints it. Answers whether annotations are postponed, as is told.
+/// Emits an expression that stands at a prompt, and what prints it. Answers whether annotations are postponed, as is reported.
 fn enter_value(em: &mut Emitter, s: &StmtExpr, postponed: bool) -> Result<bool, CodegenError>
-    ensures entered { IfOk result (λ after. Entered (emission (expr_tree s.now.value.value) ▸ emitting Instruction.PrintExpr 0) false (state em.old) (state em.new) postponed after) }
-    ensures refused { IfErr result (λ e. IsRefusing e (run (emission (expr_tree s.now.value.value) ▸ emitting Instruction.PrintExpr 0) (state em.old))) }
+    ensures entered { IfOk result (λ after.
+        Entered (emission (expr_tree s.now.value.value) ▸ emitting Instruction.PrintExpr 0) false
+        (state em.old) (state em.new) postponed after) }
+    ensures refused { IfErr result
+        (λ e. IsRefusing e
+        (run (emission (expr_tree s.now.value.value) ▸ emitting Instruction.PrintExpr 0)
+        (state em.old))) }
     ensures rest { IfOk result (λ after. AreChanged postponed after (rest em.old) (rest em.new)) }
-    ensures told { IfErr result (λ e. IsTold e (rest em.old).path) }
+    ensures told { IfErr result (λ e. IsReported e (rest em.old).path) }
 {
     print_value(em, &s.value)?;
     Ok(postponed)

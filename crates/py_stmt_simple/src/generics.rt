@@ -6,7 +6,7 @@ ghost use Rattle.py_emission_parts.specs.TypeParameters.{bounded_type_var};
 ghost use Rattle.py_emission.specs.Emission.{emission};
 ghost use Rattle.py_emission.specs.EmissionDefs.{emission_of_param, emission_of_params, param_emissions};
 ghost use Rattle.py_emit.specs.States.{Emits};
-ghost use Rattle.py_stmt_simple.specs.Generics.{hidden_called, some_params};
+ghost use Rattle.py_stmt_simple.specs.Generics.{type_param_scope_called, some_params};
 
 use py_base::CodegenError;
 use py_bytecode::Instruction;
@@ -73,7 +73,8 @@ fn compile_type_var(em: &mut Emitter, p: &TypeParamTypeVar) -> Result<(), Codege
 
 /// Emits a type parameter with a bound.
 fn compile_bounded(em: &mut Emitter, bound: &Expr, name: &str) -> Result<(), CodegenError>
-    ensures { Emits result (bounded_type_var (emission (expr_tree bound.now)) name.now) em.old em.new }
+    ensures { Emits result (bounded_type_var (emission (expr_tree bound.now)) name.now) em.old
+        em.new }
 {
     compile_expression(em, bound)?;
     load_text(em, name)?;
@@ -86,8 +87,13 @@ fn compile_bounded(em: &mut Emitter, bound: &Expr, name: &str) -> Result<(), Cod
 ///
 /// # Errors
 /// The first compile fault of the defaults, with its location; MissingCell; or OutOfMemory.
-pub fn call_hidden(em: &mut Emitter, params: &Arguments, count: u32) -> Result<(), CodegenError>
-    ensures { Emits result (hidden_called (arguments expr_tree params.now) count) em.old em.new }
+pub fn call_type_param_scope(
+    em: &mut Emitter,
+    params: &Arguments,
+    count: u32,
+) -> Result<(), CodegenError>
+    ensures { Emits result (type_param_scope_called (arguments expr_tree params.now) count) em.old
+        em.new }
 {
     compile_defaults(em, params)?;
     em.emit_count(Instruction::CallFunctionPositional, count as usize)

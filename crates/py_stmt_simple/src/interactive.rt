@@ -16,7 +16,8 @@ use py_tree::Expr;
 /// # Errors
 /// The first compile fault of the value, with its location; MissingCell; or OutOfMemory.
 pub fn print_value(em: &mut Emitter, value: &Expr) -> Result<(), CodegenError>
-    ensures { Emits result (emission (expr_tree value.now) ▸ emitting Instruction.PrintExpr 0) em.old em.new }
+    ensures { Emits result (emission (expr_tree value.now) ▸ emitting Instruction.PrintExpr 0)
+        em.old em.new }
 {
     compile_expression(em, value)?;
     emit!(em, Instruction::PrintExpr);
@@ -28,7 +29,8 @@ pub fn print_value(em: &mut Emitter, value: &Expr) -> Result<(), CodegenError>
 /// # Errors
 /// The first compile fault of the value, with its location; MissingCell; or OutOfMemory.
 pub fn show_value(em: &mut Emitter, value: &Expr) -> Result<(), CodegenError>
-    ensures { Emits result (emission (expr_tree value.now) ▸ emitting Instruction.Duplicate 0 ▸ emitting Instruction.PrintExpr 0 ▸ emitting Instruction.ReturnValue 0) em.old em.new }
+    ensures { Emits result (emission (expr_tree value.now) ▸ emitting Instruction.Duplicate 0
+        ▸ emitting Instruction.PrintExpr 0 ▸ emitting Instruction.ReturnValue 0) em.old em.new }
 {
     compile_expression(em, value)?;
     emit!(em, Instruction::Duplicate);

@@ -23,7 +23,7 @@ pub use assignments::{compile_ann_assign, compile_assign, compile_aug_assign};
 pub use classes::call_builder;
 pub use functions::make_noted;
 pub use futures::compile_openings;
-pub use generics::{call_hidden, compile_some_params, compile_type_params};
+pub use generics::{call_type_param_scope, compile_some_params, compile_type_params};
 pub use interactive::{print_value, show_value, store_and_return};
 pub use loops::begin_each;
 pub use raises::{compile_assert, compile_raise};

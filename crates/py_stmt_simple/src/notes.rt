@@ -2,7 +2,7 @@
 ghost use Rattle.std.specs.Prelude.{◌≡◌, ◌+◌, ◌<◌, ◌≤◌, ◌^◌, length, IfOk};
 ghost use Rattle.py_tree.specs.View.{args, arguments, expr_tree, opt_arg, opt_box};
 ghost use Rattle.py_emission_parts.specs.Children.{some_emitted};
-ghost use Rattle.py_emission_parts.specs.Within.{some_flag};
+ghost use Rattle.py_emission_parts.specs.NestedScopes.{some_flag};
 ghost use Rattle.py_emission_parts.specs.EmissionParts.{counted_build, in_turn};
 ghost use Rattle.py_emission.specs.EmissionDefs.{arg_notes, emission_of_note, notes, opt_arg_note, opt_note};
 ghost use Rattle.py_emit.specs.States.{Emits};
@@ -23,8 +23,11 @@ pub(crate) fn compile_notes(
     params: &Arguments,
     returns: &Option<Box<Expr>>,
 ) -> Result<bool, CodegenError>
-    ensures any { IfOk result (λ any. some_flag 0x02 (notes (arguments expr_tree params.now) (opt_box expr_tree returns.now)) ≡ flag_if 0x02 any) }
-    ensures emits { Emits result (some_emitted (counted_build Instruction.BuildMap) (notes (arguments expr_tree params.now) (opt_box expr_tree returns.now))) em.old em.new }
+    ensures any { IfOk result (λ any. some_flag 0x02
+        (notes (arguments expr_tree params.now) (opt_box expr_tree returns.now))
+        ≡ flag_if 0x02 any) }
+    ensures emits { Emits result (some_emitted (counted_build Instruction.BuildMap)
+        (notes (arguments expr_tree params.now) (opt_box expr_tree returns.now))) em.old em.new }
 {
     let count = compile_each_note(em, params, returns)?;
     build_some(em, Instruction::BuildMap, count)
@@ -37,8 +40,10 @@ fn compile_each_note(
     params: &Arguments,
     returns: &Option<Box<Expr>>,
 ) -> Result<usize, CodegenError>
-    ensures count { IfOk result (λ n. n ≡ length (notes (arguments expr_tree params.now) (opt_box expr_tree returns.now))) }
-    ensures emits { Emits result (in_turn (notes (arguments expr_tree params.now) (opt_box expr_tree returns.now))) em.old em.new }
+    ensures count { IfOk result (λ n. n
+        ≡ length (notes (arguments expr_tree params.now) (opt_box expr_tree returns.now))) }
+    ensures emits { Emits result (in_turn
+        (notes (arguments expr_tree params.now) (opt_box expr_tree returns.now))) em.old em.new }
 {
     let posonly = params.posonlyargs.as_slice();
     let others = params.args.as_slice();
@@ -76,9 +81,11 @@ fn compile_opt_note(
     count: usize,
 ) -> Result<usize, CodegenError>
     requires { count + 1 < 2 ^ 64 }
-    ensures count { IfOk result (λ n. n ≡ count + length (opt_arg_note (opt_arg expr_tree param.now))) }
+    ensures count { IfOk result (λ n. n ≡ count
+        + length (opt_arg_note (opt_arg expr_tree param.now))) }
     ensures few { IfOk result (λ n. n ≤ count + 1) }
-    ensures emits { Emits result (in_turn (opt_arg_note (opt_arg expr_tree param.now))) em.old em.new }
+    ensures emits { Emits result (in_turn (opt_arg_note (opt_arg expr_tree param.now))) em.old
+        em.new }
 {
     match param {
         Some(param) => compile_note(em, param.arg.as_str(), &param.annotation, count),
@@ -95,9 +102,11 @@ fn compile_note(
     count: usize,
 ) -> Result<usize, CodegenError>
     requires { count + 1 < 2 ^ 64 }
-    ensures count { IfOk result (λ n. n ≡ count + length (opt_note name.now (opt_box expr_tree annotation.now))) }
+    ensures count { IfOk result (λ n. n ≡ count
+        + length (opt_note name.now (opt_box expr_tree annotation.now))) }
     ensures few { IfOk result (λ n. n ≤ count + 1) }
-    ensures emits { Emits result (in_turn (opt_note name.now (opt_box expr_tree annotation.now))) em.old em.new }
+    ensures emits { Emits result (in_turn (opt_note name.now (opt_box expr_tree annotation.now)))
+        em.old em.new }
 {
     let Some(annotation) = annotation else {
         return Ok(count);

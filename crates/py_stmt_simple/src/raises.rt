@@ -35,7 +35,8 @@ pub fn compile_raise(em: &mut Emitter, s: &StmtRaise) -> Result<(), CodegenError
 
 /// Emits an exception and its cause, where it has one, and what raises it.
 fn raise_value(em: &mut Emitter, exc: &Expr, cause: &Option<Box<Expr>>) -> Result<(), CodegenError>
-    ensures { Emits result (emission_of_raise (some_expr (expr_tree exc.now)) (opt_box expr_tree cause.now)) em.old em.new }
+    ensures { Emits result (emission_of_raise (some_expr (expr_tree exc.now))
+        (opt_box expr_tree cause.now)) em.old em.new }
 {
     compile_expression(em, exc)?;
     match cause {
@@ -54,7 +55,8 @@ fn raise_value(em: &mut Emitter, exc: &Expr, cause: &Option<Box<Expr>>) -> Resul
 /// The first compile fault of the assertion, with its location; MissingCell; or OutOfMemory.
 #[tactic(auto, unfolding(py_emit::specs::States::rest))]
 pub fn compile_assert(em: &mut Emitter, s: &StmtAssert) -> Result<(), CodegenError>
-    ensures { Emits result (emission_of_assert (expr_tree s.now.test.value) (opt_box expr_tree s.now.msg) (state em.old).around.context.level) em.old em.new }
+    ensures { Emits result (emission_of_assert (expr_tree s.now.test.value)
+        (opt_box expr_tree s.now.msg) (state em.old).node_context.context.level) em.old em.new }
 {
     if em.opts().optimize == 0 {
         return compile_asserted(em, s);
@@ -64,7 +66,9 @@ pub fn compile_assert(em: &mut Emitter, s: &StmtAssert) -> Result<(), CodegenErr
 
 #[tactic(auto, using(py_stmt_parts::proofs::Steps::step_steps))]
 fn compile_asserted(em: &mut Emitter, s: &StmtAssert) -> Result<(), CodegenError>
-    ensures { Emits result (assertion_of (emission_of_test (expr_tree s.now.test.value)) (emission_of_message (opt_box expr_tree s.now.msg)) (message_count (opt_box expr_tree s.now.msg))) em.old em.new }
+    ensures { Emits result (assertion_of (emission_of_test (expr_tree s.now.test.value))
+        (emission_of_message (opt_box expr_tree s.now.msg))
+        (message_count (opt_box expr_tree s.now.msg))) em.old em.new }
 {
     let end = em.new_block()?;
     compile_jump_if(em, &s.test, true, end)?;

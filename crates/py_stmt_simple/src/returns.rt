@@ -17,7 +17,8 @@ use py_tree::Expr;
 /// InvalidReturn outside of functions; the first compile fault of the value, with its location; MissingCell; or
 /// OutOfMemory.
 pub fn return_from_function(em: &mut Emitter, value: &Option<Box<Expr>>) -> Result<(), CodegenError>
-    ensures { Emits result (only_in_function CodegenErrorType.InvalidReturn (emission_of_returned (opt_box expr_tree value.now))) em.old em.new }
+    ensures { Emits result (only_in_function CodegenErrorType.InvalidReturn
+        (emission_of_returned (opt_box expr_tree value.now))) em.old em.new }
 {
     check_in_function(em, CodegenErrorType::InvalidReturn)?;
     compile_returned(em, value)

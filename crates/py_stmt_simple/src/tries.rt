@@ -26,7 +26,8 @@ pub fn compile_match(
     next: BlockIdx,
 ) -> Result<(), CodegenError>
     requires next { next.0 < 0xffff_ffff }
-    ensures { Emits result (emission_of_match (opt_box expr_tree type_.now) name.now next.0) em.old em.new }
+    ensures { Emits result (emission_of_match (opt_box expr_tree type_.now) name.now next.0) em.old
+        em.new }
 {
     match type_ {
         None => {
@@ -44,7 +45,8 @@ fn compile_typed(
     next: BlockIdx,
 ) -> Result<(), CodegenError>
     requires next { next.0 < 0xffff_ffff }
-    ensures { Emits result (typed_match (emission (expr_tree type_.now)) (caught_name name.now) next.0) em.old em.new }
+    ensures { Emits result (typed_match (emission (expr_tree type_.now))
+        (caught_name name.now) next.0) em.old em.new }
 {
     emit!(em, Instruction::Duplicate);
     compile_expression(em, type_)?;

@@ -25,9 +25,11 @@ pub fn enter_items(
     location: &SourceLocation,
     items: &[WithItem],
 ) -> Result<List<BlockIdx>, CodegenError>
-    ensures entered { IfOk result (λ ends. AreEntered location.now (with_items items.now) (state em.old) (state em.new) ends) }
+    ensures entered { IfOk result (λ ends.
+        AreEntered location.now (with_items items.now) (state em.old) (state em.new) ends) }
     ensures open { IfOk result (λ ends. AllOpen ends (state em.new)) }
-    ensures refused { IfErr result (λ e. IsRefusing e location.now (with_items items.now) (state em.old)) }
+    ensures refused { IfErr result
+        (λ e. IsRefusing e location.now (with_items items.now) (state em.old)) }
     ensures same { Same result (rest em.new) (rest em.old) }
 {
     let mut ends = List::new(em.alloc());
@@ -48,7 +50,9 @@ fn enter_item(
     ensures number { IfOk result (λ end. end.0 ≡ (state em.old).blocks) }
     ensures below { IfOk result (λ end. end.0 < 0xffff_ffff) }
     ensures open { IfOk result (λ end. IsOpen end.0 (state em.new)) }
-    ensures emits { Does result (item_entry location.now (emission (expr_tree item.now.context_expr.value)) (emission_of_item (opt_box expr_tree item.now.optional_vars))) em.old em.new }
+    ensures emits { Does result (item_entry location.now
+        (emission (expr_tree item.now.context_expr.value))
+        (emission_of_item (opt_box expr_tree item.now.optional_vars))) em.old em.new }
 {
     let end = em.new_block()?;
     compile_expression(em, &item.context_expr)?;

@@ -14,7 +14,7 @@ use Rattle.py_scope.specs.Laws.{CellsAreApart, LeadsTo, SymbolsFollow, TableFoll
 use Rattle.py_scope.specs.Names.{Name, same_name}
 use Rattle.py_scope.specs.Lifts.{kind_of}
 use Rattle.py_scope.specs.Entries.{entry_at, entry_of}
-use Rattle.py_scope.specs.Resolve.{around, binder_in, binds_in, last_declaration, holds_in, is_held, is_used, kind_at, needs, resolve}
+use Rattle.py_scope.specs.Resolve.{outward_scopes, binder_in, binds_in, last_declaration, holds_in, is_held, is_used, kind_at, needs, resolve}
 use Rattle.py_scope.specs.Resolved.{first_fault}
 use Rattle.py_scope.specs.Roles.{bound_opt}
 use Rattle.py_scope.specs.Scanned.{Scanned, is_function}
@@ -99,7 +99,9 @@ symbol_named n (t ∷ ts) h = by (truth_either (same_name n t.name) _ h) (symbol
 pub named_any : (n : Name) (test : Symbol → Bool) (ts : List Symbol) (i : ℕ) (t : Symbol) → slice_get ts i ≡ Some t → n ≡ t.name → test t ≡ true
     → list_any (λ u. same_name n u.name && test u) ts ≡ true
 named_any n test [] i t g q h = cc
-named_any n test (x ∷ xs) zero t g q h = let e : x ≡ t = unwrapped g in left_or (same_name n x.name && test x) _ (ap (λ u. same_name n u.name && test u) e ∙ (λ j. same_name (q j) t.name && h j) ∙ ap (λ b. b && true) (names_same t.name))
+named_any n test (x ∷ xs) zero t g q h = let e : x ≡ t =
+    unwrapped g in left_or (same_name n x.name && test x)
+    _ (ap (λ u. same_name n u.name && test u) e ∙ (λ j. same_name (q j) t.name && h j) ∙ ap (λ b. b && true) (names_same t.name))
   where
     unwrapped : {A : Type 0} {a b : A} → Some a ≡ Some b → a ≡ b
     unwrapped h = cc
@@ -159,7 +161,7 @@ module _ (rows : List Row) (st : Stands rows) (table : SymbolTable) (follows : T
       none false q = refl
 
   pub walks_end : (k : ℕ) (n : Name) → needs rows k n ≡ true → (b : ℕ) × (binder_in rows k n ≡ Some b) × (walk_to_cell rows follows.symbols k n ≡ Some b)
-  walks_end k n h = let w = st.lead k n h in (w.0, w.1, walk_leads n (around rows k) w.0 w.2)
+  walks_end k n h = let w = st.lead k n h in (w.0, w.1, walk_leads n (outward_scopes rows k) w.0 w.2)
 
 pub all_walks_end : WalksEnd
 all_walks_end rows table st follows k n h = walks_end rows st table follows k n h

@@ -56,7 +56,8 @@ module _ (d z : ℕ) (ms : List Malformed) (fs : List Fault) where
   deep_first e p q h = first_leads e (large limit.Depth) (tree_faults d z ms) fs sized p q (first_reached (nat_lt d (2 ^ 10)) (large limit.Depth) sized (search (rules, h)))
 
   pub large_first : (e : SymbolTableError) → e.error ≡ fault.TooLarge limit.Nodes → e.location ≡ None → d < 1024 → 4194304 ≤ z → IsFirst e (tree_faults d z ms ++ fs)
-  large_first e p q h k = first_leads e (large limit.Nodes) (tree_faults d z ms) fs first_shaped p q (not_deep h ∙ first_reached (nat_lt z (2 ^ 22)) (large limit.Nodes) first_shaped (search (rules, k)))
+  large_first e p q h k = first_leads e (large limit.Nodes) (tree_faults d z ms) fs first_shaped p q
+      (not_deep h ∙ first_reached (nat_lt z (2 ^ 22)) (large limit.Nodes) first_shaped (search (rules, k)))
 
   pub malformed_first : (e : SymbolTableError) (m : Malformed) → e.error ≡ fault.Malformed m → e.location ≡ None → d < 1024 → z < 4194304 → first ms ≡ Some m → IsFirst e (tree_faults d z ms ++ fs)
   malformed_first e m p q h k is = let r = heads ms m is in first_leads e (malformed_fault m) (tree_faults d z ms) fs r.0 p q (not_large h k ∙ r.1)

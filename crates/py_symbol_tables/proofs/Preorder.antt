@@ -1,5 +1,6 @@
 -- The calls of a scan keep the scopes in preorder: each is entered in the one entered just before it, or in one around that.
-use Rattle.std.proofs.Common.{◌≡◌, refl, sym, ap, ◌∙◌, subst, ℕ, zero, suc, ◌<◌, ◌≤◌, Bool, true, false, ◌||◌, List, [], ◌∷◌, ◌++◌, length, nat_eq, if◌then◌else◌, slice_get, Option, Some, None, option_map, arith}
+use Rattle.std.proofs.Common.{◌≡◌, refl, sym, ap, ◌∙◌, subst, ℕ, zero, suc, ◌<◌, ◌≤◌, Bool, true, false, ◌||◌, List, [], ◌∷◌, ◌++◌, length}
+use Rattle.std.proofs.Common.{nat_eq, if◌then◌else◌, slice_get, Option, Some, None, option_map, arith}
 use Rattle.std.specs.List.{list_any}
 use Rattle.py_scope.specs.declared.roles.Role.{Role}
 use Rattle.py_scope.specs.declared.rows.Row.{Row}
@@ -57,7 +58,7 @@ orderly_begun = record {
     opened_at zero e = refl
     opened_at (suc k) e = absurd (omega (arith, e))
 
--- with a scope the one around it is on the way outward too
+-- with a scope the enclosing one is on the way outward too
 module _ (p : ℕ → ℕ) (n : ℕ) (below : (k : ℕ) → 0 < k → k < n → p k < k) where
   way_goes_on : (m k e : ℕ) → k ≤ m → k < n → 0 < e → among e (k ∷ enclosing_scopes p k) ≡ true → among (p e) (k ∷ enclosing_scopes p k) ≡ true
   way_goes_on m zero e a l z h = by (nat_eq e 0) refl h
@@ -74,7 +75,9 @@ module _ (p : ℕ → ℕ) (n : ℕ) (below : (k : ℕ) → 0 < k → k < n → 
       by : (b : Bool) → nat_eq e (suc k) ≡ b → enclosing_scopes p (suc k) ≡ p (suc k) ∷ enclosing_scopes p (p (suc k))
           → (among e (p (suc k) ∷ enclosing_scopes p (p (suc k))) ≡ true → among (p e) (p (suc k) ∷ enclosing_scopes p (p (suc k))) ≡ true)
           → b || among e (enclosing_scopes p (suc k)) ≡ true → nat_eq (p e) (suc k) || among (p e) (enclosing_scopes p (suc k)) ≡ true
-      by true q is ih g = truth_right_or (nat_eq (p e) (suc k)) _ (ap (among (p e)) is ∙ left_or (nat_eq (p e) (p (suc k))) _ (ap (λ x. nat_eq (p x) (p (suc k))) (equal_numbers e (suc k) q) ∙ tells_same (p (suc k))))
+      by true q is ih g = truth_right_or (nat_eq (p e) (suc k))
+          _ (ap (among (p e)) is ∙ left_or (nat_eq (p e) (p (suc k)))
+          _ (ap (λ x. nat_eq (p x) (p (suc k))) (equal_numbers e (suc k) q) ∙ tells_same (p (suc k))))
       by false q is ih g = truth_right_or (nat_eq (p e) (suc k)) _ (ap (among (p e)) is ∙ ih (sym (ap (among e) is) ∙ g))
 
 -- leaving a scope

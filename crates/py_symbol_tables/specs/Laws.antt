@@ -11,7 +11,7 @@ use Rattle.py_scope.specs.Laws.{CellsAreApart, CellsAreNeeded, NamesLead, TableF
 use Rattle.py_scope.specs.Lifts.{outward_from}
 use Rattle.py_scope.specs.Names.{Name, same_name}
 use Rattle.py_scope.specs.Outward.{IsNumbered, parents}
-use Rattle.py_scope.specs.Resolve.{among, around, binder_in, needs}
+use Rattle.py_scope.specs.Resolve.{among, outward_scopes, binder_in, needs}
 use Rattle.py_name_uses.specs.Steps.{Done, State}
 use Rattle.py_scan.specs.Scan.{scan_program, scan_value}
 use Rattle.py_symbol_tables.specs.Tables.{faults_of}
@@ -54,7 +54,7 @@ has_cell symbols n e = list_any (λ t. same_name n t.name && is_cell_kind t.scop
 
 -- a walk over the tables, outward from scope k to the first where the name is a cell
 abbrev pub walk_to_cell : List Row → List (List Symbol) → ℕ → Name → Option ℕ
-walk_to_cell rows symbols k n = find (has_cell symbols n) (around rows k)
+walk_to_cell rows symbols k n = find (has_cell symbols n) (outward_scopes rows k)
 
 -- from a scope that needs the name the walk ends at its binder
 abbrev pub WalksEnd : Type 0

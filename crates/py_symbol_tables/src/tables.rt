@@ -52,8 +52,10 @@ fn finish(scan: Scan) -> Result<SymbolTable, SymbolTableError>
 /// # Errors
 /// The first fault of its scopes, which is a text, or OutOfMemory.
 pub fn scan_body(alloc: Global, program: &Stmts) -> Result<SymbolTable, SymbolTableError>
-    ensures table { IfOk result (λ table. table_of (scanned.scan_program (stmts stmt_tree program.now)) ≡ Some table) }
-    ensures follows { IfOk result (λ table. Follows (scanned.scan_program (stmts stmt_tree program.now)) table) }
+    ensures table { IfOk result (λ table.
+        table_of (scanned.scan_program (stmts stmt_tree program.now)) ≡ Some table) }
+    ensures follows { IfOk result (λ table.
+        Follows (scanned.scan_program (stmts stmt_tree program.now)) table) }
     ensures clean { OnOk result (body_faults (stmts stmt_tree program.now) ≡ []) }
     ensures first { IfErr result (λ e. IsFirst e (body_faults (stmts stmt_tree program.now))) }
     ensures told { IfErr result IsTextOrMemory }
@@ -68,8 +70,10 @@ pub fn scan_body(alloc: Global, program: &Stmts) -> Result<SymbolTable, SymbolTa
 /// # Errors
 /// The first fault of its scopes, which is a text, or OutOfMemory.
 pub fn scan_value(alloc: Global, expr: &Expr) -> Result<SymbolTable, SymbolTableError>
-    ensures table { IfOk result (λ table. table_of (scanned.scan_value (expr_tree expr.now)) ≡ Some table) }
-    ensures follows { IfOk result (λ table. Follows (scanned.scan_value (expr_tree expr.now)) table) }
+    ensures table { IfOk result (λ table.
+        table_of (scanned.scan_value (expr_tree expr.now)) ≡ Some table) }
+    ensures follows { IfOk result (λ table.
+        Follows (scanned.scan_value (expr_tree expr.now)) table) }
     ensures clean { OnOk result (value_faults (expr_tree expr.now) ≡ []) }
     ensures first { IfErr result (λ e. IsFirst e (value_faults (expr_tree expr.now))) }
     ensures told { IfErr result IsTextOrMemory }
@@ -85,8 +89,10 @@ pub fn scan_value(alloc: Global, expr: &Expr) -> Result<SymbolTable, SymbolTable
 /// The first fault: nesting, size and shapes of the tree come first, then what the scan refuses, in its order, then what
 /// its scopes refuse together. Or OutOfMemory.
 pub fn scan_program(alloc: Global, program: &Stmts) -> Result<SymbolTable, SymbolTableError>
-    ensures table { IfOk result (λ table. table_of (scanned.scan_program (stmts stmt_tree program.now)) ≡ Some table) }
-    ensures follows { IfOk result (λ table. Follows (scanned.scan_program (stmts stmt_tree program.now)) table) }
+    ensures table { IfOk result (λ table.
+        table_of (scanned.scan_program (stmts stmt_tree program.now)) ≡ Some table) }
+    ensures follows { IfOk result (λ table.
+        Follows (scanned.scan_program (stmts stmt_tree program.now)) table) }
     ensures clean { OnOk result (program_faults (stmts stmt_tree program.now) ≡ []) }
     ensures first { IfErr result (λ e. IsFirst e (program_faults (stmts stmt_tree program.now))) }
     ensures placed { IfErr result IsPlaced }
@@ -108,8 +114,10 @@ pub fn scan_program(alloc: Global, program: &Stmts) -> Result<SymbolTable, Symbo
 /// # Errors
 /// The first fault, in the order of `scan_program`, or OutOfMemory.
 pub fn scan_expr(alloc: Global, expr: &Expr) -> Result<SymbolTable, SymbolTableError>
-    ensures table { IfOk result (λ table. table_of (scanned.scan_value (expr_tree expr.now)) ≡ Some table) }
-    ensures follows { IfOk result (λ table. Follows (scanned.scan_value (expr_tree expr.now)) table) }
+    ensures table { IfOk result (λ table.
+        table_of (scanned.scan_value (expr_tree expr.now)) ≡ Some table) }
+    ensures follows { IfOk result (λ table.
+        Follows (scanned.scan_value (expr_tree expr.now)) table) }
     ensures clean { OnOk result (expr_faults (expr_tree expr.now) ≡ []) }
     ensures first { IfErr result (λ e. IsFirst e (expr_faults (expr_tree expr.now))) }
     ensures placed { IfErr result IsPlaced }

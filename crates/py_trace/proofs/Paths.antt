@@ -13,8 +13,8 @@ use Rattle.py_trace.specs.Dues.{ByCode, OfCode}
 use Rattle.py_trace.specs.Words.{Asked}
 
 -- a path with places in front
-abbrev pub path_behind : (front : List ℕ) → Option (List ℕ) → Option (List ℕ)
-path_behind front rest = option_map (λ path. front ++ path) rest
+abbrev pub path_after : (front : List ℕ) → Option (List ℕ) → Option (List ℕ)
+path_after front rest = option_map (λ path. front ++ path) rest
 
 path_listed_of : (cs : List Const) → const_list (consts_of cs) ≡ cs
 path_listed_of [] = refl

@@ -16,20 +16,20 @@ abbrev pub asked_of : Request → Asked
 asked_of r = record { script = r.script.answers; path = r.path.items }
 
 -- the number that decimal digits say after a number
-abbrev pub number_behind : (high : ℕ) → List ℕ → ℕ
-number_behind high [] = high
-number_behind high (c ∷ cs) = number_behind (high * 10 + (c - 48)) cs
+abbrev pub number_after : (high : ℕ) → List ℕ → ℕ
+number_after high [] = high
+number_after high (c ∷ cs) = number_after (high * 10 + (c - 48)) cs
 
 -- one digit after a number, and digits alone, where the number stays below 2 ^ 32
 abbrev pub with_digit : (high byte : ℕ) → Option ℕ
 with_digit high byte = if is_ascii_digit byte && nat_lt (high * 10 + (byte - 48)) (2 ^ 32) then Some (high * 10 + (byte - 48)) else None
 
-abbrev pub place_behind : (high : ℕ) → List ℕ → Option ℕ
-place_behind high word = if list_all is_ascii_digit word && nat_lt (number_behind high word) (2 ^ 32) then Some (number_behind high word) else None
+abbrev pub place_after : (high : ℕ) → List ℕ → Option ℕ
+place_after high word = if list_all is_ascii_digit word && nat_lt (number_after high word) (2 ^ 32) then Some (number_after high word) else None
 
 -- one digit or more, whose number is below 2 ^ 32
 abbrev pub place_in : (word : List ℕ) → Option ℕ
-place_in word = if length word == 0 then None else place_behind 0 word
+place_in word = if length word == 0 then None else place_after 0 word
 
 abbrev pub path_in : (words : List (List ℕ)) → Option (List ℕ)
 path_in [] = Some []

@@ -27,22 +27,29 @@ pub fn trace<S: Source, O: Sink, E: Sink>(
     err: &mut E,
 ) -> Report
     // What is to be written is what is due for the words and the bytes of the source.
-    ensures due { IfSome result.due (Owes (asked_in words.now) (S.left source.old) (S.left source.new)) }
+    ensures due { IfSome result.due
+        (Owes (asked_in words.now) (S.left source.old) (S.left source.new)) }
     // The status is that of what is due. Else a call failed, or there was no memory.
     ensures status { HasStatus result.status result.due }
     ensures read { ReadCause result.status (S.faults source.old) (S.faults source.new) }
-    ensures write { WriteCause result.status result.due (O.faults out.old) (O.faults out.new) (E.faults err.old) (E.faults err.new) }
+    ensures write { WriteCause result.status result.due (O.faults out.old) (O.faults out.new)
+        (E.faults err.old) (E.faults err.new) }
     // What is written: the lines on the one sink, or a line on the other.
-    ensures out { IfSome (text_of result.due) (Gets result.status (O.held out.old) (O.held out.new)) }
-    ensures err { IfSome (line_of result.due) (Gets result.status (E.held err.old) (E.held err.new)) }
+    ensures out { IfSome (text_of result.due)
+        (Gets result.status (O.held out.old) (O.held out.new)) }
+    ensures err { IfSome (line_of result.due)
+        (Gets result.status (E.held err.old) (E.held err.new)) }
     // Nothing else is touched.
     ensures no_text { text_of result.due ≡ None → out.new ≡ out.old }
     ensures no_line { line_of result.due ≡ None → err.new ≡ err.old }
     ensures unread { asked_in words.now ≡ None → source.new ≡ source.old }
     // Always where a call failed.
-    ensures reads { NoReadFailed result.status S.counts_failures (S.faults source.old) (S.faults source.new) }
-    ensures writes { NoWriteFailed result.status O.counts_failures (O.faults out.old) (O.faults out.new) }
-    ensures lines { NoWriteFailed result.status E.counts_failures (E.faults err.old) (E.faults err.new) }
+    ensures reads { NoReadFailed result.status S.counts_failures (S.faults source.old)
+        (S.faults source.new) }
+    ensures writes { NoWriteFailed result.status O.counts_failures (O.faults out.old)
+        (O.faults out.new) }
+    ensures lines { NoWriteFailed result.status E.counts_failures (E.faults err.old)
+        (E.faults err.new) }
 {
     match prepare(alloc, words, source) {
         Ok(due) => {
@@ -67,7 +74,8 @@ pub fn trace<S: Source, O: Sink, E: Sink>(
 fn prepare<S: Source>(alloc: Global, words: &Words, source: &mut S) -> Result<Due, Stop>
     ensures due { IfOk result (Owes (asked_in words.now) (S.left source.old) (S.left source.new)) }
     ensures unread { asked_in words.now ≡ None → source.new ≡ source.old }
-    ensures stops { StopsRightly S.counts_failures (S.faults source.old) (S.faults source.new) result }
+    ensures stops { StopsRightly S.counts_failures (S.faults source.old)
+        (S.faults source.new) result }
 {
     let Some(request) = parse(alloc, words.as_slice())? else {
         return Ok(Due::Usage);
@@ -80,7 +88,8 @@ fn prepare<S: Source>(alloc: Global, words: &Words, source: &mut S) -> Result<Du
 /// Writes what is due on the sink that it is for.
 fn written<O: Sink, E: Sink>(due: &Due, out: &mut O, err: &mut E) -> Status
     ensures status { HasStatus result (Some due.now) }
-    ensures write { WriteCause result (Some due.now) (O.faults out.old) (O.faults out.new) (E.faults err.old) (E.faults err.new) }
+    ensures write { WriteCause result (Some due.now) (O.faults out.old) (O.faults out.new)
+        (E.faults err.old) (E.faults err.new) }
     ensures out { IfSome (text_of (Some due.now)) (Gets result (O.held out.old) (O.held out.new)) }
     ensures err { IfSome (line_of (Some due.now)) (Gets result (E.held err.old) (E.held err.new)) }
     ensures no_text { text_of (Some due.now) ≡ None → out.new ≡ out.old }

@@ -1,6 +1,6 @@
 //! Places among the words.
 ghost use Rattle.std.specs.Prelude.{◌≡◌, ◌<◌, ◌^◌, IfSome, IfOk, option_map};
-ghost use Rattle.py_trace.specs.Words.{path_in, place_behind, place_in, with_digit};
+ghost use Rattle.py_trace.specs.Words.{path_in, place_after, place_in, with_digit};
 
 use py_base::Text;
 use std::alloc::{AllocError, Global};
@@ -38,7 +38,7 @@ fn place_of(word: &str) -> Option<usize>
 /// The place that the digits say.
 #[tactic(auto, using(crate::proofs::Digits::digit_counting))]
 fn place_in(digits: &[u8]) -> Option<usize>
-    ensures { result ≡ place_behind 0 digits.now }
+    ensures { result ≡ place_after 0 digits.now }
 {
     let mut place = 0;
     for byte in digits {

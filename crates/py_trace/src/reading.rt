@@ -37,7 +37,8 @@ impl From<AllocError> for Stop {
 /// A read failed, or there is no memory for the bytes.
 pub fn read_all<S: Source>(alloc: Global, source: &mut S) -> Result<Vec<u8>, Stop>
     ensures took { IfOk result (λ v. Took (S.left source.old) (S.left source.new) v.items) }
-    ensures stops { StopsRightly S.counts_failures (S.faults source.old) (S.faults source.new) result }
+    ensures stops { StopsRightly S.counts_failures (S.faults source.old)
+        (S.faults source.new) result }
 {
     let mut found = Vec::new(alloc);
     let mut buf = [0u8; PIECE];

@@ -15,7 +15,8 @@ pub struct WriteFailed;
 /// A write failed. A front of the text was taken.
 pub fn write_all<K: Sink>(sink: &mut K, text: &[u8]) -> Result<(), WriteFailed>
     ensures whole { OnOk result (Appends (K.held sink.old) (K.held sink.new) text.now) }
-    ensures front { OnErr result ((n : ℕ) × (n ≤ length text.now) × Appends (K.held sink.old) (K.held sink.new) (take n text.now)) }
+    ensures front { OnErr result ((n : ℕ) × (n ≤ length text.now)
+        × Appends (K.held sink.old) (K.held sink.new) (take n text.now)) }
     ensures fault { OnErr result (Rose (K.faults sink.old) (K.faults sink.new)) }
     ensures still { OnOk result (IsTrue K.counts_failures → K.faults sink.new ≡ K.faults sink.old) }
 {

@@ -5,7 +5,17 @@ use Rattle.std.specs.declared.boxed.Box.{Box}
 use Rattle.py_base.specs.Literal as literal
 use Rattle.py_base.specs.Literal.{Literal}
 use Rattle.py_tree.specs.Tree as tree
-use Rattle.py_tree.specs.View.{literal_list, literal_layer, literal_of, exprs, opt_expr, opt_box, opt_exprs, keywords, generators, arg, opt_arg, args, expr_layer, expr_tree, bool_op_tree, named_expr_tree, bin_op_tree, unary_op_tree, lambda_tree, if_exp_tree, dict_tree, set_tree, list_comp_tree, set_comp_tree, dict_comp_tree, generator_exp_tree, await_tree, yield_tree, yield_from_tree, compare_tree, call_tree, formatted_value_tree, joined_str_tree, constant_tree, attribute_tree, subscript_tree, starred_tree, name_tree, list_tree, tuple_tree, slice_tree, stmts, handlers, cases, stmt_layer, stmt_tree, function_def_tree, async_function_def_tree, class_def_tree, return_tree, delete_tree, assign_tree, type_alias_tree, aug_assign_tree, ann_assign_tree, for_tree, async_for_tree, while_tree, if_tree, with_tree, async_with_tree, match_tree, raise_tree, try_tree, try_star_tree, assert_tree, import_tree, import_from_tree, global_tree, nonlocal_tree, stmt_expr_tree, pass_tree, break_tree, continue_tree, mod_tree, module_tree, interactive_tree, expression_tree, function_type_tree, type_param_tree, type_var_tree, param_spec_tree, type_var_tuple_tree}
+use Rattle.py_tree.specs.View.{literal_list, literal_layer, literal_of, exprs, opt_expr, opt_box, opt_exprs, keywords, generators, arg}
+use Rattle.py_tree.specs.View.{opt_arg, args, expr_layer, expr_tree, bool_op_tree, named_expr_tree, bin_op_tree, unary_op_tree, lambda_tree}
+use Rattle.py_tree.specs.View.{if_exp_tree, dict_tree, set_tree, list_comp_tree, set_comp_tree, dict_comp_tree, generator_exp_tree}
+use Rattle.py_tree.specs.View.{await_tree, yield_tree, yield_from_tree, compare_tree, call_tree, formatted_value_tree, joined_str_tree}
+use Rattle.py_tree.specs.View.{constant_tree, attribute_tree, subscript_tree, starred_tree, name_tree, list_tree, tuple_tree, slice_tree}
+use Rattle.py_tree.specs.View.{stmts, handlers, cases, stmt_layer, stmt_tree, function_def_tree, async_function_def_tree, class_def_tree}
+use Rattle.py_tree.specs.View.{return_tree, delete_tree, assign_tree, type_alias_tree, aug_assign_tree, ann_assign_tree, for_tree}
+use Rattle.py_tree.specs.View.{async_for_tree, while_tree, if_tree, with_tree, async_with_tree, match_tree, raise_tree, try_tree}
+use Rattle.py_tree.specs.View.{try_star_tree, assert_tree, import_tree, import_from_tree, global_tree, nonlocal_tree, stmt_expr_tree}
+use Rattle.py_tree.specs.View.{pass_tree, break_tree, continue_tree, mod_tree, module_tree, interactive_tree, expression_tree}
+use Rattle.py_tree.specs.View.{function_type_tree, type_param_tree, type_var_tree, param_spec_tree, type_var_tuple_tree}
 use Rattle.py_tree.specs.declared.expressions.Constant as constant
 use Rattle.py_tree.specs.declared.expressions.Constant.{Constant}
 use Rattle.py_tree.specs.declared.expressions.Constant.TheOpen as constant_kind
@@ -186,13 +196,16 @@ abbrev posonly_map : (Expr → tree.Expr) → ArgWithDefaultOf Expr → ArgWithD
 posonly_map g = (expr.TheShapes.former-Expr-Lambda-0-at-10).map Expr tree.Expr g
 
 -- by the cases of what may be missing
-posonly_arg : (g : Expr → tree.Expr) (x : ArgWithDefaultOf Expr) (a d : Option (Box Expr Global)) → arg (λ (x : tree.Expr). x) (posonly_map g (record x { def = record x.def { annotation = a }; default = d })).def ≡ arg g (record x.def { annotation = a })
+posonly_arg : (g : Expr → tree.Expr) (x : ArgWithDefaultOf Expr) (a d : Option (Box Expr Global))
+    → arg (λ (x : tree.Expr). x) (posonly_map g (record x { def = record x.def { annotation = a }; default = d })).def
+    ≡ arg g (record x.def { annotation = a })
 posonly_arg g x None None = refl
 posonly_arg g x None (Some d) = refl
 posonly_arg g x (Some a) None = refl
 posonly_arg g x (Some a) (Some d) = refl
 
-posonly_default : (g : Expr → tree.Expr) (x : ArgWithDefaultOf Expr) (a d : Option (Box Expr Global)) → opt_box (λ (x : tree.Expr). x) (posonly_map g (record x { def = record x.def { annotation = a }; default = d })).default ≡ opt_box g d
+posonly_default : (g : Expr → tree.Expr) (x : ArgWithDefaultOf Expr) (a d : Option (Box Expr Global))
+    → opt_box (λ (x : tree.Expr). x) (posonly_map g (record x { def = record x.def { annotation = a }; default = d })).default ≡ opt_box g d
 posonly_default g x None None = refl
 posonly_default g x None (Some d) = refl
 posonly_default g x (Some a) None = refl
@@ -206,13 +219,16 @@ abbrev args_map : (Expr → tree.Expr) → ArgWithDefaultOf Expr → ArgWithDefa
 args_map g = (expr.TheShapes.former-Expr-Lambda-0-at-21).map Expr tree.Expr g
 
 -- by the cases of what may be missing
-args_arg : (g : Expr → tree.Expr) (x : ArgWithDefaultOf Expr) (a d : Option (Box Expr Global)) → arg (λ (x : tree.Expr). x) (args_map g (record x { def = record x.def { annotation = a }; default = d })).def ≡ arg g (record x.def { annotation = a })
+args_arg : (g : Expr → tree.Expr) (x : ArgWithDefaultOf Expr) (a d : Option (Box Expr Global))
+    → arg (λ (x : tree.Expr). x) (args_map g (record x { def = record x.def { annotation = a }; default = d })).def
+    ≡ arg g (record x.def { annotation = a })
 args_arg g x None None = refl
 args_arg g x None (Some d) = refl
 args_arg g x (Some a) None = refl
 args_arg g x (Some a) (Some d) = refl
 
-args_default : (g : Expr → tree.Expr) (x : ArgWithDefaultOf Expr) (a d : Option (Box Expr Global)) → opt_box (λ (x : tree.Expr). x) (args_map g (record x { def = record x.def { annotation = a }; default = d })).default ≡ opt_box g d
+args_default : (g : Expr → tree.Expr) (x : ArgWithDefaultOf Expr) (a d : Option (Box Expr Global))
+    → opt_box (λ (x : tree.Expr). x) (args_map g (record x { def = record x.def { annotation = a }; default = d })).default ≡ opt_box g d
 args_default g x None None = refl
 args_default g x None (Some d) = refl
 args_default g x (Some a) None = refl
@@ -226,13 +242,16 @@ abbrev kwonly_map : (Expr → tree.Expr) → ArgWithDefaultOf Expr → ArgWithDe
 kwonly_map g = (expr.TheShapes.former-Expr-Lambda-0-at-40).map Expr tree.Expr g
 
 -- by the cases of what may be missing
-kwonly_arg : (g : Expr → tree.Expr) (x : ArgWithDefaultOf Expr) (a d : Option (Box Expr Global)) → arg (λ (x : tree.Expr). x) (kwonly_map g (record x { def = record x.def { annotation = a }; default = d })).def ≡ arg g (record x.def { annotation = a })
+kwonly_arg : (g : Expr → tree.Expr) (x : ArgWithDefaultOf Expr) (a d : Option (Box Expr Global))
+    → arg (λ (x : tree.Expr). x) (kwonly_map g (record x { def = record x.def { annotation = a }; default = d })).def
+    ≡ arg g (record x.def { annotation = a })
 kwonly_arg g x None None = refl
 kwonly_arg g x None (Some d) = refl
 kwonly_arg g x (Some a) None = refl
 kwonly_arg g x (Some a) (Some d) = refl
 
-kwonly_default : (g : Expr → tree.Expr) (x : ArgWithDefaultOf Expr) (a d : Option (Box Expr Global)) → opt_box (λ (x : tree.Expr). x) (kwonly_map g (record x { def = record x.def { annotation = a }; default = d })).default ≡ opt_box g d
+kwonly_default : (g : Expr → tree.Expr) (x : ArgWithDefaultOf Expr) (a d : Option (Box Expr Global))
+    → opt_box (λ (x : tree.Expr). x) (kwonly_map g (record x { def = record x.def { annotation = a }; default = d })).default ≡ opt_box g d
 kwonly_default g x None None = refl
 kwonly_default g x None (Some d) = refl
 kwonly_default g x (Some a) None = refl
@@ -245,7 +264,9 @@ kwonly_list_map g (x ∷ xs) = cc (kwonly_arg g x x.def.annotation x.default, kw
 abbrev vararg_map : (Expr → tree.Expr) → Option (Box (ArgOf Expr) Global) → Option (Box (ArgOf tree.Expr) Global)
 vararg_map g = (expr.TheShapes.former-Expr-Lambda-0-at-30).map Expr tree.Expr g
 
-vararg_some : (g : Expr → tree.Expr) (x : Box (ArgOf Expr) Global) (a : Option (Box Expr Global)) → opt_arg (λ (x : tree.Expr). x) (vararg_map g (Some (record x { value = record x.value { annotation = a } }))) ≡ opt_arg g (Some (record x { value = record x.value { annotation = a } }))
+vararg_some : (g : Expr → tree.Expr) (x : Box (ArgOf Expr) Global) (a : Option (Box Expr Global))
+    → opt_arg (λ (x : tree.Expr). x) (vararg_map g (Some (record x { value = record x.value { annotation = a } })))
+    ≡ opt_arg g (Some (record x { value = record x.value { annotation = a } }))
 vararg_some g x None = refl
 vararg_some g x (Some a) = refl
 
@@ -256,7 +277,9 @@ vararg_same g (Some x) = vararg_some g x x.value.annotation
 abbrev kwarg_map : (Expr → tree.Expr) → Option (Box (ArgOf Expr) Global) → Option (Box (ArgOf tree.Expr) Global)
 kwarg_map g = (expr.TheShapes.former-Expr-Lambda-0-at-49).map Expr tree.Expr g
 
-kwarg_some : (g : Expr → tree.Expr) (x : Box (ArgOf Expr) Global) (a : Option (Box Expr Global)) → opt_arg (λ (x : tree.Expr). x) (kwarg_map g (Some (record x { value = record x.value { annotation = a } }))) ≡ opt_arg g (Some (record x { value = record x.value { annotation = a } }))
+kwarg_some : (g : Expr → tree.Expr) (x : Box (ArgOf Expr) Global) (a : Option (Box Expr Global))
+    → opt_arg (λ (x : tree.Expr). x) (kwarg_map g (Some (record x { value = record x.value { annotation = a } })))
+    ≡ opt_arg g (Some (record x { value = record x.value { annotation = a } }))
 kwarg_some g x None = refl
 kwarg_some g x (Some a) = refl
 
@@ -265,15 +288,21 @@ kwarg_same g None = refl
 kwarg_same g (Some x) = kwarg_some g x x.value.annotation
 
 -- by the cases of what may be missing
-yield_map : (g : Expr → tree.Expr) (e : ExprYieldOf Expr) (x : Option (Box Expr Global)) → expr_layer (λ (x : tree.Expr). x) (map-Expr Expr tree.Expr g (kind.Yield (record e { value = x }))) ≡ expr_layer g (kind.Yield (record e { value = x }))
+yield_map : (g : Expr → tree.Expr) (e : ExprYieldOf Expr) (x : Option (Box Expr Global))
+    → expr_layer (λ (x : tree.Expr). x) (map-Expr Expr tree.Expr g (kind.Yield (record e { value = x })))
+    ≡ expr_layer g (kind.Yield (record e { value = x }))
 yield_map g e None = refl
 yield_map g e (Some x) = refl
 
-formatted_value_map : (g : Expr → tree.Expr) (e : ExprFormattedValueOf Expr) (x : Option (Box Expr Global)) → expr_layer (λ (x : tree.Expr). x) (map-Expr Expr tree.Expr g (kind.FormattedValue (record e { format_spec = x }))) ≡ expr_layer g (kind.FormattedValue (record e { format_spec = x }))
+formatted_value_map : (g : Expr → tree.Expr) (e : ExprFormattedValueOf Expr) (x : Option (Box Expr Global))
+    → expr_layer (λ (x : tree.Expr). x) (map-Expr Expr tree.Expr g (kind.FormattedValue (record e { format_spec = x })))
+    ≡ expr_layer g (kind.FormattedValue (record e { format_spec = x }))
 formatted_value_map g e None = refl
 formatted_value_map g e (Some x) = refl
 
-slice_map : (g : Expr → tree.Expr) (e : ExprSliceOf Expr) (x y z : Option (Box Expr Global)) → expr_layer (λ (x : tree.Expr). x) (map-Expr Expr tree.Expr g (kind.Slice (record e { lower = x; upper = y; step = z }))) ≡ expr_layer g (kind.Slice (record e { lower = x; upper = y; step = z }))
+slice_map : (g : Expr → tree.Expr) (e : ExprSliceOf Expr) (x y z : Option (Box Expr Global))
+    → expr_layer (λ (x : tree.Expr). x) (map-Expr Expr tree.Expr g (kind.Slice (record e { lower = x; upper = y; step = z })))
+    ≡ expr_layer g (kind.Slice (record e { lower = x; upper = y; step = z }))
 slice_map g e None None None = refl
 slice_map g e None None (Some z) = refl
 slice_map g e None (Some y) None = refl
@@ -288,7 +317,14 @@ expr_layer_map g (kind.BoolOp e) = cc (exprs_map g e.values)
 expr_layer_map g (kind.NamedExpr e) = refl
 expr_layer_map g (kind.BinOp e) = refl
 expr_layer_map g (kind.UnaryOp e) = refl
-expr_layer_map g (kind.Lambda e) = cc (posonly_list_map g e.args.value.posonlyargs, args_list_map g e.args.value.args, vararg_same g e.args.value.vararg, kwonly_list_map g e.args.value.kwonlyargs, kwarg_same g e.args.value.kwarg)
+expr_layer_map g (kind.Lambda e) =
+    cc (
+      posonly_list_map g e.args.value.posonlyargs,
+      args_list_map g e.args.value.args,
+      vararg_same g e.args.value.vararg,
+      kwonly_list_map g e.args.value.kwonlyargs,
+      kwarg_same g e.args.value.kwarg,
+    )
 expr_layer_map g (kind.IfExp e) = refl
 expr_layer_map g (kind.Dict e) = cc (opt_exprs_map g (key_map g) (key_same g) e.keys, exprs_map g e.values)
 expr_layer_map g (kind.Set e) = cc (exprs_map g e.elts)
@@ -551,4 +587,68 @@ pub tree_TypeVarTuple : (p : TypeParamTypeVarTuple) → type_param_tree (type_pa
 tree_TypeVarTuple p = refl
 
 -- what tree each kind is
-pub ruleset trees = (literals, tree_BoolOp, tree_NamedExpr, tree_BinOp, tree_UnaryOp, tree_Lambda, tree_IfExp, tree_Dict, tree_Set, tree_ListComp, tree_SetComp, tree_DictComp, tree_GeneratorExp, tree_Await, tree_Yield, tree_YieldFrom, tree_Compare, tree_Call, tree_FormattedValue, tree_JoinedStr, tree_Constant, tree_Attribute, tree_Subscript, tree_Starred, tree_Name, tree_List, tree_Tuple, tree_Slice, tree_FunctionDef, tree_AsyncFunctionDef, tree_ClassDef, tree_Return, tree_Delete, tree_Assign, tree_TypeAlias, tree_AugAssign, tree_AnnAssign, tree_For, tree_AsyncFor, tree_While, tree_If, tree_With, tree_AsyncWith, tree_Match, tree_Raise, tree_Try, tree_TryStar, tree_Assert, tree_Import, tree_ImportFrom, tree_Global, tree_Nonlocal, tree_StmtExpr, tree_Pass, tree_Break, tree_Continue, tree_Module, tree_Interactive, tree_Expression, tree_FunctionType, tree_TypeVar, tree_ParamSpec, tree_TypeVarTuple)
+pub ruleset trees = (
+  literals,
+  tree_BoolOp,
+  tree_NamedExpr,
+  tree_BinOp,
+  tree_UnaryOp,
+  tree_Lambda,
+  tree_IfExp,
+  tree_Dict,
+  tree_Set,
+  tree_ListComp,
+  tree_SetComp,
+  tree_DictComp,
+  tree_GeneratorExp,
+  tree_Await,
+  tree_Yield,
+  tree_YieldFrom,
+  tree_Compare,
+  tree_Call,
+  tree_FormattedValue,
+  tree_JoinedStr,
+  tree_Constant,
+  tree_Attribute,
+  tree_Subscript,
+  tree_Starred,
+  tree_Name,
+  tree_List,
+  tree_Tuple,
+  tree_Slice,
+  tree_FunctionDef,
+  tree_AsyncFunctionDef,
+  tree_ClassDef,
+  tree_Return,
+  tree_Delete,
+  tree_Assign,
+  tree_TypeAlias,
+  tree_AugAssign,
+  tree_AnnAssign,
+  tree_For,
+  tree_AsyncFor,
+  tree_While,
+  tree_If,
+  tree_With,
+  tree_AsyncWith,
+  tree_Match,
+  tree_Raise,
+  tree_Try,
+  tree_TryStar,
+  tree_Assert,
+  tree_Import,
+  tree_ImportFrom,
+  tree_Global,
+  tree_Nonlocal,
+  tree_StmtExpr,
+  tree_Pass,
+  tree_Break,
+  tree_Continue,
+  tree_Module,
+  tree_Interactive,
+  tree_Expression,
+  tree_FunctionType,
+  tree_TypeVar,
+  tree_ParamSpec,
+  tree_TypeVarTuple,
+)

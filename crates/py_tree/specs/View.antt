@@ -92,7 +92,7 @@ use Rattle.py_tree.specs.declared.modules.ModExpression.{ModExpression}
 use Rattle.py_tree.specs.declared.modules.ModFunctionType.{ModFunctionType}
 use Rattle.py_tree.specs.declared.modules.Mod.TheVariants as program
 
--- A is the type of the constants within, and t what each of them is
+-- A is the type of the nested constants, and t what each of them is
 module _ {A : Type 0} (t : A → Literal) where
   abbrev pub literal_list : List A → literal.Literals
   literal_list [] = literal.no_literals
@@ -111,7 +111,7 @@ module _ {A : Type 0} (t : A → Literal) where
 abbrev pub literal_of : Constant → Literal
 literal_of = fold-Constant Literal (literal_layer (λ x. x))
 
--- A is the type of the expressions within, and t what each of them is
+-- A is the type of the nested expressions, and t what each of them is
 module _ {A : Type 0} (t : A → tree.Expr) where
   abbrev pub exprs : List A → tree.Exprs
   exprs [] = tree.no_exprs
@@ -289,7 +289,7 @@ abbrev pub type_params : List TypeParam → tree.TypeParams
 type_params [] = tree.no_type_params
 type_params (x ∷ xs) = tree.more_type_params (type_param_tree x) (type_params xs)
 
--- A is the type of the statements within, and t what each of them is
+-- A is the type of the nested statements, and t what each of them is
 module _ {A : Type 0} (t : A → tree.Stmt) where
   abbrev pub stmts : List A → tree.Stmts
   stmts [] = tree.no_stmts
@@ -305,9 +305,12 @@ module _ {A : Type 0} (t : A → tree.Stmt) where
 
   -- one level
   abbrev pub stmt_layer : Stmt-F A → tree.Stmt
-  stmt_layer (statement.FunctionDef s) = tree.FunctionDef s.location s.name (arguments expr_tree s.args.value) (stmts s.body) (exprs expr_tree s.decorator_list) (opt_box expr_tree s.returns) (type_params s.type_params)
-  stmt_layer (statement.AsyncFunctionDef s) = tree.AsyncFunctionDef s.location s.name (arguments expr_tree s.args.value) (stmts s.body) (exprs expr_tree s.decorator_list) (opt_box expr_tree s.returns) (type_params s.type_params)
-  stmt_layer (statement.ClassDef s) = tree.ClassDef s.location s.name (exprs expr_tree s.bases) (keywords expr_tree s.keywords) (stmts s.body) (exprs expr_tree s.decorator_list) (type_params s.type_params)
+  stmt_layer (statement.FunctionDef s) = tree.FunctionDef s.location s.name (arguments expr_tree s.args.value) (stmts s.body)
+      (exprs expr_tree s.decorator_list) (opt_box expr_tree s.returns) (type_params s.type_params)
+  stmt_layer (statement.AsyncFunctionDef s) = tree.AsyncFunctionDef s.location s.name (arguments expr_tree s.args.value) (stmts s.body)
+      (exprs expr_tree s.decorator_list) (opt_box expr_tree s.returns) (type_params s.type_params)
+  stmt_layer (statement.ClassDef s) = tree.ClassDef s.location s.name (exprs expr_tree s.bases) (keywords expr_tree s.keywords)
+      (stmts s.body) (exprs expr_tree s.decorator_list) (type_params s.type_params)
   stmt_layer (statement.Return s) = tree.Return s.location (opt_box expr_tree s.value)
   stmt_layer (statement.Delete s) = tree.Delete s.location (exprs expr_tree s.targets)
   stmt_layer (statement.Assign s) = tree.Assign s.location (exprs expr_tree s.targets) (expr_tree s.value.value)
@@ -339,10 +342,12 @@ stmt_tree = fold-Stmt tree.Stmt (stmt_layer (λ x. x))
 
 -- what the struct of each kind is
 abbrev pub function_def_tree : StmtFunctionDefOf Stmt → tree.Stmt
-function_def_tree s = tree.FunctionDef s.location s.name (arguments expr_tree s.args.value) (stmts stmt_tree s.body) (exprs expr_tree s.decorator_list) (opt_box expr_tree s.returns) (type_params s.type_params)
+function_def_tree s = tree.FunctionDef s.location s.name (arguments expr_tree s.args.value) (stmts stmt_tree s.body)
+    (exprs expr_tree s.decorator_list) (opt_box expr_tree s.returns) (type_params s.type_params)
 
 abbrev pub async_function_def_tree : StmtAsyncFunctionDefOf Stmt → tree.Stmt
-async_function_def_tree s = tree.AsyncFunctionDef s.location s.name (arguments expr_tree s.args.value) (stmts stmt_tree s.body) (exprs expr_tree s.decorator_list) (opt_box expr_tree s.returns) (type_params s.type_params)
+async_function_def_tree s = tree.AsyncFunctionDef s.location s.name (arguments expr_tree s.args.value) (stmts stmt_tree s.body)
+    (exprs expr_tree s.decorator_list) (opt_box expr_tree s.returns) (type_params s.type_params)
 
 abbrev pub class_def_tree : StmtClassDefOf Stmt → tree.Stmt
 class_def_tree s = tree.ClassDef s.location s.name (exprs expr_tree s.bases) (keywords expr_tree s.keywords) (stmts stmt_tree s.body) (exprs expr_tree s.decorator_list) (type_params s.type_params)

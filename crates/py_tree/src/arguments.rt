@@ -10,7 +10,8 @@ impl Arguments {
     /// not so many.
     #[tactic(auto, using(crate::proofs::Defaults::default_joined))]
     pub fn default_at(&self, i: usize) -> Option<&Expr>
-        ensures { option_copied result ≡ slice_get (defaults_of self.now.posonlyargs ++ defaults_of self.now.args) i }
+        ensures { option_copied result ≡ slice_get
+            (defaults_of self.now.posonlyargs ++ defaults_of self.now.args) i }
     {
         let posonlyargs = self.posonlyargs.as_slice();
         let first = count_defaults(posonlyargs);
@@ -24,7 +25,8 @@ impl Arguments {
     /// The i-th keyword-only parameter, from 0, of those that have a default, or of those that lack one. None where
     /// there are not so many.
     pub fn kwonly_at(&self, i: usize, with_default: bool) -> Option<&ArgWithDefault>
-        ensures { option_copied result ≡ slice_get (params_by_default with_default self.now.kwonlyargs) i }
+        ensures { option_copied result ≡ slice_get
+            (params_by_default with_default self.now.kwonlyargs) i }
     {
         let mut left = i;
         for item in self.kwonlyargs.as_slice() {

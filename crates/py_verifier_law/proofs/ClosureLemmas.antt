@@ -15,8 +15,8 @@ use Rattle.py_control.specs.View.{events_to, values_to, whole}
 use Rattle.py_emission_parts.specs.Context.{inside}
 use Rattle.py_meaning.specs.Meaning.{body}
 use Rattle.py_scope_proof.specs.Own.{OwnUpTo, number_of}
-use Rattle.py_scope_proof.specs.Owners.{Placed}
-use Rattle.py_scope_proof.specs.StmtOwners.{owners_of}
+use Rattle.py_scope_proof.specs.ScopeNodes.{Placed}
+use Rattle.py_scope_proof.specs.StmtScopeNodes.{scope_nodes_of}
 use Rattle.py_scope_proof.proofs.NodeScopes.EachOwn.{each_is_its_own}
 use Rattle.py_scope_proof.proofs.NodeScopes.Heads.{own_head}
 use Rattle.py_emission_proof.proofs.Additions.CodeNameLemmas.{IsMadeSo, Named}
@@ -94,7 +94,7 @@ made_beside n o s h answers event d e =
 one_made : (x y : Scope) → Some x ≡ Some y → x ≡ y
 one_made x y e = cc
 
--- the code of a link agrees with its scope, as that of the one around it does
+-- the code of a link agrees with its scope, as that of the enclosing one does
 agrees_within : (outer inner : Link) → AgreeFull outer.code outer.scope → IsMadeIn outer inner → AgreeFull inner.code inner.scope
 agrees_within outer inner h made n =
     let b = made_beside n outer.code outer.scope (h (suc n)) inner.answers inner.event inner.code made.code in
@@ -104,13 +104,13 @@ agrees_within outer inner h made n =
 
 module _ (t : tree.Mod) (m : Mode) (level : ℕ) (scopes : List ScopeEntry) (o : Object) (made : (n : ℕ) → IsMadeSo (Named scopes) n o (body scopes t m level))
     (agrees : AgreeFull o (body scopes t m level)) where
-  abbrev owners : List Placed
-  owners = owners_of t m
+  abbrev scope_nodes : List Placed
+  scope_nodes = scope_nodes_of t m
 
   -- what is known of the innermost link
   record LinkStands (l : Link) : Type 0 where
     made_so : (n : ℕ) → IsMadeSo (Named scopes) n l.code l.scope
-    own : (n : ℕ) → AllOf (OwnUpTo scopes owners (number_of l.scope) n) (kids (form_of l.scope))
+    own : (n : ℕ) → AllOf (OwnUpTo scopes scope_nodes (number_of l.scope) n) (kids (form_of l.scope))
     agree : AgreeFull l.code l.scope
 
   outermost_stands : (l : Link) → l ≡ outermost o (body scopes t m level) → LinkStands l
@@ -119,10 +119,10 @@ module _ (t : tree.Mod) (m : Mode) (level : ℕ) (scopes : List ScopeEntry) (o :
 
   -- what is made within is made so, and stands at its own place
   abbrev within_so : (k l : Link) (n : ℕ) → Type 0
-  within_so k l n = IsMadeSo (Named scopes) n l.code l.scope × OwnUpTo scopes owners (number_of k.scope) (suc n) l.scope × (l.closure ≡ map (head_of k.scope).cell_place (head_of l.scope).free)
+  within_so k l n = IsMadeSo (Named scopes) n l.code l.scope × OwnUpTo scopes scope_nodes (number_of k.scope) (suc n) l.scope × (l.closure ≡ map (head_of k.scope).cell_place (head_of l.scope).free)
 
   made_within : (k l : Link) → LinkStands k → IsMadeIn k l → (n : ℕ) → within_so k l n
-  made_within k l h g n = inner_made (Named scopes) (OwnUpTo scopes owners (number_of k.scope) (suc n)) n k l (h.made_so (suc n)) (h.own (suc n)) g
+  made_within k l h g n = inner_made (Named scopes) (OwnUpTo scopes scope_nodes (number_of k.scope) (suc n)) n k l (h.made_so (suc n)) (h.own (suc n)) g
 
   within_stands : (k l : Link) → LinkStands k → IsMadeIn k l → LinkStands l
   within_stands k l h g = record { made_so = λ n. (made_within k l h g n).0; own = λ n. (made_within k l h g n).1.1; agree = agrees_within k l h.agree g }
@@ -135,7 +135,7 @@ module _ (t : tree.Mod) (m : Mode) (level : ℕ) (scopes : List ScopeEntry) (o :
   closure_long : (k l : Link) → LinkStands k → IsMadeIn k l → length l.closure ≡ length (head l.code).freevars
   closure_long k l h g =
       let x = made_within k l h g 1 in
-      let told = own_head scopes owners (number_of k.scope) l.scope x.1.0 in
+      let told = own_head scopes scope_nodes (number_of k.scope) l.scope x.1.0 in
       ap length x.2
       ∙ length-map (head_of l.scope).free (head_of k.scope).cell_place
       ∙ ap (λ (d : Head). length d.free) told.tells

@@ -15,7 +15,7 @@ use Rattle.py_emission.specs.EmissionMods.{emission_outcome}
 use Rattle.py_emission_proof.specs.Distinct.{AreApart, AreDistinct, HasDistinctNames}
 use Rattle.py_meaning.specs.Faults.{faults}
 use Rattle.py_scope_proof.proofs.NodeScopes.EnteringPrograms.{parts_none}
-use Rattle.codegen.specs.Compiled.{IsLocated, IsSealed, around_tree}
+use Rattle.codegen.specs.Compiled.{IsLocated, IsSealed, tree_context}
 use Rattle.py_verify.specs.Nested.{path_place}
 use Rattle.py_well_formed.specs.declared.fault.FormFault.{FormFault}
 use Rattle.py_well_formed.specs.declared.fault.FormFaultKind.{FormFaultKind}
@@ -74,7 +74,7 @@ own_form o m located names =
     (of_cells _ _ _ _ _ m.entries m.places (unrepeated h.cellvars names.cellvars) (unrepeated h.freevars names.freevars) (unshared h.cellvars h.freevars names.apart)))
     m.units
 
--- ---- a code and those within it
+-- ---- a code and those nested in it
 
 child_within : (h : Head) (cs : Consts) (i : ℕ) (d : Object) → WellFormed (obj.object_of h cs) → slice_get (const_list cs) i ≡ Some (code d) → WellFormed d
 child_within h cs i d w s c q = w c (path_place i ∷ q.0, (i, d, s, refl, q.1))
@@ -112,22 +112,22 @@ faultless o meets located names =
 
 -- ---- the code of a tree
 
-outermost_typ : (l : ℕ) (source : List ℕ) (t : tree.Mod) → (around_tree t source l).typ ≡ kind.Module
+outermost_typ : (l : ℕ) (source : List ℕ) (t : tree.Mod) → (tree_context t source l).typ ≡ kind.Module
 unfolding inside
 outermost_typ l source t = refl
 
-outermost_class : (l : ℕ) (source : List ℕ) (t : tree.Mod) → (around_tree t source l).class ≡ None
+outermost_class : (l : ℕ) (source : List ℕ) (t : tree.Mod) → (tree_context t source l).class ≡ None
 unfolding inside
 outermost_class l source t = refl
 
 -- a code that what is emitted of a tree determines
 pub sealed_tree_meets : (t : tree.Mod) (m : Mode) (l : ℕ) (source : List ℕ) (o : Object) → faults t m l ≡ []
-    → IsSealed o (around_tree t source l) (emission_outcome t m (around_tree t source l)) → Everywhere MeetsConditions o
-sealed_tree_meets t m l source o clean sealed = by (emission_outcome t m (around_tree t source l)) refl sealed
+    → IsSealed o (tree_context t source l) (emission_outcome t m (tree_context t source l)) → Everywhere MeetsConditions o
+sealed_tree_meets t m l source o clean sealed = by (emission_outcome t m (tree_context t source l)) refl sealed
   where
-    by : (r : Outcome) → emission_outcome t m (around_tree t source l) ≡ r → IsSealed o (around_tree t source l) r → Everywhere MeetsConditions o
+    by : (r : Outcome) → emission_outcome t m (tree_context t source l) ≡ r → IsSealed o (tree_context t source l) r → Everywhere MeetsConditions o
     by (Done s) e h =
         subst (Everywhere MeetsConditions) (sym h)
-        (tree_meets t m (around_tree t source l) s (around_tree t source l).level (parts_none t m l clean).0 (outermost_typ l source t) (outermost_class l source t) e)
+        (tree_meets t m (tree_context t source l) s (tree_context t source l).level (parts_none t m l clean).0 (outermost_typ l source t) (outermost_class l source t) e)
     by TooWide e h = absurd h
     by (Refused x at) e h = absurd h

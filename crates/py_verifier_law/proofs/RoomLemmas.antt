@@ -27,13 +27,15 @@ use Rattle.py_verify.specs.Nested.{Flawless, Leads, path_place}
 use Rattle.py_well_formed.specs.declared.fault.FormFaultKind.{FormFaultKind}
 use Rattle.py_well_formed.specs.declared.fault.FormFaultKind.TheVariants as fault
 use Rattle.py_well_formed.specs.declared.lines.Line.{Line}
-use Rattle.py_well_formed.specs.Conditions.{Condition, at_unit, at_whole, cell_conditions, condition, first_of, first_unmet, function_conditions, is_quick, is_yield, line_conditions, line_fault, makes_function, own_fault, parameter_conditions, table_fault, unit_fault}
+use Rattle.py_well_formed.specs.Conditions.{Condition, at_unit, at_whole, cell_conditions, condition, first_of, first_unmet}
+use Rattle.py_well_formed.specs.Conditions.{function_conditions, is_quick, is_yield, line_conditions, line_fault, makes_function, own_fault}
+use Rattle.py_well_formed.specs.Conditions.{parameter_conditions, table_fault, unit_fault}
 use Rattle.py_well_formed.specs.Lines.{Ahead, lines_from, lines_of, operand_with}
 use Rattle.py_well_formed.specs.Tables.{are_entries, has_entries, has_flag, is_entry, parameters, repeats, shares}
 use Rattle.py_well_formed.specs.WellFormed.{HasForm, at_path, fault_among, fault_in, first_fault, from}
 use Rattle.py_verifier_law.specs.Room.{ComesTo, HasRoom, ParametersFit, RunsHaveRoom, is_celled}
 
--- ---- a code without faults has form, as has each within it
+-- ---- a code without faults has form, as has each nested in it
 
 first_is_none : {A : Type 0} (x later : Option A) → first_of x later ≡ None → x ≡ None
 first_is_none None later e = refl

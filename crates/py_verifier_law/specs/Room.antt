@@ -14,7 +14,7 @@ use Rattle.py_well_formed.specs.Conditions.{is_quick, is_yield}
 use Rattle.py_well_formed.specs.Tables.{has_flag, parameters}
 use Rattle.py_well_formed.specs.WellFormed.{first_fault}
 
--- a run of the code, begun with nothing on its stack, comes to this unit
+-- a run of the code, begun with nothing on its stack, reaches this unit
 pub record ComesTo (o : Object) (unit : ℕ) : Type 0 where
   pub answers : List Answer
   pub count : ℕ

@@ -27,7 +27,7 @@ pub fn compiled_closures_fit()
     ensures { CompiledClosuresFit }
 {}
 
-/// A run of a code that verifies and is well formed, or of one within it, comes only to instructions with room for what they ask
+/// A run of a code that verifies and is well formed, or of one nested in it, comes only to instructions with room for what they ask
 /// for; and the parameters of each such code have local names.
 pub fn runs_have_room()
     ensures { RunsHaveRoom }

@@ -114,7 +114,8 @@ none_alike es one (Some i) linked s e n a =
 pub alike_none : (es : List Entry) (one other : Option ℕ) (e : Entry) → IsTop es one e → blocks_of es other ≡ [] → ¬ Alike (blocks_of es one) (blocks_of es other)
 alike_none es one other e t n a = subst (λ b. Alike b []) t.shape (subst (Alike (blocks_of es one)) n a)
 
-pub tops_alike : (es : List Entry) (one other : Option ℕ) (d e : Entry) → IsTop es one d → IsTop es other e → Alike (blocks_of es one) (blocks_of es other) → (d.block.kind ≡ e.block.kind) × (d.block.height ≡ e.block.height)
+pub tops_alike : (es : List Entry) (one other : Option ℕ) (d e : Entry) → IsTop es one d → IsTop es other e
+    → Alike (blocks_of es one) (blocks_of es other) → (d.block.kind ≡ e.block.kind) × (d.block.height ≡ e.block.height)
 tops_alike es one other d e t u a =
     let b : Alike (d.block ∷ blocks_of es d.below) (blocks_of es other) = subst (λ s. Alike s (blocks_of es other)) t.shape a in
     let c : Alike (d.block ∷ blocks_of es d.below) (e.block ∷ blocks_of es e.below) = subst (Alike (d.block ∷ blocks_of es d.below)) u.shape b in

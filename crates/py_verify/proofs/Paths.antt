@@ -1,5 +1,6 @@
--- Flaws along paths: what a code has, it or one among its constants has.
-use Rattle.std.proofs.Common.{◌≡◌, ◌≢◌, ℕ, suc, ◌+◌, ◌^◌, ◌<◌, List, [], ◌∷◌, ◌++◌, length, Bool, true, false, Result, Ok, Err, Option, Some, None, refl, inl, inr, ap, ◌∙◌, subst, arith, length-append, append_assoc}
+-- Verification errors along paths: what a code has, it or one among its constants has.
+use Rattle.std.proofs.Common.{◌≡◌, ◌≢◌, ℕ, suc, ◌+◌, ◌^◌, ◌<◌, List, [], ◌∷◌, ◌++◌, length, Bool, true, false, Result, Ok, Err, Option}
+use Rattle.std.proofs.Common.{Some, None, refl, inl, inr, ap, ◌∙◌, subst, arith, length-append, append_assoc}
 use Rattle.std.specs.Prelude.{not, slice_get, IfOk}
 use Rattle.std.specs.Option.{IfNone}
 use Rattle.std.proofs.lemmas.Bool.{cases_lt}
@@ -14,9 +15,9 @@ use Rattle.py_verify.specs.Searching.{looks_for, Unflawed, Clear, Found, Ready, 
 use Rattle.py_verify.proofs.Lawful.{of_walks, sound_unflawed}
 
 -- a verification error of a code among constants is one of the enclosing code
-pub path_around : (o d : Object) (level i : ℕ) (path : List ℕ) (unit : ℕ) (kind : FlawKind) → slice_get (constants o) i ≡ Some (code d)
+pub enclosing_path : (o d : Object) (level i : ℕ) (path : List ℕ) (unit : ℕ) (kind : FlawKind) → slice_get (constants o) i ≡ Some (code d)
     → HoldsFrom (level + 1) d path unit kind → HoldsFrom level o (path_place i ∷ path) unit kind
-path_around o d level i path unit kind e h =
+enclosing_path o d level i path unit kind e h =
     let q : level + 1 + length path ≡ level + suc (length path) = omega arith in
     (h.0, (i, d, e, refl, h.1), subst (λ n. IsFlaw h.0 n unit kind) q h.2)
 
@@ -41,7 +42,7 @@ module _ (pass : Pass) (o : Object) where
           record {
             path = path_place i ∷ g.path;
             new_is = g.new_is ∙ append_assoc old (path_place i ∷ []) g.path;
-            holds = path_around o d (length old + 1) i g.path spot.unit spot.kind (e ∙ ap Some ec) h;
+            holds = enclosing_path o d (length old + 1) i g.path spot.unit spot.kind (e ∙ ap Some ec) h;
             sought = g.sought;
           }
 
@@ -54,7 +55,7 @@ module _ (pass : Pass) (o : Object) where
   pub ready_among : (level : ℕ) → Ready pass o level → Unflawed pass o level → ReadyAmong pass (constants o) (level + 1)
   ready_among level r u i c e d ec = record {
     deep = (let n = not_deepest pass level refl r u in let l = r.deep in omega (arith, n, l));
-    limits = λ w path unit kind l h. r.limits w (path_place i ∷ path) unit kind l (path_around o d level i path unit kind (e ∙ ap Some ec) h);
+    limits = λ w path unit kind l h. r.limits w (path_place i ∷ path) unit kind l (enclosing_path o d level i path unit kind (e ∙ ap Some ec) h);
   }
 
 module _ (o : Object) (level : ℕ) where

@@ -1,4 +1,4 @@
--- No walk comes to a place after the end of the code, so no verification error of walks is there.
+-- No walk reaches a place after the end of the code, so no verification error of walks is there.
 use Rattle.std.proofs.Common.{◌≡◌, ℕ, zero, suc, ◌+◌, ◌-◌, ◌*◌, ◌%◌, ◌^◌, ◌<◌, ◌≤◌, List, [], ◌∷◌, drop, length, Bool, true, false, Option, Some, None, refl, sym, inl, inr, ap, ◌∙◌, subst, arith}
 use Rattle.std.specs.Prelude.{if◌then◌else◌}
 use Rattle.std.proofs.lemmas.List.{length-drop}
@@ -16,11 +16,13 @@ use Rattle.py_dataflow.specs.Sound.{code_look}
 use Rattle.py_verify.specs.declared.verdict.FlawKind.{FlawKind}
 use Rattle.py_verify.specs.Flaws.{unit_count, in_range, operand_fits, WalkFlaw}
 use Rattle.py_verify.proofs.Ranges.{lower}
-use Rattle.py_verify.proofs.UnitViewLemmas.{sees_of, unread, unfit, fit}
+use Rattle.py_verify.proofs.UnitViewLemmas.{sees_of, unread, unfit, unit_view_fit}
 
 -- what is read ends no further than the units do
 module _ (u : CodeUnit) (us : List CodeUnit) (at : ℕ) where
-  ends_if : (b : Bool) (operand : ℕ) (r : Read) → ((high : ℕ) → read_from high (suc at) us ≡ Some r → r.next ≤ suc at + length us) → (if b then read_from operand (suc at) us else Some (record { op = u.op; operand = operand; next = suc at })) ≡ Some r → r.next ≤ at + suc (length us)
+  ends_if : (b : Bool) (operand : ℕ) (r : Read) → ((high : ℕ) → read_from high (suc at) us ≡ Some r → r.next ≤ suc at + length us)
+      → (if b then read_from operand (suc at) us else Some (record { op = u.op; operand = operand; next = suc at })) ≡ Some r
+      → r.next ≤ at + suc (length us)
   ends_if true operand r h e = let z = h operand e in omega (arith, z)
   ends_if false operand r h e = let z = ap (λ (q : Read). q.next) (same_Some (record { op = u.op; operand = operand; next = suc at }) r e) in omega (arith, z)
 
@@ -56,7 +58,7 @@ module _ (o : Object) where
 
   module _ (p q : ℕ) (x : Seen ℕ) (s t : State) (look : code_look o p ≡ Some x) (edge : Edge x s q t) where
     by_range : (r : Read) (b : Bool) → read_at o p ≡ Some r → operand_fits o r ≡ b → q ≤ unit_count o
-    by_range r true e f = edge_low r p q s t e f (subst (λ y. Edge y s q t) (same_Some x (sees_of r) (sym look ∙ fit o p r e f)) edge)
+    by_range r true e f = edge_low r p q s t e f (subst (λ y. Edge y s q t) (same_Some x (sees_of r) (sym look ∙ unit_view_fit o p r e f)) edge)
     by_range r false e f = absurd (let z : None ≡ Some x = sym (unfit o p r e f) ∙ look in cc)
 
     by_read : (r : Option Read) → read_at o p ≡ r → q ≤ unit_count o

@@ -8,7 +8,10 @@ use Rattle.py_bytecode.specs.declared.instruction.Instruction.TheVariants as op
 use Rattle.py_bytecode.specs.Table.{row_of, bits_of}
 use Rattle.py_bytecode.specs.Objects.{Object}
 use Rattle.py_bytecode.specs.Values.{Bare, Number, Named, operation, It, Cells, Load, Store, Delete, Fast, ByName, Global, Deref, ClassDeref}
-use Rattle.py_bytecode.specs.Machine.{Instr, Push, Access, Operate, MakeFunction, Import, Append, Unpack, Nop, Pop, Rotate2, Rotate3, Duplicate, Duplicate2, JumpIf, JumpIfOrPop, Jump, SetupLoop, PopBlock, Break, Continue, ReturnValue, ReturnConst, SetupExcept, SetupFinally, PopException, EnterFinally, EndFinally, ForIter, SetupWith, WithCleanupStart, WithCleanupFinish}
+use Rattle.py_bytecode.specs.Machine.{Instr, Push, Access, Operate, MakeFunction, Import, Append, Unpack, Nop, Pop, Rotate2, Rotate3}
+use Rattle.py_bytecode.specs.Machine.{Duplicate, Duplicate2, JumpIf, JumpIfOrPop, Jump, SetupLoop, PopBlock, Break, Continue, ReturnValue}
+use Rattle.py_bytecode.specs.Machine.{ReturnConst, SetupExcept, SetupFinally, PopException, EnterFinally, EndFinally, ForIter, SetupWith}
+use Rattle.py_bytecode.specs.Machine.{WithCleanupStart, WithCleanupFinish}
 use Rattle.py_bytecode.specs.Decode.{Tables, value_of, for_some, raise_instr, instr_of}
 use Rattle.py_bytecode.specs.Units.{is_prefix, place_in}
 use Rattle.py_verify.specs.Flaws.{in_range}
@@ -24,14 +27,14 @@ lower a b h = grind (arith, nat_tests)
 not_lower : (a b : ℕ) → nat_lt a b ≡ false → b ≤ a
 not_lower a b h = grind (arith, nat_tests)
 
-entry_there : {A : Type 0} (xs : List A) (n : ℕ) (b : Bool) → nat_lt n (length xs) ≡ b → IsThere b (slice_get xs n)
-entry_there xs n true e =
+range_entry_there : {A : Type 0} (xs : List A) (n : ℕ) (b : Bool) → nat_lt n (length xs) ≡ b → IsThere b (slice_get xs n)
+range_entry_there xs n true e =
     let l = lower n (length xs) e in
     elim (slice_get_cases xs n).1 [
       | inl s ↦ λ z. absurd (let q : None ≡ Some s.0 = sym z ∙ s.2 in cc)
       | inr s ↦ absurd (let m = s.0 in omega (arith, l, m))
     ]
-entry_there xs n false e = slice_get_past xs n (not_lower n (length xs) e)
+range_entry_there xs n false e = slice_get_past xs n (not_lower n (length xs) e)
 
 module _ {P : Type 0} where
   for_there : {A : Type 0} (x : Option A) (k : A → Instr Object P) (b : Bool) → IsThere b x → IsThere b (for_some x k)
@@ -41,7 +44,7 @@ module _ {P : Type 0} where
   for_there (Some a) k false h = absurd (cc)
 
   at_entry : {A : Type 0} (xs : List A) (n : ℕ) (k : A → Instr Object P) → IsThere (nat_lt n (length xs)) (for_some (slice_get xs n) k)
-  at_entry xs n k = for_there (slice_get xs n) k (nat_lt n (length xs)) (entry_there xs n (nat_lt n (length xs)) refl)
+  at_entry xs n k = for_there (slice_get xs n) k (nat_lt n (length xs)) (range_entry_there xs n (nat_lt n (length xs)) refl)
 
   in_case : (b : Bool) (i : Instr Object P) → IsThere b (if b then Some i else None)
   in_case true i = λ z. absurd (cc)

@@ -24,7 +24,8 @@ use Rattle.py_verify.proofs.UnitStateLemmas.{arrives_covered, arrives_grows, arr
 use Rattle.py_verify.proofs.WorklistLemmas.{listed_none}
 
 -- the place that a state arrives at is on the work list, or nothing changed
-noted_there : (es fs : List Entry) (us vs : List (Option UnitState)) (tasks : List Task) (to : ℕ) (c : Change) → Extends es fs → AllStacks es us → Moves c es us fs vs → (c ≢ Change.Nothing → IsListed tasks to)
+noted_there : (es fs : List Entry) (us vs : List (Option UnitState)) (tasks : List Task) (to : ℕ) (c : Change) → Extends es fs
+    → AllStacks es us → Moves c es us fs vs → (c ≢ Change.Nothing → IsListed tasks to)
     → (state_at fs vs to ≡ state_at es us to) ⊎ IsListed tasks to
 noted_there es fs us vs tasks to Change.Nothing x h m l = inl (ap (λ ws. state_at fs ws to) m ∙ state_at_same es fs x us h to)
 noted_there es fs us vs tasks to Change.Marks x h m l = inr (l (λ e. absurd (cc)))
@@ -71,7 +72,9 @@ module _ (o : Object) where
       known = k.known;
       extends = extends_trans (entries_in p) (entries_in q) (entries_in r) h.extends k.extends;
       grows = λ j t v. k.grows j t (h.grows j t v);
-      moves = subst (λ z. Moves z (entries_in p) p.states.items (entries_in r) r.states.items) (sym e) (moves_combine (entries_in p) (entries_in q) (entries_in r) p.states.items q.states.items r.states.items h.extends k.extends known.stacks h.known.stacks a b h.moves k.moves);
+      moves = subst (λ z. Moves z (entries_in p) p.states.items (entries_in r) r.states.items) (sym e)
+          (moves_combine (entries_in p) (entries_in q) (entries_in r) p.states.items q.states.items r.states.items h.extends k.extends
+          known.stacks h.known.stacks a b h.moves k.moves);
       noted = noted_both;
       kept = λ j l. k.kept j (h.kept j l);
       still = still_both;
@@ -87,9 +90,12 @@ module _ (o : Object) where
     jump_covered : (fs : List Entry) (st : ℕ → Option State) (jump : Option Arriving) (q : ℕ) → Extends es fs → JumpsOn is.sees s es e.target jump → is.sees.target ≡ Some q
         → IfSome jump (λ a. Covered st e.target (coming_in fs a)) → Covered st q (jumps_to is.sees.flow.branch s)
     jump_covered fs st None q x j l c = absurd (let z : None ≡ Some q = sym j ∙ l in cc)
-    jump_covered fs st (Some a) q x j l c = subst (λ p. Covered st p (jumps_to is.sees.flow.branch s)) (same_Some e.target q (sym j.0 ∙ l)) (subst (Covered st e.target) (coming_same es fs x a j.1 ∙ j.2) c)
+    jump_covered fs st (Some a) q x j l c = subst (λ p. Covered st p (jumps_to is.sees.flow.branch s)) (same_Some e.target q (sym j.0 ∙ l))
+        (subst (Covered st e.target) (coming_same es fs x a j.1 ∙ j.2) c)
 
-    module _ (fs : List Entry) (old mid new : ℕ → Option State) (x : Extends es fs) (cf : IfSome e.fall (λ a. Covered mid e.next (coming_in es a))) (cj : IfSome e.jump (λ a. Covered new e.target (coming_in fs a))) (g : Grows mid new) where
+    module _ (fs : List Entry) (old mid new : ℕ → Option State) (x : Extends es fs)
+        (cf : IfSome e.fall (λ a. Covered mid e.next (coming_in es a))) (cj : IfSome e.jump (λ a. Covered new e.target (coming_in fs a)))
+        (g : Grows mid new) where
       closed_here : Closed_at new s is.sees
       closed_here = record { block = is.block; falls = is.falls; jumps = is.jumps; edges = go }
         where
@@ -155,7 +161,8 @@ module _ (o : Object) where
     known_before = known_same_in o (entries_in p) es p.states.items x known
 
     grows_before : Grows (known_by p) (state_at (entries_in q) vs)
-    grows_before k u v = arrives_grows es (entries_in q) p.states.items vs to t a k u (record { by = v.by; there = state_at_same (entries_in p) es x p.states.items known.stacks k ∙ v.there; covers = v.covers })
+    grows_before k u v = arrives_grows es (entries_in q) p.states.items vs to t a k u
+        (record { by = v.by; there = state_at_same (entries_in p) es x p.states.items known.stacks k ∙ v.there; covers = v.covers })
 
     moves_before : Moves c (entries_in p) p.states.items (entries_in q) vs
     moves_before = moves_combine (entries_in p) es (entries_in q) p.states.items p.states.items vs x a.extends known.stacks known_before.stacks Change.Nothing c refl m

@@ -59,7 +59,8 @@ module _ (es : List Entry) where
   highest (None ∷ ks) = put_none ks (highest ks)
   highest (Some m ∷ ks) = inr (put_known m ks (highest ks))
 
-module _ (o : Object) (es : List Entry) (ks : List (Option UnitState)) (known : KnownIn o es ks) (start : Covered (state_at es ks) 0 (state 0 [])) (settled : (k : ℕ) → Settled o (state_at es ks) k) where
+module _ (o : Object) (es : List Entry) (ks : List (Option UnitState)) (known : KnownIn o es ks)
+    (start : Covered (state_at es ks) 0 (state 0 [])) (settled : (k : ℕ) → Settled o (state_at es ks) k) where
   soundness_here : (k : ℕ) (s : State) → state_at es ks k ≡ Some s → (x : Seen ℕ) × (code_look o k ≡ Some x) × Closed_at (state_at es ks) s x
   soundness_here k s e = settled k s e
 
@@ -74,7 +75,8 @@ module _ (o : Object) (es : List Entry) (ks : List (Option UnitState)) (known : 
   by_highest : Nowhere (state_at es ks) ⊎ Highest (state_at es ks) → sound o
   by_highest (inl n) = absurd (n 0 start.by start.there)
   by_highest (inr h) =
-      let d : IsDepth (code_look o) 0 h.at.height = holding.depth_law (code_look o) (state_at es ks) soundness_closed h.at.height h.above h.place h.at h.there refl (known.shown h.place h.at h.there) in
+      let d : IsDepth (code_look o) 0 h.at.height = holding.depth_law (code_look o)
+      (state_at es ks) soundness_closed h.at.height h.above h.place h.at h.there refl (known.shown h.place h.at h.there) in
       let l = known.low h.place h.at h.there in
       holding.depth_sound (code_look o) (state_at es ks) soundness_closed h.at.height (suc (head o).max_stackdepth) d (omega (arith, l))
 

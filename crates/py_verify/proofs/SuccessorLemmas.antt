@@ -30,7 +30,7 @@ use Rattle.py_verify.specs.UnitStates.{coming_in}
 use Rattle.py_verify.specs.Stepping.{Comes, Goes, HaltsAt, halt_by, FallsOn, JumpsOn, IsExits}
 use Rattle.py_verify.proofs.Comings.{coming_outside, lower_limit}
 use Rattle.py_verify.proofs.UnitStateLemmas.{coming_same}
-use Rattle.py_verify.proofs.UnitViewLemmas.{sees_of, fit}
+use Rattle.py_verify.proofs.UnitViewLemmas.{sees_of, unit_view_fit}
 
 and_left : (a b : Bool) → (a && b) ≡ true → a ≡ true
 and_left true b e = refl
@@ -41,7 +41,7 @@ enough_of (Branch.Goes t g o) h s e = and_left (enough (height_of s) t 0 h) (nat
 enough_of Branch.Breaks h s e = refl
 enough_of Branch.Continues h s e = refl
 
--- what comes to the next instruction, and to the target of a jump
+-- what reaches the next instruction, and to the target of a jump
 abbrev pub FallIs : InstructionInfo → State → List Entry → Option Arriving → Type 0
 FallIs x s es None = (flow_in x).falls ≡ false
 FallIs x s es (Some a) = ((flow_in x).falls ≡ true) × IsStack es a.below × (coming_in es a ≡ falls_to (flow_in x) s)
@@ -55,7 +55,8 @@ pub fall_is : (x : InstructionInfo) (s : State) (es : List Entry) (g : Flow) →
 fall_is x s es g e None n f k c = sym (ap (λ (h : Flow). h.falls) e) ∙ n
 fall_is x s es g e (Some a) n f k c = (sym (ap (λ (h : Flow). h.falls) e) ∙ f, k, c ∙ ap (λ h. falls_to h s) e)
 
-pub jump_is : (x : InstructionInfo) (s : State) (es : List Entry) (g : Flow) (jumps : Bool) → g ≡ flow_in x → jumps ≡ is_jump x.instr → (jump : Option Arriving) → IfNone jump (jumps ≡ false) → IfSome jump (λ _. jumps ≡ true)
+pub jump_is : (x : InstructionInfo) (s : State) (es : List Entry) (g : Flow) (jumps : Bool) → g ≡ flow_in x → jumps ≡ is_jump x.instr
+    → (jump : Option Arriving) → IfNone jump (jumps ≡ false) → IfSome jump (λ _. jumps ≡ true)
     → IfSome jump (λ a. IsStack es a.below) → IfSome jump (λ a. coming_in es a ≡ jumps_to g.branch s) → JumpIs x s es jump
 jump_is x s es g jumps e j None n f k c = sym j ∙ n
 jump_is x s es g jumps e j (Some a) n f k c = (sym j ∙ f, k, c ∙ ap (λ (h : Flow). jumps_to h.branch s) e)
@@ -64,7 +65,8 @@ jump_is x s es g jumps e j (Some a) n f k c = (sym j ∙ f, k, c ∙ ap (λ (h :
 pub operand_outside : (o : Object) (unit : ℕ) (s : State) (r : Read) → Shown (code_look o) unit s → read_at o unit ≡ Some r → operand_fits o r ≡ false → WalkFlaw o unit FlawKind.OperandOutside
 operand_outside o unit s r h e f = let w = some_walk (code_look o) unit s h in record { read = r; at = w.at; reached = w.reached; read_is = e; outside = f }
 
-module _ (o : Object) (unit : ℕ) (s : State) (r : UnitRead) (info : InstructionInfo) (same_instr : info.instr ≡ r.instr) (same_arg : info.arg ≡ r.arg) (read : read_at o unit ≡ Some (read_of r)) (fits : operand_fits o (read_of r) ≡ true) where
+module _ (o : Object) (unit : ℕ) (s : State) (r : UnitRead) (info : InstructionInfo) (same_instr : info.instr ≡ r.instr)
+    (same_arg : info.arg ≡ r.arg) (read : read_at o unit ≡ Some (read_of r)) (fits : operand_fits o (read_of r) ≡ true) where
   abbrev x : Seen ℕ
   x = sees_of (read_of r)
 
@@ -72,7 +74,7 @@ module _ (o : Object) (unit : ℕ) (s : State) (r : UnitRead) (info : Instructio
   flow_is = ap (λ i. flow_at i info.arg.0) same_instr ∙ ap (λ (a : OpArg). flow_at r.instr a.0) same_arg
 
   looks : code_look o unit ≡ Some x
-  looks = fit o unit (read_of r) read fits
+  looks = unit_view_fit o unit (read_of r) read fits
 
   label_is : is_jump info.instr ≡ is_label (row_of r.instr).kind
   label_is = ap is_jump same_instr

@@ -51,7 +51,8 @@ module _ (es fs : List Entry) (x : Extends es fs) where
       omega (arith, a, b, f, g)
 
 -- a unit has a stack with more marks, of stacks that may be new
-pub marks_added : (es fs : List Entry) (us : List (Option UnitState)) (place : ℕ) (known more : UnitState) → Extends es fs → AllStacks es us → place < length us → slice_get us place ≡ Some (Some known)
+pub marks_added : (es fs : List Entry) (us : List (Option UnitState)) (place : ℕ) (known more : UnitState) → Extends es fs → AllStacks es us
+    → place < length us → slice_get us place ≡ Some (Some known)
     → missing_in (blocks_of fs more.stack) < missing_in (blocks_of es known.stack) → Moves Change.Marks es us fs (slice_set us place (Some more))
 marks_added es fs us place known more x h within e fewer =
     let was : get_or us place (Some known) ≡ Some known = get_or_from_slice_get us place (Some known) (Some known) e in
@@ -124,13 +125,20 @@ module _ (es fs : List Entry) (us vs : List (Option UnitState)) (place : ℕ) (t
   arrives_grows k u c = elim (cases_eq k place) [
     | inl e ↦
         let there : state_at es us place ≡ Some c.by = subst (λ n. state_at es us n ≡ Some c.by) e c.there in
-        let r : Covered (state_at fs vs) place u = record { by = arrival (state_at es us place) t; there = a.there; covers = covers_trans (arrival (state_at es us place) t) c.by u (old_covered (state_at es us place) c.by t there a.fits) c.covers } in
+        let r : Covered (state_at fs vs) place u =
+        record {
+          by = arrival (state_at es us place) t;
+          there = a.there;
+          covers =
+              covers_trans (arrival (state_at es us place) t) c.by u (old_covered (state_at es us place) c.by t there a.fits) c.covers;
+        } in
         subst (λ n. Covered (state_at fs vs) n u) (sym e) r
     | inr n ↦ record { by = c.by; there = a.others k n ∙ c.there; covers = c.covers }
   ]
 
   -- what is so of each state that was there, and of the one after the arrival
-  each_after : (P : ℕ → State → Type 0) → ((k : ℕ) (s : State) → state_at es us k ≡ Some s → P k s) → P place (arrival (state_at es us place) t) → (k : ℕ) (s : State) → state_at fs vs k ≡ Some s → P k s
+  each_after : (P : ℕ → State → Type 0) → ((k : ℕ) (s : State) → state_at es us k ≡ Some s → P k s)
+      → P place (arrival (state_at es us place) t) → (k : ℕ) (s : State) → state_at fs vs k ≡ Some s → P k s
   each_after P h here k s q = elim (cases_eq k place) [
     | inl e ↦
         let z : arrival (state_at es us place) t ≡ s = same_Some (arrival (state_at es us place) t) s (sym a.there ∙ subst (λ n. state_at fs vs n ≡ Some s) e q) in

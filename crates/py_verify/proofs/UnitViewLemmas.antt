@@ -22,7 +22,10 @@ use Rattle.py_verify.proofs.Ranges.{IsThere, range_decodes}
 abbrev pub sees_of : Read → Seen ℕ
 sees_of r = record { flow = flow_at r.op r.operand; next = r.next; target = if is_label (row_of r.op).kind then Some r.operand else None }
 
-whole_of : (u : CodeUnit) (operand at : ℕ) (us : List CodeUnit) (b : Bool) (r : Read) → is_prefix u.op ≡ b → ((high : ℕ) (at : ℕ) (r : Read) → read_from high at us ≡ Some r → is_prefix r.op ≡ false) → (if b then read_from operand (suc at) us else Some (record { op = u.op; operand = operand; next = suc at })) ≡ Some r → is_prefix r.op ≡ false
+whole_of : (u : CodeUnit) (operand at : ℕ) (us : List CodeUnit) (b : Bool) (r : Read) → is_prefix u.op ≡ b
+    → ((high : ℕ) (at : ℕ) (r : Read) → read_from high at us ≡ Some r → is_prefix r.op ≡ false)
+    → (if b then read_from operand (suc at) us else Some (record { op = u.op; operand = operand; next = suc at })) ≡ Some r
+    → is_prefix r.op ≡ false
 whole_of u operand at us true r eb go e = go operand (suc at) r e
 whole_of u operand at us false r eb go e = subst (λ (q : Read). is_prefix q.op ≡ false) (same_Some (record { op = u.op; operand = operand; next = suc at }) r e) eb
 
@@ -59,17 +62,19 @@ module _ (o : Object) (p : ℕ) where
     seen_row (Some i) d h f =
         let w : RowIs (place_in (unit_count o) r.operand) r.op r.operand i = row_is ℕ (tables o) (place_in (unit_count o) r.operand) r.op r.operand i d in
         let t = w.target ∙ target_is (is_label (row_of r.op).kind) refl f in
-        ap (λ fl. let x : Seen ℕ = record { flow = fl; next = r.next; target = target_of i } in Some x) w.flow ∙ ap (λ g. let x : Seen ℕ = record { flow = flow_at r.op r.operand; next = r.next; target = g } in Some x) t
+        ap (λ fl. let x : Seen ℕ = record { flow = fl; next = r.next; target = target_of i } in Some x) w.flow
+        ∙ ap (λ g. let x : Seen ℕ = record { flow = flow_at r.op r.operand; next = r.next; target = g } in Some x) t
 
-    pub fit : operand_fits o r ≡ true → code_look o p ≡ Some (sees_of r)
-    fit f = unit_view_look_is ∙ seen_row (instr_of (tables o) (place_in (unit_count o) r.operand) r.op r.operand) refl (subst (λ b. IsThere b (instr_of (tables o) (place_in (unit_count o) r.operand) r.op r.operand)) f unit_view_there) f
+    pub unit_view_fit : operand_fits o r ≡ true → code_look o p ≡ Some (sees_of r)
+    unit_view_fit f = unit_view_look_is ∙ seen_row (instr_of (tables o) (place_in (unit_count o) r.operand) r.op r.operand) refl
+        (subst (λ b. IsThere b (instr_of (tables o) (place_in (unit_count o) r.operand) r.op r.operand)) f unit_view_there) f
 
 -- why nothing is seen at a unit
 pub unseen : (o : Object) (p : ℕ) → code_look o p ≡ None → (read_at o p ≡ None) ⊎ ((r : Read) × (read_at o p ≡ Some r) × (operand_fits o r ≡ false))
 unseen o p e = by_read (read_at o p) refl
   where
     by_range : (r : Read) (b : Bool) → read_at o p ≡ Some r → operand_fits o r ≡ b → (read_at o p ≡ None) ⊎ ((r : Read) × (read_at o p ≡ Some r) × (operand_fits o r ≡ false))
-    by_range r true er f = absurd (let q : None ≡ Some (sees_of r) = sym e ∙ fit o p r er f in cc)
+    by_range r true er f = absurd (let q : None ≡ Some (sees_of r) = sym e ∙ unit_view_fit o p r er f in cc)
     by_range r false er f = inr (r, er, f)
 
     by_read : (x : Option Read) → read_at o p ≡ x → (read_at o p ≡ None) ⊎ ((r : Read) × (read_at o p ≡ Some r) × (operand_fits o r ≡ false))

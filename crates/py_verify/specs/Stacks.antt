@@ -11,7 +11,7 @@ abbrev pub stack_at : List Shape → Option ℕ → Shape
 stack_at shapes None = []
 stack_at shapes (Some i) = slice_index_or shapes i []
 
--- the blocks of each entry's stack, behind those of the entries before
+-- the blocks of each entry's stack, after those of the entries before
 abbrev pub shapes_of : List Shape → List Entry → List Shape
 shapes_of shapes [] = shapes
 shapes_of shapes (e ∷ es) = shapes_of (shapes ++ (e.block ∷ stack_at shapes e.below) ∷ []) es

@@ -22,7 +22,7 @@ use Rattle.py_verify.specs.Flaws.{unit_count, WalkFlaw}
 use Rattle.py_verify.specs.Stacks.{Extends, IsLinked, IsStack}
 use Rattle.py_verify.specs.UnitStates.{AllStacks, Grows, Moves, coming_in, state_at}
 
--- a walk comes to a place in a state: it begins there, or an edge leads there from a unit
+-- a walk reaches a place in a state: it begins there, or an edge leads there from a unit
 pub data Comes (o : Object) (from : ℕ) : ℕ → State → Type 0 where
   Begins : (to : ℕ) (t : State) → from ≡ 0 → to ≡ 0 → t ≡ state 0 [] → Comes o from to t
   Goes : (s : State) (x : Seen ℕ) (to : ℕ) (t : State) → Shown (code_look o) from s → code_look o from ≡ Some x → Edge x s to t → Comes o from to t
@@ -77,7 +77,7 @@ abbrev pub HaltsAt : Object → Halt → Type 0
 HaltsAt o (Halt.Flawed kind place) = WalkFlaw o place kind
 HaltsAt o Halt.OutOfMemory = Unit {0}
 
--- how py_dataflow tells a verification error at a unit
+-- how py_dataflow reports a verification error at a unit
 abbrev pub halt_by : Refused → (unit : ℕ) → Halt
 halt_by Refused.NoEnd unit = Halt.Flawed FlawKind.PlaceOutside unit
 halt_by Refused.UnevenHeights unit = Halt.Flawed FlawKind.UnevenHeights unit
@@ -85,12 +85,12 @@ halt_by Refused.HeightOutOfRange unit = Halt.Flawed FlawKind.HeightOutside unit
 halt_by Refused.BlockMismatch unit = Halt.Flawed FlawKind.BlockMismatch unit
 halt_by Refused.OutOfMemory unit = Halt.OutOfMemory
 
--- what comes to the next unit, if it follows
+-- what reaches the next unit, if it follows
 abbrev pub FallsOn : Seen ℕ → State → List Entry → (next : ℕ) → Option Arriving → Type 0
 FallsOn x s es next None = x.flow.falls ≡ false
 FallsOn x s es next (Some a) = (x.flow.falls ≡ true) × (next ≡ x.next) × IsStack es a.below × (coming_in es a ≡ falls_to x.flow s)
 
--- what comes to the target, if there is one
+-- what reaches the target, if there is one
 abbrev pub JumpsOn : Seen ℕ → State → List Entry → (target : ℕ) → Option Arriving → Type 0
 JumpsOn x s es target None = x.target ≡ None
 JumpsOn x s es target (Some a) = (x.target ≡ Some target) × IsStack es a.below × (coming_in es a ≡ jumps_to x.flow.branch s)

@@ -18,7 +18,7 @@ abbrev pub with_block : Option Mark → Shape → Shape
 with_block None s = s
 with_block (Some m) s = m ∷ s
 
--- the state that comes to a unit
+-- the state that reaches a unit
 abbrev pub coming_in : List Entry → Arriving → State
 coming_in es a = state a.height (with_block a.opened (blocks_of es a.below))
 

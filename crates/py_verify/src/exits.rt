@@ -18,7 +18,7 @@ pub struct UnitState {
     pub stack: Option<usize>,
 }
 
-/// What comes to a unit: the height of the stack, and the blocks that are open, of which the innermost may have no entry yet.
+/// What reaches a unit: the height of the stack, and the blocks that are open, of which the innermost may have no entry yet.
 #[derive(Clone, Copy, Debug)]
 pub struct Arriving {
     pub height: u32,
@@ -57,7 +57,9 @@ fn kept(stacks: &Stacks, pops: bool, stack: Option<usize>) -> Option<usize>
     requires linked { IsLinked stacks.now.entries.items }
     requires stack { IsStack stacks.now.entries.items stack }
     ensures stack { IsStack stacks.now.entries.items result }
-    ensures shape { blocks_of stacks.now.entries.items result ≡ (if pops then rest_of (blocks_of stacks.now.entries.items stack) else blocks_of stacks.now.entries.items stack) }
+    ensures shape { blocks_of stacks.now.entries.items result
+        ≡ (if pops then rest_of (blocks_of stacks.now.entries.items stack) else blocks_of
+        stacks.now.entries.items stack) }
 {
     if pops { stacks.below(stack) } else { stack }
 }
@@ -65,7 +67,8 @@ fn kept(stacks: &Stacks, pops: bool, stack: Option<usize>) -> Option<usize>
 fn falls_fit(stacks: &Stacks, flow: Flow, known: UnitState) -> bool
     requires linked { IsLinked stacks.now.entries.items }
     requires stack { IsStack stacks.now.entries.items known.stack }
-    ensures { result ≡ falls_within flow known.height (blocks_of stacks.now.entries.items known.stack) }
+    ensures { result ≡ falls_within flow known.height
+        (blocks_of stacks.now.entries.items known.stack) }
 {
     let floor = stacks.height(kept(stacks, flow.pops, known.stack));
     has_enough(floor, flow.takes, flow.looks_at, known.height)
@@ -75,7 +78,8 @@ fn falls_fit(stacks: &Stacks, flow: Flow, known: UnitState) -> bool
 fn jumps_fit(stacks: &Stacks, branch: Branch, known: UnitState) -> bool
     requires linked { IsLinked stacks.now.entries.items }
     requires stack { IsStack stacks.now.entries.items known.stack }
-    ensures { result ≡ jumps_within branch known.height (blocks_of stacks.now.entries.items known.stack) }
+    ensures { result ≡ jumps_within branch known.height
+        (blocks_of stacks.now.entries.items known.stack) }
 {
     match branch {
         Branch::Goes { takes, gives, .. } => {
@@ -91,7 +95,8 @@ fn jumps_fit(stacks: &Stacks, branch: Branch, known: UnitState) -> bool
 fn has_block(stacks: &Stacks, needs: NeededBlock, known: UnitState) -> bool
     requires linked { IsLinked stacks.now.entries.items }
     requires stack { IsStack stacks.now.entries.items known.stack }
-    ensures { result ≡ has_block needs known.height (blocks_of stacks.now.entries.items known.stack) }
+    ensures { result ≡ has_block needs known.height
+        (blocks_of stacks.now.entries.items known.stack) }
 {
     match needs {
         NeededBlock::Loop => stacks.block(stacks.looped(known.stack)).is_some(),
@@ -147,15 +152,18 @@ fn opened(opening: Option<Opening>, height: u32) -> Option<Mark>
     }
 }
 
-/// What comes to the next unit, if it follows.
+/// What reaches the next unit, if it follows.
 pub fn fall_from(stacks: &Stacks, flow: Flow, known: UnitState) -> Option<Arriving>
     requires linked { IsLinked stacks.now.entries.items }
     requires stack { IsStack stacks.now.entries.items known.stack }
-    requires fits { falls_within flow known.height (blocks_of stacks.now.entries.items known.stack) ≡ true }
+    requires fits { falls_within flow known.height (blocks_of stacks.now.entries.items known.stack)
+        ≡ true }
     ensures none { IfNone result (flow.falls ≡ false) }
     ensures falls { IfSome result (λ _. flow.falls ≡ true) }
     ensures stack { IfSome result (λ a. IsStack stacks.now.entries.items a.below) }
-    ensures coming { IfSome result (λ a. coming_in stacks.now.entries.items a ≡ falls_to flow (state_in stacks.now.entries.items known)) }
+    ensures coming { IfSome result
+        (λ a. coming_in stacks.now.entries.items a
+        ≡ falls_to flow (state_in stacks.now.entries.items known)) }
 {
     if !flow.falls {
         return None;
@@ -167,13 +175,15 @@ pub fn fall_from(stacks: &Stacks, flow: Flow, known: UnitState) -> Option<Arrivi
     })
 }
 
-// What comes to the target of a jump.
+// What reaches the target of a jump.
 fn jump_to(stacks: &Stacks, branch: Branch, known: UnitState) -> Arriving
     requires linked { IsLinked stacks.now.entries.items }
     requires stack { IsStack stacks.now.entries.items known.stack }
-    requires fits { jumps_within branch known.height (blocks_of stacks.now.entries.items known.stack) ≡ true }
+    requires fits { jumps_within branch known.height
+        (blocks_of stacks.now.entries.items known.stack) ≡ true }
     ensures stack { IsStack stacks.now.entries.items result.below }
-    ensures coming { coming_in stacks.now.entries.items result ≡ jumps_to branch (state_in stacks.now.entries.items known) }
+    ensures coming { coming_in stacks.now.entries.items result
+        ≡ jumps_to branch (state_in stacks.now.entries.items known) }
 {
     match branch {
         Branch::Goes {
@@ -201,15 +211,18 @@ fn jump_to(stacks: &Stacks, branch: Branch, known: UnitState) -> Arriving
     }
 }
 
-/// What comes to the target of an instruction, if it jumps.
+/// What reaches the target of an instruction, if it jumps.
 pub fn jump_from(stacks: &Stacks, jumps: bool, branch: Branch, known: UnitState) -> Option<Arriving>
     requires linked { IsLinked stacks.now.entries.items }
     requires stack { IsStack stacks.now.entries.items known.stack }
-    requires fits { jumps ≡ true → jumps_within branch known.height (blocks_of stacks.now.entries.items known.stack) ≡ true }
+    requires fits { jumps ≡ true → jumps_within branch known.height
+        (blocks_of stacks.now.entries.items known.stack) ≡ true }
     ensures none { IfNone result (jumps ≡ false) }
     ensures jumps { IfSome result (λ _. jumps ≡ true) }
     ensures stack { IfSome result (λ a. IsStack stacks.now.entries.items a.below) }
-    ensures coming { IfSome result (λ a. coming_in stacks.now.entries.items a ≡ jumps_to branch (state_in stacks.now.entries.items known)) }
+    ensures coming { IfSome result
+        (λ a. coming_in stacks.now.entries.items a
+        ≡ jumps_to branch (state_in stacks.now.entries.items known)) }
 {
     if !jumps {
         return None;

@@ -11,7 +11,8 @@ use py_decode::UnitRead;
 
 /// Whether `n` is a place among cells and then free names.
 fn is_cell(code: &CodeObject, n: usize) -> bool
-    ensures { result ≡ in_range (tables (object code.now)) (unit_count (object code.now)) OperandKind.Cell n }
+    ensures { result ≡ in_range (tables (object code.now))
+        (unit_count (object code.now)) OperandKind.Cell n }
 {
     n < code.cellvars.len() || n - code.cellvars.len() < code.freevars.len()
 }

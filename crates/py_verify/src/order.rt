@@ -4,7 +4,7 @@ use py_dataflow::Flow;
 use py_decode::{UnitRead, read_in};
 use std::alloc::{AllocError, Global};
 
-// What a rank is until a walk in depth has come to the unit, and until it has left it.
+// What a rank is until a walk in depth has reached the unit, and until it has left it.
 const UNSEEN: usize = 0;
 
 const ENTERED: usize = 1;

@@ -1,4 +1,4 @@
-//! The search for verification errors in a code and in those within it.
+//! The search for verification errors in a code and in those nested in it.
 
 ghost use Rattle.std.specs.Prelude.{◌≡◌, ◌+◌, ◌∷◌, ◌++◌, ◌^◌, ◌<◌, ℕ, suc, [], length, map, true, IfOk};
 ghost use Rattle.std.specs.Option.{IfNone, IfSome};
@@ -71,7 +71,7 @@ fn check(
     }
 }
 
-/// The first verification error that a pass finds in a code, which stands at the end of `path`, or in those within it. The path then
+/// The first verification error that a pass finds in a code, which stands at the end of `path`, or in those nested in it. The path then
 /// leads to it, and else is as it was.
 ///
 /// # Errors
@@ -85,8 +85,10 @@ pub fn search(
 ) -> Result<Option<Spot>, AllocError>
     requires { Ready pass (object code.now) (length path.old + 1) }
     ensures same { IfOk result (λ found. IfNone found (path.new ≡ path.old)) }
-    ensures none { IfOk result (λ found. IfNone found (Clear pass (object code.now) (length path.old + 1))) }
-    ensures some { IfOk result (λ found. IfSome found (Found pass (object code.now) path.old path.new)) }
+    ensures none { IfOk result (λ found.
+        IfNone found (Clear pass (object code.now) (length path.old + 1))) }
+    ensures some { IfOk result (λ found.
+        IfSome found (Found pass (object code.now) path.old path.new)) }
 {
     if let Some(spot) = check(alloc, pass, code, path.len() + 1)? {
         return Ok(Some(spot));
@@ -105,8 +107,10 @@ fn search_constants(
 ) -> Result<Option<Spot>, AllocError>
     requires { ReadyAmong pass (map constant constants.now) (length path.old + 2) }
     ensures same { IfOk result (λ found. IfNone found (path.new ≡ path.old)) }
-    ensures none { IfOk result (λ found. IfNone found (ClearAmong pass (map constant constants.now) (length path.old + 2))) }
-    ensures some { IfOk result (λ found. IfSome found (FoundAmong pass (map constant constants.now) path.old path.new)) }
+    ensures none { IfOk result (λ found.
+        IfNone found (ClearAmong pass (map constant constants.now) (length path.old + 2))) }
+    ensures some { IfOk result (λ found.
+        IfSome found (FoundAmong pass (map constant constants.now) path.old path.new)) }
 {
     for (place, item) in constants.iter().enumerate() {
         if let Some(spot) = search_constant(alloc, pass, carried(place), item, path)? {
@@ -127,8 +131,10 @@ fn search_constant(
 ) -> Result<Option<Spot>, AllocError>
     requires { ReadyIn pass (constant item.now) (length path.old + 2) }
     ensures same { IfOk result (λ found. IfNone found (path.new ≡ path.old)) }
-    ensures none { IfOk result (λ found. IfNone found (ClearIn pass (constant item.now) (length path.old + 2))) }
-    ensures some { IfOk result (λ found. IfSome found (FoundIn pass (constant item.now) (path.old ++ place ∷ []) path.new)) }
+    ensures none { IfOk result (λ found.
+        IfNone found (ClearIn pass (constant item.now) (length path.old + 2))) }
+    ensures some { IfOk result (λ found.
+        IfSome found (FoundIn pass (constant item.now) (path.old ++ place ∷ []) path.new)) }
 {
     match item {
         ConstantData::Code { code } => search_child(alloc, pass, place, code, path),
@@ -153,8 +159,10 @@ fn search_child(
 ) -> Result<Option<Spot>, AllocError>
     requires { Ready pass (object code.now) (length path.old + 2) }
     ensures same { IfOk result (λ found. IfNone found (path.new ≡ path.old)) }
-    ensures none { IfOk result (λ found. IfNone found (Clear pass (object code.now) (length path.old + 2))) }
-    ensures some { IfOk result (λ found. IfSome found (Found pass (object code.now) (path.old ++ place ∷ []) path.new)) }
+    ensures none { IfOk result (λ found.
+        IfNone found (Clear pass (object code.now) (length path.old + 2))) }
+    ensures some { IfOk result (λ found.
+        IfSome found (Found pass (object code.now) (path.old ++ place ∷ []) path.new)) }
 {
     if path.push(place).is_err() {
         return Err(AllocError);

@@ -204,7 +204,8 @@ impl Stacks {
         requires linked { IsLinked self.now.entries.items }
         requires stack { IsStack self.now.entries.items stack }
         ensures stack { IsStack self.now.entries.items result }
-        ensures shape { blocks_of self.now.entries.items result ≡ rest_of (blocks_of self.now.entries.items stack) }
+        ensures shape { blocks_of self.now.entries.items result
+            ≡ rest_of (blocks_of self.now.entries.items stack) }
     {
         match self.top(stack) {
             Some(entry) => entry.below,
@@ -217,7 +218,8 @@ impl Stacks {
         requires linked { IsLinked self.now.entries.items }
         requires stack { IsStack self.now.entries.items stack }
         ensures stack { IsStack self.now.entries.items result }
-        ensures shape { blocks_of self.now.entries.items result ≡ from_loop (blocks_of self.now.entries.items stack) }
+        ensures shape { blocks_of self.now.entries.items result
+            ≡ from_loop (blocks_of self.now.entries.items stack) }
     {
         match self.top(stack) {
             Some(entry) => entry.looped,
@@ -262,7 +264,9 @@ impl Stacks {
         requires below { IsStack self.now.entries.items below }
         ensures own { is_loop block.kind ≡ true → result ≡ Some (length self.now.entries.items) }
         ensures stack { is_loop block.kind ≡ false → IsStack self.now.entries.items result }
-        ensures shape { is_loop block.kind ≡ false → blocks_of self.now.entries.items result ≡ from_loop (blocks_of self.now.entries.items below) }
+        ensures shape { is_loop block.kind ≡ false
+            → blocks_of self.now.entries.items result
+            ≡ from_loop (blocks_of self.now.entries.items below) }
     {
         if block.kind.is_loop() {
             Some(self.entries.len())
@@ -295,7 +299,9 @@ impl Stacks {
     fn find(&self, block: Mark, below: Option<usize>) -> Option<usize>
         requires linked { IsLinked self.now.entries.items }
         ensures found { IfSome result (λ number. IsStack self.now.entries.items (Some number)) }
-        ensures shape { IfSome result (λ number. blocks_of self.now.entries.items (Some number) ≡ block ∷ blocks_of self.now.entries.items below) }
+        ensures shape { IfSome result (λ number.
+            blocks_of self.now.entries.items (Some number) ≡ block
+            ∷ blocks_of self.now.entries.items below) }
     {
         let number = *self.numbers.get(&key_of(block, below))?;
         if number < self.entries.len() && is_entry(self.entries[number], block, below) {
@@ -314,7 +320,9 @@ impl Stacks {
         requires below { IsStack self.old.entries.items below }
         ensures extends { IfOk result (λ _. Extends self.old.entries.items self.new.entries.items) }
         ensures stack { IfOk result (IsStack self.new.entries.items) }
-        ensures shape { IfOk result (λ stack. blocks_of self.new.entries.items stack ≡ block ∷ blocks_of self.old.entries.items below) }
+        ensures shape { IfOk result (λ stack.
+            blocks_of self.new.entries.items stack ≡ block
+            ∷ blocks_of self.old.entries.items below) }
     {
         if let Some(number) = self.find(block, below) {
             return Ok(Some(number));
@@ -336,7 +344,9 @@ impl Stacks {
         requires below { IsStack self.old.entries.items below }
         ensures extends { IfOk result (λ _. Extends self.old.entries.items self.new.entries.items) }
         ensures stack { IfOk result (IsStack self.new.entries.items) }
-        ensures shape { IfOk result (λ stack. blocks_of self.new.entries.items stack ≡ above.items ++ blocks_of self.old.entries.items below) }
+        ensures shape { IfOk result (λ stack.
+            blocks_of self.new.entries.items stack ≡ above.items
+            ++ blocks_of self.old.entries.items below) }
     {
         let mut above = above;
         let mut stack = below;
@@ -357,8 +367,11 @@ impl Stacks {
         requires mine { IsStack self.now.entries.items mine }
         requires theirs { IsStack self.now.entries.items theirs }
         ensures meeting { IfOk result (IsMeeting self.now.entries.items mine theirs) }
-        ensures unlike { IfErr result (λ e. e ≡ Refused.BlockMismatch → ¬ Alike (blocks_of self.now.entries.items mine) (blocks_of self.now.entries.items theirs)) }
-        ensures others { IfErr result (λ e. (e ≢ Refused.NoEnd) × (e ≢ Refused.HeightOutOfRange) × (e ≢ Refused.UnevenHeights)) }
+        ensures unlike { IfErr result (λ e. e ≡ Refused.BlockMismatch
+            → ¬ Alike (blocks_of self.now.entries.items mine)
+            (blocks_of self.now.entries.items theirs)) }
+        ensures others { IfErr result (λ e.
+            (e ≢ Refused.NoEnd) × (e ≢ Refused.HeightOutOfRange) × (e ≢ Refused.UnevenHeights)) }
     {
         let mut above = Vec::new(alloc);
         let mut one = mine;
@@ -402,9 +415,13 @@ impl Stacks {
         requires linked { IsLinked self.old.entries.items }
         requires mine { IsStack self.old.entries.items mine }
         requires theirs { IsStack self.old.entries.items theirs }
-        ensures joined { IfOk result (IsJoined self.old.entries.items self.new.entries.items mine theirs) }
-        ensures unlike { IfErr result (λ e. e ≡ Refused.BlockMismatch → ¬ Alike (blocks_of self.old.entries.items mine) (blocks_of self.old.entries.items theirs)) }
-        ensures others { IfErr result (λ e. (e ≢ Refused.NoEnd) × (e ≢ Refused.HeightOutOfRange) × (e ≢ Refused.UnevenHeights)) }
+        ensures joined { IfOk result (IsJoined self.old.entries.items self.new.entries.items mine
+            theirs) }
+        ensures unlike { IfErr result (λ e. e ≡ Refused.BlockMismatch
+            → ¬ Alike (blocks_of self.old.entries.items mine)
+            (blocks_of self.old.entries.items theirs)) }
+        ensures others { IfErr result (λ e.
+            (e ≢ Refused.NoEnd) × (e ≢ Refused.HeightOutOfRange) × (e ≢ Refused.UnevenHeights)) }
     {
         let met = self.meeting(alloc, mine, theirs)?;
         if !met.adds {

@@ -1,4 +1,4 @@
-//! Flaws and verdicts.
+//! Verification errors and verdicts.
 
 ghost use Rattle.std.specs.Prelude.{◌≡◌};
 
@@ -34,7 +34,7 @@ pub struct Flaw {
     pub kind: FlawKind,
 }
 
-/// Whether a code object, with those within it, may be run.
+/// Whether a code object, with those nested in it, may be run.
 #[derive(PartialEq, Eq, Debug, Drop)]
 pub enum Verdict {
     Yes,

@@ -64,9 +64,9 @@ pub struct Exits {
     pub next: usize,
     /// The operand: the place of the target, if it is a jump.
     pub target: usize,
-    /// What comes to the next unit, if it may follow.
+    /// What reaches the next unit, if it may follow.
     pub fall: Option<Arriving>,
-    /// What comes to the target, if it is a jump.
+    /// What reaches the target, if it is a jump.
     pub jump: Option<Arriving>,
 }
 
@@ -84,7 +84,7 @@ fn halt_of(refused: Refused, unit: usize) -> Halt
     Halt::Flawed { kind, unit }
 }
 
-// The instruction as py_dataflow takes it. Where it goes on is told by what is read, so it has neither a block nor a
+// The instruction as py_dataflow takes it. Where it goes on is given by what is read, so it has neither a block nor a
 // location.
 fn info_of(read: UnitRead) -> InstructionInfo
     ensures instr { result.instr ≡ read.instr }
@@ -100,8 +100,10 @@ fn info_of(read: UnitRead) -> InstructionInfo
 
 // Puts a unit on the work list, if its state changed.
 fn note(work: &mut BinaryHeap<Task>, rank: usize, unit: usize, change: Change) -> Result<(), Halt>
-    ensures listed { IfOk result (λ _. change ≢ Change.Nothing → IsListed (heap_items work.new) unit) }
-    ensures kept { IfOk result (λ _. (k : ℕ) → IsListed (heap_items work.old) k → IsListed (heap_items work.new) k) }
+    ensures listed { IfOk result (λ _. change ≢ Change.Nothing
+        → IsListed (heap_items work.new) unit) }
+    ensures kept { IfOk result (λ _. (k : ℕ) → IsListed (heap_items work.old) k
+        → IsListed (heap_items work.new) k) }
     ensures still { change ≡ Change.Nothing → heap_len work.new ≡ heap_len work.old }
     ensures memory { IfErr result (λ halt. halt ≡ Halt.OutOfMemory) }
 {
@@ -138,10 +140,17 @@ fn arrive(
     requires stack { IsStack stacks.old.entries.items arriving.stack }
     requires inside { place < length states.old }
     requires whole { IsWhole (state_at stacks.old.entries.items states.old place) }
-    ensures arrives { IfOk result (λ _. Arrives stacks.old.entries.items states.old stacks.new.entries.items states.new place (state_in stacks.old.entries.items arriving)) }
-    ensures moves { IfOk result (λ change. Moves change stacks.old.entries.items states.old stacks.new.entries.items states.new) }
-    ensures uneven { IfErr result (λ e. e ≡ Refused.UnevenHeights → IsUneven (state_at stacks.old.entries.items states.old place) (state_in stacks.old.entries.items arriving)) }
-    ensures unfit { IfErr result (λ e. e ≡ Refused.BlockMismatch → Unfit (state_at stacks.old.entries.items states.old place) (state_in stacks.old.entries.items arriving)) }
+    ensures arrives { IfOk result (λ _.
+        Arrives stacks.old.entries.items states.old stacks.new.entries.items states.new place
+        (state_in stacks.old.entries.items arriving)) }
+    ensures moves { IfOk result (λ change.
+        Moves change stacks.old.entries.items states.old stacks.new.entries.items states.new) }
+    ensures uneven { IfErr result (λ e. e ≡ Refused.UnevenHeights
+        → IsUneven (state_at stacks.old.entries.items states.old place)
+        (state_in stacks.old.entries.items arriving)) }
+    ensures unfit { IfErr result (λ e. e ≡ Refused.BlockMismatch
+        → Unfit (state_at stacks.old.entries.items states.old place)
+        (state_in stacks.old.entries.items arriving)) }
     ensures others { IfErr result (λ e. (e ≢ Refused.NoEnd) × (e ≢ Refused.HeightOutOfRange)) }
 {
     match states[place] {
@@ -178,7 +187,8 @@ fn state_of(stacks: &mut Stacks, arriving: Arriving) -> Result<UnitState, Halt>
     requires below { IsStack stacks.old.entries.items arriving.below }
     ensures extends { IfOk result (λ _. Extends stacks.old.entries.items stacks.new.entries.items) }
     ensures stack { IfOk result (λ known. IsStack stacks.new.entries.items known.stack) }
-    ensures state { IfOk result (λ known. state_in stacks.new.entries.items known ≡ coming_in stacks.old.entries.items arriving) }
+    ensures state { IfOk result (λ known.
+        state_in stacks.new.entries.items known ≡ coming_in stacks.old.entries.items arriving) }
     ensures memory { IfErr result (λ halt. halt ≡ Halt.OutOfMemory) }
 {
     let stack = match arriving.opened {
@@ -207,9 +217,12 @@ fn reach(
     requires reading { IsReading (object code.now) reads.now }
     requires known { KnownIn (object code.now) (entries_in progress.old) progress.old.states.items }
     requires stack { IsStack (entries_in progress.old) arriving.below }
-    requires comes { Comes (object code.now) from to (coming_in (entries_in progress.old) arriving) }
-    ensures steps { IfOk result (λ change. Steps (object code.now) progress.old progress.new change) }
-    ensures covered { IfOk result (λ _. Covered (known_by progress.new) to (coming_in (entries_in progress.old) arriving)) }
+    requires comes { Comes (object code.now) from to
+        (coming_in (entries_in progress.old) arriving) }
+    ensures steps { IfOk result (λ change.
+        Steps (object code.now) progress.old progress.new change) }
+    ensures covered { IfOk result (λ _.
+        Covered (known_by progress.new) to (coming_in (entries_in progress.old) arriving)) }
     ensures halts { IfErr result (HaltsAt (object code.now)) }
 {
     if !begins_in(reads, to) {
@@ -248,9 +261,13 @@ fn reach_if(
     requires reading { IsReading (object code.now) reads.now }
     requires known { KnownIn (object code.now) (entries_in progress.old) progress.old.states.items }
     requires stack { IfSome arriving (λ a. IsStack (entries_in progress.old) a.below) }
-    requires comes { IfSome arriving (λ a. Comes (object code.now) from to (coming_in (entries_in progress.old) a)) }
-    ensures steps { IfOk result (λ change. Steps (object code.now) progress.old progress.new change) }
-    ensures covered { IfOk result (λ _. IfSome arriving (λ a. Covered (known_by progress.new) to (coming_in (entries_in progress.old) a))) }
+    requires comes { IfSome arriving
+        (λ a. Comes (object code.now) from to (coming_in (entries_in progress.old) a)) }
+    ensures steps { IfOk result (λ change.
+        Steps (object code.now) progress.old progress.new change) }
+    ensures covered { IfOk result (λ _.
+        IfSome arriving (λ a. Covered (known_by progress.new) to
+        (coming_in (entries_in progress.old) a))) }
     ensures halts { IfErr result (HaltsAt (object code.now)) }
 {
     match arriving {
@@ -270,15 +287,17 @@ fn exits_of(
     requires reading { IsReading (object code.now) reads.now }
     requires linked { IsLinked stacks.now.entries.items }
     requires stack { IsStack stacks.now.entries.items known.stack }
-    requires shown { Shown (code_look (object code.now)) unit (state_in stacks.now.entries.items known) }
+    requires shown { Shown (code_look (object code.now)) unit
+        (state_in stacks.now.entries.items known) }
     requires begins { read_at (object code.now) unit ≢ None }
-    ensures exits { IfOk result (IsExits (object code.now) unit (state_in stacks.now.entries.items known) stacks.now.entries.items) }
+    ensures exits { IfOk result (IsExits (object code.now) unit
+        (state_in stacks.now.entries.items known) stacks.now.entries.items) }
     ensures halts { IfErr result (HaltsAt (object code.now)) }
 {
     // Its range is known where it is read.
     let _most = code.max_stackdepth;
     let Some(read) = read_in(reads, unit) else {
-        // No walk comes to where no instruction begins.
+        // No walk reaches where no instruction begins.
         return Err(Halt::Flawed {
             kind: FlawKind::PlaceOutside,
             unit,
@@ -325,8 +344,11 @@ fn visit(
 ) -> Result<Change, Halt>
     requires reading { IsReading (object code.now) reads.now }
     requires known { KnownIn (object code.now) (entries_in progress.old) progress.old.states.items }
-    ensures steps { IfOk result (λ change. Steps (object code.now) progress.old progress.new change) }
-    ensures settled { IfOk result (λ _. Settled (object code.now) (known_by progress.new) unit ⊎ IsListed (tasks_in progress.new) unit) }
+    ensures steps { IfOk result (λ change.
+        Steps (object code.now) progress.old progress.new change) }
+    ensures settled { IfOk result (λ _.
+        Settled (object code.now) (known_by progress.new) unit
+        ⊎ IsListed (tasks_in progress.new) unit) }
     ensures halts { IfErr result (HaltsAt (object code.now)) }
 {
     let exits = match known_of(&progress.states, unit) {
@@ -347,9 +369,14 @@ fn advance(
 ) -> Result<Change, Halt>
     requires reading { IsReading (object code.now) reads.now }
     requires working { IsWorking (object code.now) progress.old }
-    ensures working { IfOk result (λ _. IsWorking (object code.now) progress.new × Grows (known_by progress.old) (known_by progress.new)) }
-    ensures moves { IfOk result (λ change. Moves change (entries_in progress.old) progress.old.states.items (entries_in progress.new) progress.new.states.items) }
-    ensures done { IfOk result (λ change. change ≡ Change.Nothing → heap_len progress.new.work ≡ 0) }
+    ensures working { IfOk result (λ _.
+        IsWorking (object code.now) progress.new
+        × Grows (known_by progress.old) (known_by progress.new)) }
+    ensures moves { IfOk result (λ change.
+        Moves change (entries_in progress.old) progress.old.states.items
+        (entries_in progress.new) progress.new.states.items) }
+    ensures done { IfOk result (λ change. change ≡ Change.Nothing
+        → heap_len progress.new.work ≡ 0) }
     ensures halts { IfErr result (HaltsAt (object code.now)) }
 {
     while let Some(task) = progress.work.pop() {
@@ -371,9 +398,12 @@ fn spread(
 ) -> Result<bool, Halt>
     requires reading { IsReading (object code.now) reads.now }
     requires working { IsWorking (object code.now) progress.old }
-    ensures working { IfOk result (λ _. IsWorking (object code.now) progress.new × Grows (known_by progress.old) (known_by progress.new)) }
+    ensures working { IfOk result (λ _.
+        IsWorking (object code.now) progress.new
+        × Grows (known_by progress.old) (known_by progress.new)) }
     ensures done { IfOk result (λ more. more ≡ false → heap_len progress.new.work ≡ 0) }
-    ensures fewer { IfOk result (λ more. more ≡ true → unknown progress.new.states.items < unknown progress.old.states.items) }
+    ensures fewer { IfOk result (λ more. more ≡ true
+        → unknown progress.new.states.items < unknown progress.old.states.items) }
     ensures halts { IfErr result (HaltsAt (object code.now)) }
 {
     loop {
@@ -394,8 +424,11 @@ fn spread_all(
 ) -> Result<(), Halt>
     requires reading { IsReading (object code.now) reads.now }
     requires working { IsWorking (object code.now) progress.old }
-    ensures known { IfOk result (λ _. KnownIn (object code.now) (entries_in progress.new) progress.new.states.items × Grows (known_by progress.old) (known_by progress.new)) }
-    ensures settled { IfOk result (λ _. (k : ℕ) → Settled (object code.now) (known_by progress.new) k) }
+    ensures known { IfOk result (λ _. KnownIn (object code.now)
+        (entries_in progress.new) progress.new.states.items
+        × Grows (known_by progress.old) (known_by progress.new)) }
+    ensures settled { IfOk result (λ _. (k : ℕ)
+        → Settled (object code.now) (known_by progress.new) k) }
     ensures halts { IfErr result (HaltsAt (object code.now)) }
 {
     loop {
@@ -435,7 +468,8 @@ fn walk_all(
 pub fn walk_flaw(alloc: Global, code: &CodeObject) -> Result<Option<Spot>, AllocError>
     requires small { unit_count (object code.now) < 2 ^ 32 }
     ensures none { IfOk result (λ found. IfNone found (sound (object code.now))) }
-    ensures some { IfOk result (λ found. IfSome found (λ spot. WalkFlaw (object code.now) spot.unit spot.kind)) }
+    ensures some { IfOk result (λ found.
+        IfSome found (λ spot. WalkFlaw (object code.now) spot.unit spot.kind)) }
 {
     let reads = read_all(alloc, code)?;
     let mut progress = Progress {

@@ -93,12 +93,15 @@ form_child h cs i d w s c q = w c (path_place i ∷ q.0, (i, d, s, refl, q.1))
 mutual
   fault_free : (o : Object) → WellFormed o → first_fault o ≡ None
   fault_free (obj.object_of h cs) w =
-      form_both_none (option_map (at_path []) (own_fault h (const_list cs))) (fault_among 0 cs) (ap (option_map (at_path [])) (w (obj.object_of h cs) ([], refl))) (free_among 0 cs (λ i d s. form_child h cs i d w s))
+      form_both_none (option_map (at_path []) (own_fault h (const_list cs))) (fault_among 0 cs)
+      (ap (option_map (at_path [])) (w (obj.object_of h cs) ([], refl))) (free_among 0 cs (λ i d s. form_child h cs i d w s))
 
   free_among : (place : ℕ) (cs : Consts) → ((i : ℕ) (d : Object) → slice_get (const_list cs) i ≡ Some (code d) → WellFormed d) → fault_among place cs ≡ None
   free_among place obj.no_consts w = refl
   free_among place (obj.more_consts c cs) w =
-      form_both_none (option_map (from (path_place place ∷ [])) (fault_in c)) (fault_among (suc place) cs) (ap (option_map (from (path_place place ∷ []))) (free_in c (λ d e. w zero d (ap Some e)))) (free_among (suc place) cs (λ i d s. w (suc i) d s))
+      form_both_none (option_map (from (path_place place ∷ [])) (fault_in c)) (fault_among (suc place) cs)
+      (ap (option_map (from (path_place place ∷ []))) (free_in c (λ d e. w zero d (ap Some e))))
+      (free_among (suc place) cs (λ i d s. w (suc i) d s))
 
   free_in : (c : Const) → ((d : Object) → c ≡ code d → WellFormed d) → fault_in c ≡ None
   free_in (obj.code o) w = fault_free o (w o refl)

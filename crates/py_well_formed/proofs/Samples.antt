@@ -11,9 +11,9 @@ use Rattle.py_well_formed.specs.declared.fault.FormFaultKind.TheVariants as faul
 use Rattle.py_well_formed.specs.WellFormed.{first_fault}
 
 -- a location for each unit
-abbrev located : List CodeUnit → List SourceLocation
-located [] = []
-located (u ∷ us) = record { row = 1; column = 1 } ∷ located us
+abbrev sample_located : List CodeUnit → List SourceLocation
+sample_located [] = []
+sample_located (u ∷ us) = record { row = 1; column = 1 } ∷ sample_located us
 
 abbrev fitting : (flags : ℕ) → List CodeUnit → (varnames cells free : List (List ℕ)) → Head
 fitting flags units varnames cells free = record {
@@ -26,7 +26,7 @@ fitting flags units varnames cells free = record {
   obj_name = codes "f";
   max_stackdepth = 9;
   instructions = units;
-  locations = located units;
+  locations = sample_located units;
   names = [];
   varnames = varnames;
   cellvars = cells;

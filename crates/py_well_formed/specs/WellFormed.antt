@@ -1,4 +1,4 @@
--- Well-formed codes, and the first fault of a code or of those within it.
+-- Well-formed codes, and the first fault of a code or of those nested in it.
 use Rattle.std.specs.Prelude.{◌≡◌, ℕ, suc, List, [], ◌∷◌, ◌++◌, Option, None}
 use Rattle.std.specs.Option.{option_map}
 use Rattle.py_bytecode.specs.Objects as obj

@@ -10,7 +10,7 @@ use py_base::List;
 use py_bytecode::CodeObject;
 use std::alloc::{AllocError, Global};
 
-/// The first fault of form of a code object or of those within it: None exactly where each of them is well formed.
+/// The first fault of form of a code object or of those nested in it: None exactly where each of them is well formed.
 ///
 /// # Errors
 /// There is no memory for the path or for the instructions of a code.

@@ -1,4 +1,4 @@
-//! The search for faults in a code and in those within it.
+//! The search for faults in a code and in those nested in it.
 
 ghost use Rattle.std.specs.Prelude.{◌≡◌, ◌∷◌, ◌++◌, [], None, map, IfOk};
 ghost use Rattle.std.specs.Option.{option_map};
@@ -16,7 +16,8 @@ use std::alloc::{AllocError, Global};
 
 // The first fault of a code itself.
 fn own_fault(alloc: Global, code: &CodeObject) -> Result<Option<FormSpot>, AllocError>
-    ensures { IfOk result (λ found. found ≡ own_fault (head_of code.now) (map constant code.now.constants)) }
+    ensures { IfOk result (λ found. found
+        ≡ own_fault (head_of code.now) (map constant code.now.constants)) }
 {
     match table_fault(code) {
         Some(kind) => Ok(Some(FormSpot { unit: None, kind })),
@@ -24,7 +25,7 @@ fn own_fault(alloc: Global, code: &CodeObject) -> Result<Option<FormSpot>, Alloc
     }
 }
 
-/// The first fault of a code, which stands at the end of `path`, or of those within it. The path then leads to it, and
+/// The first fault of a code, which stands at the end of `path`, or of those nested in it. The path then leads to it, and
 /// else is as it was.
 ///
 /// # Errors
@@ -36,7 +37,9 @@ pub fn search(
     path: &mut List<u32>,
 ) -> Result<Option<FormSpot>, AllocError>
     ensures same { IfOk result (λ found. found ≡ None → path.new ≡ path.old) }
-    ensures exact { IfOk result (λ found. option_map (at_path path.new) found ≡ option_map (from path.old) (first_fault (object code.now))) }
+    ensures exact { IfOk result (λ found.
+        option_map (at_path path.new) found
+        ≡ option_map (from path.old) (first_fault (object code.now))) }
 {
     if let Some(spot) = own_fault(alloc, code)? {
         return Ok(Some(spot));
@@ -52,7 +55,9 @@ fn search_constants(
     path: &mut List<u32>,
 ) -> Result<Option<FormSpot>, AllocError>
     ensures same { IfOk result (λ found. found ≡ None → path.new ≡ path.old) }
-    ensures exact { IfOk result (λ found. option_map (at_path path.new) found ≡ option_map (from path.old) (fault_among 0 (constants_of constants.now))) }
+    ensures exact { IfOk result (λ found.
+        option_map (at_path path.new) found
+        ≡ option_map (from path.old) (fault_among 0 (constants_of constants.now))) }
 {
     for (place, item) in constants.iter().enumerate() {
         if let Some(spot) = search_constant(alloc, carried(place), item, path)? {
@@ -71,7 +76,9 @@ fn search_constant(
     path: &mut List<u32>,
 ) -> Result<Option<FormSpot>, AllocError>
     ensures same { IfOk result (λ found. found ≡ None → path.new ≡ path.old) }
-    ensures exact { IfOk result (λ found. option_map (at_path path.new) found ≡ option_map (from (path.old ++ place ∷ [])) (fault_in (constant item.now))) }
+    ensures exact { IfOk result (λ found.
+        option_map (at_path path.new) found
+        ≡ option_map (from (path.old ++ place ∷ [])) (fault_in (constant item.now))) }
 {
     match item {
         ConstantData::Code { code } => search_child(alloc, place, code, path),
@@ -94,7 +101,9 @@ fn search_child(
     path: &mut List<u32>,
 ) -> Result<Option<FormSpot>, AllocError>
     ensures same { IfOk result (λ found. found ≡ None → path.new ≡ path.old) }
-    ensures exact { IfOk result (λ found. option_map (at_path path.new) found ≡ option_map (from (path.old ++ place ∷ [])) (first_fault (object code.now))) }
+    ensures exact { IfOk result (λ found.
+        option_map (at_path path.new) found
+        ≡ option_map (from (path.old ++ place ∷ [])) (first_fault (object code.now))) }
 {
     if path.push(place).is_err() {
         return Err(AllocError);

@@ -128,14 +128,16 @@ fn builds(line: Option<Line>, count: usize) -> bool
 
 // Whether `n` is a place among cells and then free names.
 fn is_cell(code: &CodeObject, n: usize) -> bool
-    ensures { result ≡ nat_lt n (length (head_of code.now).cellvars + length (head_of code.now).freevars) }
+    ensures { result ≡ nat_lt n (length (head_of code.now).cellvars
+        + length (head_of code.now).freevars) }
 {
     n < code.cellvars.len() || n - code.cellvars.len() < code.freevars.len()
 }
 
 // Whether a line loads a cell or a free name of the code.
 fn loads_cell(code: &CodeObject, line: Option<Line>) -> bool
-    ensures { result ≡ loads_cell line (length (head_of code.now).cellvars + length (head_of code.now).freevars) }
+    ensures { result ≡ loads_cell line
+        (length (head_of code.now).cellvars + length (head_of code.now).freevars) }
 {
     match line {
         Some(line) => matches!(line.op, Instruction::LoadClosure)
@@ -156,7 +158,8 @@ fn entry_line(lines: &[Line], i: usize, entry: usize) -> Option<Line>
 
 // Whether the lines before the tuple load so many cells.
 fn loads_cells(code: &CodeObject, lines: &[Line], i: usize, count: usize) -> bool
-    ensures { result ≡ loads_cells lines.now i (length (head_of code.now).cellvars + length (head_of code.now).freevars) count }
+    ensures { result ≡ loads_cells lines.now i
+        (length (head_of code.now).cellvars + length (head_of code.now).freevars) count }
 {
     for entry in 0..count {
         if !loads_cell(code, entry_line(lines, i, entry)) {
@@ -201,7 +204,9 @@ fn closure_fault(
 
 // What is wrong with a function that is made first.
 fn function_fault(code: &CodeObject, lines: &[Line], i: usize, flags: u32) -> Option<FormFaultKind>
-    ensures { result ≡ first_unmet (function_conditions (head_of code.now) (map constant code.now.constants) lines.now i flags) }
+    ensures { result ≡ first_unmet
+        (function_conditions (head_of code.now)
+        (map constant code.now.constants) lines.now i flags) }
 {
     if !is_text(code, before(lines, i, 1)) {
         return Some(FormFaultKind::MadeOfNoCode);
@@ -212,7 +217,8 @@ fn function_fault(code: &CodeObject, lines: &[Line], i: usize, flags: u32) -> Op
 
 // What is wrong with the instruction in a line first.
 fn line_fault(code: &CodeObject, lines: &[Line], i: usize, line: Line) -> Option<FormFaultKind>
-    ensures { result ≡ first_unmet (line_conditions (head_of code.now) (map constant code.now.constants) lines.now i line) }
+    ensures { result ≡ first_unmet
+        (line_conditions (head_of code.now) (map constant code.now.constants) lines.now i line) }
 {
     if is_quick(line.op) && !has_flag(code, CodeFlags::IS_OPTIMIZED) {
         return Some(FormFaultKind::QuickLocal);
@@ -229,7 +235,8 @@ fn line_fault(code: &CodeObject, lines: &[Line], i: usize, line: Line) -> Option
 
 // The first fault in lines.
 fn fault_in_lines(code: &CodeObject, lines: &[Line]) -> Option<FormSpot>
-    ensures { result ≡ line_fault (head_of code.now) (map constant code.now.constants) lines.now 0 lines.now }
+    ensures { result ≡ line_fault (head_of code.now)
+        (map constant code.now.constants) lines.now 0 lines.now }
 {
     for (i, line) in lines.iter().enumerate() {
         if let Some(kind) = line_fault(code, lines, i, *line) {
@@ -247,7 +254,8 @@ fn fault_in_lines(code: &CodeObject, lines: &[Line]) -> Option<FormSpot>
 /// # Errors
 /// There is no memory for the instructions.
 pub fn unit_fault(alloc: Global, code: &CodeObject) -> Result<Option<FormSpot>, AllocError>
-    ensures { IfOk result (λ found. found ≡ unit_fault (head_of code.now) (map constant code.now.constants)) }
+    ensures { IfOk result (λ found. found
+        ≡ unit_fault (head_of code.now) (map constant code.now.constants)) }
 {
     let lines = lines_of(alloc, code.instructions.as_slice())?;
     Ok(fault_in_lines(code, &lines))

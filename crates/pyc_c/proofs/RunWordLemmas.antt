@@ -1,5 +1,6 @@
 -- The words of a run, by whether the path is UTF-8; C may ask for what they say.
-use Rattle.std.proofs.Common.{◌≡◌, ◌==◌, ◌&&◌, ◌^◌, nat_lt, length, ℕ, List, [], ◌∷◌, Bool, true, false, IfOk, Option, Some, None, Result, Ok, Err, codes, if◌then◌else◌, option_map, refl, ◌∙◌, subst, sym}
+use Rattle.std.proofs.Common.{◌≡◌, ◌==◌, ◌&&◌, ◌^◌, nat_lt, length, ℕ, List, [], ◌∷◌, Bool, true, false, IfOk, Option, Some, None, Result}
+use Rattle.std.proofs.Common.{Ok, Err, codes, if◌then◌else◌, option_map, refl, ◌∙◌, subst, sym}
 use Rattle.std.proofs.lemmas.Str.{is_utf8-from_IsUtf8}
 use Rattle.std.specs.Str.{IsUtf8, bytes_eq, is_utf8}
 use Rattle.py_run.specs.Words.{Compilation, Compile, Pack, Unpack, Names, compilation_of, compile_of, sample_of, words_form}
@@ -66,7 +67,10 @@ asks output mode level path plain = by_output (output == 0) (output == 1) (outpu
     if_names true = tt
     if_names false = tt
 
-    by_output : (listing file unpack names : Bool) → IsOffered (words_form (if listing then mode ∷ level ∷ path ∷ [] else (if file then codes "pack" ∷ mode ∷ level ∷ path ∷ [] else (if unpack then codes "unpack" ∷ [] else (if names then codes "names" ∷ path ∷ [] else [])))))
+    by_output : (listing file unpack names : Bool) → IsOffered
+        (words_form (if listing then mode ∷ level ∷ path
+        ∷ [] else (if file then codes "pack" ∷ mode ∷ level ∷ path
+        ∷ [] else (if unpack then codes "unpack" ∷ [] else (if names then codes "names" ∷ path ∷ [] else [])))))
     by_output true file unpack names = if_compiles (bytes_eq mode (codes "sample")) plain
     by_output false true unpack names = if_packs (bytes_eq (codes "pack") (codes "pack") && nat_lt (length path) (2 ^ 32))
     by_output false false true names = if_unpacks (bytes_eq (codes "unpack") (codes "unpack"))

@@ -21,7 +21,7 @@ kind_number FlawKind.HeightOutside = 5
 kind_number FlawKind.UnevenHeights = 6
 kind_number FlawKind.BlockMismatch = 7
 
--- the verification error holds in the code or in one within it, and is one of a limit where there is any
+-- the verification error holds in the code or in one nested in it, and is one of a limit where there is any
 abbrev pub IsFlawOf : Object → Flaw → Type 0
 IsFlawOf o flaw = Holds o flaw.path flaw.unit flaw.kind × (is_limit flaw.kind ≡ false → WithinLimits o)
 
@@ -43,12 +43,12 @@ pub record TellsNone (count unit kind : ℕ) (before after : List ℕ) : Type 0 
   pub kind_is : kind ≡ 0
   pub same : after ≡ before
 
--- the verification error is told, or its path is longer than the room
-abbrev pub IsTold : Flaw → Status → (count unit kind offset : ℕ) → (before after : List ℕ) → Type 0
-IsTold flaw status.Refused count unit kind offset before after = Tells flaw count unit kind before after × (offset ≡ 0)
-IsTold flaw status.WriteFault count unit kind offset before after =
+-- the verification error is reported, or its path is longer than the room
+abbrev pub IsReported : Flaw → Status → (count unit kind offset : ℕ) → (before after : List ℕ) → Type 0
+IsReported flaw status.Refused count unit kind offset before after = Tells flaw count unit kind before after × (offset ≡ 0)
+IsReported flaw status.WriteFault count unit kind offset before after =
     (length before < length flaw.path) × TellsNone count unit kind before after × (offset ≡ 0)
-IsTold flaw s count unit kind offset before after = ⊥
+IsReported flaw s count unit kind offset before after = ⊥
 
 -- the verdict on a code: Done exactly where it has no verification error, else a verification error
 abbrev pub IsJudgedCode : Object → Status → (count unit kind offset : ℕ) → (before after : List ℕ) → Type 0
@@ -56,7 +56,7 @@ IsJudgedCode o status.Done count unit kind offset before after =
     Flawless o × NeverWrong o × TellsNone count unit kind before after × (offset ≡ 0)
 IsJudgedCode o status.Memory count unit kind offset before after = TellsNone count unit kind before after × (offset ≡ 0)
 IsJudgedCode o s count unit kind offset before after =
-    (flaw : Flaw) × IsFlawOf o flaw × IsTold flaw s count unit kind offset before after
+    (flaw : Flaw) × IsFlawOf o flaw × IsReported flaw s count unit kind offset before after
 
 -- the verdict on a file: Input exactly where the bytes spell no code
 abbrev pub IsJudged : (file : List ℕ) → Status → (count unit kind offset : ℕ) → (before after : List ℕ) → Type 0

@@ -40,7 +40,7 @@ pub fn ended(
     }
 }
 
-/// What a run wrote, on the sink that its status tells.
+/// What a run wrote, on the sink that its status gives.
 fn written<'a>(status: Status, out: &'a CleanSink, err: &'a CleanSink) -> &'a [u8]
     ensures { result.now ≡ written_with status out.now.held err.now.held }
 {

@@ -2,7 +2,7 @@
 ghost use Rattle.std.specs.Prelude.{◌≡◌, ◌≤◌, length};
 ghost use Rattle.py_bytecode.specs.View.{object};
 ghost use Rattle.py_run.specs.Statuses.{bad_at};
-ghost use Rattle.pyc_c.specs.Verdicts.{IsJudged, IsJudgedCode, IsTold, kind_number};
+ghost use Rattle.pyc_c.specs.Verdicts.{IsJudged, IsJudgedCode, IsReported, kind_number};
 
 use crate::front::put_front;
 use py_bytecode::CodeObject;
@@ -26,7 +26,8 @@ pub struct Judgement {
 /// Whether the code that the bytes spell may be run. Where it has a verification error, the places that lead to it stand at the front
 /// of `places`.
 pub fn judged(alloc: Global, file: &[u8], places: &mut [u32]) -> Judgement
-    ensures is { IsJudged file.now result.status result.count result.unit result.kind result.offset places.old places.new }
+    ensures is { IsJudged file.now result.status result.count result.unit result.kind result.offset
+        places.old places.new }
     ensures within { result.count ≤ length places.old }
 {
     match read_code(alloc, file) {
@@ -37,7 +38,8 @@ pub fn judged(alloc: Global, file: &[u8], places: &mut [u32]) -> Judgement
 }
 
 fn judged_code(alloc: Global, code: &CodeObject, places: &mut [u32]) -> Judgement
-    ensures is { IsJudgedCode (object code.now) result.status result.count result.unit result.kind result.offset places.old places.new }
+    ensures is { IsJudgedCode (object code.now) result.status result.count result.unit result.kind
+        result.offset places.old places.new }
     ensures within { result.count ≤ length places.old }
 {
     match verify(alloc, code) {
@@ -62,7 +64,8 @@ fn ending(status: Status, offset: u64) -> Judgement
 
 /// A verification error, or that its path has no room.
 fn told(flaw: &Flaw, places: &mut [u32]) -> Judgement
-    ensures is { IsTold flaw.now result.status result.count result.unit result.kind result.offset places.old places.new }
+    ensures is { IsReported flaw.now result.status result.count result.unit result.kind
+        result.offset places.old places.new }
     ensures within { result.count ≤ length places.old }
 {
     match put_front(places, flaw.path.as_slice()) {

@@ -42,7 +42,9 @@ pub extern "C" fn pyc_run(
     text: &mut [u8],
     count: &mut usize,
 ) -> u32
-    ensures run { IsNumbered result (λ status. IsRun (words_of output mode level path.now) input.now status count.new text.old text.new) }
+    ensures run { IsNumbered result
+        (λ status. IsRun (words_of output mode level path.now) input.now status count.new text.old
+        text.new) }
     ensures within { count.new ≤ length text.old }
 {
     number_of(status_of(alloc, output, mode, level, path, input, text, count))
@@ -67,7 +69,9 @@ pub extern "C" fn pyc_judge(
     kind: &mut u32,
     offset: &mut u64,
 ) -> u32
-    ensures judged { IsNumbered result (λ status. IsJudged file.now status count.new unit.new kind.new offset.new places.old places.new) }
+    ensures judged { IsNumbered result
+        (λ status. IsJudged file.now status count.new unit.new kind.new offset.new places.old
+        places.new) }
     ensures within { count.new ≤ length places.old }
 {
     let judgement = judged(alloc, file, places);
@@ -78,7 +82,7 @@ pub extern "C" fn pyc_judge(
     number_of(judgement.status)
 }
 
-/// Tells the run over a script of a code in a file line by line: the text is its lines, or the line that says why there are
+/// Reports the run over a script of a code in a file line by line: the text is its lines, or the line that says why there are
 /// none. `count` is set to how many bytes that is. The answer is the number of a status: 0 for the lines, 2 where the bytes
 /// are no script, 3 for the line, 5 where the text has no room, 6 as memory runs out. With 2, 5 and 6 nothing is written.
 ///
@@ -96,7 +100,9 @@ pub extern "C" fn pyc_tell(
     text: &mut [u8],
     count: &mut usize,
 ) -> u32
-    ensures told { IsNumbered result (λ status. IsTraced (asked_by script.now places.now) file.now status count.new text.old text.new) }
+    ensures told { IsNumbered result
+        (λ status. IsTraced (asked_by script.now places.now) file.now status count.new text.old
+        text.new) }
     ensures within { count.new ≤ length text.old }
 {
     let telling = traced(alloc, script, places, file, text);
@@ -115,7 +121,8 @@ fn status_of(
     text: &mut [u8],
     count: &mut usize,
 ) -> Status
-    ensures run { IsRun (words_of output mode level path.now) input.now result count.new text.old text.new }
+    ensures run { IsRun (words_of output mode level path.now) input.now result count.new text.old
+        text.new }
     ensures within { count.new ≤ length text.old }
 {
     match words_of(alloc, output, mode, level, path) {

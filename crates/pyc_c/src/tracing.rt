@@ -1,4 +1,4 @@
-//! The run of a code in a file, told line by line.
+//! The run of a code in a file, reported line by line.
 ghost use Rattle.std.specs.Prelude.{◌≡◌, ◌≤◌, IfOk, length, option_map, Some};
 ghost use Rattle.py_trace.specs.Words.{asked_of};
 ghost use Rattle.pyc_c.specs.Traces.{IsTraced, asked_by, due_bytes, due_status};
@@ -9,7 +9,7 @@ use py_run::Status;
 use py_trace::{Due, Request, due_of};
 use std::alloc::{AllocError, Global};
 
-/// How a run was told, and how many bytes were put at the front of the text.
+/// How a run was reported, and how many bytes were put at the front of the text.
 #[derive(Clone, Copy)]
 pub struct Telling {
     pub status: Status,
@@ -18,7 +18,8 @@ pub struct Telling {
 
 /// Puts the lines of the run at the front of the text, or the line that says why there are none.
 pub fn traced(alloc: Global, script: &[u8], places: &[u32], file: &[u8], text: &mut [u8]) -> Telling
-    ensures is { IsTraced (asked_by script.now places.now) file.now result.status result.count text.old text.new }
+    ensures is { IsTraced (asked_by script.now places.now) file.now result.status result.count
+        text.old text.new }
     ensures within { result.count ≤ length text.old }
 {
     match asked(alloc, script, places) {
@@ -59,7 +60,8 @@ fn path_of(alloc: Global, places: &[u32]) -> Result<Vec<usize>, AllocError>
 }
 
 fn told(alloc: Global, request: &Request, file: &[u8], text: &mut [u8]) -> Telling
-    ensures is { IsTraced (Some (asked_of request.now)) file.now result.status result.count text.old text.new }
+    ensures is { IsTraced (Some (asked_of request.now)) file.now result.status result.count text.old
+        text.new }
     ensures within { result.count ≤ length text.old }
 {
     match due_of(alloc, request, file) {

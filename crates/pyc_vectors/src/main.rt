@@ -1,5 +1,5 @@
 //! Runs of the program over devices in memory, and calls of std's readers and writers that fail. Each line of standard input
-//! is a case; on standard output what comes of it stands in its place. A line that begins with `#` is copied: it tells what
+//! is a case; on standard output what comes of it stands in its place. A line that begins with `#` is copied: it says what
 //! follows.
 #![tactic(auto)]
 

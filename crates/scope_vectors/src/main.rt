@@ -1,5 +1,5 @@
 //! Scopes, by the calls of py_scope. Each line of standard input is a case; on standard output its answer stands in its
-//! place. A line that begins with `#` is copied: it tells what follows.
+//! place. A line that begins with `#` is copied: it says what follows.
 #![tactic(auto)]
 
 mod answers;

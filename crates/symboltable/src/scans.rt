@@ -40,18 +40,23 @@ pub trait Scan: Sized {
 
 impl Scan for SymbolTable {
     fn scan_program(alloc: Global, program: &Stmts) -> Result<SymbolTable, SymbolTableError>
-        ensures table { IfOk result (λ table. table_of (scanned.scan_program (stmts stmt_tree program.now)) ≡ Some table) }
-        ensures follows { IfOk result (λ table. Follows (scanned.scan_program (stmts stmt_tree program.now)) table) }
+        ensures table { IfOk result (λ table.
+            table_of (scanned.scan_program (stmts stmt_tree program.now)) ≡ Some table) }
+        ensures follows { IfOk result (λ table.
+            Follows (scanned.scan_program (stmts stmt_tree program.now)) table) }
         ensures clean { OnOk result (program_faults (stmts stmt_tree program.now) ≡ []) }
-        ensures first { IfErr result (λ e. IsFirst e (program_faults (stmts stmt_tree program.now))) }
+        ensures first { IfErr result (λ e.
+            IsFirst e (program_faults (stmts stmt_tree program.now))) }
         ensures placed { IfErr result IsPlaced }
     {
         py_symbol_tables::scan_program(alloc, program)
     }
 
     fn scan_expr(alloc: Global, expr: &Expr) -> Result<SymbolTable, SymbolTableError>
-        ensures table { IfOk result (λ table. table_of (scanned.scan_value (expr_tree expr.now)) ≡ Some table) }
-        ensures follows { IfOk result (λ table. Follows (scanned.scan_value (expr_tree expr.now)) table) }
+        ensures table { IfOk result (λ table.
+            table_of (scanned.scan_value (expr_tree expr.now)) ≡ Some table) }
+        ensures follows { IfOk result (λ table.
+            Follows (scanned.scan_value (expr_tree expr.now)) table) }
         ensures clean { OnOk result (expr_faults (expr_tree expr.now) ≡ []) }
         ensures first { IfErr result (λ e. IsFirst e (expr_faults (expr_tree expr.now))) }
         ensures placed { IfErr result IsPlaced }
@@ -60,8 +65,10 @@ impl Scan for SymbolTable {
     }
 
     fn scan_body(alloc: Global, program: &Stmts) -> Result<SymbolTable, SymbolTableError>
-        ensures table { IfOk result (λ table. table_of (scanned.scan_program (stmts stmt_tree program.now)) ≡ Some table) }
-        ensures follows { IfOk result (λ table. Follows (scanned.scan_program (stmts stmt_tree program.now)) table) }
+        ensures table { IfOk result (λ table.
+            table_of (scanned.scan_program (stmts stmt_tree program.now)) ≡ Some table) }
+        ensures follows { IfOk result (λ table.
+            Follows (scanned.scan_program (stmts stmt_tree program.now)) table) }
         ensures clean { OnOk result (body_faults (stmts stmt_tree program.now) ≡ []) }
         ensures first { IfErr result (λ e. IsFirst e (body_faults (stmts stmt_tree program.now))) }
         ensures told { IfErr result IsTextOrMemory }
@@ -70,8 +77,10 @@ impl Scan for SymbolTable {
     }
 
     fn scan_value(alloc: Global, expr: &Expr) -> Result<SymbolTable, SymbolTableError>
-        ensures table { IfOk result (λ table. table_of (scanned.scan_value (expr_tree expr.now)) ≡ Some table) }
-        ensures follows { IfOk result (λ table. Follows (scanned.scan_value (expr_tree expr.now)) table) }
+        ensures table { IfOk result (λ table.
+            table_of (scanned.scan_value (expr_tree expr.now)) ≡ Some table) }
+        ensures follows { IfOk result (λ table.
+            Follows (scanned.scan_value (expr_tree expr.now)) table) }
         ensures clean { OnOk result (value_faults (expr_tree expr.now) ≡ []) }
         ensures first { IfErr result (λ e. IsFirst e (value_faults (expr_tree expr.now))) }
         ensures told { IfErr result IsTextOrMemory }

@@ -13,8 +13,8 @@ decreases-expressions::push_expr l = 8 * goal.size-expressions::push_expr l + 0
 abbrev pub decreases-expressions::push_exprs : goal.decreases-expressions::push_exprs
 decreases-expressions::push_exprs l = 8 * goal.size-expressions::push_exprs l + 1
 
-abbrev pub decreases-expressions::push_behind : goal.decreases-expressions::push_behind
-decreases-expressions::push_behind l = 8 * goal.size-expressions::push_behind l + 1
+abbrev pub decreases-expressions::push_after : goal.decreases-expressions::push_after
+decreases-expressions::push_after l = 8 * goal.size-expressions::push_after l + 1
 
 abbrev pub decreases-expressions::push_named_expr : goal.decreases-expressions::push_named_expr
 decreases-expressions::push_named_expr l = 8 * goal.size-expressions::push_named_expr l + 7
@@ -143,7 +143,9 @@ invariant-operations::push_keywords-loop-keyword l =
     ≡ string_bytes l.initial.out ++ separated_text l.initial.before comma (keyword_texts (keywords expr_tree l.items)))
 
 abbrev pub invariant-displays::push_clauses-loop-clause : goal.invariant-displays::push_clauses-loop-clause
-invariant-displays::push_clauses-loop-clause l = string_bytes l.out ++ clause_texts (generators expr_tree (drop l.clause-index l.clauses)) ≡ string_bytes l.initial.out ++ clause_texts (generators expr_tree l.clauses)
+invariant-displays::push_clauses-loop-clause l =
+    string_bytes l.out ++ clause_texts (generators expr_tree (drop l.clause-index l.clauses)) ≡ string_bytes l.initial.out
+    ++ clause_texts (generators expr_tree l.clauses)
 
 abbrev pub invariant-lambdas::push_defaults-loop-item : goal.invariant-lambdas::push_defaults-loop-item
 invariant-lambdas::push_defaults-loop-item l =

@@ -24,8 +24,12 @@ end_has_nothing t bs (Of b k) e =
 pub blocks_are_sound : BlocksAreSound
 blocks_are_sound child s t bs hops q lies le ends g limit lt =
     let is = body_code (exactly child s) (form_of s) in
-    let st = stands_seen (block_ground t bs 0) (body_code (exactly child s) (form_of s)) (settled_place bs (Of 0 0)) (settled_place bs q) (stands_in_blocks t bs 0 hops (body_code (exactly child s) (form_of s)) (Of 0 0) q lies le) in
-    refusal_sound (λ p. seen_instr (fetch_block t bs p)) (spot_in bs) _ (body_code (exactly child s) (form_of s)) (settled_place bs (Of 0 0)) (settled_place bs q) (laid_out (exactly child s) (form_of s) (λ p. seen_instr (fetch_block t bs p)) (spot_in bs) (settled_place bs (Of 0 0)) (settled_place bs q) st (ap seen_instr (end_has_nothing t bs q ends)) g) limit lt
+    let st = stands_seen (block_ground t bs 0) (body_code (exactly child s) (form_of s)) (settled_place bs (Of 0 0)) (settled_place bs q)
+    (stands_in_blocks t bs 0 hops (body_code (exactly child s) (form_of s)) (Of 0 0) q lies le) in
+    refusal_sound (λ p. seen_instr (fetch_block t bs p)) (spot_in bs) _ (body_code (exactly child s) (form_of s))
+    (settled_place bs (Of 0 0)) (settled_place bs q)
+    (laid_out (exactly child s) (form_of s) (λ p. seen_instr (fetch_block t bs p)) (spot_in bs) (settled_place bs (Of 0 0))
+    (settled_place bs q) st (ap seen_instr (end_has_nothing t bs q ends)) g) limit lt
 
 pub laid_is_sound : LaidIsSound
 laid_is_sound child s t bs q laid ends few g limit lt = blocks_are_sound child s t bs (labels (form_of s)) q (body_lies child s t bs q laid ends) few ends g limit lt

@@ -11,7 +11,7 @@ use Rattle.py_dataflow.specs.Flow.{flow_of}
 use Rattle.py_dataflow.specs.Flat.{look_at, fetch_at, sees, decoded_item}
 use Rattle.py_dataflow.proofs.Rows.{RowIs, row_is}
 use Rattle.py_control.specs.Code.{Item, Do, Label, body_code}
-use Rattle.py_control_proof.specs.Live.{live}
+use Rattle.py_control_proof.specs.Reachable.{reachable_count}
 use Rattle.py_control.specs.Agree.{exactly, form_of}
 use Rattle.py_control_proof.proofs.Moves.{MoveStands}
 use Rattle.py_control_proof.proofs.Reach.{Ground}
@@ -44,7 +44,8 @@ module _ (t : Tables) (starts : List ℕ) (list : List InstructionInfo) where
     where
       same : (x : InstructionInfo) (i : Instr Object ℕ) → instr_of t (Some x.target.0) x.instr x.arg.0 ≡ Some i → sees starts p x ≡ seen_as (slice_index starts) i (suc p)
       same x i e =
-          let r : RowIs (Some (slice_index starts x.target.0)) x.instr x.arg.0 (at_places (slice_index starts) i) = row_is ℕ t (Some (slice_index starts x.target.0)) x.instr x.arg.0 (at_places (slice_index starts) i) (flat_decodes x i e) in
+          let r : RowIs (Some (slice_index starts x.target.0)) x.instr x.arg.0 (at_places (slice_index starts) i) =
+          row_is ℕ t (Some (slice_index starts x.target.0)) x.instr x.arg.0 (at_places (slice_index starts) i) (flat_decodes x i e) in
           ap (λ f. record { flow = f; next = suc p; target = (sees starts p x).target }) (sym r.flow ∙ flow_at_places (slice_index starts) i)
           ∙ ap (λ o. record { flow = flow_of i; next = suc p; target = o }) (sym r.target)
   flat_sees (Label l ∷ is) p q h = (h.0, flat_sees is p q h.1)
@@ -53,9 +54,13 @@ pub flat_runs : FlatRuns
 flat_runs child s t starts list p q lies ok answers n enough =
     let i = exactly child s in
     let is : List (Item Object) = body_code i (form_of s) in
-    simulated_at (flat_ground t starts list (live true is)) i (form_of s) p q (flat_stands t starts list (live true is) is p q lies) ok (le_refl _) answers n (fuel_covers (live true is) n answers enough)
+    simulated_at (flat_ground t starts list (reachable_count true is)) i (form_of s) p q
+    (flat_stands t starts list (reachable_count true is) is p q lies) ok (le_refl _) answers n
+    (fuel_covers (reachable_count true is) n answers enough)
     ∙ sym (simulated i (form_of s) ok (label_once i (form_of s)) answers)
 
 pub flat_is_sound : FlatIsSound
 flat_is_sound child s t starts list p q lies none g limit lt =
-    refusal_sound (look_at starts list) (slice_index starts) _ (body_code (exactly child s) (form_of s)) p q (laid_out (exactly child s) (form_of s) (look_at starts list) (slice_index starts) p q (flat_sees t starts list (body_code (exactly child s) (form_of s)) p q lies) (ap (option_map (sees starts q)) none) g) limit lt
+    refusal_sound (look_at starts list) (slice_index starts) _ (body_code (exactly child s) (form_of s)) p q
+    (laid_out (exactly child s) (form_of s) (look_at starts list) (slice_index starts) p q
+    (flat_sees t starts list (body_code (exactly child s) (form_of s)) p q lies) (ap (option_map (sees starts q)) none) g) limit lt

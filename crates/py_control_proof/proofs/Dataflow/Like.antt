@@ -4,7 +4,9 @@ use Rattle.std.specs.Prelude.{nat_eq, not, ◌&&◌, if◌then◌else◌}
 use Rattle.py_dataflow.specs.declared.flow.Kind.{Kind}
 use Rattle.py_dataflow.specs.declared.flow.Mark as theirs
 use Rattle.py_dataflow.specs.Walks as walks
-use Rattle.py_control_proof.specs.Walks.{Sort, LoopSort, ExceptSort, FinallySort, ExitSort, HandlerSort, LastSort, CleanupSort, OpenSort, Mark, Shape, floor, loop_at, at_loop, cut_sort, resting_height, cut_height, rest_of, Tops, Entered, Handles, Lasts, EndsFinally, EndsWith, opened_as, top_as, Joins}
+use Rattle.py_control_proof.specs.Walks.{Sort, LoopSort, ExceptSort, FinallySort, ExitSort, HandlerSort, LastSort, CleanupSort, OpenSort}
+use Rattle.py_control_proof.specs.Walks.{Mark, Shape, floor, loop_at, at_loop, cut_sort, resting_height, cut_height, rest_of, Tops, Entered}
+use Rattle.py_control_proof.specs.Walks.{Handles, Lasts, EndsFinally, EndsWith, opened_as, top_as, Joins}
 
 abbrev pub kind_of : Sort → Kind
 kind_of LoopSort = Kind.Loop

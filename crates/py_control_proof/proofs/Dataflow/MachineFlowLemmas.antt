@@ -1,6 +1,9 @@
 -- What stands in a machine is seen there by walks.
 use Rattle.std.proofs.Common.{◌≡◌, List, [], ◌∷◌, Some, refl, ap, ◌∙◌}
-use Rattle.py_bytecode.specs.Machine.{Instr, Push, Access, Operate, MakeFunction, Import, Append, Unpack, Nop, Pop, Rotate2, Rotate3, Duplicate, Duplicate2, JumpIf, JumpIfOrPop, Jump, SetupLoop, PopBlock, Break, Continue, ReturnValue, ReturnConst, SetupExcept, SetupFinally, PopException, EnterFinally, EndFinally, Reraise, ForIter, SetupWith, WithCleanupStart, WithCleanupFinish, at_places}
+use Rattle.py_bytecode.specs.Machine.{Instr, Push, Access, Operate, MakeFunction, Import, Append, Unpack, Nop, Pop, Rotate2, Rotate3}
+use Rattle.py_bytecode.specs.Machine.{Duplicate, Duplicate2, JumpIf, JumpIfOrPop, Jump, SetupLoop, PopBlock, Break, Continue, ReturnValue}
+use Rattle.py_bytecode.specs.Machine.{ReturnConst, SetupExcept, SetupFinally, PopException, EnterFinally, EndFinally, Reraise, ForIter}
+use Rattle.py_bytecode.specs.Machine.{SetupWith, WithCleanupStart, WithCleanupFinish, at_places}
 use Rattle.py_dataflow.specs.Flow.{flow_of, target_of}
 use Rattle.py_dataflow.specs.Walks.{seen_instr}
 use Rattle.py_control.specs.Code.{Item, Do, Label}

@@ -12,8 +12,11 @@ use Rattle.py_dataflow.specs.declared.flow.Branch.{Branch}
 use Rattle.py_dataflow.specs.declared.flow.Flow.{Flow}
 use Rattle.py_dataflow.specs.Flow as flow
 use Rattle.py_dataflow.specs.Walks as walks
-use Rattle.py_control_proof.specs.Walks.{LoopSort, ExceptSort, FinallySort, ExitSort, HandlerSort, LastSort, CleanupSort, OpenSort, Sort, Mark, mark, Shape, shape, floor, loop_at, cut_height, rest_of, BreaksTo, ContinuesTo, Joins, Then, Falls, Never, after, IsFine}
-use Rattle.py_control_proof.proofs.Dataflow.Like.{kind_of, Flags, LikeMarks, Like, like_floor, like_rest, entered_on_top, handler_on_top, last_on_top, finally_on_top, with_on_top, loop_like, some_top, cut_like, join_like}
+use Rattle.py_control_proof.specs.Walks.{LoopSort, ExceptSort, FinallySort, ExitSort, HandlerSort, LastSort, CleanupSort, OpenSort, Sort}
+use Rattle.py_control_proof.specs.Walks.{Mark, mark, Shape, shape, floor, loop_at, cut_height, rest_of, BreaksTo, ContinuesTo, Joins, Then}
+use Rattle.py_control_proof.specs.Walks.{Falls, Never, after, IsFine}
+use Rattle.py_control_proof.proofs.Dataflow.Like.{kind_of, Flags, LikeMarks, Like, like_floor, like_rest, entered_on_top, handler_on_top}
+use Rattle.py_control_proof.proofs.Dataflow.Like.{last_on_top, finally_on_top, with_on_top, loop_like, some_top, cut_like, join_like}
 
 -- the stack is no lower than the innermost block
 abbrev pub Low : Shape → Type 0
@@ -111,7 +114,8 @@ module _ (at : ℕ → Option Shape) (u : Shape) (t : walks.State) where
     move_closed : (b : NeededBlock) (n h : ℕ) → h ≡ u.height - n → walks.has_block b t.height t.shape ≡ true → n ≤ u.height
         → floor (rest_of u.marks) + n ≤ u.height → Moves (flow.closes b n) None (Falls (shape h (rest_of u.marks)))
     move_closed b n h e has fits below = record {
-      enough = enough (walks.height_of (walks.rest_of t.shape)) n 0 t.height (omega (arith, l.height, fits)) (omega (arith, l.height, like_floor (rest_of u.marks) (walks.rest_of t.shape) (like_rest u.marks t.shape l.marks), below));
+      enough = enough (walks.height_of (walks.rest_of t.shape)) n 0 t.height (omega (arith, l.height, fits))
+          (omega (arith, l.height, like_floor (rest_of u.marks) (walks.rest_of t.shape) (like_rest u.marks t.shape l.marks), below));
       block = has;
       falls = record { height = omega (arith, l.height, fits, e); marks = like_rest u.marks t.shape l.marks };
       jumps = tt;

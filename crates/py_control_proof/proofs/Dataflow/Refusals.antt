@@ -14,7 +14,7 @@ use Rattle.py_control_proof.specs.Sound.{seen_as, Sees}
 use Rattle.py_control_proof.proofs.Dataflow.Like.{Like, like_alike, no_clash}
 use Rattle.py_control_proof.proofs.Dataflow.Moves.{Moves, moves, Falling, Jumping}
 use Rattle.py_control_proof.proofs.Dataflow.Steady.{height_then, rise_after, LowThen, low_after, place_of, target_at}
-use Rattle.py_control_proof.proofs.Dataflow.Seats.{walks_after, sees_after, Placed, placed_at, Laid, Seat, SeatReady, seat_ready, begin}
+use Rattle.py_control_proof.proofs.Dataflow.Seats.{walks_after, sees_after, SeatPlaced, placed_at, Laid, Seat, SeatReady, seat_ready, begin}
 
 -- two rests that stand at one place are one
 same_size : {K P : Type 0} (look : P → Option (Seen P)) (spot : ℕ → P) (xs ys : List (Item K)) (p q : P) → look q ≡ None → Sees look spot xs p q → Sees look spot ys p q → size xs ≡ size ys
@@ -97,7 +97,7 @@ module _ {K P : Type 0} (look : P → Option (Seen P)) (spot : ℕ → P) (at : 
   -- where it jumps
   jump_seat : (l : ℕ) (v : Shape) (t : walks.State) → at l ≡ Some v → Like v t → Somewhere (spot l) t
   jump_seat l v t e like =
-      let pl : Placed l is = placed_at l is (laid.placed l v e) in
+      let pl : SeatPlaced l is = placed_at l is (laid.placed l v e) in
       let st = sees_after look spot pl.before (Label l ∷ pl.rest) p0 q (subst (λ x. Sees look spot x p0 q) (sym pl.joined) laid.sees) in
       let wk = walks_after at pl.before (Label l ∷ pl.rest) zero_shape Never (subst (λ x. Walks at x zero_shape Never) (sym pl.joined) laid.walk) in
       let same : wk.0 ≡ v = same_Some wk.0 v (sym wk.1 ∙ e) in
@@ -179,7 +179,8 @@ module _ {K P : Type 0} (look : P → Option (Seen P)) (spot : ℕ → P) (at : 
           let z : walks.falls_enough (flow.flow_of r.instr) t.height t.shape ≡ false = subst (λ (s : Seen P). walks.falls_enough s.flow t.height t.shape ≡ false) (seen_is p t r x e) h in
           absurd cc
       in_range p t r x e (inr (inl h)) =
-          let z : walks.jumps_enough (flow.flow_of r.instr).branch t.height t.shape ≡ false = subst (λ (s : Seen P). walks.jumps_enough s.flow.branch t.height t.shape ≡ false) (seen_is p t r x e) h.1 in
+          let z : walks.jumps_enough (flow.flow_of r.instr).branch t.height t.shape ≡ false =
+          subst (λ (s : Seen P). walks.jumps_enough s.flow.branch t.height t.shape ≡ false) (seen_is p t r x e) h.1 in
           let n : place_of spot (flow.target_of r.instr) ≢ None = λ f. h.0 (ap (λ (s : Seen P). s.target) (seen_is p t r x e) ∙ target_at spot r.instr ∙ f) in
           let y = jumps_well p t r (flow.target_of r.instr) refl n in
           absurd cc
@@ -189,7 +190,9 @@ module _ {K P : Type 0} (look : P → Option (Seen P)) (spot : ℕ → P) (at : 
       no_mismatch p (inl e) =
           let r = refusal_reached e.reached.0 p e.at e.reached.1 in
           let y : walks.has_block (flow.flow_of r.instr).needs e.at.height e.at.shape ≡ true = (its_moves p e.at r).block in
-          let z : walks.has_block (flow.flow_of r.instr).needs e.at.height e.at.shape ≡ false = subst (λ (s : Seen P). walks.has_block s.flow.needs e.at.height e.at.shape ≡ false) (seen_is p e.at r e.sees e.sees_is) e.lacks in
+          let z : walks.has_block (flow.flow_of r.instr).needs e.at.height e.at.shape ≡ false =
+          subst (λ (s : Seen P). walks.has_block s.flow.needs e.at.height e.at.shape ≡ false)
+          (seen_is p e.at r e.sees e.sees_is) e.lacks in
           absurd cc
       no_mismatch p (inr e) =
           let a = refusal_reached e.one_reached.0 p e.one e.one_reached.1 in

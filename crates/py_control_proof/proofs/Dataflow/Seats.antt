@@ -26,7 +26,7 @@ sees_after look spot (Do i ∷ a) b p q h = sees_after look spot a b h.0 q h.2
 sees_after look spot (Label l ∷ a) b p q h = sees_after look spot a b p q h.1
 
 -- where a label is placed
-pub record Placed {K : Type 0} (l : ℕ) (is : List (Item K)) : Type 0 where
+pub record SeatPlaced {K : Type 0} (l : ℕ) (is : List (Item K)) : Type 0 where
   pub before : List (Item K)
   pub rest : List (Item K)
   pub joined : before ++ Label l ∷ rest ≡ is
@@ -35,11 +35,11 @@ seat_counted : (b : Bool) (n : ℕ) → b ≡ false → (if b then 1 else 0) + n
 seat_counted true n e h = absurd cc
 seat_counted false n e h = omega (arith, h)
 
-placed_step : {K : Type 0} (l k : ℕ) (is : List (Item K)) → (occurs l is ≡ 1 → Placed l is) → (b : Bool) → nat_eq k l ≡ b → occurs l (Label k ∷ is) ≡ 1 → Placed l (Label k ∷ is)
+placed_step : {K : Type 0} (l k : ℕ) (is : List (Item K)) → (occurs l is ≡ 1 → SeatPlaced l is) → (b : Bool) → nat_eq k l ≡ b → occurs l (Label k ∷ is) ≡ 1 → SeatPlaced l (Label k ∷ is)
 placed_step l k is ih true d e = let q : k ≡ l = grind (arith, nat_tests) in record { before = []; rest = is; joined = ap (λ x. Label x ∷ is) (sym q) }
 placed_step l k is ih false d e = let r = ih (seat_counted (nat_eq k l) (occurs l is) d e) in record { before = Label k ∷ r.before; rest = r.rest; joined = ap (λ x. Label k ∷ x) r.joined }
 
-pub placed_at : {K : Type 0} (l : ℕ) (is : List (Item K)) → occurs l is ≡ 1 → Placed l is
+pub placed_at : {K : Type 0} (l : ℕ) (is : List (Item K)) → occurs l is ≡ 1 → SeatPlaced l is
 placed_at l [] e = absurd (omega (arith, e))
 placed_at l (Do i ∷ is) e = let r = placed_at l is e in record { before = Do i ∷ r.before; rest = r.rest; joined = ap (λ x. Do i ∷ x) r.joined }
 placed_at l (Label k ∷ is) e = placed_step l k is (placed_at l is) (nat_eq k l) refl e

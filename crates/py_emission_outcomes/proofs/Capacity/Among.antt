@@ -1,5 +1,6 @@
 -- Names that stand once and are used somewhere are no more than all uses.
-use Rattle.std.proofs.Common.{◌≡◌, refl, sym, ap, ◌∙◌, ℕ, zero, suc, ◌≤◌, Bool, true, false, ◌||◌, ◌&&◌, nat_eq, List, [], ◌∷◌, ◌++◌, length, if◌then◌else◌, slice_get, Option, Some, None, ◌⊎◌, inl, inr}
+use Rattle.std.proofs.Common.{◌≡◌, refl, sym, ap, ◌∙◌, ℕ, zero, suc, ◌≤◌, Bool, true, false, ◌||◌, ◌&&◌, nat_eq, List, [], ◌∷◌, ◌++◌}
+use Rattle.std.proofs.Common.{length, if◌then◌else◌, slice_get, Option, Some, None, ◌⊎◌, inl, inr}
 use Rattle.std.specs.Prelude.{is_some}
 use Rattle.std.specs.List.{list_any}
 use Rattle.std.specs.Map.{keys_of}
@@ -47,10 +48,10 @@ key_there n (e ∷ es) h = by (same_name n e.0) h (key_there n es)
     by false g ih = ih g
 
 -- so a name that is used in some scope is among all of them
-entry_there : (n : Name) (rows : List Row) (q : ℕ) → is_some (entry_at rows q n) ≡ true → SharedUseHas n (all_names rows)
-entry_there n [] q h = absurd cc
-entry_there n (r ∷ rows) zero h = front_has n (keys_of r.entries) (all_names rows) (key_there n r.entries h)
-entry_there n (r ∷ rows) (suc q) h = back_has n (keys_of r.entries) (all_names rows) (entry_there n rows q h)
+among_entry_there : (n : Name) (rows : List Row) (q : ℕ) → is_some (entry_at rows q n) ≡ true → SharedUseHas n (all_names rows)
+among_entry_there n [] q h = absurd cc
+among_entry_there n (r ∷ rows) zero h = front_has n (keys_of r.entries) (all_names rows) (key_there n r.entries h)
+among_entry_there n (r ∷ rows) (suc q) h = back_has n (keys_of r.entries) (all_names rows) (among_entry_there n rows q h)
 
 -- a name that a walrus stores is used
 stored_used : (n : Name) (es : List (Name × Entry)) → list_any (same_name n) (walruses es) ≡ true → is_some (lookup n es) ≡ true
@@ -74,16 +75,16 @@ module _ (rows : List Row) where
   among_used_there k n h = by (truth_either (is_some (entry_at rows k n)) _ h)
     where
       by : (is_some (entry_at rows k n) ≡ true) ⊎ (goes_through rows k n ≡ true) → SharedUseHas n (all_names rows)
-      by (inl g) = entry_there n rows k g
+      by (inl g) = among_entry_there n rows k g
       by (inr g) =
           let q = any_scope (λ q. stores rows q n && among k (way rows (outward_from rows q))) rows g in
-          entry_there n rows q.0 (among_stored_at n (slice_get rows q.0) (truth_both (stores rows q.0 n) _ q.2).0)
+          among_entry_there n rows q.0 (among_stored_at n (slice_get rows q.0) (truth_both (stores rows q.0 n) _ q.2).0)
 
   -- so is one that is lifted to a function
   held_there : (k : ℕ) (n : Name) → is_held rows k n ≡ true → SharedUseHas n (all_names rows)
   held_there k n h =
       let q = any_scope (λ q. stores rows q n && nat_eq k (holder rows (outward_from rows q))) rows (truth_both (is_function (kind_at rows k)) _ h).1 in
-      entry_there n rows q.0 (among_stored_at n (slice_get rows q.0) (truth_both (stores rows q.0 n) _ q.2).0)
+      among_entry_there n rows q.0 (among_stored_at n (slice_get rows q.0) (truth_both (stores rows q.0 n) _ q.2).0)
 
   -- and one that a scope needs from outside
   needed_there : (k : ℕ) (n : Name) → needs rows k n ≡ true → SharedUseHas n (all_names rows)

@@ -8,13 +8,13 @@ use Rattle.py_control.specs.Agree.{AllOf, form_of, kids}
 use Rattle.py_control.specs.Form.{Head, MkScope, SForm, Scope}
 use Rattle.py_bytecode.specs.Equality.{text_eq}
 use Rattle.py_emission_parts.specs.Context.{Context, frees_among, symbols_in}
-use Rattle.py_emission_parts.specs.Emitting.{Around, LoopBlocks}
+use Rattle.py_emission_parts.specs.Emitting.{NodeContext, LoopBlocks}
 use Rattle.py_meaning.specs.Faults.{faults}
 use Rattle.py_meaning.specs.Meaning.{body}
 use Rattle.py_meaning.specs.Scanned.{scopes_of}
 use Rattle.py_scope_proof.specs.Cells.{StandUpTo, at_hand, is_one_of}
 use Rattle.py_scope_proof.proofs.NodeScopes.CellsOfScopes.{cells_stand}
-use Rattle.py_emission_proof.proofs.Additions.EmissionSequenceLemmas.{emission_sequence_looping, emission_sequence_postponed_around}
+use Rattle.py_emission_proof.proofs.Additions.EmissionSequenceLemmas.{emission_sequence_looping, emission_sequence_postponed_node_context}
 use Rattle.py_emission_outcomes.proofs.Capacity.Accesses.{AtHand, AccessReady}
 
 -- what is free in a scope is at hand in the scope with this number, and so it is at every depth within it
@@ -25,20 +25,20 @@ StandsIn scopes here s = (n : ℕ) → StandUpTo scopes here n s
 abbrev pub AvailableCellAllStand : List ScopeEntry → (here : ℕ) → List Scope → Type 0
 AvailableCellAllStand scopes here ss = AllOf (StandsIn scopes here) ss
 
--- a context, but for the path of the source, of which forms are not told
-abbrev pub available_cell_told : Around → Context
-available_cell_told c = record c.context { source = [] }
+-- a context, but for the path of the source, of which forms are not reported
+abbrev pub available_cell_context : NodeContext → Context
+available_cell_context c = record c.context { source = [] }
 
--- what is free in a scope is at hand in what stands around
-abbrev pub Here : Around → Scope → Type 0
+-- what is free in a scope is at hand in the context
+abbrev pub Here : NodeContext → Scope → Type 0
 Here c s = StandsIn c.context.scopes c.context.here s
 
 -- the same around, in a loop, and where annotations are postponed
-pub looping_ready : {c : Around} (own : LoopBlocks) → AccessReady c → AccessReady (emission_sequence_looping own c)
+pub looping_ready : {c : NodeContext} (own : LoopBlocks) → AccessReady c → AccessReady (emission_sequence_looping own c)
 looping_ready own r = record { cells = r.cells; frees = r.frees; few = r.few }
 
 -- where annotations are postponed, the cells are the same
-pub postponed_ready : {c : Around} → AccessReady c → AccessReady (emission_sequence_postponed_around c)
+pub postponed_ready : {c : NodeContext} → AccessReady c → AccessReady (emission_sequence_postponed_node_context c)
 postponed_ready r = record { cells = r.cells; frees = r.frees; few = r.few }
 
 -- what is so of all at each depth is so at each depth of all
@@ -64,8 +64,8 @@ names_at_hand scopes here head f h = (h 1).0
 pub kids_stand : (scopes : List ScopeEntry) (here : ℕ) (head : Head) (f : SForm) → StandsIn scopes here (MkScope head f) → AvailableCellAllStand scopes head.number (kids f)
 kids_stand scopes here head f h = deep_all (λ n s. StandUpTo scopes head.number n s) (kids f) (λ n. (h (suc n)).1)
 
--- names that are at hand by the symbols are at hand in what stands around; those of a scope are few
-pub free_at_hand : {c : Around} → AccessReady c → (k : ℕ)
+-- names that are at hand by the symbols are at hand in the context; those of a scope are few
+pub free_at_hand : {c : NodeContext} → AccessReady c → (k : ℕ)
     → AllOf (λ x. is_one_of x (at_hand c.context.scopes c.context.here) ≡ true) (frees_among (symbols_in c.context.scopes k))
     → AtHand c (frees_among (symbols_in c.context.scopes k))
 free_at_hand {c = c} r k h =

@@ -2,9 +2,13 @@
 use Rattle.std.proofs.Common.{ℕ, ◌+◌, ◌≤◌, Bool, true, false, arith}
 use Rattle.std.specs.Prelude.{if◌then◌else◌}
 use Rattle.py_tree.specs.Tree as tree
-use Rattle.py_limits.specs.Size.{arg_size, args_size, arguments_size, expr_size, exprs_size, generators_size, handlers_size, keys_size, keywords_size, opt_arg_size, opt_expr_size, stmt_size, stmts_size, type_param_size, type_params_size, with_items_size}
-use Rattle.py_scope_counts.specs.Counts.{scopes_in, scopes_in_all, scopes_in_annotation, scopes_in_annotations, scopes_in_arg, scopes_in_args, scopes_in_clauses, scopes_in_defaults, scopes_in_keywords, scopes_in_notes, scopes_in_opt, scopes_in_opt_arg, scopes_in_opts, scopes_in_returns}
-use Rattle.py_meaning.specs.StmtCounts.{hidden_scope, scopes_in_all_notes, scopes_in_handlers, scopes_in_items, scopes_in_param, scopes_in_params, scopes_in_raise, scopes_in_stmt, scopes_in_stmts}
+use Rattle.py_limits.specs.Size.{arg_size, args_size, arguments_size, expr_size, exprs_size, generators_size, handlers_size, keys_size}
+use Rattle.py_limits.specs.Size.{keywords_size, opt_arg_size, opt_expr_size, stmt_size, stmts_size, type_param_size, type_params_size}
+use Rattle.py_limits.specs.Size.{with_items_size}
+use Rattle.py_scope_counts.specs.Counts.{scopes_in, scopes_in_all, scopes_in_annotation, scopes_in_annotations, scopes_in_arg}
+use Rattle.py_scope_counts.specs.Counts.{scopes_in_args, scopes_in_clauses, scopes_in_defaults, scopes_in_keywords, scopes_in_notes}
+use Rattle.py_scope_counts.specs.Counts.{scopes_in_opt, scopes_in_opt_arg, scopes_in_opts, scopes_in_returns}
+use Rattle.py_meaning.specs.StmtCounts.{type_param_scope, scopes_in_all_notes, scopes_in_handlers, scopes_in_items, scopes_in_param, scopes_in_params, scopes_in_raise, scopes_in_stmt, scopes_in_stmts}
 
 -- what is few is few where it may be postponed
 unless_few : (p : Bool) (m n : ℕ) → m ≤ n → (if p then 0 else m) ≤ n
@@ -189,7 +193,7 @@ few_in_bounds p (tree.more_type_params t ts) =
     omega (arith, a, b)
 
 -- with the scope around them
-few_in_generic : (p : Bool) (ts : tree.TypeParams) → hidden_scope ts + scopes_in_params p ts ≤ type_params_size ts
+few_in_generic : (p : Bool) (ts : tree.TypeParams) → type_param_scope ts + scopes_in_params p ts ≤ type_params_size ts
 few_in_generic p tree.no_type_params = omega arith
 few_in_generic p (tree.more_type_params t ts) =
     let a = few_in_bound p t in

@@ -4,12 +4,14 @@ use Rattle.std.specs.Prelude.{codes}
 use Rattle.py_base.specs.declared.location.SourceLocation.{SourceLocation}
 use Rattle.py_bytecode.specs.declared.instruction.Instruction.TheVariants as op
 use Rattle.py_emission.specs.ControlEmissions.{assertion_of, before_last, finally_do, for_each, handler, managed_body, to_last, try_body, typed_match}
-use Rattle.py_emission_parts.specs.Emitting.{Around, Emission, LoopBlocks}
+use Rattle.py_emission_parts.specs.Emitting.{NodeContext, Emission, LoopBlocks}
 use Rattle.py_emission_proof.proofs.Additions.Shapes.{while_loop}
 use Rattle.py_emission_proof.proofs.Additions.EmissionSequenceLemmas.{emission_sequence_looping}
-use Rattle.py_emission_outcomes.proofs.Capacity.Fits.{EmissionFits, count_fits, emit_fits, fits_as, jump_fits, keep_fits, loop_fits, move_fits, name_fits, one_block_fits, plain_fits, fit_room, then_fits, three_blocks_fit}
+use Rattle.py_emission_outcomes.proofs.Capacity.Fits.{EmissionFits, count_fits, emit_fits, fits_as, jump_fits, keep_fits, loop_fits}
+use Rattle.py_emission_outcomes.proofs.Capacity.Fits.{move_fits, name_fits, one_block_fits, plain_fits, fit_room, then_fits}
+use Rattle.py_emission_outcomes.proofs.Capacity.Fits.{three_blocks_fit}
 
-module _ {c : Around} where
+module _ {c : NodeContext} where
   -- to this number, in other words
   pub lands : {k l w : ℕ} {a : Emission} (m : ℕ) → l ≡ m → EmissionFits c k l w a → EmissionFits c k m w a
   lands m e x = fits_as e (omega arith) x
@@ -21,7 +23,10 @@ module _ {c : Around} where
   for_fits a b d e =
       fit_room (omega arith)
       (three_blocks_fit (λ start other end. then_fits (plain_fits op.SetupLoop) (then_fits a (plain_fits op.GetIter)))
-      (λ start other end. then_fits (jump_fits op.ForIter other) (then_fits b (then_fits (loop_fits (record { on_break = end; on_continue = start }) (d (record { on_break = end; on_continue = start }))) (jump_fits op.Jump start))))
+      (λ start other end. then_fits (jump_fits op.ForIter other)
+      (then_fits b
+      (then_fits (loop_fits (record { on_break = end; on_continue = start }) (d (record { on_break = end; on_continue = start })))
+      (jump_fits op.Jump start))))
       (λ start other end. then_fits (plain_fits op.PopBlock) e) (λ start other end. keep_fits))
 
   -- what a `with` manages
@@ -30,7 +35,9 @@ module _ {c : Around} where
   managed_fits at a b d =
       fit_room (omega arith)
       (one_block_fits
-      (λ end. then_fits a (then_fits (move_fits at) (then_fits (jump_fits op.SetupWith end) (then_fits b (then_fits d (then_fits (move_fits at) (then_fits (plain_fits op.PopBlock) (plain_fits op.EnterFinally))))))))
+      (λ end. then_fits a (then_fits (move_fits at)
+      (then_fits (jump_fits op.SetupWith end)
+      (then_fits b (then_fits d (then_fits (move_fits at) (then_fits (plain_fits op.PopBlock) (plain_fits op.EnterFinally))))))))
       (λ end. then_fits (plain_fits op.WithCleanupStart) (plain_fits op.WithCleanupFinish)))
 
   -- what sets a finally block up, and what enters it
@@ -76,7 +83,9 @@ module _ {c : Around} where
       → EmissionFits c k l (v + x + 2) (assertion_of test message count)
   asserted_fits count few t a =
       fit_room (omega arith)
-      (one_block_fits (λ end. then_fits (t true end) (then_fits (name_fits op.LoadGlobal (codes "AssertionError")) (then_fits a (then_fits (count_fits op.CallFunctionPositional count few) (plain_fits op.Raise))))) (λ end. keep_fits))
+      (one_block_fits (λ end. then_fits (t true end)
+      (then_fits (name_fits op.LoadGlobal (codes "AssertionError"))
+      (then_fits a (then_fits (count_fits op.CallFunctionPositional count few) (plain_fits op.Raise))))) (λ end. keep_fits))
 
   -- a body while a test holds, and another one at its end
   pub while_fits : {k j i l v x y : ℕ} {test : Bool → ℕ → Emission} {body orelse : Emission}
@@ -85,5 +94,8 @@ module _ {c : Around} where
       → EmissionFits c k l (v + x + y + 3) (while_loop test body orelse)
   while_fits t a b =
       fit_room (omega arith)
-      (three_blocks_fit (λ start other end. plain_fits op.SetupLoop) (λ start other end. then_fits (t false other) (then_fits (loop_fits (record { on_break = end; on_continue = start }) (a (record { on_break = end; on_continue = start }))) (jump_fits op.Jump start)))
+      (three_blocks_fit (λ start other end. plain_fits op.SetupLoop)
+      (λ start other end. then_fits (t false other)
+      (then_fits (loop_fits (record { on_break = end; on_continue = start }) (a (record { on_break = end; on_continue = start })))
+      (jump_fits op.Jump start)))
       (λ start other end. then_fits (plain_fits op.PopBlock) b) (λ start other end. keep_fits))

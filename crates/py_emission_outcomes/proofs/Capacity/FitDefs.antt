@@ -11,10 +11,10 @@ use Rattle.py_control.specs.Agree.{AllOf, kids}
 use Rattle.py_control.specs.Form.{MkScope, SForm, Scope, VForms, VNone}
 use Rattle.py_emission_parts.specs.Children.{DefaultEmissions, decorated_value, decorations, docstring_store, emission_of_defaults, flags_of_defaults, free_names, function_made, made_function}
 use Rattle.py_emission_parts.specs.Context.{Context, head_of, inside, qualified_under, with_path}
-use Rattle.py_emission_parts.specs.Emitting.{Around, Emission, ◌▸◌}
+use Rattle.py_emission_parts.specs.Emitting.{NodeContext, Emission, ◌▸◌}
 use Rattle.py_emission_parts.specs.EmissionParts.{in_turn}
 use Rattle.py_emission_parts.specs.Everywhere.{Everywhere}
-use Rattle.py_emission_parts.specs.Within.{function_inside, some_flag}
+use Rattle.py_emission_parts.specs.NestedScopes.{function_inside, some_flag}
 use Rattle.py_emission.specs.Emission.{default_emissions}
 use Rattle.py_emission.specs.EmissionDefs.{emission_of_def, emission_of_end, ends_in_return, function_value, notes}
 use Rattle.py_emission.specs.EmissionStmts.{emission_of_rest}
@@ -35,13 +35,14 @@ use Rattle.py_emission_outcomes.proofs.Capacity.FitScopes.{child_fits, defaults_
 use Rattle.py_emission_outcomes.proofs.Capacity.FitLambdas.{defaults_size, function_few, parameters_less}
 use Rattle.py_emission_outcomes.proofs.Capacity.FitExprs.{defaults_fitted}
 use Rattle.py_emission_outcomes.proofs.Capacity.FitNotes.{notes_fit}
-use Rattle.py_emission_outcomes.proofs.Capacity.AvailableCellLemmas.{Here, available_cell_apart, free_at_hand, kids_stand, names_at_hand, together, available_cell_told}
+use Rattle.py_emission_outcomes.proofs.Capacity.AvailableCellLemmas.{Here, available_cell_apart, free_at_hand, kids_stand, names_at_hand, together, available_cell_context}
 use Rattle.py_emission_outcomes.proofs.Capacity.StandingForms.{FunctionStands, InParts, InValue, function_apart}
 use Rattle.py_emission_outcomes.proofs.Capacity.Turns.{Turns, turns_some_built}
 
--- the statements of a scope within fit, but a docstring
+-- the statements of a nested scope fit, but a docstring
 abbrev pub RestFits : tree.Stmts → Type 0
-RestFits body = (c : Around) → AccessReady c → (k : ℕ) → AllOf (Here c) (kids (rest_form (available_cell_told c) k body)) → EmissionFits c k (k + scopes_in_stmts c.context.postponed body) (192 * stmts_size body) (emission_of_rest body)
+RestFits body = (c : NodeContext) → AccessReady c → (k : ℕ) → AllOf (Here c) (kids (rest_form (available_cell_context c) k body))
+    → EmissionFits c k (k + scopes_in_stmts c.context.postponed body) (192 * stmts_size body) (emission_of_rest body)
 
 module _ (P : Scope → Type 0) (c : Context) where
   -- what is so of each scope in statements that a return of None ends is so of each in the statements
@@ -78,7 +79,7 @@ flag_below flag (x ∷ xs) = omega arith
 pub default_flags_small : (d : DefaultEmissions) → flags_of_defaults d ≤ 12
 default_flags_small d = let a = flag_below 8 d.positional in let b = flag_below 4 d.keyword in omega (arith, a, b)
 
-module _ {c : Around} where
+module _ {c : NodeContext} where
   -- a return of None, where no return ends a function
   pub end_fits : {k : ℕ} (ss : tree.Stmts) → EmissionFits c k k 1 (emission_of_end ss)
   end_fits ss = if_fits (ends_in_return ss) (fit_room (omega arith) keep_fits) (constant_fits op.ReturnConst const.none tt)
@@ -86,7 +87,10 @@ module _ {c : Around} where
   -- a docstring
   pub documented_fits : {k : ℕ} (doc : Option (List ℕ)) → EmissionFits c k k 2 (docstring_store doc)
   documented_fits None = fit_room (omega arith) keep_fits
-  documented_fits (Some text) = fit_room (omega arith) (then_fits (plain_fits op.Duplicate) (then_fits (constant_fits op.LoadConst (const.str text) tt) (then_fits (plain_fits op.Rotate2) (name_fits op.StoreAttr (codes "__doc__")))))
+  documented_fits (Some text) = fit_room (omega arith)
+      (then_fits (plain_fits op.Duplicate)
+      (then_fits (constant_fits op.LoadConst (const.str text) tt)
+      (then_fits (plain_fits op.Rotate2) (name_fits op.StoreAttr (codes "__doc__")))))
 
   -- one call for each decorator
   decorations_fit : {k : ℕ} (ds : List Emission) → EmissionFits c k k 0 (decorations ds)
@@ -102,24 +106,26 @@ module _ {c : Around} where
       → AtHand c (free_names o) → Everywhere HasShortTables o → EmissionFits c k l (w + 2) (function_made flags vs name o)
   function_made_fits r flags vs name o small t h short =
       let e = flag_below 2 vs in
-      then_fits (turns_some_built op.BuildMap vs t) (context_fits (λ d. made_function (flags + some_flag 0x02 vs) (qualified_under d name) o) (made_fits r (flags + some_flag 0x02 vs) (qualified_under c.context name) o (omega (arith, small, e)) h short))
+      then_fits (turns_some_built op.BuildMap vs t)
+      (context_fits (λ d. made_function (flags + some_flag 0x02 vs) (qualified_under d name) o)
+      (made_fits r (flags + some_flag 0x02 vs) (qualified_under c.context name) o (omega (arith, small, e)) h short))
 
-module _ (c : Around) (r : AccessReady c) (k : ℕ) (name : List ℕ) (params : tree.Arguments) (body : tree.Stmts) (returns : tree.OptExpr) (rest : RestFits body) where
+module _ (c : NodeContext) (r : AccessReady c) (k : ℕ) (name : List ℕ) (params : tree.Arguments) (body : tree.Stmts) (returns : tree.OptExpr) (rest : RestFits body) where
   -- whether annotations are postponed
   abbrev p : Bool
   p = c.context.postponed
 
-  -- what stands around in the function
-  abbrev fit_def_inner : Around
+  -- the context in the function
+  abbrev fit_def_inner : NodeContext
   fit_def_inner = access_outside (function_inside name c.context k)
 
   -- its statements, and its own scope
   abbrev pub fit_def_statements : SForm
-  fit_def_statements = function_body (function_inside name (available_cell_told c) k) (suc k) body
+  fit_def_statements = function_body (function_inside name (available_cell_context c) k) (suc k) body
 
   -- its own scope
   abbrev pub fit_def_own : Scope
-  fit_def_own = MkScope (head_of (function_inside name (available_cell_told c) k)) fit_def_statements
+  fit_def_own = MkScope (head_of (function_inside name (available_cell_context c) k)) fit_def_statements
 
   -- the cells are those of its scope
   inner_ready : AccessReady fit_def_inner
@@ -130,48 +136,64 @@ module _ (c : Around) (r : AccessReady c) (k : ℕ) (name : List ℕ) (params : 
   body_fits : Here c fit_def_own → EmissionFits fit_def_inner (suc k) (suc k + scopes_in_stmts p body) (192 * stmts_size body + 1) (emission_of_rest body ▸ emission_of_end (after_doc body))
   unfolding inside with_path
   body_fits h =
-      let stand = kids_stand c.context.scopes c.context.here (head_of (function_inside name (available_cell_told c) k)) fit_def_statements h in
-      then_fits (rest fit_def_inner inner_ready (suc k) (function_rest (Here fit_def_inner) (available_cell_told fit_def_inner) (suc k) body stand)) (end_fits (after_doc body))
+      let stand = kids_stand c.context.scopes c.context.here (head_of (function_inside name (available_cell_context c) k)) fit_def_statements h in
+      then_fits (rest fit_def_inner inner_ready (suc k) (function_rest (Here fit_def_inner) (available_cell_context fit_def_inner) (suc k) body stand)) (end_fits (after_doc body))
 
-  -- the names that it has from outside are at hand
+  -- its free names are at hand
   fit_def_reach : Here c fit_def_own → AtHand c (function_inside name c.context k).frees
   unfolding inside with_path
-  fit_def_reach h = free_at_hand r k (names_at_hand c.context.scopes c.context.here (head_of (function_inside name (available_cell_told c) k)) fit_def_statements h)
+  fit_def_reach h = free_at_hand r k (names_at_hand c.context.scopes c.context.here (head_of (function_inside name (available_cell_context c) k)) fit_def_statements h)
 
   -- the function with its annotations and its docstring
   pub function_value_fits : (flags : ℕ) (parts : VForms) → flags < 2 ^ 30
-      → FunctionStands (Here c) parts fit_def_own (note_forms (available_cell_told c) (suc k + scopes_in_stmts p body) params returns)
-      → EmissionFits c k (k + suc (scopes_in_stmts p body + (scopes_in_returns p returns + scopes_in_all_notes p params))) (65 * arguments_size params + 64 * opt_expr_size returns + 192 * stmts_size body + 8) (function_value flags name params body returns (emission_of_rest body ▸ emission_of_end (after_doc body)))
+      → FunctionStands (Here c) parts fit_def_own (note_forms (available_cell_context c) (suc k + scopes_in_stmts p body) params returns)
+      → EmissionFits c k (k + suc (scopes_in_stmts p body + (scopes_in_returns p returns + scopes_in_all_notes p params)))
+      (65 * arguments_size params + 64 * opt_expr_size returns + 192 * stmts_size body + 8)
+      (function_value flags name params body returns (emission_of_rest body ▸ emission_of_end (after_doc body)))
   function_value_fits flags parts small h =
       let m = suc k + scopes_in_stmts p body in
       let few = parameters_less params in
       let noted = notes_fit c r m params returns h.notes_so in
       fits_as (omega arith) (omega (arith, few))
       (then_fits
-      (child_fits (function_inside name) (function_shape params name) inner_ready (scope_fits fit_def_inner (parameters params) (body_fits h.own)) (λ i. function_few params name (omega (arith, i))) (λ o e short. function_made_fits r flags (notes params returns) name o small noted (hand_as e (fit_def_reach h.own)) short))
+      (child_fits (function_inside name) (function_shape params name) inner_ready
+      (scope_fits fit_def_inner (parameters params) (body_fits h.own)) (λ i. function_few params name (omega (arith, i)))
+      (λ o e short. function_made_fits r flags (notes params returns) name o small noted (hand_as e (fit_def_reach h.own)) short))
       (level_fits (λ l. docstring_store (doc_of l body)) (documented_fits (doc_of c.context.level body))))
 
 -- the defaults of a function
-pub default_fits : (c : Around) → AccessReady c → (k : ℕ) (params : tree.Arguments)
-    → InParts (Here c) (default_parts (default_forms (available_cell_told c) k params) VNone)
+pub default_fits : (c : NodeContext) → AccessReady c → (k : ℕ) (params : tree.Arguments)
+    → InParts (Here c) (default_parts (default_forms (available_cell_context c) k params) VNone)
     → EmissionFits c k (k + scopes_in_defaults c.context.postponed params) (64 * arguments_size params) (emission_of_defaults (default_emissions params))
 default_fits c r k params h =
     let e = parameters_less params in
     fit_room (omega (arith, e)) (defaults_fit c k (k + scopes_in_defaults c.context.postponed params) (64 * defaults_size params) (default_emissions params) (defaults_fitted c r k params h))
 
 -- a function without type parameters, whose defaults come first
-module _ (c : Around) (r : AccessReady c) (k : ℕ) (name : List ℕ) (params : tree.Arguments) (body : tree.Stmts) (returns : tree.OptExpr) (rest : RestFits body) where
+module _ (c : NodeContext) (r : AccessReady c) (k : ℕ) (name : List ℕ) (params : tree.Arguments) (body : tree.Stmts) (returns : tree.OptExpr) (rest : RestFits body) where
   -- the number of its own scope
-  abbrev number : ℕ
-  number = k + scopes_in_defaults c.context.postponed params
+  abbrev fit_def_number : ℕ
+  fit_def_number = k + scopes_in_defaults c.context.postponed params
 
   -- the function after its defaults
-  pub plain_def_fits : InValue (Here c) (def_form (available_cell_told c) k name params body returns tree.no_type_params (function_body (function_inside name (available_cell_told c) number) (suc number) body))
-      → EmissionFits c k (k + (scopes_in_defaults c.context.postponed params + suc (scopes_in_stmts c.context.postponed body + (scopes_in_returns c.context.postponed returns + scopes_in_all_notes c.context.postponed params)))) (129 * arguments_size params + 64 * opt_expr_size returns + 192 * stmts_size body + 8) (emission_of_def name params body returns (emission_of_rest body ▸ emission_of_end (after_doc body)))
+  pub plain_def_fits : InValue (Here c)
+      (def_form (available_cell_context c) k name params body returns tree.no_type_params
+      (function_body (function_inside name (available_cell_context c) fit_def_number) (suc fit_def_number) body))
+      → EmissionFits c k
+      (k + (scopes_in_defaults c.context.postponed params
+      + suc (scopes_in_stmts c.context.postponed body
+      + (scopes_in_returns c.context.postponed returns + scopes_in_all_notes c.context.postponed params))))
+      (129 * arguments_size params + 64 * opt_expr_size returns + 192 * stmts_size body + 8)
+      (emission_of_def name params body returns (emission_of_rest body ▸ emission_of_end (after_doc body)))
   unfolding emission_of_def
   plain_def_fits h =
-      let d = default_forms (available_cell_told c) k params in
+      let d = default_forms (available_cell_context c) k params in
       let e = default_emissions params in
-      let x = function_apart (Here c) (available_cell_told c) number (default_flags d) (default_parts d VNone) name params body returns (function_body (function_inside name (available_cell_told c) number) (suc number) body) h in
+      let x = function_apart (Here c) (available_cell_context c) fit_def_number (default_flags d)
+      (default_parts d VNone) name params body returns
+      (function_body (function_inside name (available_cell_context c) fit_def_number) (suc fit_def_number) body) h in
       let small = default_flags_small e in
-      fits_as (omega arith) (omega arith) (then_fits (default_fits c r k params x.parts_so) (function_value_fits c r number name params body returns rest (flags_of_defaults e) (default_parts d VNone) (omega (arith, small)) x))
+      fits_as (omega arith) (omega arith)
+      (then_fits (default_fits c r k params x.parts_so)
+      (function_value_fits c r fit_def_number name params body returns rest (flags_of_defaults e) (default_parts d VNone)
+      (omega (arith, small)) x))

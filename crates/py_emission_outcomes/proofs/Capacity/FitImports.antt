@@ -10,26 +10,27 @@ use Rattle.py_bytecode.specs.Objects as const
 use Rattle.py_bytecode.specs.Objects.{Const}
 use Rattle.py_base.specs.declared.errors.CodegenErrorType.TheVariants as error
 use Rattle.py_emission.specs.EmissionFutures.{check_features, emission_of_future}
-use Rattle.py_emission.specs.EmissionImports.{emission_of_alias, emission_of_attributes, emission_of_from, emission_of_import, emission_of_imported, emission_of_module, emission_of_names, emission_of_star, import_step}
+use Rattle.py_emission.specs.EmissionImports.{emission_of_alias, emission_of_attributes, emission_of_from, emission_of_import}
+use Rattle.py_emission.specs.EmissionImports.{emission_of_imported, emission_of_module, emission_of_names, emission_of_star, import_step}
 use Rattle.py_emission.specs.EmissionStmts.{emission_of_import_from}
 use Rattle.py_emission.specs.Futures.{Future, is_feature}
 use Rattle.py_emission.specs.Imports.{asked_tuple, asked_all, from_future, further_segments, import_name, taken_name, takes_all}
 use Rattle.py_emission_parts.specs.Context.{is_function}
-use Rattle.py_emission_parts.specs.Emitting.{Around, Emission, ◌▸◌, emit, refuse}
+use Rattle.py_emission_parts.specs.Emitting.{NodeContext, Emission, ◌▸◌, emit, refuse}
 use Rattle.py_emission_outcomes.proofs.Capacity.ShortTables.{IsShort}
 use Rattle.py_emission_outcomes.proofs.Capacity.Fits.{EmissionFits, at_fits, constant_fits, context_fits, if_fits, keep_fits, mangled_fits, plain_fits, refuse_fits, fit_room, then_fits}
 use Rattle.py_emission_outcomes.proofs.Capacity.Accesses.{AccessReady, stored_fits}
 
 -- as many segments stand after the first as a path has dots
-fit_import_behind_first : {A : Type 0} (xs : List A) (n : ℕ) → length xs ≡ n + 1 → length (drop 1 xs) ≡ n
-fit_import_behind_first [] n e = absurd (omega (arith, e))
-fit_import_behind_first (x ∷ xs) n e = omega (arith, e)
+fit_import_after_first : {A : Type 0} (xs : List A) (n : ℕ) → length xs ≡ n + 1 → length (drop 1 xs) ≡ n
+fit_import_after_first [] n e = absurd (omega (arith, e))
+fit_import_after_first (x ∷ xs) n e = omega (arith, e)
 
 -- a path has a further segment for each dot
 further_are : (path : List ℕ) → length (further_segments path) ≡ dots path
-further_are path = fit_import_behind_first (slice_split (λ b. nat_eq b 46) path) (dots path) (length-slice_split (λ b. nat_eq b 46) path)
+further_are path = fit_import_after_first (slice_split (λ b. nat_eq b 46) path) (dots path) (length-slice_split (λ b. nat_eq b 46) path)
 
-module _ (c : Around) (ready : AccessReady c) (k : ℕ) where
+module _ (c : NodeContext) (ready : AccessReady c) (k : ℕ) where
   -- a module is imported by its path, or has none
   step_fits : (path : Option (List ℕ)) → EmissionFits c k k 1 (import_step path)
   step_fits None = fit_room (omega arith) (plain_fits op.ImportNameless)
@@ -37,7 +38,9 @@ module _ (c : Around) (ready : AccessReady c) (k : ℕ) where
 
   -- asked for these names
   module_fits : (path : Option (List ℕ)) (level : ℕ) (names : Const) → IsShort names → EmissionFits c k k 3 (emission_of_module path level names)
-  module_fits path level names short = fit_room (omega arith) (then_fits (constant_fits op.LoadConst (const.integer (pos level)) tt) (then_fits (constant_fits op.LoadConst names short) (step_fits path)))
+  module_fits path level names short = fit_room (omega arith)
+      (then_fits (constant_fits op.LoadConst (const.integer (pos level)) tt)
+      (then_fits (constant_fits op.LoadConst names short) (step_fits path)))
 
   -- each segment is an attribute of what stands before it
   attributes_fit : (xs : List (List ℕ)) → EmissionFits c k k (length xs) (emission_of_attributes xs)
@@ -69,7 +72,9 @@ module _ (c : Around) (ready : AccessReady c) (k : ℕ) where
   star_fits : (path : Option (List ℕ)) (level : ℕ) → EmissionFits c k k 3 (emission_of_star path level)
   star_fits path level =
       let all : Emission = emission_of_module path level asked_all ▸ emit op.ImportStar 0 in
-      context_fits (λ d. if is_function d.typ then refuse error.FunctionImportStar else all) (if_fits (is_function c.context.typ) (refuse_fits error.FunctionImportStar tt) (fit_room (omega arith) (then_fits (module_fits path level asked_all tt) (plain_fits op.ImportStar))))
+      context_fits (λ d. if is_function d.typ then refuse error.FunctionImportStar else all)
+      (if_fits (is_function c.context.typ) (refuse_fits error.FunctionImportStar tt)
+      (fit_room (omega arith) (then_fits (module_fits path level asked_all tt) (plain_fits op.ImportStar))))
 
   -- all names of a module, or some
   pub from_fits : (path : Option (List ℕ)) (names : List Alias) (level : ℕ) → EmissionFits c k k (4 * aliases_size names + 3) (emission_of_from path names level)

@@ -8,8 +8,8 @@ use Rattle.py_emission.specs.Parameters.{arg_names, function_shape, names_with_d
 use Rattle.py_limits.specs.Size.{args_size, arguments_size, opt_arg_size, opt_expr_size}
 use Rattle.py_scope.specs.declared.table_type.SymbolTableType.TheVariants as kind
 use Rattle.py_emission_parts.specs.Children.{DefaultEmissions, flags_of_defaults}
-use Rattle.py_emission_parts.specs.Within.{lambda_inside}
-use Rattle.py_emission_parts.specs.Emitting.{Around, Emission}
+use Rattle.py_emission_parts.specs.NestedScopes.{lambda_inside}
+use Rattle.py_emission_parts.specs.Emitting.{NodeContext, Emission}
 use Rattle.py_emission_outcomes.proofs.Capacity.ShortTables.{HasFew}
 use Rattle.py_emission_outcomes.proofs.Capacity.Fits.{EmissionFits, fit_room, scopes_fit, then_fits}
 use Rattle.py_emission_outcomes.proofs.Capacity.Accesses.{AtHand, AccessReady, made_fits, access_outside, ready_inside}
@@ -76,12 +76,14 @@ function_few (tree.arguments posonly args vararg kwonly kwarg) name h =
     record { positional = omega (arith, h, x); arguments = omega (arith, h, x, y); keywords = omega (arith, h, x, y, z, w, k) }
 
 -- a lambda
-pub lambda_fits : {returned : Emission} (c : Around) (k m l v w : ℕ) (params : tree.Arguments) (d : DefaultEmissions) → AccessReady c
+pub lambda_fits : {returned : Emission} (c : NodeContext) (k m l v w : ℕ) (params : tree.Arguments) (d : DefaultEmissions) → AccessReady c
     → AtHand c (lambda_inside c.context m).frees → DefaultsFit c k m v d → EmissionFits (access_outside (lambda_inside c.context m)) (suc m) l w returned
     → EmissionFits c k (l + scopes_in_annotations c.context.postponed params) (v + w + length (parameters params) + 4) (lambda_value params d returned)
 unfolding lambda_value
 lambda_fits c k m l v w params d r hand x y =
     fit_room (omega arith)
     (then_fits (defaults_fit c k m v d x)
-    (child_fits lambda_inside (function_shape params (codes "<lambda>")) (ready_inside c kind.Function m r) (scope_fits (access_outside (lambda_inside c.context m)) (parameters params) y) (λ i. function_few params (codes "<lambda>") (omega (arith, i)))
+    (child_fits lambda_inside (function_shape params (codes "<lambda>")) (ready_inside c kind.Function m r)
+    (scope_fits (access_outside (lambda_inside c.context m)) (parameters params) y)
+    (λ i. function_few params (codes "<lambda>") (omega (arith, i)))
     (λ o e short. then_fits (scopes_fit (λ postponed. scopes_in_annotations postponed params)) (made_fits r (flags_of_defaults d) (codes "<lambda>") o (default_flags_few d) (hand_as e hand) short))))

@@ -8,17 +8,23 @@ use Rattle.py_bytecode.specs.declared.instruction.Instruction.{Instruction}
 use Rattle.py_bytecode.specs.declared.instruction.Instruction.TheVariants as op
 use Rattle.py_bytecode.specs.Objects as const
 use Rattle.py_bytecode.specs.Objects.{Const}
-use Rattle.py_emission_parts.specs.Elements.{Element, Single, Spread, Callee, Function, Method, after_star, bare, before_star, behind, front, groups, pairs, sides, has_starred, stars}
-use Rattle.py_emission_parts.specs.Emitting.{Around, Emission, emit_constant}
-use Rattle.py_emission_parts.specs.EmissionParts.{Emissions, Keywords, Stores, counted_build, call_by, keyword_checks, dict_value, display, elements, emission_of_call, emission_of_dict, in_turn, joined_map, map_of, map_of_pairs, name_values, names_in, packed_arguments, packed_tuple, positional_call, slice_step, slice_value, unpack, unpack_starred, unpack_emission, updates, value_or, values, values_in}
+use Rattle.py_emission_parts.specs.Elements.{Element, Single, Spread, Callee, Function, Method, after_star, bare, before_star, later_elements, front, groups, pairs, sides, has_starred, stars}
+use Rattle.py_emission_parts.specs.Emitting.{NodeContext, Emission, emit_constant}
+use Rattle.py_emission_parts.specs.EmissionParts.{Emissions, Keywords, Stores, counted_build, call_by, keyword_checks, dict_value, display}
+use Rattle.py_emission_parts.specs.EmissionParts.{elements, emission_of_call, emission_of_dict, in_turn, joined_map, map_of, map_of_pairs}
+use Rattle.py_emission_parts.specs.EmissionParts.{name_values, names_in, packed_arguments, packed_tuple, positional_call, slice_step}
+use Rattle.py_emission_parts.specs.EmissionParts.{slice_value, unpack, unpack_starred, unpack_emission, updates, value_or, values}
+use Rattle.py_emission_parts.specs.EmissionParts.{values_in}
 use Rattle.py_emission_parts.specs.Refused.{few_aside, no_assignment}
 use Rattle.py_emission_parts.specs.TableParts.{any}
 use Rattle.py_emission_outcomes.proofs.Capacity.ShortTables.{IsShort}
-use Rattle.py_emission_outcomes.proofs.Capacity.Fits.{EmissionFits, at_fits, constant_fits, count_fits, emit_fits, few_so, fits_as, if_fits, fit_if_so, keep_fits, mangled_fits, plain_fits, refuse_fits, fit_room, then_fits, unless_debug_fits}
+use Rattle.py_emission_outcomes.proofs.Capacity.Fits.{EmissionFits, at_fits, constant_fits, count_fits, emit_fits, few_so, fits_as, if_fits}
+use Rattle.py_emission_outcomes.proofs.Capacity.Fits.{fit_if_so, keep_fits, mangled_fits, plain_fits, refuse_fits, fit_room, then_fits}
+use Rattle.py_emission_outcomes.proofs.Capacity.Fits.{unless_debug_fits}
 use Rattle.py_emission_outcomes.proofs.Capacity.Threads.{OneOf, Thread, all_groups, bare_so, thread_parted, thread_few}
 
 -- what may be missing goes from a number to another and takes so much
-abbrev pub SomeFits : Around → (k l w : ℕ) → Option Emission → Type 0
+abbrev pub SomeFits : NodeContext → (k l w : ℕ) → Option Emission → Type 0
 SomeFits c k l w None = k ≡ l
 SomeFits c k l w (Some v) = EmissionFits c k l w v
 
@@ -45,7 +51,7 @@ aside_few es e =
     let b = fit_part_below (after_star es) 256 x.1 in
     omega (arith, a, b)
 
-module _ (c : Around) where
+module _ (c : NodeContext) where
   -- an emission goes from a number to another and takes so much
   abbrev pub Takes : (k l w : ℕ) → Emission → Type 0
   Takes k l w v = EmissionFits c k l w v
@@ -108,7 +114,15 @@ module _ (c : Around) where
 
   -- and for an expression
   pub well_as : {k l m v w : ℕ} (x : Emissions) → l ≡ m → v ≤ w → FitsWell k l v x → FitsWell k m w x
-  well_as {k} {l} {m} {v} {w} x e i h = record { value = fits_as e i h.value; test = λ truth block. fits_as e i (h.test truth block); element = element_as k l m v w x.element e i h.element; callee = callee_as k l m v w x.callee e i h.callee; returned = fits_as e i h.returned }
+  well_as {k} {l} {m} {v} {w} x e i h =
+      record {
+        value = fits_as e i h.value;
+        test = λ truth block. fits_as e i (h.test truth block);
+        element =
+            element_as k l m v w x.element e i h.element;
+        callee = callee_as k l m v w x.callee e i h.callee;
+        returned = fits_as e i h.returned;
+      }
 
   -- one after another
   pub turn_fits : (k l w : ℕ) (vs : List Emission) → Thread Takes k l w vs → EmissionFits c k l w (in_turn vs)
@@ -147,7 +161,9 @@ module _ (c : Around) where
   -- a map of named values
   pub map_fits : (k l w : ℕ) (ps : List (List ℕ × Emission)) → Thread NamedFits k l w ps → EmissionFits c k l w (map_of ps)
   map_fits k l w ps h =
-      few_so (length ps) (thread_few NamedFits k l w ps h) (λ n. fit_room (omega arith) (then_fits (turn_fits k l w (name_values ps) (name_values_fit k l w ps h)) (count_fits op.BuildMap (length ps) n)))
+      few_so (length ps) (thread_few NamedFits k l w ps h)
+      (λ n. fit_room (omega arith) (then_fits (turn_fits k l w (name_values ps) (name_values_fit k l w ps h))
+      (count_fits op.BuildMap (length ps) n)))
 
   -- one map, or one of several
   joined_map_fits : (k l w : ℕ) (vs : List Emission) → Thread Takes k l w vs → EmissionFits c k l w (joined_map vs)
@@ -174,7 +190,9 @@ module _ (c : Around) where
       let g = tuples_fit k l w es h in
       if_fits (has_starred es)
       (few_so (length gs) (thread_few Takes k l w gs g) (λ n. fit_room (omega arith) (then_fits (turn_fits k l w gs g) (then_fits (checked_fits ks) (count_fits op.BuildTupleUnpack (length gs) n)))))
-      (few_so (length es) (thread_few ElementFits k l w es h) (λ n. fit_room (omega arith) (then_fits (turn_fits k l w (bare es) (bare_so Takes k l w es h)) (then_fits (checked_fits ks) (count_fits op.BuildTuple (length es) n)))))
+      (few_so (length es) (thread_few ElementFits k l w es h)
+      (λ n. fit_room (omega arith) (then_fits (turn_fits k l w (bare es) (bare_so Takes k l w es h))
+      (then_fits (checked_fits ks) (count_fits op.BuildTuple (length es) n)))))
 
   -- and the map of the keywords
   packed_fits : (k m l v w : ℕ) (es : List (Element Emission Emission)) (ks : Keywords) → Thread ElementFits k m v es → Thread KeywordFits m l w ks
@@ -191,7 +209,9 @@ module _ (c : Around) where
   placed_fits : (k j m l u v w : ℕ) (f : Callee Emission) (vs : List Emission) (ks : Keywords) → CalleeFits k j u f → Thread Takes j m v vs
       → Thread KeywordFits m l w ks → EmissionFits c k l (u + v + w + 2) (positional_call f vs ks)
   placed_fits k j m l u v w f vs [] x y z =
-      few_so (length vs) (let i = thread_few Takes j m v vs y in omega (arith, i)) (λ n. fits_as z (omega arith) (called_fits k j u f op.CallFunctionPositional op.CallMethodPositional (length vs) n x (turn_fits j m v vs y)))
+      few_so (length vs) (let i = thread_few Takes j m v vs y in omega (arith, i))
+      (λ n. fits_as z (omega arith) (called_fits k j u f op.CallFunctionPositional op.CallMethodPositional (length vs) n x
+      (turn_fits j m v vs y)))
   placed_fits k j m l u v w f vs (p ∷ ps) x y z =
       let i = thread_few Takes j m v vs y in
       let e = thread_few KeywordFits m l w (p ∷ ps) z in
@@ -234,7 +254,7 @@ module _ (c : Around) where
       let t = p.together in
       fit_room (omega (arith, t))
       (then_fits (pairs_map_fits k p.between p.first (front es) p.fronts)
-      (updates_fit p.between l p.rest (groups map_of_pairs [] (behind es)) (all_groups PairFits Takes map_of_pairs pairs_map_fits p.between l p.rest (behind es) p.behinds)))
+      (updates_fit p.between l p.rest (groups map_of_pairs [] (later_elements es)) (all_groups PairFits Takes map_of_pairs pairs_map_fits p.between l p.rest (later_elements es) p.afters)))
 
   -- as many keys, or stars in their places, as values
   pub dict_fits : (k l w : ℕ) (ks : List (Option Emission)) (vs : List Emission) → (length ks ≡ length vs → Thread EntryFits k l w (pairs ks vs)) → EmissionFits c k l w (emission_of_dict ks vs)
@@ -253,7 +273,9 @@ module _ (c : Around) where
   -- a slice
   pub slice_fits : (k j m l u v w : ℕ) (lower upper step : Option Emission) → SomeFits c k j u lower → SomeFits c j m v upper → SomeFits c m l w step
       → EmissionFits c k l (u + v + w + 2) (slice_value lower upper step)
-  slice_fits k j m l u v w lower upper step x y z = fit_room (omega arith) (then_fits (value_or_fits k j u const.none tt lower x) (then_fits (value_or_fits j m v const.none tt upper y) (slice_step_fits m l w step z)))
+  slice_fits k j m l u v w lower upper step x y z =
+      fit_room (omega arith) (then_fits (value_or_fits k j u const.none tt lower x)
+      (then_fits (value_or_fits j m v const.none tt upper y) (slice_step_fits m l w step z)))
 
   -- a value is unpacked to targets
   starred_fits : {k : ℕ} (at : SourceLocation) (es : List (Element Emission Emission)) → EmissionFits c k k 0 (unpack_starred at es)
@@ -267,4 +289,5 @@ module _ (c : Around) where
 
   -- and stores what it gives
   pub unpack_fits : (at : SourceLocation) (k l w : ℕ) (es : List (Element Emission Emission)) → Thread ElementFits k l w es → EmissionFits c k l w (unpack at es)
-  unpack_fits at k l w es h = few_so (length es) (thread_few ElementFits k l w es h) (λ n. fit_room (omega arith) (then_fits (unpacking_fits at es n) (turn_fits k l w (bare es) (bare_so Takes k l w es h))))
+  unpack_fits at k l w es h = few_so (length es) (thread_few ElementFits k l w es h)
+      (λ n. fit_room (omega arith) (then_fits (unpacking_fits at es n) (turn_fits k l w (bare es) (bare_so Takes k l w es h))))

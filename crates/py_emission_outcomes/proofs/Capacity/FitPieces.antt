@@ -18,9 +18,9 @@ use Rattle.py_meaning.specs.Table.{after, after_clauses, all_forms, target_form,
 use Rattle.py_emission_parts.specs.Context.{Context}
 use Rattle.py_emission_parts.specs.Comprehensions.{comprehension}
 use Rattle.py_emission_parts.specs.Elements.{pairs}
-use Rattle.py_emission_parts.specs.Emitting.{Around, Emission, ◌▸◌, move}
+use Rattle.py_emission_parts.specs.Emitting.{NodeContext, Emission, ◌▸◌, move}
 use Rattle.py_emission_parts.specs.EmissionParts.{joined_value, tested_value, values}
-use Rattle.py_emission_parts.specs.Within.{comprehension_inside}
+use Rattle.py_emission_parts.specs.NestedScopes.{comprehension_inside}
 use Rattle.py_emission_parts.specs.TableParts as table
 use Rattle.py_emission_parts.specs.TableParts.{binary_case, conversion_case, is_debug}
 use Rattle.py_emission_outcomes.proofs.Capacity.Fits.{EmissionFits, constant_fits, fits_as, fits_from, if_fits, fit_room}
@@ -28,7 +28,7 @@ use Rattle.py_emission_outcomes.proofs.Capacity.Accesses.{AtHand, AccessReady, a
 use Rattle.py_emission_outcomes.proofs.Capacity.FitParts.{ElementFits, EntryFits, FitsWell, PairFits, Takes, built_fits}
 use Rattle.py_emission_outcomes.proofs.Capacity.FitScopes.{FirstFits, comprehension_fits}
 use Rattle.py_emission_outcomes.proofs.Capacity.FitTests.{fit_test_value_returned, whole_fits}
-use Rattle.py_emission_outcomes.proofs.Capacity.AvailableCellLemmas.{Here, available_cell_told}
+use Rattle.py_emission_outcomes.proofs.Capacity.AvailableCellLemmas.{Here, available_cell_context}
 use Rattle.py_emission_outcomes.proofs.Capacity.StandingExprs.{InForm, InTargetElement, parts_in}
 use Rattle.py_emission_outcomes.proofs.Capacity.Threads.{Thread, thread_to}
 
@@ -78,35 +78,35 @@ conversion_small conversion.None = omega arith
 conversion_small other = omega arith
 
 -- one text, or what is built of the values
-pub joined_fits : (c : Around) (k l w : ℕ) (text : Option (List ℕ)) (vs : List Emission) (fs : List VForm) → ((t : List ℕ) → text ≡ Some t → k ≡ l)
+pub joined_fits : (c : NodeContext) (k l w : ℕ) (text : Option (List ℕ)) (vs : List Emission) (fs : List VForm) → ((t : List ℕ) → text ≡ Some t → k ≡ l)
     → (AllOf (InForm (Here c)) fs → Thread (Takes c) k l w vs) → InForm (Here c) (table.joined_form text fs) → EmissionFits c k l (w + 1) (joined_value text vs)
 joined_fits c k l w (Some text) vs fs none h g = fits_as (none text refl) (omega arith) (constant_fits op.LoadConst (const.str text) tt)
 joined_fits c k l w None vs fs none h g = fit_room (omega arith) (built_fits c op.BuildString k l w vs (h (parts_in (Here c) fs g)))
 
 -- the same, returned
-pub joined_returned : (c : Around) (k l w : ℕ) (text : Option (List ℕ)) (vs : List Emission) (fs : List VForm) → ((t : List ℕ) → text ≡ Some t → k ≡ l)
+pub joined_returned : (c : NodeContext) (k l w : ℕ) (text : Option (List ℕ)) (vs : List Emission) (fs : List VForm) → ((t : List ℕ) → text ≡ Some t → k ≡ l)
     → (AllOf (InForm (Here c)) fs → Thread (Takes c) k l w vs) → InForm (Here c) (table.joined_form text fs)
     → EmissionFits c k l (w + 1) (joined_return text vs)
 joined_returned c k l w (Some text) vs fs none h g = fits_as (none text refl) (omega arith) (constant_fits op.ReturnConst (const.str text) tt)
 joined_returned c k l w None vs fs none h g = fit_room (omega arith) (fit_test_value_returned (built_fits c op.BuildString k l w vs (h (parts_in (Here c) fs g))))
 
 -- a name that is returned
-pub fit_piece_name_returned : {c : Around} {k : ℕ} → AccessReady c → (x : List ℕ) → EmissionFits c k k 1 (name_return x)
+pub fit_piece_name_returned : {c : NodeContext} {k : ℕ} → AccessReady c → (x : List ℕ) → EmissionFits c k k 1 (name_return x)
 fit_piece_name_returned r x = if_fits (is_debug x) (debug_fits op.ReturnConst) (fit_test_value_returned (accessed_fits r Load x))
 
 -- the keys of a dict display, and its values, each where it stands among both
-abbrev KeyFits : Around → ℕ → tree.OptExpr → Type 0
+abbrev KeyFits : NodeContext → ℕ → tree.OptExpr → Type 0
 KeyFits c k tree.no_expr = Unit {0}
 KeyFits c k (tree.some_expr t) = EmissionFits c k (k + scopes_in c.context.postponed t) (64 * expr_size t) (emissions t).value
 
 -- all keys
-abbrev pub KeysFit : Around → ℕ → tree.OptExprs → tree.Exprs → Type 0
+abbrev pub KeysFit : NodeContext → ℕ → tree.OptExprs → tree.Exprs → Type 0
 KeysFit c k tree.no_opts others = Unit {0}
 KeysFit c k (tree.more_opts o os) tree.no_exprs = Unit {0}
 KeysFit c k (tree.more_opts o os) (tree.more_exprs e es) = KeyFits c k o × KeysFit c (k + scopes_in_opt c.context.postponed o + scopes_in c.context.postponed e) os es
 
 -- all values
-abbrev pub OthersFit : Around → ℕ → tree.OptExprs → tree.Exprs → Type 0
+abbrev pub OthersFit : NodeContext → ℕ → tree.OptExprs → tree.Exprs → Type 0
 OthersFit c k tree.no_opts others = Unit {0}
 OthersFit c k (tree.more_opts o os) tree.no_exprs = Unit {0}
 OthersFit c k (tree.more_opts o os) (tree.more_exprs e es) =
@@ -114,9 +114,10 @@ OthersFit c k (tree.more_opts o os) (tree.more_exprs e es) =
     × OthersFit c (k + scopes_in_opt c.context.postponed o + scopes_in c.context.postponed e) os es
 
 -- the entries of a dict display, by its keys and its values
-pub entries_fit : (c : Around) (k : ℕ) (keys : tree.OptExprs) (others : tree.Exprs) → KeysFit c k keys others → OthersFit c k keys others
+pub entries_fit : (c : NodeContext) (k : ℕ) (keys : tree.OptExprs) (others : tree.Exprs) → KeysFit c k keys others → OthersFit c k keys others
     → length (opt_emissions keys) ≡ length (values (all_emissions others))
-    → Thread (EntryFits c) k (k + (scopes_in_opts c.context.postponed keys + scopes_in_all c.context.postponed others)) (64 * keys_size keys + 64 * exprs_size others) (pairs (opt_emissions keys) (values (all_emissions others)))
+    → Thread (EntryFits c) k (k + (scopes_in_opts c.context.postponed keys + scopes_in_all c.context.postponed others))
+    (64 * keys_size keys + 64 * exprs_size others) (pairs (opt_emissions keys) (values (all_emissions others)))
 entries_fit c k tree.no_opts tree.no_exprs x y even = omega arith
 entries_fit c k tree.no_opts (tree.more_exprs e es) x y even = absurd (omega (arith, even))
 entries_fit c k (tree.more_opts o os) tree.no_exprs x y even = absurd (omega (arith, even))
@@ -125,8 +126,17 @@ entries_fit c k (tree.more_opts tree.no_expr os) (tree.more_exprs e es) x y even
     let a = scopes_in p e in
     let b = scopes_in_opts p os + scopes_in_all p es in
     let w = 64 * keys_size os + 64 * exprs_size es in
-    let i = some_size e in
-    (k + 0 + a, 64 * expr_size e, w, fits_from (omega arith) y.0, thread_to (EntryFits c) (k + 0 + a) (k + 0 + a + b) (k + (0 + scopes_in_opts p os + (a + scopes_in_all p es))) w (pairs (opt_emissions os) (values (all_emissions es))) (omega arith) (entries_fit c (k + 0 + a) os es x.1 y.1 (omega (arith, even))), omega (arith, i), omega arith)
+    let i = some_size e in (
+      k + 0 + a,
+      64 * expr_size e,
+      w,
+      fits_from (omega arith) y.0,
+      thread_to (EntryFits c) (k + 0 + a) (k + 0 + a + b) (k + (0 + scopes_in_opts p os + (a + scopes_in_all p es))) w
+          (pairs (opt_emissions os) (values (all_emissions es))) (omega arith)
+          (entries_fit c (k + 0 + a) os es x.1 y.1 (omega (arith, even))),
+      omega (arith, i),
+      omega arith,
+    )
 entries_fit c k (tree.more_opts (tree.some_expr t) os) (tree.more_exprs e es) x y even =
     let p = c.context.postponed in
     let a = scopes_in p t in
@@ -135,22 +145,46 @@ entries_fit c k (tree.more_opts (tree.some_expr t) os) (tree.more_exprs e es) x 
     let w = 64 * keys_size os + 64 * exprs_size es in
     let i = some_size t in
     let j = some_size e in
-    let both : PairFits c k (k + a + d) (64 * expr_size t + 64 * expr_size e) ((emissions t).value, (emissions e).value) = record { between = k + a; first = 64 * expr_size t; second = 64 * expr_size e; key = x.0; value = y.0; some_first = omega (arith, i); some_second = omega (arith, j); together = omega arith } in
-    (k + a + d, 64 * expr_size t + 64 * expr_size e, w, both, thread_to (EntryFits c) (k + a + d) (k + a + d + b) (k + (a + scopes_in_opts p os + (d + scopes_in_all p es))) w (pairs (opt_emissions os) (values (all_emissions es))) (omega arith) (entries_fit c (k + a + d) os es x.1 y.1 (omega (arith, even))), omega (arith, i), omega arith)
+    let both : PairFits c k (k + a + d) (64 * expr_size t + 64 * expr_size e) ((emissions t).value, (emissions e).value) =
+    record {
+      between = k + a;
+      first = 64 * expr_size t;
+      second = 64 * expr_size e;
+      key = x.0;
+      value = y.0;
+      some_first =
+          omega (arith, i);
+      some_second = omega (arith, j);
+      together = omega arith;
+    } in (
+      k + a + d,
+      64 * expr_size t + 64 * expr_size e,
+      w,
+      both,
+      thread_to (EntryFits c) (k + a + d) (k + a + d + b) (k + (a + scopes_in_opts p os + (d + scopes_in_all p es))) w
+          (pairs (opt_emissions os) (values (all_emissions es))) (omega arith)
+          (entries_fit c (k + a + d) os es x.1 y.1 (omega (arith, even))),
+      omega (arith, i),
+      omega arith,
+    )
 
 -- a comprehension by its scope, which so many scopes in its elements end, and by its first iterable
-pub comprehended_fits : (c : Around) (k n u : ℕ) (at : SourceLocation) (awaited : Bool) (name : List ℕ) (gs : tree.Generators) (scope : Emission)
+pub comprehended_fits : (c : NodeContext) (k n u : ℕ) (at : SourceLocation) (awaited : Bool) (name : List ℕ) (gs : tree.Generators) (scope : Emission)
     → AccessReady c → AtHand c (comprehension_inside c.context k).frees
-    → EmissionFits (access_outside (comprehension_inside c.context k)) (suc k) (after_clauses (available_cell_told c) (suc k) gs + n) (64 * rest_size gs + u) scope
-    → FirstFits c (after_clauses (available_cell_told c) (suc k) gs + n) (after_clauses (available_cell_told c) (suc k) gs + n + first_scopes c.context.postponed gs) (64 * first_size gs) (clause_emissions gs)
+    → EmissionFits (access_outside (comprehension_inside c.context k)) (suc k) (after_clauses (available_cell_context c) (suc k) gs + n) (64 * rest_size gs + u) scope
+    → FirstFits c (after_clauses (available_cell_context c) (suc k) gs + n)
+    (after_clauses (available_cell_context c) (suc k) gs + n + first_scopes c.context.postponed gs) (64 * first_size gs)
+    (clause_emissions gs)
     → FitsWell c k (k + suc (scopes_in_clauses c.context.postponed gs + n)) (64 * generators_size gs + u + 3) (tested_value (move at ▸ comprehension awaited name (clause_emissions gs) scope))
 comprehended_fits c k n u at awaited name gs scope r near x y =
-    let m = after_clauses (available_cell_told c) (suc k) gs in
-    let e = scopes_end (available_cell_told c) (suc k) gs in
+    let m = after_clauses (available_cell_context c) (suc k) gs in
+    let e = scopes_end (available_cell_context c) (suc k) gs in
     let w = sizes_split gs in
-    whole_fits at (omega (arith, e)) (omega (arith, w)) (comprehension_fits c k (m + n) (m + n + first_scopes c.context.postponed gs) (64 * rest_size gs + u) (64 * first_size gs) awaited name (clause_emissions gs) r near x y)
+    whole_fits at (omega (arith, e)) (omega (arith, w))
+    (comprehension_fits c k (m + n) (m + n + first_scopes c.context.postponed gs) (64 * rest_size gs + u)
+    (64 * first_size gs) awaited name (clause_emissions gs) r near x y)
 
 -- an expression as a target, alone and among others
-pub record TargetFits (c : Around) (k l w : ℕ) (e : tree.Expr) : Type 0 where
-  pub alone : AllOf (Here c) (kids_g (target_form (available_cell_told c) k e)) → EmissionFits c k l w (stores e).alone
-  pub element : InTargetElement (Here c) (target_forms (available_cell_told c) k e).element → ElementFits c k l w (stores e).element
+pub record TargetFits (c : NodeContext) (k l w : ℕ) (e : tree.Expr) : Type 0 where
+  pub alone : AllOf (Here c) (kids_g (target_form (available_cell_context c) k e)) → EmissionFits c k l w (stores e).alone
+  pub element : InTargetElement (Here c) (target_forms (available_cell_context c) k e).element → ElementFits c k l w (stores e).element

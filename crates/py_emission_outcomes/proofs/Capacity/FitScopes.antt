@@ -1,4 +1,4 @@
--- Scopes within fit, each with room of its own that counts in the scope around too: functions, lambdas and comprehensions.
+-- Nested scopes fit, each with room of its own that counts in the enclosing scope too: functions, lambdas and comprehensions.
 use Rattle.std.proofs.Common.{◌≡◌, refl, sym, ap, ◌∙◌, subst, ℕ, suc, ◌+◌, ◌<◌, ◌≤◌, ◌^◌, List, [], ◌∷◌, length, Bool, false, arith}
 use Rattle.std.specs.Prelude.{codes}
 use Rattle.py_base.specs.declared.shapes.Malformed.TheVariants as shape
@@ -10,18 +10,22 @@ use Rattle.py_bytecode.specs.Objects as const
 use Rattle.py_bytecode.specs.Objects.{Object}
 use Rattle.py_scope.specs.declared.table_type.SymbolTableType.TheVariants as kind
 use Rattle.py_emission_parts.specs.Children.{DefaultEmissions, child, emission_of_defaults, enter_parameters, flags_of_defaults, free_names, function_scope, some_emitted}
-use Rattle.py_emission_parts.specs.Running.{behind_child, code_head, on_sealed, retold_in, run}
-use Rattle.py_emission_parts.specs.Comprehensions.{ClauseEmissions, as_element, called_at_once, clause, clauses, comprehension, comprehension_shape, conditions, further_clauses, collection_scope, generator_body}
+use Rattle.py_emission_parts.specs.Running.{after_child, code_head, on_sealed, rewritten_in, run}
+use Rattle.py_emission_parts.specs.Comprehensions.{ClauseEmissions, as_element, called_at_once, clause, clauses, comprehension}
+use Rattle.py_emission_parts.specs.Comprehensions.{comprehension_shape, conditions, further_clauses, collection_scope, generator_body}
 use Rattle.py_emission_parts.specs.Context.{Context}
-use Rattle.py_emission_parts.specs.Emitting.{Around, Emission, Outcome, State, Done, TooWide, Refused, initial_state}
+use Rattle.py_emission_parts.specs.Emitting.{NodeContext, Emission, Outcome, State, Done, TooWide, Refused, initial_state}
 use Rattle.py_emission_parts.specs.EmissionParts.{Emissions, counted_build, map_of}
 use Rattle.py_emission_parts.specs.Everywhere.{Everywhere}
-use Rattle.py_emission_parts.specs.Refused.{no_assignment, retold}
+use Rattle.py_emission_parts.specs.Refused.{no_assignment, rewritten}
 use Rattle.py_emission_parts.specs.Sealed.{Head, assembled_object}
-use Rattle.py_emission_parts.specs.Within.{Shape, comprehension_inside, some_flag}
+use Rattle.py_emission_parts.specs.NestedScopes.{Shape, comprehension_inside, some_flag}
 use Rattle.py_emission_outcomes.specs.Fitting.{HasShortTables}
 use Rattle.py_emission_outcomes.proofs.Capacity.ShortTables.{FewParameters, HasFew, sealed_short}
-use Rattle.py_emission_outcomes.proofs.Capacity.Fits.{EmissionFits, FitsIn, FitStands, constant_added, constant_fits, count_fits, emit_fits, few_so, fits_as, fits_from, generating_fits, if_fits, jump_fits, keep_fits, fit_more, plain_fits, refuse_fits, fit_room, fit_taken, then_fits, two_blocks_fit, unless_debug_fits, fit_varname_added, varname_fits, IsOfTree}
+use Rattle.py_emission_outcomes.proofs.Capacity.Fits.{EmissionFits, FitsIn, FitStands, constant_added, constant_fits, count_fits, emit_fits}
+use Rattle.py_emission_outcomes.proofs.Capacity.Fits.{few_so, fits_as, fits_from, generating_fits, if_fits, jump_fits, keep_fits, fit_more}
+use Rattle.py_emission_outcomes.proofs.Capacity.Fits.{plain_fits, refuse_fits, fit_room, fit_taken, then_fits, two_blocks_fit}
+use Rattle.py_emission_outcomes.proofs.Capacity.Fits.{unless_debug_fits, fit_varname_added, varname_fits, IsOfTree}
 use Rattle.py_emission_outcomes.proofs.Capacity.Accesses.{AtHand, AccessReady, cells_few, made_fits, access_outside, ready_inside}
 use Rattle.py_emission_outcomes.proofs.Capacity.FitParts.{FitsWell, NamedFits, Takes, built_fits, map_fits}
 use Rattle.py_emission_outcomes.proofs.Capacity.Threads.{Thread, thread_few}
@@ -31,8 +35,8 @@ sealed_frees : (level : ℕ) (h : Head) (t : State) → free_names (assembled_ob
 unfolding assembled_object
 sealed_frees level h t = refl
 
--- what a nested scope comes to is sealed, its tables are short, and what follows goes on
-seals : {c : Around} {k m w d : ℕ} {follow : Object → Emission} (inner : Around) (l b level : ℕ) (h : Head) (s : State) (o : Outcome) → FitStands c k s
+-- what a nested scope reaches is sealed, its tables are short, and what follows goes on
+seals : {c : NodeContext} {k m w d : ℕ} {follow : Object → Emission} (inner : NodeContext) (l b level : ℕ) (h : Head) (s : State) (o : Outcome) → FitStands c k s
     → FitsIn inner l b o → b < 2 ^ 30 → length h.cellvars + length h.freevars < 2 ^ 30 → FewParameters h.posonlyarg_count h.arg_count h.kwonlyarg_count
     → fit_taken s + w ≤ d → d < 2 ^ 30 → ((x : Object) → free_names x ≡ h.freevars → Everywhere HasShortTables x → EmissionFits c l m w (follow x))
     → FitsIn c m d (on_sealed level h s o (λ x. run (follow x)))
@@ -40,45 +44,49 @@ unfolding fit_taken
 seals {c} {k} {m} {w} {d} {follow} inner l b level h s (Done t) st g small cells few i r y =
     let e = g.1 in
     let short = sealed_short level h t g.0.short (omega (arith, e, small)) cells few in
-    fit_more c m (fit_taken (behind_child s t) + w) d (run (follow (assembled_object level h t)) (behind_child s t)) i ((y (assembled_object level h t) (sealed_frees level h t) short).fits (behind_child s t) (record { around = st.around; next = g.0.next; short = st.short }) (omega (arith, i, r)))
+    fit_more c m (fit_taken (after_child s t) + w) d (run (follow (assembled_object level h t)) (after_child s t)) i
+    ((y (assembled_object level h t) (sealed_frees level h t) short).fits (after_child s t)
+    (record { node_context = st.node_context; next = g.0.next; short = st.short }) (omega (arith, i, r)))
 seals inner l b level h s TooWide st g small cells few i r y = g
 seals inner l b level h s (Refused z at) st g small cells few i r y = g
 
 -- a nested scope that has few parameters where there is room for its body, and what follows of its code object, whose tables are short
-pub child_fits : {c : Around} {k l m v w : ℕ} {body : Emission} {follow : Object → Emission} (within : Context → ℕ → Context) (h : Shape)
-    → AccessReady (access_outside (within c.context k)) → EmissionFits (access_outside (within c.context k)) (suc k) l v body → (v < 2 ^ 30 → HasFew h)
-    → ((o : Object) → free_names o ≡ (within c.context k).frees → Everywhere HasShortTables o → EmissionFits c l m w (follow o))
-    → EmissionFits c k m (v + w + 1) (child within h body follow)
+pub child_fits : {c : NodeContext} {k l m v w : ℕ} {body : Emission} {follow : Object → Emission} (nested : Context → ℕ → Context) (h : Shape)
+    → AccessReady (access_outside (nested c.context k)) → EmissionFits (access_outside (nested c.context k)) (suc k) l v body → (v < 2 ^ 30 → HasFew h)
+    → ((o : Object) → free_names o ≡ (nested c.context k).frees → Everywhere HasShortTables o → EmissionFits c l m w (follow o))
+    → EmissionFits c k m (v + w + 1) (child nested h body follow)
 unfolding child fit_taken
-child_fits {c} {k} {l} {m} {v} {w} {body} {follow} within h q x few y = record {
+child_fits {c} {k} {l} {m} {v} {w} {body} {follow} nested h q x few y = record {
   fits = λ s st r.
-      let d = within s.around.context s.next in
-      let same : d ≡ within c.context k = λ j. within (st.around j).context (st.next j) in
-      let cells = subst (λ (z : Context). length z.cells + length z.frees < 2 ^ 30) (sym same) (cells_few (access_outside (within c.context k)) q) in
-      let x1 = subst (λ (a : Around). EmissionFits (access_outside (within a.context k)) (suc k) l v body) (sym st.around) x in
-      let x2 = subst (λ n. EmissionFits (access_outside (within s.around.context n)) (suc n) l v body) (sym st.next) x1 in
-      let own = x2.fits (initial_state d s.location (suc s.next)) (record { around = refl; next = refl; short = tt }) (omega (arith, r)) in
+      let d = nested s.node_context.context s.next in
+      let same : d ≡ nested c.context k = λ j. nested (st.node_context j).context (st.next j) in
+      let cells = subst (λ (z : Context). length z.cells + length z.frees < 2 ^ 30) (sym same) (cells_few (access_outside (nested c.context k)) q) in
+      let x1 = subst (λ (a : NodeContext). EmissionFits (access_outside (nested a.context k)) (suc k) l v body) (sym st.node_context) x in
+      let x2 = subst (λ n. EmissionFits (access_outside (nested s.node_context.context n)) (suc n) l v body) (sym st.next) x1 in
+      let own = x2.fits (initial_state d s.location (suc s.next)) (record { node_context = refl; next = refl; short = tt }) (omega (arith, r)) in
       let parameters = few (omega (arith, r)) in
-      seals (access_outside d) l (fit_taken (initial_state d s.location (suc s.next)) + v) d.level (code_head d h s.location) s (run body (initial_state d s.location (suc s.next))) st own (omega (arith, r)) cells parameters (omega arith) r (λ o e short. y o (e ∙ ap (λ (z : Context). z.frees) same) short);
+      seals (access_outside d) l (fit_taken (initial_state d s.location (suc s.next)) + v) d.level (code_head d h s.location) s
+      (run body (initial_state d s.location (suc s.next))) st own (omega (arith, r)) cells parameters (omega arith) r
+      (λ o e short. y o (e ∙ ap (λ (z : Context). z.frees) same) short);
 }
 
 -- the same names in other words
-pub hand_as : {c : Around} {names others : List (List ℕ)} → names ≡ others → AtHand c others → AtHand c names
+pub hand_as : {c : NodeContext} {names others : List (List ℕ)} → names ≡ others → AtHand c others → AtHand c names
 hand_as {c} e h = subst (AtHand c) (sym e) h
 
 -- a refusal in other words says no more that a cell is missing
-told_so : (e : CodegenErrorType) → IsOfTree e → IsOfTree (retold e)
+told_so : (e : CodegenErrorType) → IsOfTree e → IsOfTree (rewritten e)
 told_so error.InvalidStarExpr h = tt
 told_so error.MissingCell h = h
 told_so other h = tt
 
-done_element : (c : Around) (l b : ℕ) (o : Outcome) → FitsIn c l b o → FitsIn c l b (retold_in o)
+done_element : (c : NodeContext) (l b : ℕ) (o : Outcome) → FitsIn c l b o → FitsIn c l b (rewritten_in o)
 done_element c l b (Done s) h = h
 done_element c l b TooWide h = h
 done_element c l b (Refused e at) h = told_so e h
 
 -- an element of a comprehension
-pub element_fits : {c : Around} {k l w : ℕ} {a : Emission} → EmissionFits c k l w a → EmissionFits c k l w (as_element a)
+pub element_fits : {c : NodeContext} {k l w : ℕ} {a : Emission} → EmissionFits c k l w a → EmissionFits c k l w (as_element a)
 unfolding as_element
 element_fits {c} {k} {l} {w} {a} x = record { fits = λ s h r. done_element c l (fit_taken s + w) (run a s) (x.fits s h r) }
 
@@ -92,7 +100,7 @@ default_flags_few d = go d.positional d.keyword
     go (x ∷ xs) [] = omega arith
     go (x ∷ xs) (y ∷ ys) = omega arith
 
-module _ (c : Around) where
+module _ (c : NodeContext) where
   -- what is built of values, where there are any
   pub some_built_fits : (i : Instruction) (k l w : ℕ) (vs : List Emission) → Thread (Takes c) k l w vs → EmissionFits c k l w (some_emitted (counted_build i) vs)
   some_built_fits i k l w [] h = fits_as h (omega arith) keep_fits
@@ -156,15 +164,18 @@ module _ (c : Around) where
   conditions_fit k l w (e ∷ es) start h = let i = h.6 in fit_room (omega (arith, i)) (then_fits (h.3.test false start) (conditions_fit h.0 l h.2 es start h.4))
 
   -- a clause around what is within
-  clause_fits : {k j m l u v w : ℕ} {iterator within : Emission} (x : ClauseEmissions) → EmissionFits c k j u iterator → RestFits j m v x
-      → EmissionFits c m l w within → EmissionFits c k l (u + v + w) (clause iterator x within)
+  clause_fits : {k j m l u v w : ℕ} {iterator nested : Emission} (x : ClauseEmissions) → EmissionFits c k j u iterator → RestFits j m v x
+      → EmissionFits c m l w nested → EmissionFits c k l (u + v + w) (clause iterator x nested)
   clause_fits {j = j} {m = m} x i r z =
       let t = r.together in
       fit_room (omega (arith, t))
-      (two_blocks_fit (λ start end. i) (λ start end. then_fits (jump_fits op.ForIter end) (then_fits r.target (then_fits (conditions_fit r.between m r.second x.conditions start r.conditions) (then_fits z (jump_fits op.Jump start))))) (λ start end. keep_fits))
+      (two_blocks_fit (λ start end. i)
+      (λ start end. then_fits (jump_fits op.ForIter end)
+      (then_fits r.target (then_fits (conditions_fit r.between m r.second x.conditions start r.conditions)
+      (then_fits z (jump_fits op.Jump start))))) (λ start end. keep_fits))
 
   -- clauses that have iterables of their own
-  further_fit : {within : Emission} (k m l v w : ℕ) (xs : List ClauseEmissions) → Thread FurtherFits k m v xs → EmissionFits c m l w within → EmissionFits c k l (v + w) (further_clauses xs within)
+  further_fit : {nested : Emission} (k m l v w : ℕ) (xs : List ClauseEmissions) → Thread FurtherFits k m v xs → EmissionFits c m l w nested → EmissionFits c k l (v + w) (further_clauses xs nested)
   further_fit k m l v w [] h y = fits_from (sym h) (fit_room (omega arith) y)
   further_fit k m l v w (x ∷ xs) h y =
       let t = h.3.together in
@@ -172,7 +183,7 @@ module _ (c : Around) where
       fit_room (omega (arith, t, i)) (clause_fits x (then_fits h.3.iterable (plain_fits op.GetIter)) h.3.rest (further_fit h.0 m l h.2 w xs h.4 y))
 
   -- all clauses
-  clauses_fit : {within : Emission} (k m l v w : ℕ) (xs : List ClauseEmissions) → ClausesFit k m v xs → EmissionFits c m l w within → EmissionFits c k l (v + w) (clauses xs within)
+  clauses_fit : {nested : Emission} (k m l v w : ℕ) (xs : List ClauseEmissions) → ClausesFit k m v xs → EmissionFits c m l w nested → EmissionFits c k l (v + w) (clauses xs nested)
   clauses_fit k m l v w [] h y = fits_from (sym h) (fit_room (omega arith) y)
   clauses_fit k m l v w (x ∷ xs) h y = let i = h.5 in fit_room (omega (arith, i)) (clause_fits x (varname_fits op.LoadFast (codes ".0")) h.3 (further_fit h.0 m l h.2 w xs h.4 y))
 
@@ -189,14 +200,18 @@ module _ (c : Around) where
       → EmissionFits c m l w element → EmissionFits c k l (v + w) (collection_scope build append xs element)
   gathered_fits build append k m l v w xs h y =
       few_so (length xs) (let g = clauses_few k m v xs h in omega (arith, g))
-      (λ n. fit_room (omega arith) (then_fits (plain_fits build) (then_fits (clauses_fit k m l v w xs h (fit_room (omega arith) (then_fits y (emit_fits append (length xs) (omega (arith, n)))))) (plain_fits op.ReturnValue))))
+      (λ n. fit_room (omega arith) (then_fits (plain_fits build)
+      (then_fits (clauses_fit k m l v w xs h (fit_room (omega arith) (then_fits y (emit_fits append (length xs) (omega (arith, n))))))
+      (plain_fits op.ReturnValue))))
 
   -- that of a generator
   pub generated_fits : {element : Emission} (k m l v w : ℕ) (xs : List ClauseEmissions) → ClausesFit k m v xs → EmissionFits c m l w element
       → EmissionFits c k l (v + w + 1) (generator_body xs element)
   generated_fits k m l v w xs h y =
       fit_room (omega arith)
-      (then_fits (clauses_fit k m l v w xs h (fit_room (omega arith) (then_fits y (then_fits generating_fits (then_fits (plain_fits op.YieldValue) (plain_fits op.Pop)))))) (constant_fits op.ReturnConst const.none tt))
+      (then_fits (clauses_fit k m l v w xs h
+      (fit_room (omega arith) (then_fits y (then_fits generating_fits (then_fits (plain_fits op.YieldValue) (plain_fits op.Pop))))))
+      (constant_fits op.ReturnConst const.none tt))
 
   -- and what is made of them
   called_fits : {k m l v w : ℕ} {scope iterable : Emission} → AccessReady c → (name : List ℕ) → AtHand c (comprehension_inside c.context k).frees
@@ -205,7 +220,9 @@ module _ (c : Around) where
   unfolding called_at_once
   called_fits {k} r name hand x y =
       fit_room (omega arith)
-      (then_fits (child_fits comprehension_inside (comprehension_shape name) (ready_inside c kind.Comprehension k r) x (λ i. record { positional = omega arith; arguments = omega arith; keywords = omega arith }) (λ o e short. made_fits r 0 name o (omega arith) (hand_as e hand) short))
+      (then_fits (child_fits comprehension_inside (comprehension_shape name) (ready_inside c kind.Comprehension k r) x
+      (λ i. record { positional = omega arith; arguments = omega arith; keywords = omega arith })
+      (λ o e short. made_fits r 0 name o (omega arith) (hand_as e hand) short))
       (then_fits y (then_fits (plain_fits op.GetIter) (count_fits op.CallFunctionPositional 1 (omega arith)))))
 
   -- the first iterable, where there is one

@@ -1,5 +1,6 @@
 -- What is so of a tree without faults before anything is emitted: it is of such a size, and its scopes have few cells and few free variables.
-use Rattle.std.proofs.Common.{◌≡◌, refl, sym, ap, ◌∙◌, subst, ℕ, ◌+◌, ◌*◌, ◌<◌, ◌≤◌, ◌^◌, Bool, true, false, List, [], ◌∷◌, ◌++◌, length, slice_get, Option, Some, None, if◌then◌else◌, arith, length-append}
+use Rattle.std.proofs.Common.{◌≡◌, refl, sym, ap, ◌∙◌, subst, ℕ, ◌+◌, ◌*◌, ◌<◌, ◌≤◌, ◌^◌, Bool, true, false, List, [], ◌∷◌, ◌++◌, length}
+use Rattle.std.proofs.Common.{slice_get, Option, Some, None, if◌then◌else◌, arith, length-append}
 use Rattle.std.specs.Prelude.{nat_lt}
 use Rattle.std.specs.Map.{keys_of}
 use Rattle.std.proofs.lemmas.Bool.{ltb-true}
@@ -23,8 +24,8 @@ use Rattle.py_meaning.specs.Scanned.{entries_of, scan_faults, scopes_of}
 use Rattle.py_scope_proof.specs.Entered.{ScansTo}
 use Rattle.py_scope_proof.proofs.NodeScopes.EnteringPrograms.{scan_came}
 use Rattle.py_scope_proof.proofs.NodeScopes.Facts.{tables_follow}
-use Rattle.py_scope_proof.proofs.NodeScopes.ListedTables.{listed_table_numbered, or_none, symbols_there}
-use Rattle.py_scope_proof.proofs.NodeScopes.OwnerTables.{scan_done}
+use Rattle.py_scope_proof.proofs.NodeScopes.ListedTables.{listed_table_numbered, list_or_none, symbols_there}
+use Rattle.py_scope_proof.proofs.NodeScopes.ScopeNodeTables.{scan_done}
 use Rattle.py_scope_proof.specs.CellLoads.{UsesAreFew, use_count}
 use Rattle.py_scope_proof.proofs.CellLoads.Distinct.{those_distinct}
 use Rattle.py_emission_outcomes.proofs.Capacity.Among.{all_names, few_of_those}
@@ -34,7 +35,7 @@ premise_both_none : {A : Type 0} (xs ys : List A) → xs ++ ys ≡ [] → (xs �
 premise_both_none [] ys e = (refl, e)
 premise_both_none (x ∷ xs) ys e = absurd cc
 
--- where no fault of the whole is told, the number is below the limit
+-- where no fault of the whole is reported, the number is below the limit
 premise_below : (f : Fault) (limit n : ℕ) → whole f limit n ≡ [] → n < limit
 premise_below f limit n e = ltb-true n limit (go (nat_lt n limit) e)
   where
@@ -97,6 +98,6 @@ few_everywhere uses t m level h k =
     subst Few (sym same) (go s.scopes.rows w.2.symbols w.2.each (uses t s d.1) (slice_get w.2.symbols k) refl)
   where
     go : (rows : List Row) (lists : List (List Symbol)) → ((j : ℕ) (ts : List Symbol) → slice_get lists j ≡ Some ts → SymbolsFollow rows j ts)
-        → use_count rows ≤ 3 * size_of t → (o : Option (List Symbol)) → slice_get lists k ≡ o → Few (or_none o)
+        → use_count rows ≤ 3 * size_of t → (o : Option (List Symbol)) → slice_get lists k ≡ o → Few (list_or_none o)
     go rows lists each few None e = omega arith
     go rows lists each few (Some ts) e = few_there rows k (size_of t) ts (each k ts e) few (small_tree t m level h)

@@ -12,10 +12,10 @@ use Rattle.py_emission_parts.specs.Emitting.{State}
 use Rattle.py_emission_parts.specs.Everywhere.{Everywhere, UpTo}
 use Rattle.py_emission_parts.specs.Sealed.{Head, assembled_object}
 use Rattle.py_emission_parts.specs.TableParts.{constant_of}
-use Rattle.py_emission_parts.specs.Within.{Shape, doc_const}
+use Rattle.py_emission_parts.specs.NestedScopes.{Shape, doc_const}
 use Rattle.py_emission_outcomes.specs.Fitting.{HasShortTables}
 
--- a constant is no code object, or one that has short tables, as has each within it
+-- a constant is no code object, or one that has short tables, as has each nested in it
 abbrev pub IsShort : Const → Type 0
 IsShort const.none = Unit {0}
 IsShort (const.boolean b) = Unit {0}
@@ -42,9 +42,9 @@ doc_short None = tt
 doc_short (Some text) = tt
 
 -- so it is of all with one more after them
-one_behind : (cs : List Const) (c : Const) → AllOf IsShort cs → IsShort c → AllOf IsShort (cs ++ c ∷ [])
-one_behind [] c h x = (x, tt)
-one_behind (d ∷ ds) c h x = (h.0, one_behind ds c h.1 x)
+one_table_after : (cs : List Const) (c : Const) → AllOf IsShort cs → IsShort c → AllOf IsShort (cs ++ c ∷ [])
+one_table_after [] c h x = (x, tt)
+one_table_after (d ∷ ds) c h x = (h.0, one_table_after ds c h.1 x)
 
 -- and of all after one more is entered
 pub entered_short : (cs : List Const) (c : Const) → AllOf IsShort cs → IsShort c → AllOf IsShort (insert_if_new const_eq cs c)
@@ -52,7 +52,7 @@ entered_short cs c h x = by (list_any (const_eq c) cs)
   where
     by : (b : Bool) → AllOf IsShort (if b then cs else cs ++ c ∷ [])
     by true = h
-    by false = one_behind cs c h x
+    by false = one_table_after cs c h x
 
 -- the code objects among such constants have short tables down to each depth
 codes_short : (n : ℕ) (cs : List Const) → AllOf IsShort cs → AllOf (UpTo HasShortTables n) (codes_in cs)
@@ -81,7 +81,7 @@ pub record FewParameters (p a k : ℕ) : Type 0 where
 abbrev pub HasFew : Shape → Type 0
 HasFew h = FewParameters h.posonlyarg_count h.arg_count h.kwonlyarg_count
 
--- what is sealed over such constants has short tables, as has each code object within, where its own tables are short and its cells, free names and parameters few
+-- what is sealed over such constants has short tables, as has each nested code object, where its own tables are short and its cells, free names and parameters few
 pub sealed_short : (level : ℕ) (h : Head) (s : State) → AllOf IsShort s.constants → length s.names + length s.varnames + length s.constants < 2 ^ 30
     → length h.cellvars + length h.freevars < 2 ^ 30 → FewParameters h.posonlyarg_count h.arg_count h.kwonlyarg_count
     → Everywhere HasShortTables (assembled_object level h s)

@@ -11,8 +11,11 @@ use Rattle.py_bytecode.specs.Values.{Operation, operation, Bare}
 use Rattle.py_control.specs.Agree.{AllOf, kids_g, kids_gs, kids_ls, kids_ss, kids_v, kids_vs}
 use Rattle.py_control.specs.Form.{Scope, Target, VConst, VForm, VForms, VMore, VNone, VOp}
 use Rattle.py_emission_parts.specs.Context.{Context}
-use Rattle.py_emission_parts.specs.Elements.{Callee, Element, Function, Method, Single, Spread, bare, behind, front, run_tuple, groups, sides, has_starred}
-use Rattle.py_emission_parts.specs.TableParts.{ExprForms, Keywords, any, built_form, call_by, call_form, compare_form, counted_operation, dict_form, display, elements, joined_map, links_of, map_of, map_of_pairs, name_values, names_in, packed_forms, parts_of, positional_form, shorts_of, slice_form, targets_of, updated_map, value_or, values, values_in}
+use Rattle.py_emission_parts.specs.Elements.{Callee, Element, Function, Method, Single, Spread, bare, later_elements, front, run_tuple, groups, sides, has_starred}
+use Rattle.py_emission_parts.specs.TableParts.{ExprForms, Keywords, any, built_form, call_by, call_form, compare_form, counted_operation}
+use Rattle.py_emission_parts.specs.TableParts.{dict_form, display, elements, joined_map, links_of, map_of, map_of_pairs, name_values}
+use Rattle.py_emission_parts.specs.TableParts.{names_in, packed_forms, parts_of, positional_form, shorts_of, slice_form, targets_of}
+use Rattle.py_emission_parts.specs.TableParts.{updated_map, value_or, values, values_in}
 use Rattle.py_meaning.specs.Table.{after, all_forms, expr_form, expr_forms}
 use Rattle.py_meaning.specs.TableScopes.{called_at_once}
 use Rattle.py_emission_outcomes.proofs.Capacity.AvailableCellLemmas.{available_cell_apart, together}
@@ -151,7 +154,8 @@ module _ (P : Scope → Type 0) where
 
   -- of arguments in their places
   placed_in : (c : Callee VForm) (fs : List VForm) (ks : Keywords) → InForm (positional_form c fs ks) → InCallee c × AllOf InForm fs × AllOf InKeyword ks
-  placed_in c fs [] h = let x = called_by c (counted_operation op.CallFunctionPositional (length fs)) (counted_operation op.CallMethodPositional (length fs)) (parts_of fs) h in (x.0, parts_in fs x.1, tt)
+  placed_in c fs [] h = let x = called_by c (counted_operation op.CallFunctionPositional (length fs))
+      (counted_operation op.CallMethodPositional (length fs)) (parts_of fs) h in (x.0, parts_in fs x.1, tt)
   placed_in c fs (k ∷ ks) h =
       let n = length fs + length (k ∷ ks) in
       let last : List VForm = VConst (const.tuple (names_in (k ∷ ks))) ∷ [] in
@@ -168,7 +172,8 @@ module _ (P : Scope → Type 0) where
       go : (b : Bool)
           → InForm (if b then call_by c (counted_operation op.CallFunctionEx (any ks)) (counted_operation op.CallMethodEx (any ks)) (packed_forms es ks) else positional_form c (bare es) ks)
           → InCallee c × AllOf InElement es × AllOf InKeyword ks
-      go true g = let x = called_by c (counted_operation op.CallFunctionEx (any ks)) (counted_operation op.CallMethodEx (any ks)) (packed_forms es ks) g in let y = packed_in es ks x.1 in (x.0, y.0, y.1)
+      go true g = let x = called_by c (counted_operation op.CallFunctionEx (any ks)) (counted_operation op.CallMethodEx (any ks))
+          (packed_forms es ks) g in let y = packed_in es ks x.1 in (x.0, y.0, y.1)
       go false g = let x = placed_in c (bare es) ks g in (x.0, bare_in es x.1, x.2)
 
   -- comparisons
@@ -212,7 +217,7 @@ module _ (P : Scope → Type 0) where
       (q.0, (q.1, r.1))
 
   -- of the entries at the front and of those after
-  rejoined : (es : List (Element (VForm × VForm) VForm)) → AllOf InPair (front es) → AllOf InEntry (behind es) → AllOf InEntry es
+  rejoined : (es : List (Element (VForm × VForm) VForm)) → AllOf InPair (front es) → AllOf InEntry (later_elements es) → AllOf InEntry es
   rejoined [] h g = tt
   rejoined (Single p ∷ es) h g = (h.0, rejoined es h.1 g)
   rejoined (Spread f ∷ es) h g = g
@@ -220,8 +225,8 @@ module _ (P : Scope → Type 0) where
   -- of a dict display
   pub dict_in : (es : List (Element (VForm × VForm) VForm)) → InForm (dict_form es) → AllOf InEntry es
   dict_in es h =
-      let x = updated_in (map_of_pairs (front es)) (groups map_of_pairs [] (behind es)) h in
-      rejoined es (pairs_in (front es) x.0) (groups_in InPair map_of_pairs pairs_in [] (behind es) x.1).1
+      let x = updated_in (map_of_pairs (front es)) (groups map_of_pairs [] (later_elements es)) h in
+      rejoined es (pairs_in (front es) x.0) (groups_in InPair map_of_pairs pairs_in [] (later_elements es) x.1).1
 
   -- a part that may be missing
   pub value_or_in : (x : Const) (o : Option VForm) → InForm (value_or x o) → InOption o

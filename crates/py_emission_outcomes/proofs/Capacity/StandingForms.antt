@@ -10,13 +10,13 @@ use Rattle.py_base.specs.declared.operators.BoolOp.{BoolOp}
 use Rattle.py_base.specs.declared.operators.BoolOp.TheVariants.{And, Or}
 use Rattle.py_base.specs.declared.operators.UnaryOp.TheVariants as unary
 use Rattle.py_emission_parts.specs.TableParts.{built_form, map_of, name_values, part_test, parts_of, shorts_of, some_built, tests_of}
-use Rattle.py_emission_parts.specs.Within.{function_inside, handed_parts, some_flag}
+use Rattle.py_emission_parts.specs.NestedScopes.{function_inside, handed_parts, some_flag}
 use Rattle.py_emission.specs.Texts.{doc_of}
 use Rattle.py_meaning.specs.StmtCounts.{scopes_in_stmts}
 use Rattle.py_meaning.specs.StmtParts.{assigned_form, function_value}
 use Rattle.py_meaning.specs.Table.{after, all_forms, expr_form, expr_forms, target_form, test_form}
 use Rattle.py_meaning.specs.TableNotes.{note_forms}
-use Rattle.py_meaning.specs.TableParams.{hidden_call}
+use Rattle.py_meaning.specs.TableParams.{type_param_scope_call}
 use Rattle.py_meaning.specs.TableScopes.{Defaults, class_form, decorated_form, default_parts, documented_form, setup_form}
 use Rattle.py_emission_outcomes.proofs.Capacity.AvailableCellLemmas.{available_cell_apart, together}
 
@@ -106,8 +106,8 @@ module _ (P : Scope → Type 0) where
       made_apart (flags + some_flag 0x02 notes) parts s (qualified_under c name) notes (documented_apart (doc_of c.level body) made h)
 
   -- of a type-parameter scope that is called, and of the defaults that it is handed
-  pub hidden_apart : (s : Scope) (name : List ℕ) (d : Defaults) → InValue (hidden_call s name d) → P s × InParts (default_parts d VNone)
-  hidden_apart s name d h = (h.0, h.1)
+  pub type_param_scope_apart : (s : Scope) (name : List ℕ) (d : Defaults) → InValue (type_param_scope_call s name d) → P s × InParts (default_parts d VNone)
+  type_param_scope_apart s name d h = (h.0, h.1)
 
   -- of the function of a class
   pub class_made_apart : (flags : ℕ) (parts : VForms) (s : Scope) (name : List ℕ) → InValue (VMake flags parts s name VNone) → InParts parts × P s
@@ -164,4 +164,5 @@ module _ (P : Scope → Type 0) where
     tests_values c n o (tree.more_exprs e (tree.more_exprs g es)) h =
         let m = after c n e in
         let x = available_cell_apart P (kids_t (part_test o (test_form c n e))) (kids_ts (tests_of o (expr_forms c m g) (all_forms c (after c m g) es))) h in
-        together P (kids_v (expr_form c n e)) (kids_ss (shorts_of (expr_forms c m g) (all_forms c (after c m g) es))) (test_value c n e (part_so o (test_form c n e) x.0)) (tests_values c m o (tree.more_exprs g es) x.1)
+        together P (kids_v (expr_form c n e)) (kids_ss (shorts_of (expr_forms c m g) (all_forms c (after c m g) es)))
+        (test_value c n e (part_so o (test_form c n e) x.0)) (tests_values c m o (tree.more_exprs g es) x.1)

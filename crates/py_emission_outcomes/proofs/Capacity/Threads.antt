@@ -1,6 +1,6 @@
--- Things one after another: each goes on from the number of the next scope that those before it come to, and takes one at least of the room for all.
+-- Things one after another: each goes on from the number of the next scope that those before it reach, and takes one at least of the room for all.
 use Rattle.std.proofs.Common.{◌≡◌, refl, sym, subst, ℕ, ◌+◌, ◌≤◌, List, [], ◌∷◌, ◌++◌, length, arith}
-use Rattle.py_emission_parts.specs.Elements.{Element, Single, Spread, bare, behind, front, run_tuple, groups}
+use Rattle.py_emission_parts.specs.Elements.{Element, Single, Spread, bare, later_elements, front, run_tuple, groups}
 
 module _ {A : Type 0} (P : (k l w : ℕ) → A → Type 0) where
   -- from the number k to the number l, with this room
@@ -51,18 +51,18 @@ module _ {B A : Type 0} (P : (k l w : ℕ) → B → Type 0) (Q : (k l w : ℕ) 
     pub first : ℕ
     pub rest : ℕ
     pub fronts : Thread P k between first (front es)
-    pub behinds : Thread (OneOf P Q) between l rest (behind es)
+    pub afters : Thread (OneOf P Q) between l rest (later_elements es)
     pub together : first + rest ≤ w
 
   -- each list comes apart so
   pub thread_parted : (k l w : ℕ) (es : List (Element B A)) → Thread (OneOf P Q) k l w es → ThreadParted k l w es
-  thread_parted k l w [] h = record { between = k; first = 0; rest = w; fronts = refl; behinds = h; together = omega arith }
+  thread_parted k l w [] h = record { between = k; first = 0; rest = w; fronts = refl; afters = h; together = omega arith }
   thread_parted k l w (Single x ∷ es) h =
       let p = thread_parted h.0 l h.2 es h.4 in
       let t = p.together in
       let e = h.6 in
-      record { between = p.between; first = h.1 + p.first; rest = p.rest; fronts = (h.0, h.1, p.first, h.3, p.fronts, h.5, omega arith); behinds = p.behinds; together = omega (arith, t, e) }
-  thread_parted k l w (Spread v ∷ es) h = record { between = k; first = 0; rest = w; fronts = refl; behinds = h; together = omega arith }
+      record { between = p.between; first = h.1 + p.first; rest = p.rest; fronts = (h.0, h.1, p.first, h.3, p.fronts, h.5, omega arith); afters = p.afters; together = omega (arith, t, e) }
+  thread_parted k l w (Spread v ∷ es) h = record { between = k; first = 0; rest = w; fronts = refl; afters = h; together = omega arith }
 
   -- runs of plain elements
   module _ (tuple : List B → A) (makes : (k l w : ℕ) (run : List B) → Thread P k l w run → Q k l w (tuple run)) where

@@ -2,17 +2,17 @@
 use Rattle.std.proofs.Common.{◌≡◌, ℕ, ◌+◌, ◌≤◌, List, [], ◌∷◌, ◌++◌, length, arith}
 use Rattle.py_bytecode.specs.declared.instruction.Instruction.{Instruction}
 use Rattle.py_emission_parts.specs.Children.{some_emitted}
-use Rattle.py_emission_parts.specs.Emitting.{Around, Emission}
+use Rattle.py_emission_parts.specs.Emitting.{NodeContext, Emission}
 use Rattle.py_emission_parts.specs.EmissionParts.{counted_build, in_turn}
 use Rattle.py_emission_outcomes.proofs.Capacity.FitParts.{built_fits, turn_fits}
 use Rattle.py_emission_outcomes.proofs.Capacity.Fits.{EmissionFits, fits_as, keep_fits, fit_room}
 use Rattle.py_emission_outcomes.proofs.Capacity.Threads.{Thread, thread_as, thread_few, thread_join, thread_one, thread_to}
 
 -- each fits where those before it leave off, from the number k to the number l, and each takes one at least of this room for all
-pub record Turns (c : Around) (k l w : ℕ) (vs : List Emission) : Type 0 where
+pub record Turns (c : NodeContext) (k l w : ℕ) (vs : List Emission) : Type 0 where
   turn : Thread (EmissionFits c) k l w vs
 
-module _ {c : Around} where
+module _ {c : NodeContext} where
   -- the same number in other words, and more room
   pub turns_as : {k l m v w : ℕ} {vs : List Emission} → l ≡ m → v ≤ w → Turns c k l v vs → Turns c k m w vs
   turns_as {k = k} {l = l} {m = m} {v = v} {w = w} {vs = vs} e i t = record { turn = thread_to (EmissionFits c) k l m w vs e (thread_as (EmissionFits c) k l v w vs i t.turn) }

@@ -8,7 +8,7 @@ use Rattle.py_limits.specs.Size.{size_of}
 use Rattle.py_scope.specs.declared.flat.ScopeEntry.{ScopeEntry}
 use Rattle.py_control.specs.Agree.{AllOf, form_of, kids}
 use Rattle.py_emission_parts.specs.Context.{Context, inside, outermost}
-use Rattle.py_emission_parts.specs.Emitting.{Around, Done, Outcome, Refused, State, TooWide, nothing}
+use Rattle.py_emission_parts.specs.Emitting.{NodeContext, Done, Outcome, Refused, State, TooWide, nothing}
 use Rattle.py_emission_parts.specs.Everywhere.{Everywhere}
 use Rattle.py_emission_parts.specs.Sealed.{assembled_object}
 use Rattle.py_emit.specs.States.{module_head}
@@ -26,24 +26,24 @@ use Rattle.py_emission_outcomes.proofs.Capacity.Fits.{EmissionFits, FitsIn, IsOf
 use Rattle.py_emission_outcomes.proofs.Capacity.Accesses.{AccessReady, cells_few, access_outside, ready_outermost}
 use Rattle.py_emission_outcomes.proofs.Capacity.FitMods.{mod_fits}
 use Rattle.py_emission_outcomes.proofs.Capacity.Premises.{few_everywhere, small_tree}
-use Rattle.py_emission_outcomes.proofs.Capacity.AvailableCellLemmas.{AvailableCellAllStand, Here, available_cell_told, tree_stands}
+use Rattle.py_emission_outcomes.proofs.Capacity.AvailableCellLemmas.{AvailableCellAllStand, Here, available_cell_context, tree_stands}
 
--- what stands around the outermost scope finds the cells that the form of the tree wants
+-- the context of the outermost scope finds the cells that the form of the tree wants
 pub stands_there : (t : tree.Mod) (m : Mode) (level : ℕ) (path : List ℕ) (scopes : List ScopeEntry)
     → AvailableCellAllStand scopes 0 (kids (form_of (body scopes t m level)))
-    → AllOf (Here (access_outside (outermost level path scopes))) (kids (mod_form (available_cell_told (access_outside (outermost level path scopes))) t m))
+    → AllOf (Here (access_outside (outermost level path scopes))) (kids (mod_form (available_cell_context (access_outside (outermost level path scopes))) t m))
 unfolding inside
 stands_there t m level path scopes h = h
 
--- before anything one block is made, and the first scope within has the number 1
+-- before anything one block is made, and the first nested scope has the number 1
 pub whole_begins : (t : tree.Mod) (m : Mode) (level : ℕ) (path : List ℕ) (scopes : List ScopeEntry) (l w : ℕ)
     → EmissionFits (access_outside (outermost level path scopes)) 1 l w (emission_of_mod t m) → 1 + w < 2 ^ 30
     → FitsIn (access_outside (outermost level path scopes)) l (1 + w) (emission_outcome t m (outermost level path scopes))
 unfolding fit_taken
-whole_begins t m level path scopes l w x i = x.fits (nothing (outermost level path scopes)) (record { around = refl; next = refl; short = tt }) i
+whole_begins t m level path scopes l w x i = x.fits (nothing (outermost level path scopes)) (record { node_context = refl; next = refl; short = tt }) i
 
 -- what takes so little and passes so few scopes is small
-small_tables : (c : Around) (l b : ℕ) (s : State) → FitsIn c l b (Done s) → l ≤ b → b < 2 ^ 30 → IsSmall s
+small_tables : (c : NodeContext) (l b : ℕ) (s : State) → FitsIn c l b (Done s) → l ≤ b → b < 2 ^ 30 → IsSmall s
 unfolding fit_taken
 small_tables c l b s f n i =
     let e = f.0.next in
@@ -54,7 +54,8 @@ small_tables c l b s f n i =
 short_tables : (c : Context) (level l b : ℕ) (s : State) → AccessReady (access_outside c) → FitsIn (access_outside c) l b (Done s) → b < 2 ^ 30
     → Everywhere HasShortTables (assembled_object level (module_head c) s)
 unfolding fit_taken
-short_tables c level l b s r f i = let t = f.1 in sealed_short level (module_head c) s f.0.short (omega (arith, t, i)) (cells_few (access_outside c) r) (record { positional = omega arith; arguments = omega arith; keywords = omega arith })
+short_tables c level l b s r f i = let t = f.1 in sealed_short level (module_head c) s f.0.short (omega (arith, t, i))
+    (cells_few (access_outside c) r) (record { positional = omega arith; arguments = omega arith; keywords = omega arith })
 
 -- an error that does not say that a cell is not there is another one
 pub another : (e : CodegenErrorType) → IsOfTree e → e ≢ error.MissingCell
@@ -76,8 +77,15 @@ trees_fit uses t m level path h =
   where
     go : (o : Outcome) → emission_outcome t m (outermost level path (scopes_of t)) ≡ o → (l b : ℕ) → l ≤ b → b < 2 ^ 30
         → FitsIn (access_outside (outermost level path (scopes_of t))) l b o
-        → (s : State) × (emission_outcome t m (outermost level path (scopes_of t)) ≡ Done s) × IsSmall s × Everywhere HasShortTables (assembled_object level (module_head (outermost level path (scopes_of t))) s)
-    go (Done s) e l b n i f = (s, e, small_tables (access_outside (outermost level path (scopes_of t))) l b s f n i, short_tables (outermost level path (scopes_of t)) level l b s (ready_outermost level path (scopes_of t) (few_everywhere uses t m level h)) f i)
+        → (s : State) × (emission_outcome t m (outermost level path (scopes_of t)) ≡ Done s) × IsSmall s
+        × Everywhere HasShortTables (assembled_object level (module_head (outermost level path (scopes_of t))) s)
+    go (Done s) e l b n i f = (
+      s,
+      e,
+      small_tables (access_outside (outermost level path (scopes_of t))) l b s f n i,
+      short_tables (outermost level path (scopes_of t)) level l b s
+          (ready_outermost level path (scopes_of t) (few_everywhere uses t m level h)) f i,
+    )
     go TooWide e l b n i f = absurd f
     go (Refused r at) e l b n i f =
         let z = parts_none t m level h in

@@ -14,8 +14,8 @@ use Rattle.py_emission.specs.EmissionMods.{emission_outcome}
 use Rattle.py_meaning.specs.Meaning.{body}
 use Rattle.py_scope_proof.specs.Cells.{StandUpTo, at_hand, is_one_of, wanted_at}
 use Rattle.py_scope_proof.specs.Own.{IsOwn, OwnUpTo, number_of}
-use Rattle.py_scope_proof.specs.StmtOwners.{owners_of}
-use Rattle.py_scope_proof.proofs.NodeScopes.CellsOfScopes.{free_told}
+use Rattle.py_scope_proof.specs.StmtScopeNodes.{scope_nodes_of}
+use Rattle.py_scope_proof.proofs.NodeScopes.CellsOfScopes.{free_given}
 use Rattle.py_scope_proof.proofs.NodeScopes.EachOwn.{each_is_its_own}
 use Rattle.py_scope_proof.proofs.NodeScopes.OwnScopes.{all_as}
 use Rattle.py_emission_outcomes.proofs.Capacity.Fits.{FitsIn}
@@ -26,22 +26,22 @@ use Rattle.py_emission_outcomes.proofs.Capacity.Whole.{another, whole_begins, st
 
 module _ (t : tree.Mod) (m : Mode) where
   -- a scope that is its node's own has no free variable
-  own_stands : (here : ℕ) (x : Scope) → IsOwn [] (owners_of t m) here x → AllOf (λ y. is_one_of y (at_hand [] here) ≡ true) (head_of x).free
+  own_stands : (here : ℕ) (x : Scope) → IsOwn [] (scope_nodes_of t m) here x → AllOf (λ y. is_one_of y (at_hand [] here) ≡ true) (head_of x).free
   own_stands here x own =
       let k = number_of x in
-      subst (AllOf (λ y. is_one_of y (at_hand [] here) ≡ true)) (sym (free_told own.around own.owner x own.is ∙ ap (λ scopes. wanted_at scopes k) own.told)) tt
+      subst (AllOf (λ y. is_one_of y (at_hand [] here) ≡ true)) (sym (free_given own.enclosing own.scope_node x own.is ∙ ap (λ scopes. wanted_at scopes k) own.told)) tt
 
-  -- nor has one within it
-  without_scope_down : (n here : ℕ) (x : Scope) → OwnUpTo [] (owners_of t m) here n x → StandUpTo [] here n x
+  -- nor has one nested in it
+  without_scope_down : (n here : ℕ) (x : Scope) → OwnUpTo [] (scope_nodes_of t m) here n x → StandUpTo [] here n x
   without_scope_down zero here x own = tt
   without_scope_down (suc n) here x own =
-      let k = number_of x in (own_stands here x own.0, all_as (OwnUpTo [] (owners_of t m) k n) (StandUpTo [] k n) (λ y o. without_scope_down n k y o) (kids (form_of x)) own.1)
+      let k = number_of x in (own_stands here x own.0, all_as (OwnUpTo [] (scope_nodes_of t m) k n) (StandUpTo [] k n) (λ y o. without_scope_down n k y o) (kids (form_of x)) own.1)
 
   -- so each scope of the tree finds its cells
   all_stand : (level : ℕ) → AvailableCellAllStand [] 0 (kids (form_of (body [] t m level)))
   all_stand level =
       deep_all (λ n s. StandUpTo [] 0 n s) (kids (form_of (body [] t m level)))
-      (λ n. all_as (OwnUpTo [] (owners_of t m) 0 n) (StandUpTo [] 0 n) (λ s own. without_scope_down n 0 s own) (kids (form_of (body [] t m level))) (each_is_its_own [] t m level n))
+      (λ n. all_as (OwnUpTo [] (scope_nodes_of t m) 0 n) (StandUpTo [] 0 n) (λ s own. without_scope_down n 0 s own) (kids (form_of (body [] t m level))) (each_is_its_own [] t m level n))
 
   -- and a refusal says something else
   pub refused_without_scopes : (level : ℕ) (path : List ℕ) (e : CodegenErrorType) (at : Option SourceLocation) → size_of t < 2 ^ 22

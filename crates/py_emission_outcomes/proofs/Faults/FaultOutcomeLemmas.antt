@@ -12,7 +12,7 @@ use Rattle.py_emission.specs.EmissionMods.{emission_of_doc, emission_outcome}
 use Rattle.py_meaning.specs.Ends.{expr_end}
 use Rattle.py_meaning.specs.ExprFaults.{Fault, expr_faults}
 use Rattle.py_emission.specs.EmissionStmts.{emission_of_stmts}
-use Rattle.py_meaning.specs.Faults.{compile_faults, faults_behind, first_setting, interactive_faults, unsupported_tree}
+use Rattle.py_meaning.specs.Faults.{compile_faults, faults_after, first_setting, interactive_faults, unsupported_tree}
 use Rattle.py_meaning.specs.StmtEnds.{Setting, setting_of}
 use Rattle.py_emission.specs.Predicates.{any_annotates}
 use Rattle.py_emission.specs.Texts.{first_text, unless_text, after_doc, doc_of}
@@ -20,10 +20,11 @@ use Rattle.py_base.specs.declared.errors.CodegenErrorType.{CodegenErrorType}
 use Rattle.py_base.specs.declared.errors.CodegenErrorType.TheVariants as error
 use Rattle.py_scope.specs.declared.flat.ScopeEntry.{ScopeEntry}
 use Rattle.py_emission_parts.specs.Context.{Context, inside, outermost}
-use Rattle.py_emission_parts.specs.Emitting.{Around, State, Outcome, Done, Refused, nothing}
-use Rattle.py_emission_outcomes.proofs.Faults.RefusalLemmas.{RefusalEnds, Wide, Misses, Stops, GoesOn, Passes, constant_passes, last_ends, level_ends, name_passes, nothing_passes, refusal_outside, then_ends}
+use Rattle.py_emission_parts.specs.Emitting.{NodeContext, State, Outcome, Done, Refused, nothing}
+use Rattle.py_emission_outcomes.proofs.Faults.RefusalLemmas.{RefusalEnds, Wide, Misses, Stops, GoesOn, Passes, constant_passes, last_ends}
+use Rattle.py_emission_outcomes.proofs.Faults.RefusalLemmas.{level_ends, name_passes, nothing_passes, refusal_outside, then_ends}
 use Rattle.py_emission_outcomes.proofs.Faults.ClassEnds.{setup_passes}
-use Rattle.py_emission_outcomes.proofs.Faults.FutureEnds.{behind_ends, end_behind}
+use Rattle.py_emission_outcomes.proofs.Faults.FutureEnds.{future_after_ends, end_after}
 use Rattle.py_emission_outcomes.proofs.Faults.InteractiveEnds.{interactive_ends}
 use Rattle.py_emission_outcomes.proofs.Faults.RefusingExprs.{refusing_expr_both_none, expr_ends}
 use Rattle.py_emission_outcomes.proofs.Faults.RefusingStmts.{stmts_end_so}
@@ -34,7 +35,7 @@ module _ (class : Option (List ℕ)) where
   left_shapes (Some text) tree.no_stmts h = h
   left_shapes (Some text) (tree.more_stmts t ts) h = (refusing_expr_both_none (stmt_shapes class t) (stmts_shapes class ts) h).1
 
-module _ (c : Around) where
+module _ (c : NodeContext) where
   -- a docstring and what it leaves
   doc_passes : {p : SourceLocation} (text : Option (List ℕ)) → Passes c (emission_of_doc text) p
   doc_passes None = nothing_passes
@@ -42,7 +43,7 @@ module _ (c : Around) where
 
 -- what is wrong with a tree whose outermost scope is read so
 abbrev faults_with : Mode → Setting → tree.Mod → List Fault
-faults_with m s (tree.Module body) = faults_behind s (after_doc body)
+faults_with m s (tree.Module body) = faults_after s (after_doc body)
 faults_with m s (tree.Interactive body) = interactive_faults m s body
 faults_with m s (tree.Expression value) = expr_faults s.in_function value
 faults_with m s other = unsupported_tree ∷ []
@@ -57,9 +58,9 @@ faults_first m l other = refl
 -- a file, what is entered at a prompt, and an expression
 module _ (k : Context) (m : Mode) where
   file_ends : (ts : tree.Stmts) → stmts_shapes None ts ≡ []
-      → RefusalEnds (refusal_outside k) (faults_with m (setting_of k) (tree.Module ts)) (end_behind (setting_of k) (nothing k).location (after_doc ts)) (emission_outcome (tree.Module ts) m k)
+      → RefusalEnds (refusal_outside k) (faults_with m (setting_of k) (tree.Module ts)) (end_after (setting_of k) (nothing k).location (after_doc ts)) (emission_outcome (tree.Module ts) m k)
   file_ends ts h =
-      let body = behind_ends emission_of_stmts (λ z. stmts_end_so None (refusal_outside z)) k (nothing k).location (after_doc ts) (left_shapes None (first_text ts) ts h) in
+      let body = future_after_ends emission_of_stmts (λ z. stmts_end_so None (refusal_outside z)) k (nothing k).location (after_doc ts) (left_shapes None (first_text ts) ts h) in
       let doc = level_ends (λ z. emission_of_doc (doc_of z ts)) (λ z. doc_passes (refusal_outside k) (doc_of z ts)) in
       let all = then_ends doc (then_ends (setup_passes (any_annotates (after_doc ts))) (last_ends body (constant_passes op.ReturnConst const.none))) in
       all.ends (nothing k) refl refl
@@ -72,7 +73,9 @@ module _ (k : Context) (m : Mode) where
       → RefusalEnds (refusal_outside k) (faults_with m (setting_of k) (tree.Expression e)) (expr_end e) (emission_outcome (tree.Expression e) m k)
   fault_outcome_value_ends e h = ((expr_ends None (refusal_outside k) e h).returned (nothing k).location).ends (nothing k) refl refl
 
-refused_by : (c : Around) (q : SourceLocation) (fs : List Fault) (o : Outcome) (e : CodegenErrorType) (at : Option SourceLocation) → RefusalEnds c fs q o → o ≡ Refused e at → e ≢ error.MissingCell → (rest : List Fault) × (fs ≡ record { error = e; location = at } ∷ rest)
+refused_by : (c : NodeContext) (q : SourceLocation) (fs : List Fault) (o : Outcome) (e : CodegenErrorType) (at : Option SourceLocation)
+    → RefusalEnds c fs q o → o ≡ Refused e at → e ≢ error.MissingCell
+    → (rest : List Fault) × (fs ≡ record { error = e; location = at } ∷ rest)
 refused_by c q fs o e at (Wide p) r n = absurd cc
 refused_by c q fs o e at (Misses there p) r n = let same : e ≡ error.MissingCell = cc in absurd (n same)
 refused_by c q fs o e at (Stops d there rest p f) r n =
@@ -81,15 +84,18 @@ refused_by c q fs o e at (Stops d there rest p f) r n =
     (rest, f ∙ (λ i. record { error = same i; location = place i } ∷ rest))
 refused_by c q fs o e at (GoesOn t p z d f) r n = absurd cc
 
-done_by : (c : Around) (q : SourceLocation) (fs : List Fault) (o : Outcome) (r : State) → RefusalEnds c fs q o → o ≡ Done r → fs ≡ []
+done_by : (c : NodeContext) (q : SourceLocation) (fs : List Fault) (o : Outcome) (r : State) → RefusalEnds c fs q o → o ≡ Done r → fs ≡ []
 done_by c q fs o r (Wide p) d = absurd cc
 done_by c q fs o r (Misses at p) d = absurd cc
 done_by c q fs o r (Stops e there rest p f) d = absurd cc
 done_by c q fs o r (GoesOn t p z g f) d = f
 
-heads : (t : tree.Mod) (m : Mode) (k : Context) (e : CodegenErrorType) (at : Option SourceLocation) → shapes t m ≡ [] → emission_outcome t m k ≡ Refused e at → e ≢ error.MissingCell → (rest : List Fault) × (faults_with m (setting_of k) t ≡ record { error = e; location = at } ∷ rest)
+heads : (t : tree.Mod) (m : Mode) (k : Context) (e : CodegenErrorType) (at : Option SourceLocation) → shapes t m ≡ []
+    → emission_outcome t m k ≡ Refused e at → e ≢ error.MissingCell
+    → (rest : List Fault) × (faults_with m (setting_of k) t ≡ record { error = e; location = at } ∷ rest)
 heads (tree.Module ts) m k e at h r n = refused_by (refusal_outside k) _ _ _ e at (file_ends k m ts h) r n
-heads (tree.Interactive ts) m k e at h r n = refused_by (refusal_outside k) _ _ _ e at (prompt_ends k m ts (refusing_expr_both_none (when (not (is_prompt m)) WrongMode) (stmts_shapes None ts) h).1).1 r n
+heads (tree.Interactive ts) m k e at h r n = refused_by (refusal_outside k) _ _ _ e at
+    (prompt_ends k m ts (refusing_expr_both_none (when (not (is_prompt m)) WrongMode) (stmts_shapes None ts) h).1).1 r n
 heads (tree.Expression v) m k e at h r n = refused_by (refusal_outside k) _ _ _ e at (fault_outcome_value_ends k m v h) r n
 heads other m k e at h r n =
     let same : error.NotImplementedYet ≡ e = cc in
@@ -98,7 +104,9 @@ heads other m k e at h r n =
 
 fault_outcome_faultless : (t : tree.Mod) (m : Mode) (k : Context) (r : State) → shapes t m ≡ [] → emission_outcome t m k ≡ Done r → faults_with m (setting_of k) t ≡ []
 fault_outcome_faultless (tree.Module ts) m k r h d = done_by (refusal_outside k) _ _ _ r (file_ends k m ts h) d
-fault_outcome_faultless (tree.Interactive ts) m k r h d = done_by (refusal_outside k) _ _ _ r (prompt_ends k m ts (refusing_expr_both_none (when (not (is_prompt m)) WrongMode) (stmts_shapes None ts) h).1).1 d
+fault_outcome_faultless (tree.Interactive ts) m k r h d =
+    done_by (refusal_outside k) _ _ _ r
+    (prompt_ends k m ts (refusing_expr_both_none (when (not (is_prompt m)) WrongMode) (stmts_shapes None ts) h).1).1 d
 fault_outcome_faultless (tree.Expression v) m k r h d = done_by (refusal_outside k) _ _ _ r (fault_outcome_value_ends k m v h) d
 fault_outcome_faultless other m k r h d = absurd cc
 
@@ -116,7 +124,9 @@ faults_are t m l path scopes = ap (λ s. faults_with m s t) (setting_is l path s
 
 module _ (t : tree.Mod) (m : Mode) (l : ℕ) (path : List ℕ) (scopes : List ScopeEntry) where
   -- a refusal is the first fault, unless a cell is not there
-  pub refusal_heads : (e : CodegenErrorType) (at : Option SourceLocation) → shapes t m ≡ [] → emission_outcome t m (outermost l path scopes) ≡ Refused e at → e ≢ error.MissingCell → (rest : List Fault) × (compile_faults m l t ≡ record { error = e; location = at } ∷ rest)
+  pub refusal_heads : (e : CodegenErrorType) (at : Option SourceLocation) → shapes t m ≡ []
+      → emission_outcome t m (outermost l path scopes) ≡ Refused e at → e ≢ error.MissingCell
+      → (rest : List Fault) × (compile_faults m l t ≡ record { error = e; location = at } ∷ rest)
   refusal_heads e at h r n = subst (λ fs. (rest : List Fault) × (fs ≡ record { error = e; location = at } ∷ rest)) (faults_are t m l path scopes) (heads t m (outermost l path scopes) e at h r n)
 
   -- what is emitted to its end has none

@@ -7,17 +7,17 @@ use Rattle.py_shapes.specs.Valid.{stmt_shapes, stmts_shapes}
 use Rattle.py_base.specs.declared.location.SourceLocation.{SourceLocation}
 use Rattle.py_base.specs.declared.errors.CodegenErrorType.TheVariants as error
 use Rattle.py_emission_parts.specs.Context.{Context}
-use Rattle.py_emission_parts.specs.Emitting.{Around, Emission, ◌▸◌, postponed_part}
-use Rattle.py_emission.specs.EmissionFutures.{check_features, emission_behind, emission_of_future, after_future_import}
+use Rattle.py_emission_parts.specs.Emitting.{NodeContext, Emission, ◌▸◌, postponed_part}
+use Rattle.py_emission.specs.EmissionFutures.{check_features, emission_after, emission_of_future, after_future_import}
 use Rattle.py_meaning.specs.ExprFaults.{Fault}
-use Rattle.py_meaning.specs.Faults.{faults_behind, feature_faults, future_faults, setting_after, stmts_faults}
+use Rattle.py_meaning.specs.Faults.{faults_after, feature_faults, future_faults, setting_after, stmts_faults}
 use Rattle.py_emission.specs.Futures.{Future, after_future, future_of, is_feature, postpones}
 use Rattle.py_meaning.specs.StmtEnds.{Setting, setting_of, stmts_end}
 use Rattle.py_emission_outcomes.proofs.Faults.RefusalLemmas.{RefusalEndsAs, function_or, refusal_in_function, moved_ends, nothing_passes, refusal_outside, postponed_ends, then_ends}
 use Rattle.py_emission_outcomes.proofs.Faults.RefusingExprs.{refusing_expr_both_none}
 use Rattle.py_emission_outcomes.proofs.Faults.RefusingImports.{all_end}
 
-module _ (c : Around) where
+module _ (c : NodeContext) where
   features_end : (p : SourceLocation) (names : List Alias) → RefusalEndsAs c (check_features names) p p (feature_faults p names)
   features_end p [] = nothing_passes
   features_end p (a ∷ rest) = function_or (is_feature a.name) (error.InvalidFutureFeature a.name) (features_end p rest)
@@ -44,28 +44,50 @@ following_ends {k = k} {a = a} {p = p} {q = q} {fs = fs} f h = go (postpones f) 
 -- a future import, and what follows it
 pub future_then : {a : Emission} (k : Context) (p : SourceLocation) (f : Future) (end : Setting → SourceLocation) (faults : Setting → List Fault)
     → RefusalEndsAs (refusal_outside (after_future f k)) a f.at (end (setting_of (after_future f k))) (faults (setting_of (after_future f k)))
-    → RefusalEndsAs (refusal_outside k) (emission_of_future f ▸ after_future_import f a) p (end (setting_after f (setting_of k))) (future_faults (refusal_in_function (refusal_outside k)) f ++ faults (setting_after f (setting_of k)))
-future_then {a = a} k p f end faults h = then_ends (future_ends (refusal_outside k) p f) (following_ends f (subst (λ (x : Setting). RefusalEndsAs (refusal_outside (after_future f k)) a f.at (end x) (faults x)) (after_setting f k) h))
+    → RefusalEndsAs (refusal_outside k) (emission_of_future f ▸ after_future_import f a) p (end (setting_after f (setting_of k)))
+    (future_faults (refusal_in_function (refusal_outside k)) f ++ faults (setting_after f (setting_of k)))
+future_then {a = a} k p f end faults h = then_ends (future_ends (refusal_outside k) p f)
+    (following_ends f (subst (λ (x : Setting). RefusalEndsAs (refusal_outside (after_future f k)) a f.at (end x) (faults x))
+    (after_setting f k) h))
 
 -- where they leave off
-abbrev pub end_behind : Setting → SourceLocation → tree.Stmts → SourceLocation
-end_behind c p tree.no_stmts = p
-end_behind c p (tree.more_stmts s ss) = elim (future_of s) [
+abbrev pub end_after : Setting → SourceLocation → tree.Stmts → SourceLocation
+end_after c p tree.no_stmts = p
+end_after c p (tree.more_stmts s ss) = elim (future_of s) [
   | None ↦ stmts_end c p (tree.more_stmts s ss)
-  | Some f ↦ end_behind (setting_after f c) f.at ss
+  | Some f ↦ end_after (setting_after f c) f.at ss
 ]
 
 -- statements that end so in any context
 abbrev pub StmtsEnd : (tree.Stmts → Emission) → Type 0
-StmtsEnd emission = (k : Context) (p : SourceLocation) (ts : tree.Stmts) → stmts_shapes None ts ≡ [] → RefusalEndsAs (refusal_outside k) (emission ts) p (stmts_end (setting_of k) p ts) (stmts_faults (setting_of k) false ts)
+StmtsEnd emission = (k : Context) (p : SourceLocation) (ts : tree.Stmts) → stmts_shapes None ts ≡ []
+    → RefusalEndsAs (refusal_outside k) (emission ts) p (stmts_end (setting_of k) p ts) (stmts_faults (setting_of k) false ts)
 
-pub behind_ends : (emission : tree.Stmts → Emission) → StmtsEnd emission → (k : Context) (p : SourceLocation) (ts : tree.Stmts) → stmts_shapes None ts ≡ []
-    → RefusalEndsAs (refusal_outside k) (emission_behind emission ts) p (end_behind (setting_of k) p ts) (faults_behind (setting_of k) ts)
-behind_ends emission y k p tree.no_stmts h = y k p tree.no_stmts h
-behind_ends emission y k p (tree.more_stmts s ss) h = go (future_of s) (λ f. behind_ends emission y (after_future f k) f.at ss (refusing_expr_both_none (stmt_shapes None s) (stmts_shapes None ss) h).1)
+pub future_after_ends : (emission : tree.Stmts → Emission) → StmtsEnd emission → (k : Context) (p : SourceLocation) (ts : tree.Stmts) → stmts_shapes None ts ≡ []
+    → RefusalEndsAs (refusal_outside k) (emission_after emission ts) p (end_after (setting_of k) p ts) (faults_after (setting_of k) ts)
+future_after_ends emission y k p tree.no_stmts h = y k p tree.no_stmts h
+future_after_ends emission y k p (tree.more_stmts s ss) h =
+    go (future_of s) (λ f. future_after_ends emission y (after_future f k) f.at ss
+    (refusing_expr_both_none (stmt_shapes None s) (stmts_shapes None ss) h).1)
   where
     go : (o : Option Future)
-        → ((f : Future) → RefusalEndsAs (refusal_outside (after_future f k)) (emission_behind emission ss) f.at (end_behind (setting_of (after_future f k)) f.at ss) (faults_behind (setting_of (after_future f k)) ss))
-        → RefusalEndsAs (refusal_outside k) (elim o [ None ↦ emission (tree.more_stmts s ss) | Some f ↦ emission_of_future f ▸ after_future_import f (emission_behind emission ss) ]) p (elim o [ None ↦ stmts_end (setting_of k) p (tree.more_stmts s ss) | Some f ↦ end_behind (setting_after f (setting_of k)) f.at ss ]) (elim o [ None ↦ stmts_faults (setting_of k) false (tree.more_stmts s ss) | Some f ↦ future_faults (refusal_in_function (refusal_outside k)) f ++ faults_behind (setting_after f (setting_of k)) ss ])
+        → ((f : Future) → RefusalEndsAs (refusal_outside (after_future f k)) (emission_after emission ss) f.at
+        (end_after (setting_of (after_future f k)) f.at ss) (faults_after (setting_of (after_future f k)) ss))
+        → RefusalEndsAs (refusal_outside k)
+        (elim o [
+          | None ↦ emission (tree.more_stmts s ss)
+          | Some f ↦ emission_of_future f
+              ▸ after_future_import f (emission_after emission ss)
+        ]) p
+        (elim o [
+          | None ↦ stmts_end (setting_of k) p (tree.more_stmts s ss)
+          | Some f ↦ end_after
+              (setting_after f (setting_of k)) f.at ss
+        ])
+        (elim o [
+          | None ↦ stmts_faults (setting_of k) false (tree.more_stmts s ss)
+          | Some f ↦ future_faults
+              (refusal_in_function (refusal_outside k)) f ++ faults_after (setting_after f (setting_of k)) ss
+        ])
     go None z = y k p (tree.more_stmts s ss) h
-    go (Some f) z = future_then k p f (λ x. end_behind x f.at ss) (λ x. faults_behind x ss) (z f)
+    go (Some f) z = future_then k p f (λ x. end_after x f.at ss) (λ x. faults_after x ss) (z f)

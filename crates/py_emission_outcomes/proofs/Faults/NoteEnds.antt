@@ -15,27 +15,29 @@ use Rattle.py_meaning.specs.StmtEnds.{arg_end, arg_ends, note_ends, opt_arg_end}
 use Rattle.py_meaning.specs.ExprFaults.{Fault}
 use Rattle.py_meaning.specs.Faults.{arg_note_faults, args_note_faults, note_faults, notes_faults, opt_arg_note_faults, opt_note_faults, text_faults}
 use Rattle.py_emission_parts.specs.Context.{mangled_by}
-use Rattle.py_emission_parts.specs.Emitting.{Around, Emission, by_context, emit_constant}
+use Rattle.py_emission_parts.specs.Emitting.{NodeContext, Emission, by_context, emit_constant}
 use Rattle.py_emission_parts.specs.EmissionParts.{in_turn}
-use Rattle.py_emission_outcomes.proofs.Faults.RefusalLemmas.{RefusalEndsAs, Passes, alike_ends, constant_passes, context_ends, refusal_in_function, last_ends, nothing_passes, own_context_ends, refusal_ends, then_ends}
+use Rattle.py_emission_outcomes.proofs.Faults.RefusalLemmas.{RefusalEndsAs, Passes, alike_ends, constant_passes, context_ends}
+use Rattle.py_emission_outcomes.proofs.Faults.RefusalLemmas.{refusal_in_function, last_ends, nothing_passes, own_context_ends, refusal_ends}
+use Rattle.py_emission_outcomes.proofs.Faults.RefusalLemmas.{then_ends}
 use Rattle.py_emission_outcomes.proofs.Faults.RefusingDefaults.{Turn, no_turn, one_turn, turn_append, turns_join}
 use Rattle.py_emission_outcomes.proofs.Faults.RefusingExprs.{refusing_expr_both_none, expr_ends, groups_none}
 
 -- the name of an annotation
-key_passes : {c : Around} {p : SourceLocation} (name : List ℕ) → Passes c (by_context (λ k. emit_constant op.LoadConst (const.str (mangled_by k name)))) p
+key_passes : {c : NodeContext} {p : SourceLocation} (name : List ℕ) → Passes c (by_context (λ k. emit_constant op.LoadConst (const.str (mangled_by k name)))) p
 key_passes name = context_ends (λ k. emit_constant op.LoadConst (const.str (mangled_by k name))) (λ k. constant_passes op.LoadConst (const.str (mangled_by k name)))
 
 -- values in turn, which begin at this place, stay there and have these faults
-record Stay (c : Around) (p : SourceLocation) (vs : List Emission) (fs : List Fault) : Type 0 where
+record Stay (c : NodeContext) (p : SourceLocation) (vs : List Emission) (fs : List Fault) : Type 0 where
   pub ends : RefusalEndsAs c (in_turn vs) p p fs
 
-nothing_stays : {c : Around} {p : SourceLocation} → Stay c p [] []
+nothing_stays : {c : NodeContext} {p : SourceLocation} → Stay c p [] []
 nothing_stays = record { ends = nothing_passes }
 
-stay_join : {c : Around} {p : SourceLocation} {vs ws : List Emission} {fs gs : List Fault} → Stay c p vs fs → Stay c p ws gs → Stay c p (vs ++ ws) (fs ++ gs)
+stay_join : {c : NodeContext} {p : SourceLocation} {vs ws : List Emission} {fs gs : List Fault} → Stay c p vs fs → Stay c p ws gs → Stay c p (vs ++ ws) (fs ++ gs)
 stay_join {vs = vs} {ws = ws} x y = record { ends = alike_ends (turn_append vs ws) (then_ends x.ends y.ends) }
 
-module _ (class : Option (List ℕ)) (c : Around) where
+module _ (class : Option (List ℕ)) (c : NodeContext) where
   text_ends : (p : SourceLocation) (text : Option (List ℕ)) → RefusalEndsAs c (emission_of_text text) p p (text_faults p text)
   text_ends p None = refusal_ends error.NotImplementedYet []
   text_ends p (Some text) = constant_passes op.LoadConst (const.str text)
@@ -79,7 +81,9 @@ module _ (class : Option (List ℕ)) (c : Around) where
     notes_turn (tree.arguments posonly args vararg kwonly kwarg) returns h g =
         let s = groups_none class posonly args vararg kwonly kwarg h in
         turns_join (note_turn (codes "return") returns g)
-        (turns_join (arg_notes_turn posonly s.0) (turns_join (arg_notes_turn args s.1) (turns_join (arg_notes_turn kwonly s.3) (turns_join (opt_arg_note_turn vararg s.2) (opt_arg_note_turn kwarg s.4)))))
+        (turns_join (arg_notes_turn posonly s.0)
+        (turns_join (arg_notes_turn args s.1)
+        (turns_join (arg_notes_turn kwonly s.3) (turns_join (opt_arg_note_turn vararg s.2) (opt_arg_note_turn kwarg s.4)))))
 
   -- those that are postponed stay where they begin
   module _ (same : c.context.postponed ≡ true) (p : SourceLocation) where
@@ -106,7 +110,9 @@ module _ (class : Option (List ℕ)) (c : Around) where
     notes_stay (tree.arguments posonly args vararg kwonly kwarg) returns h g =
         let s = groups_none class posonly args vararg kwonly kwarg h in
         stay_join (note_stays (codes "return") returns g)
-        (stay_join (arg_notes_stay posonly s.0) (stay_join (arg_notes_stay args s.1) (stay_join (arg_notes_stay kwonly s.3) (stay_join (opt_arg_note_stays vararg s.2) (opt_arg_note_stays kwarg s.4)))))
+        (stay_join (arg_notes_stay posonly s.0)
+        (stay_join (arg_notes_stay args s.1)
+        (stay_join (arg_notes_stay kwonly s.3) (stay_join (opt_arg_note_stays vararg s.2) (opt_arg_note_stays kwarg s.4)))))
 
   -- those of a function
   notes_or : (b : Bool) → c.context.postponed ≡ b → (p : SourceLocation) (params : tree.Arguments) (returns : tree.OptExpr) → arguments_shapes class params ≡ []

@@ -15,7 +15,7 @@ use Rattle.py_scope_counts.specs.Counts.{scopes_in, scopes_in_annotation}
 use Rattle.py_meaning.specs.ExprFaults.{Fault, expr_faults, delete_faults, deletes_faults, assign_faults, augment_faults, declared_faults}
 use Rattle.py_emission_parts.specs.TableParts.{binary_case}
 use Rattle.py_base.specs.declared.errors.CodegenErrorType.TheVariants as error
-use Rattle.py_emission_parts.specs.Emitting.{Around, Emission, ◌▸◌, emit_constant}
+use Rattle.py_emission_parts.specs.Emitting.{NodeContext, Emission, ◌▸◌, emit_constant}
 use Rattle.py_bytecode.specs.Values.{Store, Delete}
 use Rattle.py_emission_parts.specs.Context.{is_function, mangled_by}
 use Rattle.py_emission_parts.specs.EmissionParts.{pass_scopes}
@@ -24,17 +24,20 @@ use Rattle.py_emission.specs.Emission.{emission, emission_of_delete, emission_of
 use Rattle.py_emission.specs.Predicates.{deletion_name}
 use Rattle.py_emission.specs.EmissionDefs.{emission_of_note}
 use Rattle.py_emission.specs.EmissionStmts.{emission_of_assign, emission_of_augment, emission_of_declared, emission_of_annotated, emission_of_annotation, emission_of_operand}
-use Rattle.py_emission_outcomes.proofs.Faults.RefusalLemmas.{RefusalEndsAs, Passes, refusal_in_function, own_context_ends, scopes_passed, then_ends, three_end, last_ends, alone_ends, ends_so, nothing_passes, emit_passes, name_passes, mangled_passes, accessed_passes, context_ends, constant_passes, refusal_ends, unless_debug_ends, unless_debug_last}
+use Rattle.py_emission_outcomes.proofs.Faults.RefusalLemmas.{RefusalEndsAs, Passes, refusal_in_function, own_context_ends, scopes_passed}
+use Rattle.py_emission_outcomes.proofs.Faults.RefusalLemmas.{then_ends, three_end, last_ends, alone_ends, ends_so, nothing_passes}
+use Rattle.py_emission_outcomes.proofs.Faults.RefusalLemmas.{emit_passes, name_passes, mangled_passes, accessed_passes, context_ends}
+use Rattle.py_emission_outcomes.proofs.Faults.RefusalLemmas.{constant_passes, refusal_ends, unless_debug_ends, unless_debug_last}
 use Rattle.py_emission_outcomes.proofs.Faults.NoteEnds.{note_end_so}
 use Rattle.py_emission_outcomes.proofs.Faults.RefusingExprs.{refusing_expr_both_none, name_load_passes, no_target, expr_ends, store_ends}
 
 -- one of two, of which the first does nothing
-passed_or : {c : Around} {v w : Emission} {p q : SourceLocation} {fs : List Fault} (b : Bool) → Passes c v p → RefusalEndsAs c w p q fs
+passed_or : {c : NodeContext} {v w : Emission} {p q : SourceLocation} {fs : List Fault} (b : Bool) → Passes c v p → RefusalEndsAs c w p q fs
     → RefusalEndsAs c (if b then v else w) p (if b then p else q) (if b then [] else fs)
 passed_or true x y = x
 passed_or false x y = y
 
-module _ (class : Option (List ℕ)) (c : Around) where
+module _ (class : Option (List ℕ)) (c : NodeContext) where
   refusing_change_value_ends : (p : SourceLocation) (e : tree.Expr) → expr_shapes class e ≡ [] → RefusalEndsAs c (emission e) p (expr_end e) (expr_faults (refusal_in_function c) e)
   refusing_change_value_ends p e h = (expr_ends class c e h).value p
 
@@ -64,7 +67,9 @@ module _ (class : Option (List ℕ)) (c : Around) where
   operand_ends p o value v = last_ends (refusing_change_value_ends p value v) (emit_passes op.BinaryOperationInplace (binary_case o))
 
   annotation_passes : {p : SourceLocation} (target : tree.Expr) → Passes c (emission_of_annotation target) p
-  annotation_passes (tree.Name at x) = then_ends (name_passes op.LoadNameAny (codes "__annotations__")) (then_ends (context_ends (λ k. emit_constant op.LoadConst (const.str (mangled_by k x))) (λ k. constant_passes op.LoadConst (const.str (mangled_by k x)))) (emit_passes op.StoreSubscript 0))
+  annotation_passes (tree.Name at x) = then_ends (name_passes op.LoadNameAny (codes "__annotations__"))
+      (then_ends (context_ends (λ k. emit_constant op.LoadConst (const.str (mangled_by k x)))
+      (λ k. constant_passes op.LoadConst (const.str (mangled_by k x)))) (emit_passes op.StoreSubscript 0))
   annotation_passes other = emit_passes op.Pop 0
 
   -- there is a target
@@ -86,12 +91,15 @@ module _ (class : Option (List ℕ)) (c : Around) where
   augment_ends p (tree.Attribute at object attr) o value h v =
       let s = refusing_expr_both_none (name_shapes attr) (expr_shapes class object) h in
       let result = last_ends (operand_ends (expr_end object) o value v) (then_ends (emit_passes op.Rotate2 0) (mangled_passes op.StoreAttr attr)) in
-      let stored = unless_debug_ends no_assignment attr (then_ends (refusing_change_value_ends p object s.1) (then_ends (emit_passes op.Duplicate 0) (then_ends (mangled_passes op.LoadAttr attr) result))) in
+      let stored = unless_debug_ends no_assignment attr
+      (then_ends (refusing_change_value_ends p object s.1)
+      (then_ends (emit_passes op.Duplicate 0) (then_ends (mangled_passes op.LoadAttr attr) result))) in
       ends_so (sym (append_assoc _ (expr_faults (refusal_in_function c) object) (expr_faults (refusal_in_function c) value))) stored
   augment_ends p (tree.Subscript at object slice) o value h v =
       let s = refusing_expr_both_none (expr_shapes class object) (expr_shapes class slice) h in
       let result = last_ends (operand_ends (expr_end slice) o value v) (then_ends (emit_passes op.Rotate3 0) (emit_passes op.StoreSubscript 0)) in
-      three_end (refusing_change_value_ends p object s.0) (refusing_change_value_ends (expr_end object) slice s.1) (then_ends (emit_passes op.Duplicate2 0) (then_ends (emit_passes op.Subscript 0) result))
+      three_end (refusing_change_value_ends p object s.0) (refusing_change_value_ends (expr_end object) slice s.1)
+      (then_ends (emit_passes op.Duplicate2 0) (then_ends (emit_passes op.Subscript 0) result))
   augment_ends p other o value h v = no_target p other
 
   -- an annotated target
@@ -109,5 +117,8 @@ module _ (class : Option (List ℕ)) (c : Around) where
 
   pub annotated_ends : (p : SourceLocation) (target annotation : tree.Expr) (value : tree.OptExpr) → expr_shapes class target ≡ []
       → expr_shapes class annotation ≡ [] → opt_expr_shapes class value ≡ []
-      → RefusalEndsAs c (emission_of_declared target value ▸ emission_of_annotated target annotation) p (annotation_end (setting_of c.context) (declared_end p target value) annotation) (declared_faults (refusal_in_function c) target value ++ annotated_faults c.context.postponed (refusal_in_function c) (declared_end p target value) annotation)
+      → RefusalEndsAs c (emission_of_declared target value ▸ emission_of_annotated target annotation) p
+      (annotation_end (setting_of c.context) (declared_end p target value) annotation)
+      (declared_faults (refusal_in_function c) target value
+      ++ annotated_faults c.context.postponed (refusal_in_function c) (declared_end p target value) annotation)
   annotated_ends p target annotation value h a v = then_ends (declared_ends p target value h v) (noted_ends (declared_end p target value) target annotation a)

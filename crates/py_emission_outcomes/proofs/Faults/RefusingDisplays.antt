@@ -8,18 +8,21 @@ use Rattle.py_bytecode.specs.declared.instruction.Instruction.{Instruction}
 use Rattle.py_bytecode.specs.declared.instruction.Instruction.TheVariants as op
 use Rattle.py_bytecode.specs.Objects as const
 use Rattle.py_bytecode.specs.Objects.{Const}
-use Rattle.py_emission_parts.specs.Elements.{has_starred, bare, run_tuple, groups, front, behind, pairs, sides, flat}
+use Rattle.py_emission_parts.specs.Elements.{has_starred, bare, run_tuple, groups, front, later_elements, pairs, sides, flat}
 use Rattle.py_base.specs.declared.errors.CodegenErrorType.{CodegenErrorType}
 use Rattle.py_base.specs.declared.errors.CodegenErrorType.TheVariants as error
 use Rattle.py_meaning.specs.Ends.{last_of, some_of, parts_entered, expr_end, ends_of, opt_end, opts_ends}
 use Rattle.py_meaning.specs.ExprFaults.{Fault, in_order, if_any, joined_faults, faults_in, all_faults, opt_faults, opts_faults}
 use Rattle.py_meaning.specs.ExprFaults as fault
-use Rattle.py_emission_parts.specs.Emitting.{Around, Emission, State, ◌▸◌, emit_count, keep, refuse}
+use Rattle.py_emission_parts.specs.Emitting.{NodeContext, Emission, State, ◌▸◌, emit_count, keep, refuse}
 use Rattle.py_emission_parts.specs.Running.{run}
-use Rattle.py_emission_parts.specs.EmissionParts.{values, elements, in_turn, counted_build, display, updates, map_of_pairs, dict_value, emission_of_dict, value_or, slice_step, slice_value, joined_value}
+use Rattle.py_emission_parts.specs.EmissionParts.{values, elements, in_turn, counted_build, display, updates, map_of_pairs, dict_value}
+use Rattle.py_emission_parts.specs.EmissionParts.{emission_of_dict, value_or, slice_step, slice_value, joined_value}
 use Rattle.py_emission.specs.Emission.{emission, emissions, all_emissions, opt_emission, opt_emissions}
 use Rattle.py_emission_proof.proofs.Additions.EmissionSequenceLemmas.{emission_sequence_grouped as grouped_on, kept_on, on_each}
-use Rattle.py_emission_outcomes.proofs.Faults.RefusalLemmas.{RefusalEndsAs, alike_ends, refusal_in_function, then_ends, three_end, last_ends, ends_so, ends_there, nothing_passes, emit_passes, count_passes, constant_passes, if_ends, unled_ends}
+use Rattle.py_emission_outcomes.proofs.Faults.RefusalLemmas.{RefusalEndsAs, alike_ends, refusal_in_function, then_ends, three_end}
+use Rattle.py_emission_outcomes.proofs.Faults.RefusalLemmas.{last_ends, ends_so, ends_there, nothing_passes, emit_passes, count_passes}
+use Rattle.py_emission_outcomes.proofs.Faults.RefusalLemmas.{constant_passes, if_ends, unled_ends}
 use Rattle.py_emission_outcomes.proofs.Faults.RefusingTests.{EndsWell, AllEnding, turn_ends}
 use Rattle.py_emission_outcomes.proofs.Faults.RefusingPacks.{bare_step, tuples, last_grouped, group_step}
 
@@ -28,7 +31,7 @@ last_append at [] qs = refl
 last_append at (p ∷ ps) qs = last_append p ps qs
 
 -- of three, the first two are taken together
-grouped_ends : {c : Around} {p q : SourceLocation} {fs : List Fault} (a b d : Emission) → RefusalEndsAs c (a ▸ b ▸ d) p q fs → RefusalEndsAs c ((a ▸ b) ▸ d) p q fs
+grouped_ends : {c : NodeContext} {p q : SourceLocation} {fs : List Fault} (a b d : Emission) → RefusalEndsAs c (a ▸ b ▸ d) p q fs → RefusalEndsAs c ((a ▸ b) ▸ d) p q fs
 grouped_ends a b d x = alike_ends (λ s. sym (grouped_on (run a s) b d)) x
 
 sides_more : (ps : List (Emission × Emission)) (k v : Emission) (s : State) → run (in_turn (sides (ps ++ (k, v) ∷ []))) s ≡ run (in_turn (sides ps) ▸ k ▸ v) s
@@ -40,12 +43,12 @@ sides_more (p ∷ ps) k v s =
     ∙ grouped_on (run p.0 s) (p.1 ▸ rest) (k ▸ v)
 
 -- there are as many on both sides
-even_so : {c : Around} {a : Emission} {p q : SourceLocation} {fs : List Fault} (b : Bool) (e : CodegenErrorType) → b ≡ true → RefusalEndsAs c a p q fs
+even_so : {c : NodeContext} {a : Emission} {p q : SourceLocation} {fs : List Fault} (b : Bool) (e : CodegenErrorType) → b ≡ true → RefusalEndsAs c a p q fs
     → RefusalEndsAs c (if b then a else refuse e) p q fs
 even_so true e f x = x
 even_so false e f x = absurd cc
 
-module _ (c : Around) where
+module _ (c : NodeContext) where
   pub bare_ends : (p : SourceLocation) (es : tree.Exprs) → AllEnding c es
       → RefusalEndsAs c (in_turn (bare (elements (all_emissions es)))) p (last_of p (ends_of es)) (in_order (fault.elements (all_faults (refusal_in_function c) es)))
   bare_ends p tree.no_exprs x = nothing_passes
@@ -54,10 +57,12 @@ module _ (c : Around) where
   -- a run, and the elements after it
   pub refusing_display_groups_end : (p m : SourceLocation) (fs : List Fault) (vs : List Emission) (es : tree.Exprs) → RefusalEndsAs c (in_turn vs) p m fs
       → AllEnding c es
-      → RefusalEndsAs c (in_turn (groups (counted_build op.BuildTuple) vs (elements (all_emissions es)))) p (last_of m (ends_of es)) (fs ++ in_order (fault.elements (all_faults (refusal_in_function c) es)))
+      → RefusalEndsAs c (in_turn (groups (counted_build op.BuildTuple) vs (elements (all_emissions es)))) p (last_of m (ends_of es))
+      (fs ++ in_order (fault.elements (all_faults (refusal_in_function c) es)))
   refusing_display_groups_end p m fs vs tree.no_exprs x y = ends_so (sym (append-nil fs)) (last_grouped c (tuples c) vs x)
   refusing_display_groups_end p m fs vs (tree.more_exprs e es) x y =
-      group_step c (tuples c) (faults_in (refusal_in_function c) e).element (emissions e).element vs (elements (all_emissions es)) x (y.0.element m) (λ longer r gs z. refusing_display_groups_end r (expr_end e) gs longer es z y.1)
+      group_step c (tuples c) (faults_in (refusal_in_function c) e).element (emissions e).element vs (elements (all_emissions es)) x
+      (y.0.element m) (λ longer r gs z. refusing_display_groups_end r (expr_end e) gs longer es z y.1)
 
   pub tuples_end : (p : SourceLocation) (es : tree.Exprs) → AllEnding c es
       → RefusalEndsAs c (in_turn (groups (counted_build op.BuildTuple) [] (elements (all_emissions es)))) p (last_of p (ends_of es)) (in_order (fault.elements (all_faults (refusal_in_function c) es)))
@@ -100,7 +105,9 @@ module _ (c : Around) where
 
   updates_end : (p m : SourceLocation) (fs : List Fault) (rs : List (Emission × Emission)) (os : tree.OptExprs) (es : tree.Exprs)
       → RefusalEndsAs c (in_turn (sides rs)) p m fs → OptsEnding os → AllEnding c es
-      → RefusalEndsAs c (updates (groups map_of_pairs rs (pairs (opt_emissions os) (values (all_emissions es))))) p (last_of m (flat (pairs (opts_ends os) (ends_of es)))) (fs ++ in_order (flat (pairs (opts_faults (refusal_in_function c) os) (fault.values (all_faults (refusal_in_function c) es)))))
+      → RefusalEndsAs c (updates (groups map_of_pairs rs (pairs (opt_emissions os) (values (all_emissions es))))) p
+      (last_of m (flat (pairs (opts_ends os) (ends_of es))))
+      (fs ++ in_order (flat (pairs (opts_faults (refusal_in_function c) os) (fault.values (all_faults (refusal_in_function c) es)))))
   updates_end p m fs rs tree.no_opts es x y z = ends_so (sym (append-nil fs)) (run_last rs x)
   updates_end p m fs rs (tree.more_opts o os) tree.no_exprs x y z = ends_so (sym (append-nil fs)) (run_last rs x)
   updates_end p m fs rs (tree.more_opts tree.no_expr os) (tree.more_exprs e es) x y z =
@@ -114,27 +121,38 @@ module _ (c : Around) where
 
   -- the pairs at the front, and then the others
   first_ends : (p : SourceLocation) (n : ℕ) (os : tree.OptExprs) (es : tree.Exprs) → OptsEnding os → AllEnding c es
-      → RefusalEndsAs c (in_turn (sides (front (pairs (opt_emissions os) (values (all_emissions es))))) ▸ emit_count op.BuildMap n ▸ updates (groups map_of_pairs [] (behind (pairs (opt_emissions os) (values (all_emissions es)))))) p (last_of p (flat (pairs (opts_ends os) (ends_of es)))) (in_order (flat (pairs (opts_faults (refusal_in_function c) os) (fault.values (all_faults (refusal_in_function c) es)))))
+      → RefusalEndsAs c (in_turn (sides (front (pairs (opt_emissions os) (values (all_emissions es))))) ▸ emit_count op.BuildMap n
+      ▸ updates (groups map_of_pairs [] (later_elements (pairs (opt_emissions os) (values (all_emissions es)))))) p
+      (last_of p (flat (pairs (opts_ends os) (ends_of es))))
+      (in_order (flat (pairs (opts_faults (refusal_in_function c) os) (fault.values (all_faults (refusal_in_function c) es)))))
   first_ends p n tree.no_opts es x y = then_ends nothing_passes (then_ends (count_passes op.BuildMap n) nothing_passes)
   first_ends p n (tree.more_opts o os) tree.no_exprs x y = then_ends nothing_passes (then_ends (count_passes op.BuildMap n) nothing_passes)
   first_ends p n (tree.more_opts tree.no_expr os) (tree.more_exprs e es) x y =
-      then_ends nothing_passes (then_ends (count_passes op.BuildMap n) (then_ends (y.0.value p) (then_ends (emit_passes op.DictUpdate 0) (updates_end (expr_end e) (expr_end e) [] [] os es nothing_passes x.1 y.1))))
+      then_ends nothing_passes (then_ends (count_passes op.BuildMap n)
+      (then_ends (y.0.value p) (then_ends (emit_passes op.DictUpdate 0)
+      (updates_end (expr_end e) (expr_end e) [] [] os es nothing_passes x.1 y.1))))
   first_ends p n (tree.more_opts (tree.some_expr k) os) (tree.more_exprs e es) x y =
       let ps = pairs (opt_emissions os) (values (all_emissions es)) in
       let first : Emission = in_turn (sides (front ps)) in
-      let last : Emission = emit_count op.BuildMap n ▸ updates (groups map_of_pairs [] (behind ps)) in
-      grouped_ends (emission k) (emission e ▸ first) last (then_ends (x.0.value p) (grouped_ends (emission e) first last (then_ends (y.0.value (expr_end k)) (first_ends (expr_end e) n os es x.1 y.1))))
+      let last : Emission = emit_count op.BuildMap n ▸ updates (groups map_of_pairs [] (later_elements ps)) in
+      grouped_ends (emission k) (emission e ▸ first) last
+      (then_ends (x.0.value p) (grouped_ends (emission e) first last
+      (then_ends (y.0.value (expr_end k)) (first_ends (expr_end e) n os es x.1 y.1))))
 
   dict_ends : (p : SourceLocation) (os : tree.OptExprs) (es : tree.Exprs) → OptsEnding os → AllEnding c es
-      → RefusalEndsAs c (dict_value (pairs (opt_emissions os) (values (all_emissions es)))) p (last_of p (flat (pairs (opts_ends os) (ends_of es)))) (in_order (flat (pairs (opts_faults (refusal_in_function c) os) (fault.values (all_faults (refusal_in_function c) es)))))
+      → RefusalEndsAs c (dict_value (pairs (opt_emissions os) (values (all_emissions es)))) p
+      (last_of p (flat (pairs (opts_ends os) (ends_of es))))
+      (in_order (flat (pairs (opts_faults (refusal_in_function c) os) (fault.values (all_faults (refusal_in_function c) es)))))
   dict_ends p os es x y =
       let ps = pairs (opt_emissions os) (values (all_emissions es)) in
-      grouped_ends (in_turn (sides (front ps))) (emit_count op.BuildMap (length (front ps))) (updates (groups map_of_pairs [] (behind ps))) (first_ends p (length (front ps)) os es x y)
+      grouped_ends (in_turn (sides (front ps))) (emit_count op.BuildMap (length (front ps))) (updates (groups map_of_pairs [] (later_elements ps))) (first_ends p (length (front ps)) os es x y)
 
   -- there are as many keys, or stars in their places, as values
   pub even_dict_ends : (p : SourceLocation) (os : tree.OptExprs) (es : tree.Exprs)
       → nat_eq (length (opt_emissions os)) (length (values (all_emissions es))) ≡ true → OptsEnding os → AllEnding c es
-      → RefusalEndsAs c (emission_of_dict (opt_emissions os) (values (all_emissions es))) p (last_of p (flat (pairs (opts_ends os) (ends_of es)))) (in_order (flat (pairs (opts_faults (refusal_in_function c) os) (fault.values (all_faults (refusal_in_function c) es)))))
+      → RefusalEndsAs c (emission_of_dict (opt_emissions os) (values (all_emissions es))) p
+      (last_of p (flat (pairs (opts_ends os) (ends_of es))))
+      (in_order (flat (pairs (opts_faults (refusal_in_function c) os) (fault.values (all_faults (refusal_in_function c) es)))))
   even_dict_ends p os es even x y = even_so (nat_eq (length (opt_emissions os)) (length (values (all_emissions es)))) (error.MalformedTree shape.UnevenLists) even (dict_ends p os es x y)
 
   -- slices
@@ -148,7 +166,10 @@ module _ (c : Around) where
   step_ends p (tree.some_expr e) x = last_ends (x.value p) (emit_passes op.BuildSlice 1)
 
   pub slice_ends : (p : SourceLocation) (lower upper step : tree.OptExpr) → OptEnding lower → OptEnding upper → OptEnding step
-      → RefusalEndsAs c (slice_value (opt_emission lower) (opt_emission upper) (opt_emission step)) p (last_of p (some_of (opt_end lower) ++ (some_of (opt_end upper) ++ some_of (opt_end step)))) (if_any (opt_faults (refusal_in_function c) lower) ++ if_any (opt_faults (refusal_in_function c) upper) ++ if_any (opt_faults (refusal_in_function c) step))
+      → RefusalEndsAs c (slice_value (opt_emission lower) (opt_emission upper) (opt_emission step)) p
+      (last_of p (some_of (opt_end lower) ++ (some_of (opt_end upper) ++ some_of (opt_end step))))
+      (if_any (opt_faults (refusal_in_function c) lower) ++ if_any (opt_faults (refusal_in_function c) upper)
+      ++ if_any (opt_faults (refusal_in_function c) step))
   slice_ends p lower upper step x y z =
       let m = last_of p (some_of (opt_end lower)) in
       let n = last_of m (some_of (opt_end upper)) in

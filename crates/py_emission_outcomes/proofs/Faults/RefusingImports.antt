@@ -10,16 +10,19 @@ use Rattle.py_bytecode.specs.Values.{Store}
 use Rattle.py_base.specs.declared.errors.CodegenErrorType.TheVariants as error
 use Rattle.py_emission_parts.specs.Accesses.{emission_of_stored}
 use Rattle.py_emission_parts.specs.Context.{is_function}
-use Rattle.py_emission_parts.specs.Emitting.{Around, ◌▸◌, emit, refuse}
+use Rattle.py_emission_parts.specs.Emitting.{NodeContext, ◌▸◌, emit, refuse}
 use Rattle.py_emission_parts.specs.Refused.{no_assignment}
 use Rattle.py_meaning.specs.ExprFaults.{debug_faults, fault_at, when}
 use Rattle.py_meaning.specs.Faults.{feature_faults, from_faults, import_faults, names_faults, placement_faults, taken_faults}
 use Rattle.py_emission.specs.Imports.{asked_tuple, asked_all, from_future, further_segments, import_name, taken_name, takes_all}
-use Rattle.py_emission.specs.EmissionImports.{emission_of_alias, emission_of_attributes, emission_of_from, emission_of_import, emission_of_imported, emission_of_module, emission_of_names, emission_of_star, import_step}
+use Rattle.py_emission.specs.EmissionImports.{emission_of_alias, emission_of_attributes, emission_of_from, emission_of_import}
+use Rattle.py_emission.specs.EmissionImports.{emission_of_imported, emission_of_module, emission_of_names, emission_of_star, import_step}
 use Rattle.py_emission.specs.EmissionStmts.{emission_of_import_from}
-use Rattle.py_emission_outcomes.proofs.Faults.RefusalLemmas.{RefusalEndsAs, Passes, accessed_passes, constant_passes, emit_passes, refusal_in_function, mangled_passes, nothing_passes, own_context_ends, refusal_ends, then_ends, unless_debug_last}
+use Rattle.py_emission_outcomes.proofs.Faults.RefusalLemmas.{RefusalEndsAs, Passes, accessed_passes, constant_passes, emit_passes}
+use Rattle.py_emission_outcomes.proofs.Faults.RefusalLemmas.{refusal_in_function, mangled_passes, nothing_passes, own_context_ends}
+use Rattle.py_emission_outcomes.proofs.Faults.RefusalLemmas.{refusal_ends, then_ends, unless_debug_last}
 
-module _ (c : Around) (p : SourceLocation) where
+module _ (c : NodeContext) (p : SourceLocation) where
   stored_ends : (x : List ℕ) → RefusalEndsAs c (emission_of_stored x) p p (debug_faults no_assignment p x)
   stored_ends x = unless_debug_last no_assignment x (accessed_passes Store x)
 
@@ -56,11 +59,15 @@ module _ (c : Around) (p : SourceLocation) where
   star_or false path level = then_ends (module_passes path level asked_all) (emit_passes op.ImportStar 0)
 
   star_ends : (path : Option (List ℕ)) (level : ℕ) → RefusalEndsAs c (emission_of_star path level) p p (when (refusal_in_function c) (fault_at error.FunctionImportStar p))
-  star_ends path level = own_context_ends (λ k. if is_function k.typ then refuse error.FunctionImportStar else emission_of_module path level asked_all ▸ emit op.ImportStar 0) (star_or (refusal_in_function c) path level)
+  star_ends path level = own_context_ends
+      (λ k. if is_function k.typ then refuse error.FunctionImportStar else emission_of_module path level asked_all ▸ emit op.ImportStar 0)
+      (star_or (refusal_in_function c) path level)
 
   -- all names, or some
   all_or : (b : Bool) (path : Option (List ℕ)) (names : List Alias) (level : ℕ)
-      → RefusalEndsAs c (if b then emission_of_star path level else emission_of_module path level (asked_tuple names) ▸ emission_of_names names) p p (if b then when (refusal_in_function c) (fault_at error.FunctionImportStar p) else taken_faults p names)
+      → RefusalEndsAs c (if b then emission_of_star path level else emission_of_module path level (asked_tuple names)
+      ▸ emission_of_names names) p p
+      (if b then when (refusal_in_function c) (fault_at error.FunctionImportStar p) else taken_faults p names)
   all_or true path names level = star_ends path level
   all_or false path names level = then_ends (module_passes path level (asked_tuple names)) (refusing_import_names_end names)
 

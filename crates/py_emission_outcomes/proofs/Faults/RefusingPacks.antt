@@ -5,7 +5,7 @@ use Rattle.py_bytecode.specs.declared.instruction.Instruction.TheVariants as op
 use Rattle.py_bytecode.specs.Objects as const
 use Rattle.py_emission_parts.specs.Elements.{Element, Single, Spread, bare, run_tuple, groups}
 use Rattle.py_meaning.specs.ExprFaults.{Fault}
-use Rattle.py_emission_parts.specs.Emitting.{Around, Emission, State, ◌▸◌, emit_constant, keep}
+use Rattle.py_emission_parts.specs.Emitting.{NodeContext, Emission, State, ◌▸◌, emit_constant, keep}
 use Rattle.py_emission_parts.specs.Running.{run}
 use Rattle.py_emission_parts.specs.EmissionParts.{in_turn, counted_build, name_values, map_of}
 use Rattle.py_emission_proof.proofs.Additions.EmissionSequenceLemmas.{emission_sequence_grouped as grouped_on, kept_on, on_each}
@@ -22,9 +22,11 @@ refusing_pack_named p = emit_constant op.LoadConst (const.str p.0) ▸ p.1
 
 names_more : (ps : List (List ℕ × Emission)) (p : List ℕ × Emission) (s : State) → run (in_turn (name_values (ps ++ p ∷ []))) s ≡ run (in_turn (name_values ps) ▸ refusing_pack_named p) s
 names_more [] p s = kept_on (run (refusing_pack_named p) s)
-names_more (w ∷ ws) p s = on_each (run (refusing_pack_named w) s) (in_turn (name_values (ws ++ p ∷ []))) (in_turn (name_values ws) ▸ refusing_pack_named p) (names_more ws p) ∙ grouped_on (run (refusing_pack_named w) s) (in_turn (name_values ws)) (refusing_pack_named p)
+names_more (w ∷ ws) p s = on_each (run (refusing_pack_named w) s) (in_turn (name_values (ws ++ p ∷ [])))
+    (in_turn (name_values ws) ▸ refusing_pack_named p) (names_more ws p)
+    ∙ grouped_on (run (refusing_pack_named w) s) (in_turn (name_values ws)) (refusing_pack_named p)
 
-module _ (c : Around) where
+module _ (c : NodeContext) where
   -- an element, starred or not
   pub bare_step : {p m q : SourceLocation} {gs : List Fault} (fs : List Fault) (x : Element Emission Emission) (rest : List (Element Emission Emission))
       → ElementEnds c x p m fs → RefusalEndsAs c (in_turn (bare rest)) m q gs → RefusalEndsAs c (in_turn (bare (x ∷ rest))) p q (fs ++ gs)

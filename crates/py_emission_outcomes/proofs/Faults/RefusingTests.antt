@@ -17,22 +17,26 @@ use Rattle.py_meaning.specs.ExprFaults as fault
 use Rattle.py_emission_parts.specs.TableParts.{unary_case, deciding_truth}
 use Rattle.py_base.specs.declared.errors.CodegenErrorType.{CodegenErrorType}
 use Rattle.py_base.specs.declared.errors.CodegenErrorType.TheVariants as error
-use Rattle.py_emission_parts.specs.Emitting.{Around, Emission, ◌▸◌, refuse, emit, keep, move, one_block}
-use Rattle.py_emission_parts.specs.EmissionParts.{keeping_jump, testing_jump, Emissions, ordinary, truth_of, tested_value, values, in_turn, shorts, tests, some_test, bool_emissions, unary_value, unary_emissions, links, chain, first_comparison, comparisons, emission_of_compare, choice}
+use Rattle.py_emission_parts.specs.Emitting.{NodeContext, Emission, ◌▸◌, refuse, emit, keep, move, one_block}
+use Rattle.py_emission_parts.specs.EmissionParts.{keeping_jump, testing_jump, Emissions, ordinary, truth_of, tested_value, values, in_turn}
+use Rattle.py_emission_parts.specs.EmissionParts.{shorts, tests, some_test, bool_emissions, unary_value, unary_emissions, links, chain}
+use Rattle.py_emission_parts.specs.EmissionParts.{first_comparison, comparisons, emission_of_compare, choice}
 use Rattle.py_emission.specs.Emission.{emissions, all_emissions}
-use Rattle.py_emission_outcomes.proofs.Faults.RefusalLemmas.{RefusalEndsAs, Passes, refusal_in_function, then_ends, last_ends, alone_ends, nothing_passes, emit_passes, ends_so, jump_passes, moved_ends, if_ends, one_block_ends, two_blocks_end, comparison_passes, link_passes}
+use Rattle.py_emission_outcomes.proofs.Faults.RefusalLemmas.{RefusalEndsAs, Passes, refusal_in_function, then_ends, last_ends, alone_ends}
+use Rattle.py_emission_outcomes.proofs.Faults.RefusalLemmas.{nothing_passes, emit_passes, ends_so, jump_passes, moved_ends, if_ends}
+use Rattle.py_emission_outcomes.proofs.Faults.RefusalLemmas.{one_block_ends, two_blocks_end, comparison_passes, link_passes}
 
 -- an element and what is called end as their values do
-abbrev pub ElementEnds : Around → Element Emission Emission → (p q : SourceLocation) → List Fault → Type 0
+abbrev pub ElementEnds : NodeContext → Element Emission Emission → (p q : SourceLocation) → List Fault → Type 0
 ElementEnds c (Single v) p q fs = RefusalEndsAs c v p q fs
 ElementEnds c (Spread v) p q fs = RefusalEndsAs c v p q fs
 
-abbrev pub CalleeEnds : Around → Callee Emission → (p q : SourceLocation) → List Fault → Type 0
+abbrev pub CalleeEnds : NodeContext → Callee Emission → (p q : SourceLocation) → List Fault → Type 0
 CalleeEnds c (Function v) p q fs = RefusalEndsAs c v p q fs
 CalleeEnds c (Method name v) p q fs = RefusalEndsAs c v p q fs
 
 -- an expression ends as its faults say, from any place, and goes on from there
-pub record Ending (c : Around) (e : Emissions) (q : SourceLocation) (f : ExprFaults) : Type 0 where
+pub record Ending (c : NodeContext) (e : Emissions) (q : SourceLocation) (f : ExprFaults) : Type 0 where
   pub value : (p : SourceLocation) → RefusalEndsAs c e.value p q f.value
   pub test : (p : SourceLocation) (t : Bool) (to : ℕ) → RefusalEndsAs c (e.test t to) p q f.value
   pub element : (p : SourceLocation) → ElementEnds c e.element p q f.element
@@ -40,54 +44,64 @@ pub record Ending (c : Around) (e : Emissions) (q : SourceLocation) (f : ExprFau
   pub returned : (p : SourceLocation) → RefusalEndsAs c e.returned p q f.value
 
 -- a test ends as the faults say, at whatever truth it jumps
-abbrev pub TestEnds : Around → (Bool → ℕ → Emission) → (p q : SourceLocation) → List Fault → Type 0
+abbrev pub TestEnds : NodeContext → (Bool → ℕ → Emission) → (p q : SourceLocation) → List Fault → Type 0
 TestEnds c t p q fs = (b : Bool) (to : ℕ) → RefusalEndsAs c (t b to) p q fs
 
-pub truth_ends : {c : Around} {v : Emission} {p q : SourceLocation} {fs : List Fault} → RefusalEndsAs c v p q fs → TestEnds c (truth_of v) p q fs
+pub truth_ends : {c : NodeContext} {v : Emission} {p q : SourceLocation} {fs : List Fault} → RefusalEndsAs c v p q fs → TestEnds c (truth_of v) p q fs
 truth_ends x b to = last_ends x (jump_passes (testing_jump b) to)
 
 -- a value and its return
-pub refusing_test_value_returned : {c : Around} {v : Emission} {p q : SourceLocation} {fs : List Fault} → RefusalEndsAs c v p q fs → RefusalEndsAs c (v ▸ emit op.ReturnValue 0) p q fs
+pub refusing_test_value_returned : {c : NodeContext} {v : Emission} {p q : SourceLocation} {fs : List Fault} → RefusalEndsAs c v p q fs → RefusalEndsAs c (v ▸ emit op.ReturnValue 0) p q fs
 refusing_test_value_returned x = last_ends x (emit_passes op.ReturnValue 0)
 
 -- an expression that is called as a function, returned as a value, and an element as it is
-pub ordinary_ends : {c : Around} {v : Emission} {t : Bool → ℕ → Emission} {q : SourceLocation} {fs : List Fault}
+pub ordinary_ends : {c : NodeContext} {v : Emission} {t : Bool → ℕ → Emission} {q : SourceLocation} {fs : List Fault}
     → ((p : SourceLocation) → RefusalEndsAs c v p q fs) → ((p : SourceLocation) → TestEnds c t p q fs) → Ending c (ordinary v t) q (either fs)
 ordinary_ends x y = record { value = x; test = y; element = x; callee = x; returned = λ p. refusing_test_value_returned (x p) }
 
-pub tested_ends : {c : Around} {v : Emission} {q : SourceLocation} {fs : List Fault} → ((p : SourceLocation) → RefusalEndsAs c v p q fs) → Ending c (tested_value v) q (either fs)
+pub tested_ends : {c : NodeContext} {v : Emission} {q : SourceLocation} {fs : List Fault} → ((p : SourceLocation) → RefusalEndsAs c v p q fs) → Ending c (tested_value v) q (either fs)
 tested_ends x = ordinary_ends x (λ p. truth_ends (x p))
 
-pub at_ends : {c : Around} {v : Emission} {q : SourceLocation} {fs : List Fault} (at : SourceLocation) → RefusalEndsAs c v at q fs → Ending c (tested_value (move at ▸ v)) q (either fs)
+pub at_ends : {c : NodeContext} {v : Emission} {q : SourceLocation} {fs : List Fault} (at : SourceLocation) → RefusalEndsAs c v at q fs → Ending c (tested_value (move at ▸ v)) q (either fs)
 at_ends at x = tested_ends (λ p. moved_ends at x)
 
 -- what is returned in another way
-pub refusing_test_by_return : {c : Around} {v w : Emission} {q : SourceLocation} {fs : List Fault} (at : SourceLocation) → RefusalEndsAs c v at q fs → RefusalEndsAs c w at q fs → Ending c (record (tested_value (move at ▸ v)) { returned = move at ▸ w }) q (either fs)
-refusing_test_by_return at x y = record { value = λ p. moved_ends at x; test = λ p. truth_ends (moved_ends at x); element = λ p. moved_ends at x; callee = λ p. moved_ends at x; returned = λ p. moved_ends at y }
+pub refusing_test_by_return : {c : NodeContext} {v w : Emission} {q : SourceLocation} {fs : List Fault} (at : SourceLocation)
+    → RefusalEndsAs c v at q fs → RefusalEndsAs c w at q fs
+    → Ending c (record (tested_value (move at ▸ v)) { returned = move at ▸ w }) q (either fs)
+refusing_test_by_return at x y =
+    record {
+      value = λ p. moved_ends at x;
+      test = λ p. truth_ends (moved_ends at x);
+      element = λ p. moved_ends at x;
+      callee = λ p.
+          moved_ends at x;
+      returned = λ p. moved_ends at y;
+    }
 
 -- there is an operand
-some_ends : {c : Around} {a : Emission} {p q : SourceLocation} {fs : List Fault} (b : Bool) (e : CodegenErrorType) → b ≡ false → RefusalEndsAs c a p q fs
+some_ends : {c : NodeContext} {a : Emission} {p q : SourceLocation} {fs : List Fault} (b : Bool) (e : CodegenErrorType) → b ≡ false → RefusalEndsAs c a p q fs
     → RefusalEndsAs c (if b then refuse e else a) p q fs
 some_ends true e d x = absurd cc
 some_ends false e d x = x
 
 -- there are operators, and a comparator for each
-even_ends : {c : Around} {a : Emission} {p q : SourceLocation} {fs : List Fault} (b o : Bool) (d e : CodegenErrorType) → b ≡ false → o ≡ true
+even_ends : {c : NodeContext} {a : Emission} {p q : SourceLocation} {fs : List Fault} (b o : Bool) (d e : CodegenErrorType) → b ≡ false → o ≡ true
     → RefusalEndsAs c a p q fs → RefusalEndsAs c (if b then refuse d else (if o then a else refuse e)) p q fs
 even_ends true o d e f g x = absurd cc
 even_ends false true d e f g x = x
 even_ends false false d e f g x = absurd cc
 
 -- a block that begins at the end
-pub only_block : {c : Around} {f : ℕ → Emission} {p q : SourceLocation} {fs : List Fault} → ((b : ℕ) → RefusalEndsAs c (f b) p q fs) → RefusalEndsAs c (one_block f (λ b. keep)) p q fs
+pub only_block : {c : NodeContext} {f : ℕ → Emission} {p q : SourceLocation} {fs : List Fault} → ((b : ℕ) → RefusalEndsAs c (f b) p q fs) → RefusalEndsAs c (one_block f (λ b. keep)) p q fs
 only_block {fs = fs} x = ends_so (append-nil fs) (one_block_ends x (λ b. nothing_passes))
 
 -- one of two values or bodies
-pub choice_ends : {c : Around} {test : Bool → ℕ → Emission} {body orelse : Emission} {p m n q : SourceLocation} {fs gs hs : List Fault} → TestEnds c test p m fs
+pub choice_ends : {c : NodeContext} {test : Bool → ℕ → Emission} {body orelse : Emission} {p m n q : SourceLocation} {fs gs hs : List Fault} → TestEnds c test p m fs
     → RefusalEndsAs c body m n gs → RefusalEndsAs c orelse n q hs → RefusalEndsAs c (choice test body orelse) p q (fs ++ gs ++ hs)
 choice_ends t x y = ends_so (simp append-nil) (two_blocks_end (λ other end. then_ends (t false other) (last_ends x (jump_passes op.Jump end))) (λ other end. y) (λ other end. nothing_passes))
 
-module _ (c : Around) where
+module _ (c : NodeContext) where
   abbrev pub EndsWell : tree.Expr → Type 0
   EndsWell e = Ending c (emissions e) (expr_end e) (faults_in (refusal_in_function c) e)
 
@@ -118,15 +132,19 @@ module _ (c : Around) where
       → RefusalEndsAs c (shorts o end (all_emissions es)) p (last_of p (ends_of es)) (in_order (fault.values (all_faults (refusal_in_function c) es)))
   shorts_end p o end tree.no_exprs x = nothing_passes
   shorts_end p o end (tree.more_exprs e tree.no_exprs) x = alone_ends (x.0.value p)
-  shorts_end p o end (tree.more_exprs e (tree.more_exprs f fs)) x = then_ends (x.0.value p) (then_ends (jump_passes (keeping_jump (deciding_truth o)) end) (shorts_end (expr_end e) o end (tree.more_exprs f fs) x.1))
+  shorts_end p o end (tree.more_exprs e (tree.more_exprs f fs)) x =
+      then_ends (x.0.value p) (then_ends (jump_passes (keeping_jump (deciding_truth o)) end)
+      (shorts_end (expr_end e) o end (tree.more_exprs f fs) x.1))
 
   tests_end : (p : SourceLocation) (stop : Bool) (out : ℕ) (t : Bool) (to : ℕ) (e : tree.Expr) (es : tree.Exprs) → EndsWell e → AllEnding es
-      → RefusalEndsAs c (tests stop out t to (emissions e ∷ all_emissions es)) p (last_of (expr_end e) (ends_of es)) ((faults_in (refusal_in_function c) e).value ++ in_order (fault.values (all_faults (refusal_in_function c) es)))
+      → RefusalEndsAs c (tests stop out t to (emissions e ∷ all_emissions es)) p (last_of (expr_end e) (ends_of es))
+      ((faults_in (refusal_in_function c) e).value ++ in_order (fault.values (all_faults (refusal_in_function c) es)))
   tests_end p stop out t to e tree.no_exprs x y = alone_ends (x.test p t to)
   tests_end p stop out t to e (tree.more_exprs f fs) x y = then_ends (x.test p stop out) (tests_end (expr_end e) stop out t to f fs y.0 y.1)
 
   some_test_ends : (p : SourceLocation) (stop t : Bool) (e : tree.Expr) (es : tree.Exprs) (to : ℕ) → EndsWell e → AllEnding es
-      → RefusalEndsAs c (some_test stop t (emissions e ∷ all_emissions es) to) p (last_of (expr_end e) (ends_of es)) ((faults_in (refusal_in_function c) e).value ++ in_order (fault.values (all_faults (refusal_in_function c) es)))
+      → RefusalEndsAs c (some_test stop t (emissions e ∷ all_emissions es) to) p (last_of (expr_end e) (ends_of es))
+      ((faults_in (refusal_in_function c) e).value ++ in_order (fault.values (all_faults (refusal_in_function c) es)))
   some_test_ends p false false e es to x y = tests_end p false to false to e es x y
   some_test_ends p true true e es to x y = tests_end p true to true to e es x y
   some_test_ends p false true e es to x y = only_block (λ end. tests_end p false end true to e es x y)
@@ -157,7 +175,9 @@ module _ (c : Around) where
       → RefusalEndsAs c left p m gs → AllEnding es
       → RefusalEndsAs c (chain left ops (all_emissions es)) p (last_of m (ends_of es)) (gs ++ in_order (fault.values (all_faults (refusal_in_function c) es)))
   chain_ends {m = m} ops es even x y =
-      ends_so (simp append-nil) (two_blocks_end (λ out end. then_ends x (last_ends (links_end m out ops es even y) (jump_passes op.Jump end))) (λ out end. then_ends (emit_passes op.Rotate2 0) (emit_passes op.Pop 0)) (λ out end. nothing_passes))
+      ends_so (simp append-nil) (two_blocks_end
+      (λ out end. then_ends x (last_ends (links_end m out ops es even y) (jump_passes op.Jump end)))
+      (λ out end. then_ends (emit_passes op.Rotate2 0) (emit_passes op.Pop 0)) (λ out end. nothing_passes))
 
   comparisons_end : {left : Emission} {p m : SourceLocation} {gs : List Fault} (ops : List CmpOp) (es : tree.Exprs) → length ops ≡ length (all_emissions es)
       → RefusalEndsAs c left p m gs → AllEnding es
@@ -169,4 +189,5 @@ module _ (c : Around) where
       → nat_eq (length ops) (length (all_emissions es)) ≡ true → RefusalEndsAs c left p m gs → AllEnding es
       → RefusalEndsAs c (emission_of_compare left ops (all_emissions es)) p (last_of m (ends_of es)) (gs ++ in_order (fault.values (all_faults (refusal_in_function c) es)))
   compare_ends ops es some same x y =
-      even_ends (nat_eq (length ops) 0) (nat_eq (length ops) (length (all_emissions es))) (error.MalformedTree shape.NoOperand) (error.MalformedTree shape.UnevenLists) some same (comparisons_end ops es (search (rules, same)) x y)
+      even_ends (nat_eq (length ops) 0) (nat_eq (length ops) (length (all_emissions es))) (error.MalformedTree shape.NoOperand)
+      (error.MalformedTree shape.UnevenLists) some same (comparisons_end ops es (search (rules, same)) x y)

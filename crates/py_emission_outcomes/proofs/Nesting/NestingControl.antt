@@ -3,9 +3,10 @@ use Rattle.std.proofs.Common.{ℕ, List, Bool, true, false, Option, Some, None, 
 use Rattle.py_base.specs.declared.location.SourceLocation.{SourceLocation}
 use Rattle.py_bytecode.specs.declared.instruction.Instruction.TheVariants as op
 use Rattle.py_bytecode.specs.Values.{Store, Delete}
-use Rattle.py_emission.specs.ControlEmissions.{assertion_of, before_last, caught_name, finally_do, for_each, forgotten, handler, managed_body, named_body, to_last, try_body, typed_match}
+use Rattle.py_emission.specs.ControlEmissions.{assertion_of, before_last, caught_name, finally_do, for_each, handler_name_removal, handler, managed_body, named_body, to_last, try_body, typed_match}
 use Rattle.py_emission_parts.specs.Emitting.{Emission}
-use Rattle.py_emission_outcomes.proofs.Nesting.Nests.{Nests, accessed_nests, count_nests, emit_nests, jump_nests, keep_nests, loop_nests, move_nests, name_nests, none_nests, one_nests, stored_nests, then_nests, three_nest}
+use Rattle.py_emission_outcomes.proofs.Nesting.Nests.{Nests, accessed_nests, count_nests, emit_nests, jump_nests, keep_nests, loop_nests}
+use Rattle.py_emission_outcomes.proofs.Nesting.Nests.{move_nests, name_nests, none_nests, one_nests, stored_nests, then_nests, three_nest}
 use Rattle.py_emission_outcomes.proofs.Nesting.NestingTests.{TestNests}
 
 pub for_nests : {k : ℕ} {iter store body orelse : Emission} → Nests k iter → Nests k store → Nests k body → Nests k orelse → Nests k (for_each iter store body orelse)
@@ -17,7 +18,9 @@ for_nests x y z w =
 pub managed_nests : {k : ℕ} {item store body : Emission} (at : SourceLocation) → Nests k item → Nests k store → Nests k body → Nests k (managed_body at item store body)
 managed_nests at x y z =
     one_nests (λ end.
-    then_nests x (then_nests (move_nests at) (then_nests (jump_nests op.SetupWith end) (then_nests y (then_nests z (then_nests (move_nests at) (then_nests (emit_nests op.PopBlock 0) (emit_nests op.EnterFinally 0))))))))
+    then_nests x (then_nests (move_nests at)
+    (then_nests (jump_nests op.SetupWith end)
+    (then_nests y (then_nests z (then_nests (move_nests at) (then_nests (emit_nests op.PopBlock 0) (emit_nests op.EnterFinally 0))))))))
     (λ end. then_nests (emit_nests op.WithCleanupStart 0) (emit_nests op.WithCleanupFinish 0))
 
 before_nests : {k : ℕ} (last : Bool) (end : ℕ) → Nests k (before_last last end)
@@ -50,7 +53,7 @@ caught_nests (Some name) = stored_nests name
 pub typed_nests : {k : ℕ} {type : Emission} (name : Option (List ℕ)) (next : ℕ) → Nests k type → Nests k (typed_match type (caught_name name) next)
 typed_nests name next x = then_nests (emit_nests op.Duplicate 0) (then_nests x (then_nests (emit_nests op.TestOperation 4) (then_nests (jump_nests op.JumpIfFalse next) (caught_nests name))))
 
-forgotten_nests : {k : ℕ} (name : List ℕ) → Nests k (forgotten name)
+forgotten_nests : {k : ℕ} (name : List ℕ) → Nests k (handler_name_removal name)
 forgotten_nests name = then_nests (none_nests op.LoadConst) (then_nests (accessed_nests Store name) (accessed_nests Delete name))
 
 pub named_body_nests : {k : ℕ} {body : Emission} (name : Option (List ℕ)) → Nests k body → Nests k (named_body name body)
@@ -59,4 +62,6 @@ named_body_nests (Some name) x = finally_nests x (forgotten_nests name)
 
 pub asserted_nests : {k : ℕ} {test : Bool → ℕ → Emission} {message : Emission} (count : ℕ) → TestNests k test → Nests k message → Nests k (assertion_of test message count)
 asserted_nests count t x =
-    one_nests (λ end. then_nests (t true end) (then_nests (name_nests op.LoadGlobal (codes "AssertionError")) (then_nests x (then_nests (count_nests op.CallFunctionPositional count) (emit_nests op.Raise 0))))) (λ end. keep_nests)
+    one_nests (λ end. then_nests (t true end)
+    (then_nests (name_nests op.LoadGlobal (codes "AssertionError"))
+    (then_nests x (then_nests (count_nests op.CallFunctionPositional count) (emit_nests op.Raise 0))))) (λ end. keep_nests)

@@ -3,25 +3,32 @@ use Rattle.std.proofs.Common.{ℕ, zero, suc, ◌+◌, ◌*◌, ◌≤◌, List,
 use Rattle.std.specs.Prelude.{if◌then◌else◌}
 use Rattle.py_tree.specs.Tree as tree
 use Rattle.py_tree.specs.PythonName.{python_name}
-use Rattle.py_limits.specs.Nesting.{arg_nesting, args_nesting, arguments_nesting, expr_nesting, exprs_nesting, keywords_nesting, opt_arg_nesting, opt_expr_nesting, type_param_nesting, type_params_nesting}
+use Rattle.py_limits.specs.Nesting.{arg_nesting, args_nesting, arguments_nesting, expr_nesting, exprs_nesting, keywords_nesting}
+use Rattle.py_limits.specs.Nesting.{opt_arg_nesting, opt_expr_nesting, type_param_nesting, type_params_nesting}
 use Rattle.py_bytecode.specs.declared.instruction.Instruction.TheVariants as op
 use Rattle.py_bytecode.specs.Objects as const
 use Rattle.py_emission.specs.Emission.{all_emissions, default_emissions, keyword_emissions}
 use Rattle.py_emission.specs.Parameters.{function_shape, parameters}
 use Rattle.py_emission.specs.Texts.{after_doc, doc_of}
 use Rattle.py_base.specs.declared.errors.CodegenErrorType.TheVariants as error
-use Rattle.py_emission.specs.EmissionDefs.{alias_value, arg_note, arg_notes, class_call, class_function, class_scope, emission_of_alias, emission_of_built, emission_of_class, emission_of_def, emission_of_end, emission_of_function, emission_of_generic_class, emission_of_generic_def, emission_of_note, emission_of_param, emission_of_params, emission_of_setup, emission_of_text, ends_in_return, function_value, notes, opt_arg_note, opt_note, param_emissions}
+use Rattle.py_emission.specs.EmissionDefs.{alias_value, arg_note, arg_notes, class_call, class_function, class_scope, emission_of_alias}
+use Rattle.py_emission.specs.EmissionDefs.{emission_of_built, emission_of_class, emission_of_def, emission_of_end, emission_of_function}
+use Rattle.py_emission.specs.EmissionDefs.{emission_of_generic_class, emission_of_generic_def, emission_of_note, emission_of_param}
+use Rattle.py_emission.specs.EmissionDefs.{emission_of_params, emission_of_setup, emission_of_text, ends_in_return, function_value, notes}
+use Rattle.py_emission.specs.EmissionDefs.{opt_arg_note, opt_note, param_emissions}
 use Rattle.py_emission.specs.Predicates.{any_annotates}
 use Rattle.py_annotation_text.specs.Annotation.{annotation}
 use Rattle.py_emission_parts.specs.Children.{DefaultEmissions, flags_of_defaults}
-use Rattle.py_emission_parts.specs.Within.{behind_name, class_path, class_within, doc_const, function_inside, passed_defaults, hidden_inside, hidden_name}
+use Rattle.py_emission_parts.specs.NestedScopes.{after_name, class_path, nested_class, doc_const, function_inside, passed_defaults, type_param_scope_inside, type_param_scope_name}
 use Rattle.py_emission_parts.specs.Classes.{cell_returned, class_names, class_shape}
 use Rattle.py_emission_parts.specs.Context.{class_cells}
 use Rattle.py_emission_parts.specs.Elements.{Element, Function, Single, Spread, has_starred}
 use Rattle.py_emission_parts.specs.Emitting.{Emission, emit, emit_constant}
 use Rattle.py_emission_parts.specs.EmissionParts.{counted_build, elements}
-use Rattle.py_emission_parts.specs.TypeParameters.{hidden, hidden_shape, kept_as, load_handed, no_defaults}
-use Rattle.py_emission_outcomes.proofs.Nesting.Nests.{Nests, cell_nests, child_nests, context_nests, count_nests, emit_nests, if_nests, keep_nests, level_nests, name_nests, none_nests, refuse_nests, stored_nests, text_nests, then_nests, varname_nests}
+use Rattle.py_emission_parts.specs.TypeParameters.{in_type_param_scope, type_param_scope_shape, kept_as, load_handed, no_defaults}
+use Rattle.py_emission_outcomes.proofs.Nesting.Nests.{Nests, cell_nests, child_nests, context_nests, count_nests, emit_nests, if_nests}
+use Rattle.py_emission_outcomes.proofs.Nesting.Nests.{keep_nests, level_nests, name_nests, none_nests, refuse_nests, stored_nests}
+use Rattle.py_emission_outcomes.proofs.Nesting.Nests.{text_nests, then_nests, varname_nests}
 use Rattle.py_emission_outcomes.proofs.Nesting.NestingParts.{ElementNests, Every, built_nests, call_nests, elements_nest, join_every}
 use Rattle.py_emission_outcomes.proofs.Nesting.NestingScopes.{DefaultsNest, defaults_nest, documented_nests, function_made_nests, made_nests, noted_nests, scope_nests}
 use Rattle.py_emission_outcomes.proofs.Nesting.NestingExprs.{defaults_nested, expr_nests, exprs_nest, keywords_nest, unsupported_nests}
@@ -56,7 +63,9 @@ module _ (k : ℕ) where
       let d = join_every (Nests k) (arg_notes kwonly) (opt_arg_note vararg ++ opt_arg_note kwarg) (arg_notes_nest kwonly (omega (arith, h))) last in
       let c = join_every (Nests k) (arg_notes args) (arg_notes kwonly ++ (opt_arg_note vararg ++ opt_arg_note kwarg)) (arg_notes_nest args (omega (arith, h))) d in
       let b = join_every (Nests k) (arg_notes posonly) (arg_notes args ++ (arg_notes kwonly ++ (opt_arg_note vararg ++ opt_arg_note kwarg))) (arg_notes_nest posonly (omega (arith, h))) c in
-      join_every (Nests k) (opt_note (codes "return") returns) (arg_notes posonly ++ (arg_notes args ++ (arg_notes kwonly ++ (opt_arg_note vararg ++ opt_arg_note kwarg)))) (opt_note_nests (codes "return") returns g) b
+      join_every (Nests k) (opt_note (codes "return") returns)
+      (arg_notes posonly ++ (arg_notes args ++ (arg_notes kwonly ++ (opt_arg_note vararg ++ opt_arg_note kwarg))))
+      (opt_note_nests (codes "return") returns g) b
 
   pub end_nests : (ss : tree.Stmts) → Nests k (emission_of_end ss)
   end_nests ss = if_nests (ends_in_return ss) keep_nests (none_nests op.ReturnConst)
@@ -66,7 +75,8 @@ module _ (k : ℕ) where
       → 2 * arguments_nesting params ≤ k → 2 * opt_expr_nesting returns ≤ k → Nests j body → Nests k (function_value flags name params stmts returns body)
   function_value_nests j flags name params stmts returns l h g x =
       then_nests
-      (child_nests j (function_inside name) (function_shape params name) (scope_nests j (parameters params) x) (λ o below. function_made_nests k flags (notes params returns) name o (notes_nest params returns h g) (omega (arith, l, below))))
+      (child_nests j (function_inside name) (function_shape params name) (scope_nests j (parameters params) x)
+      (λ o below. function_made_nests k flags (notes params returns) name o (notes_nest params returns h g) (omega (arith, l, below))))
       (level_nests (λ l. documented_nests k (doc_of l stmts)))
 
   def_nests : {body : Emission} (j : ℕ) (name : List ℕ) (params : tree.Arguments) (stmts : tree.Stmts) (returns : tree.OptExpr) → j + 1 ≤ k
@@ -81,7 +91,9 @@ module _ (k : ℕ) where
 
   param_nests : (t : tree.TypeParam) → 2 * type_param_nesting t ≤ k → Nests k (emission_of_param t)
   param_nests (tree.TypeVar at name tree.no_expr) h = then_nests (text_nests op.LoadConst name) (then_nests (emit_nests op.TypeVar 0) (kept_nests name))
-  param_nests (tree.TypeVar at name (tree.some_expr e)) h = then_nests (expr_nests k e (omega (arith, h))).value (then_nests (text_nests op.LoadConst name) (then_nests (emit_nests op.TypeVarWithBound 0) (kept_nests name)))
+  param_nests (tree.TypeVar at name (tree.some_expr e)) h =
+      then_nests (expr_nests k e (omega (arith, h))).value
+      (then_nests (text_nests op.LoadConst name) (then_nests (emit_nests op.TypeVarWithBound 0) (kept_nests name)))
   param_nests other h = unsupported_nests (tree.type_param_location other)
 
   all_params_nest : (ts : tree.TypeParams) → 2 * type_params_nesting ts ≤ k → Every (Nests k) (param_emissions ts)
@@ -96,10 +108,11 @@ module _ (k : ℕ) where
   handed_nest (x ∷ xs) = then_nests (varname_nests op.LoadFast x) (handed_nest xs)
 
   -- a type-parameter scope around what nests so deep at most
-  hidden_nests : {value : Emission} (i : ℕ) (name : List ℕ) (d : DefaultEmissions) → i + 1 ≤ k → DefaultsNest k d → Nests i value → Nests k (hidden name d value)
-  hidden_nests i name d l x y =
+  type_param_scope_nests : {value : Emission} (i : ℕ) (name : List ℕ) (d : DefaultEmissions) → i + 1 ≤ k → DefaultsNest k d → Nests i value → Nests k (in_type_param_scope name d value)
+  type_param_scope_nests i name d l x y =
       let count = length (passed_defaults d.positional d.keyword) in
-      then_nests (child_nests i hidden_inside (hidden_shape count name) (then_nests y (emit_nests op.ReturnValue 0)) (λ o below. made_nests k 0 (hidden_name name) o (omega (arith, l, below))))
+      then_nests (child_nests i type_param_scope_inside (type_param_scope_shape count name) (then_nests y (emit_nests op.ReturnValue 0))
+      (λ o below. made_nests k 0 (type_param_scope_name name) o (omega (arith, l, below))))
       (then_nests (defaults_nest k d x) (count_nests op.CallFunctionPositional count))
 
   nesting_def_none_handed : DefaultsNest k no_defaults
@@ -112,8 +125,9 @@ generic_def_nests : {body : Emission} (k i j : ℕ) (name : List ℕ) (params : 
 unfolding emission_of_generic_def
 generic_def_nests k i j name params stmts returns generic l m h g f x =
     let d = default_emissions params in
-    hidden_nests k i name d m (defaults_nested k params (omega (arith, h, m)))
-    (then_nests (handed_nest i (passed_defaults d.positional d.keyword)) (then_nests (params_nest i generic f) (function_value_nests i j (0x10 + flags_of_defaults d) name params stmts returns l h g x)))
+    type_param_scope_nests k i name d m (defaults_nested k params (omega (arith, h, m)))
+    (then_nests (handed_nest i (passed_defaults d.positional d.keyword))
+    (then_nests (params_nest i generic f) (function_value_nests i j (0x10 + flags_of_defaults d) name params stmts returns l h g x)))
 
 -- with or without them
 pub function_nests : {body : Emission} (k j : ℕ) (name : List ℕ) (params : tree.Arguments) (stmts : tree.Stmts) (returns : tree.OptExpr) (generic : tree.TypeParams)
@@ -133,7 +147,9 @@ module _ (k : ℕ) where
   names_nest : (doc : Option (List ℕ)) → Nests k (class_names doc)
   names_nest doc =
       then_nests (name_nests op.LoadGlobal (codes "__name__")) (then_nests (name_nests op.StoreLocal (codes "__module__"))
-      (then_nests (context_nests (λ c. text_nests op.LoadConst c.path)) (then_nests (name_nests op.StoreLocal (codes "__qualname__")) (then_nests (doc_const_nests doc) (name_nests op.StoreLocal (codes "__doc__"))))))
+      (then_nests (context_nests (λ c. text_nests op.LoadConst c.path))
+      (then_nests (name_nests op.StoreLocal (codes "__qualname__"))
+      (then_nests (doc_const_nests doc) (name_nests op.StoreLocal (codes "__doc__"))))))
 
   pub setup_nests : (b : Bool) → Nests k (emission_of_setup b)
   setup_nests false = keep_nests
@@ -149,12 +165,14 @@ module _ (k : ℕ) where
 
 -- the function of a class, and the call that builds the class
 class_function_nests : {body : Emission} (k j : ℕ) (path : List ℕ) (flags : ℕ) (name : List ℕ) (stmts : tree.Stmts) → j + 1 ≤ k → Nests j body → Nests k (class_function path flags name stmts body)
-class_function_nests k j path flags name stmts l x = child_nests j (class_within path name) (class_shape name) (class_scope_nests j stmts x) (λ o below. made_nests k flags name o (omega (arith, l, below)))
+class_function_nests k j path flags name stmts l x =
+    child_nests j (nested_class path name) (class_shape name) (class_scope_nests j stmts x)
+    (λ o below. made_nests k flags name o (omega (arith, l, below)))
 
 module _ (k : ℕ) where
-  nesting_def_behind_nests : (f x : Emission) (es : List (Element Emission Emission)) → Nests k f → Nests k x → Every (ElementNests k) es
-      → Every (ElementNests k) (behind_name (counted_build op.BuildTuple) f x es)
-  nesting_def_behind_nests f x es y z w = go (has_starred es)
+  nesting_def_after_nests : (f x : Emission) (es : List (Element Emission Emission)) → Nests k f → Nests k x → Every (ElementNests k) es
+      → Every (ElementNests k) (after_name (counted_build op.BuildTuple) f x es)
+  nesting_def_after_nests f x es y z w = go (has_starred es)
     where
       go : (b : Bool) → Every (ElementNests k) (if b then Spread (counted_build op.BuildTuple (f ∷ x ∷ [])) ∷ es else Single f ∷ Single x ∷ es)
       go true = (built_nests k op.BuildTuple (f ∷ x ∷ []) (y, (z, tt)), w)
@@ -165,8 +183,10 @@ module _ (k : ℕ) where
   class_call_nests {function = function} name bases keywords some h g x =
       let places = elements_nest k (all_emissions bases) (exprs_nest k bases h) in
       let text : Emission = emit_constant op.LoadConst (const.str name) in
-      call_nests k some (Function (emit op.LoadBuildClass 0)) (behind_name (counted_build op.BuildTuple) function text (elements (all_emissions bases))) (keyword_emissions keywords) (emit_nests op.LoadBuildClass 0)
-      (nesting_def_behind_nests function text (elements (all_emissions bases)) x (text_nests op.LoadConst name) places) (keywords_nest k keywords g)
+      call_nests k some (Function (emit op.LoadBuildClass 0))
+      (after_name (counted_build op.BuildTuple) function text (elements (all_emissions bases))) (keyword_emissions keywords)
+      (emit_nests op.LoadBuildClass 0)
+      (nesting_def_after_nests function text (elements (all_emissions bases)) x (text_nests op.LoadConst name) places) (keywords_nest k keywords g)
 
   class_nests : {body : Emission} (j : ℕ) (name : List ℕ) (bases : tree.Exprs) (keywords : tree.Keywords) (stmts : tree.Stmts) → j + 1 ≤ k
       → 2 * exprs_nesting bases ≤ k → 2 * keywords_nesting keywords ≤ k → Nests j body → Nests k (emission_of_class name bases keywords stmts body)
@@ -179,7 +199,9 @@ generic_class_nests : {body : Emission} (k i j : ℕ) (name : List ℕ) (bases :
     → Nests k (emission_of_generic_class name bases keywords stmts generic body)
 unfolding emission_of_generic_class
 generic_class_nests k i j name bases keywords stmts generic l m h g f x =
-    context_nests (λ c. hidden_nests k i name no_defaults m (nesting_def_none_handed k) (class_call_nests i name bases keywords (omega (arith, l)) h g (then_nests (params_nest i generic f) (class_function_nests i j (class_path c name) 0x10 name stmts l x))))
+    context_nests (λ c. type_param_scope_nests k i name no_defaults m (nesting_def_none_handed k)
+    (class_call_nests i name bases keywords (omega (arith, l)) h g
+    (then_nests (params_nest i generic f) (class_function_nests i j (class_path c name) 0x10 name stmts l x))))
 
 pub built_class_nests : {body : Emission} (k j : ℕ) (name : List ℕ) (bases : tree.Exprs) (named : tree.Keywords) (stmts : tree.Stmts) (generic : tree.TypeParams)
     → j + 2 ≤ k → 2 * exprs_nesting bases + 1 ≤ k → 2 * keywords_nesting named + 1 ≤ k → 2 * type_params_nesting generic + 1 ≤ k → Nests j body
@@ -191,11 +213,15 @@ built_class_nests (suc i) j name bases named stmts (tree.more_type_params t ts) 
 
 -- an alias, with or without type parameters
 alias_value_nests : (k : ℕ) (name : List ℕ) (generic : tree.TypeParams) (e : tree.Expr) → 2 * type_params_nesting generic + 1 ≤ k → 2 * expr_nesting e + 1 ≤ k → Nests k (alias_value name generic e)
-alias_value_nests k name tree.no_type_params e f h = then_nests (expr_nests k e (omega (arith, h))).value (then_nests (count_nests op.BuildTuple 0) (then_nests (text_nests op.LoadConst name) (emit_nests op.TypeAlias 0)))
+alias_value_nests k name tree.no_type_params e f h =
+    then_nests (expr_nests k e (omega (arith, h))).value
+    (then_nests (count_nests op.BuildTuple 0) (then_nests (text_nests op.LoadConst name) (emit_nests op.TypeAlias 0)))
 alias_value_nests zero name (tree.more_type_params t ts) e f h = absurd (omega (arith, h))
 alias_value_nests (suc i) name (tree.more_type_params t ts) e f h =
-    hidden_nests (suc i) i name no_defaults (omega arith) (nesting_def_none_handed (suc i))
-    (then_nests (params_nest i (tree.more_type_params t ts) (omega (arith, f))) (then_nests (expr_nests i e (omega (arith, h))).value (then_nests (emit_nests op.Rotate2 0) (then_nests (text_nests op.LoadConst name) (emit_nests op.TypeAlias 0)))))
+    type_param_scope_nests (suc i) i name no_defaults (omega arith) (nesting_def_none_handed (suc i))
+    (then_nests (params_nest i (tree.more_type_params t ts) (omega (arith, f)))
+    (then_nests (expr_nests i e (omega (arith, h))).value
+    (then_nests (emit_nests op.Rotate2 0) (then_nests (text_nests op.LoadConst name) (emit_nests op.TypeAlias 0)))))
 
 pub alias_nests : (k : ℕ) (target : tree.Expr) (generic : tree.TypeParams) (e : tree.Expr) → 2 * type_params_nesting generic + 1 ≤ k
     → 2 * expr_nesting e + 1 ≤ k → Nests k (emission_of_alias target generic e)

@@ -4,13 +4,16 @@ use Rattle.py_base.specs.Literal as literal
 use Rattle.py_base.specs.declared.location.SourceLocation.{SourceLocation}
 use Rattle.py_tree.specs.Tree as tree
 use Rattle.py_tree.specs.PythonName.{python_name}
-use Rattle.py_limits.specs.Nesting.{args_nesting, arguments_nesting, expr_nesting, exprs_nesting, generators_nesting, keywords_nesting, literal_nesting, literals_nesting, opt_expr_nesting, opt_exprs_nesting}
+use Rattle.py_limits.specs.Nesting.{args_nesting, arguments_nesting, expr_nesting, exprs_nesting, generators_nesting, keywords_nesting}
+use Rattle.py_limits.specs.Nesting.{literal_nesting, literals_nesting, opt_expr_nesting, opt_exprs_nesting}
 use Rattle.py_bytecode.specs.declared.instruction.Instruction.TheVariants as op
 use Rattle.py_bytecode.specs.Nesting.{const_nesting, consts_nesting}
 use Rattle.py_bytecode.specs.Objects as const
 use Rattle.py_bytecode.specs.Values.{Load}
 use Rattle.py_emission.specs.Awaits.{awaits, some_async}
-use Rattle.py_emission.specs.Emission.{all_emissions, all_stores, clause_emissions, default_emissions, emission, emission_of_delete, emission_of_deletes, emissions, joined_return, keyword_emissions, keyword_only_emissions, name_return, opt_emission, opt_emissions, positional_emissions, stores, unsupported_node}
+use Rattle.py_emission.specs.Emission.{all_emissions, all_stores, clause_emissions, default_emissions, emission, emission_of_delete}
+use Rattle.py_emission.specs.Emission.{emission_of_deletes, emissions, joined_return, keyword_emissions, keyword_only_emissions}
+use Rattle.py_emission.specs.Emission.{name_return, opt_emission, opt_emissions, positional_emissions, stores, unsupported_node}
 use Rattle.py_emission.specs.Predicates.{deletion_name}
 use Rattle.py_emission.specs.Texts.{texts_of}
 use Rattle.py_base.specs.declared.errors.CodegenErrorType.TheVariants as error
@@ -18,8 +21,14 @@ use Rattle.py_emission_parts.specs.Emitting.{Emission, ◌▸◌, emit_mangled, 
 use Rattle.py_emission_parts.specs.EmissionParts.{elements, values}
 use Rattle.py_emission_parts.specs.Refused.{lone_star, no_assignment, no_deletion}
 use Rattle.py_emission_parts.specs.TableParts.{binary_case, constant_of, constants_of, conversion_case, is_debug}
-use Rattle.py_emission_outcomes.proofs.Nesting.Nests.{Nests, accessed_nests, at_nests, constant_nests, debug_nests, deleted_nests, emit_nests, in_function_nests, generating_nests, if_nests, keep_nests, load_nests, mangled_nests, none_nests, refuse_nests, stored_nests, text_nests, then_nests, unless_debug_nests}
-use Rattle.py_emission_outcomes.proofs.Nesting.NestingParts.{ElementNests, Every, KeywordNests, NamedNests, NestsWell, SomeNests, StoresNest, built_nests, call_nests, dict_nests, display_nests, elements_nest, join_every, joined_nests, plain_nests, slice_nests, unpack_nests, value_or_nests, values_nest}
+use Rattle.py_emission_outcomes.proofs.Nesting.Nests.{Nests, accessed_nests, at_nests, constant_nests, debug_nests, deleted_nests}
+use Rattle.py_emission_outcomes.proofs.Nesting.Nests.{emit_nests, in_function_nests, generating_nests, if_nests, keep_nests, load_nests}
+use Rattle.py_emission_outcomes.proofs.Nesting.Nests.{mangled_nests, none_nests, refuse_nests, stored_nests, text_nests, then_nests}
+use Rattle.py_emission_outcomes.proofs.Nesting.Nests.{unless_debug_nests}
+use Rattle.py_emission_outcomes.proofs.Nesting.NestingParts.{ElementNests, Every, KeywordNests, NamedNests, NestsWell, SomeNests}
+use Rattle.py_emission_outcomes.proofs.Nesting.NestingParts.{StoresNest, built_nests, call_nests, dict_nests, display_nests, elements_nest}
+use Rattle.py_emission_outcomes.proofs.Nesting.NestingParts.{join_every, joined_nests, plain_nests, slice_nests, unpack_nests}
+use Rattle.py_emission_outcomes.proofs.Nesting.NestingParts.{value_or_nests, values_nest}
 use Rattle.py_emission_outcomes.proofs.Nesting.NestingScopes.{ClauseNests, DefaultsNest, comprehension_nests, element_nests, gathered_nests, generated_nests, lambda_nests}
 use Rattle.py_emission_outcomes.proofs.Nesting.NestingTests.{bool_nests, nesting_test_by_return, choice_nests, compare_nests, truth_nests, unary_nests, nesting_test_value_returned, whole_nests}
 
@@ -61,8 +70,11 @@ mutual
   expr_nests k (tree.IfExp at t body orelse) h =
       whole_nests at (choice_nests (expr_nests k t (omega (arith, h))).test (expr_nests k body (omega (arith, h))).value (expr_nests k orelse (omega (arith, h))).value)
   expr_nests k (tree.Dict at keys others) h =
-      whole_nests at (dict_nests k (opt_emissions keys) (values (all_emissions others)) (opts_nest k keys (omega (arith, h))) (values_nest k (all_emissions others) (exprs_nest k others (omega (arith, h)))))
-  expr_nests k (tree.Set at elts) h = whole_nests at (display_nests k op.BuildSet op.BuildSetUnpack (elements (all_emissions elts)) (elements_nest k (all_emissions elts) (exprs_nest k elts (omega (arith, h)))))
+      whole_nests at (dict_nests k (opt_emissions keys) (values (all_emissions others)) (opts_nest k keys (omega (arith, h)))
+      (values_nest k (all_emissions others) (exprs_nest k others (omega (arith, h)))))
+  expr_nests k (tree.Set at elts) h = whole_nests at
+      (display_nests k op.BuildSet op.BuildSetUnpack (elements (all_emissions elts))
+      (elements_nest k (all_emissions elts) (exprs_nest k elts (omega (arith, h)))))
   expr_nests k (tree.ListComp at elt gs) h =
       let j = 2 * max (expr_nesting elt) (generators_nesting gs) in
       let inner = gathered_nests j op.BuildList op.ListAppend (clause_emissions gs) (clauses_nested j gs (omega arith)) (element_nests (expr_nests j elt (omega arith)).value) in
@@ -82,15 +94,24 @@ mutual
       whole_nests at (comprehension_nests k j (some_async gs || awaits elt) (codes "<genexpr>") (clause_emissions gs) (omega (arith, h)) (clauses_nested k gs (omega (arith, h))) inner)
   expr_nests k (tree.Await at value) h = whole_nests at (refuse_nests error.InvalidAwait)
   expr_nests k (tree.Yield at value) h =
-      whole_nests at (in_function_nests error.InvalidYield (then_nests generating_nests (then_nests (value_or_nests k const.none (opt_emission value) (omega arith) (opt_nests k value (omega (arith, h)))) (emit_nests op.YieldValue 0))))
+      whole_nests at (in_function_nests error.InvalidYield
+      (then_nests generating_nests (then_nests
+      (value_or_nests k const.none (opt_emission value) (omega arith) (opt_nests k value (omega (arith, h))))
+      (emit_nests op.YieldValue 0))))
   expr_nests k (tree.YieldFrom at value) h =
-      whole_nests at (in_function_nests error.InvalidYieldFrom (then_nests generating_nests (then_nests (expr_nests k value (omega (arith, h))).value (then_nests (emit_nests op.GetIter 0) (then_nests (none_nests op.LoadConst) (emit_nests op.YieldFrom 0))))))
+      whole_nests at (in_function_nests error.InvalidYieldFrom
+      (then_nests generating_nests (then_nests (expr_nests k value (omega (arith, h))).value
+      (then_nests (emit_nests op.GetIter 0) (then_nests (none_nests op.LoadConst) (emit_nests op.YieldFrom 0))))))
   expr_nests k (tree.Compare at left ops others) h =
       whole_nests at (compare_nests k ops (all_emissions others) (expr_nests k left (omega (arith, h))).value (exprs_nest k others (omega (arith, h))))
   expr_nests k (tree.Call at func args keywords) h =
-      whole_nests at (call_nests k (omega (arith, h)) (emissions func).callee (elements (all_emissions args)) (keyword_emissions keywords) (expr_nests k func (omega (arith, h))).callee (elements_nest k (all_emissions args) (exprs_nest k args (omega (arith, h)))) (keywords_nest k keywords (omega (arith, h))))
+      whole_nests at (call_nests k (omega (arith, h)) (emissions func).callee (elements (all_emissions args)) (keyword_emissions keywords)
+      (expr_nests k func (omega (arith, h))).callee (elements_nest k (all_emissions args) (exprs_nest k args (omega (arith, h))))
+      (keywords_nest k keywords (omega (arith, h))))
   expr_nests k (tree.FormattedValue at value c spec) h =
-      whole_nests at (then_nests (expr_nests k value (omega (arith, h))).value (then_nests (value_or_nests k (const.str []) (opt_emission spec) (omega arith) (opt_nests k spec (omega (arith, h)))) (emit_nests op.FormatValue (conversion_case c))))
+      whole_nests at (then_nests (expr_nests k value (omega (arith, h))).value
+      (then_nests (value_or_nests k (const.str []) (opt_emission spec) (omega arith) (opt_nests k spec (omega (arith, h))))
+      (emit_nests op.FormatValue (conversion_case c))))
   expr_nests k (tree.JoinedStr at parts) h =
       let vs = values (all_emissions parts) in
       let x = values_nest k (all_emissions parts) (exprs_nest k parts (omega (arith, h))) in
@@ -108,10 +129,15 @@ mutual
       let y = at_nests at (refuse_nests error.InvalidStarExpr) in
       record { value = y; test = truth_nests y; element = (expr_nests k value (omega (arith, h))).value; callee = y; returned = nesting_test_value_returned y }
   expr_nests k (tree.Name at x) h = nesting_test_by_return (at_nests at (load_nests x)) (at_nests at (nesting_expr_name_returned x))
-  expr_nests k (tree.List at elts) h = whole_nests at (display_nests k op.BuildList op.BuildListUnpack (elements (all_emissions elts)) (elements_nest k (all_emissions elts) (exprs_nest k elts (omega (arith, h)))))
-  expr_nests k (tree.Tuple at elts) h = whole_nests at (display_nests k op.BuildTuple op.BuildTupleUnpack (elements (all_emissions elts)) (elements_nest k (all_emissions elts) (exprs_nest k elts (omega (arith, h)))))
+  expr_nests k (tree.List at elts) h = whole_nests at
+      (display_nests k op.BuildList op.BuildListUnpack (elements (all_emissions elts))
+      (elements_nest k (all_emissions elts) (exprs_nest k elts (omega (arith, h)))))
+  expr_nests k (tree.Tuple at elts) h = whole_nests at
+      (display_nests k op.BuildTuple op.BuildTupleUnpack (elements (all_emissions elts))
+      (elements_nest k (all_emissions elts) (exprs_nest k elts (omega (arith, h)))))
   expr_nests k (tree.Slice at lower upper step) h =
-      whole_nests at (slice_nests k (opt_emission lower) (opt_emission upper) (opt_emission step) (opt_nests k lower (omega (arith, h))) (opt_nests k upper (omega (arith, h))) (opt_nests k step (omega (arith, h))))
+      whole_nests at (slice_nests k (opt_emission lower) (opt_emission upper) (opt_emission step) (opt_nests k lower (omega (arith, h)))
+      (opt_nests k upper (omega (arith, h))) (opt_nests k step (omega (arith, h))))
 
   pub exprs_nest : (k : ℕ) (es : tree.Exprs) → 2 * exprs_nesting es ≤ k → Every (NestsWell k) (all_emissions es)
   exprs_nest k tree.no_exprs h = tt
@@ -132,12 +158,24 @@ mutual
 
   clauses_nested : (k : ℕ) (gs : tree.Generators) → 2 * generators_nesting gs ≤ k → Every (ClauseNests k) (clause_emissions gs)
   clauses_nested k tree.no_generators h = tt
-  clauses_nested k (tree.more_generators target iter ifs is_async gs) h =
-      (record { iterable = (expr_nests k iter (omega (arith, h))).value; target = (stores_nest k target (omega (arith, h))).alone; conditions = exprs_nest k ifs (omega (arith, h)) }, clauses_nested k gs (omega (arith, h)))
+  clauses_nested k (tree.more_generators target iter ifs is_async gs) h = (
+    record {
+      iterable = (expr_nests k iter (omega (arith, h))).value;
+      target =
+          (stores_nest k target (omega (arith, h))).alone;
+      conditions = exprs_nest k ifs (omega (arith, h));
+    },
+    clauses_nested k gs (omega (arith, h)),
+  )
 
   pub defaults_nested : (k : ℕ) (params : tree.Arguments) → 2 * arguments_nesting params ≤ k → DefaultsNest k (default_emissions params)
   defaults_nested k (tree.arguments posonly args vararg kwonly kwarg) h =
-      record { positional = join_every (Nests k) (positional_emissions posonly) (positional_emissions args) (positional_nest k posonly (omega (arith, h))) (positional_nest k args (omega (arith, h))); keyword = keyword_only_nest k kwonly (omega (arith, h)) }
+      record {
+        positional = join_every (Nests k) (positional_emissions posonly) (positional_emissions args)
+            (positional_nest k posonly (omega (arith, h))) (positional_nest k args (omega (arith, h)));
+        keyword =
+            keyword_only_nest k kwonly (omega (arith, h));
+      }
 
   positional_nest : (k : ℕ) (args : tree.Args) → 2 * args_nesting args ≤ k → Every (Nests k) (positional_emissions args)
   positional_nest k tree.no_args h = tt
@@ -152,7 +190,9 @@ mutual
   pub stores_nest : (k : ℕ) (e : tree.Expr) → 2 * expr_nesting e ≤ k → StoresNest k (stores e)
   stores_nest k (tree.Name at id) h = plain_nests (stored_nests id)
   stores_nest k (tree.Attribute at value attr) h = plain_nests (unless_debug_nests no_assignment attr (then_nests (expr_nests k value (omega (arith, h))).value (mangled_nests op.StoreAttr attr)))
-  stores_nest k (tree.Subscript at value slice) h = plain_nests (then_nests (expr_nests k value (omega (arith, h))).value (then_nests (expr_nests k slice (omega (arith, h))).value (emit_nests op.StoreSubscript 0)))
+  stores_nest k (tree.Subscript at value slice) h =
+      plain_nests (then_nests (expr_nests k value (omega (arith, h))).value
+      (then_nests (expr_nests k slice (omega (arith, h))).value (emit_nests op.StoreSubscript 0)))
   stores_nest k (tree.List at elts) h = plain_nests (unpack_nests k at (all_stores elts) (all_stores_nest k elts (omega (arith, h))))
   stores_nest k (tree.Tuple at elts) h = plain_nests (unpack_nests k at (all_stores elts) (all_stores_nest k elts (omega (arith, h))))
   stores_nest k (tree.Starred at value) h = record { alone = refuse_nests (error.SyntaxError lone_star); element = (stores_nest k value (omega (arith, h))).alone }
@@ -167,7 +207,9 @@ mutual
   delete_nests : (k : ℕ) (e : tree.Expr) → 2 * expr_nesting e ≤ k → Nests k (emission_of_delete e)
   delete_nests k (tree.Name at id) h = deleted_nests id
   delete_nests k (tree.Attribute at value attr) h = unless_debug_nests no_deletion attr (then_nests (expr_nests k value (omega (arith, h))).value (mangled_nests op.DeleteAttr attr))
-  delete_nests k (tree.Subscript at value slice) h = then_nests (expr_nests k value (omega (arith, h))).value (then_nests (expr_nests k slice (omega (arith, h))).value (emit_nests op.DeleteSubscript 0))
+  delete_nests k (tree.Subscript at value slice) h =
+      then_nests (expr_nests k value (omega (arith, h))).value
+      (then_nests (expr_nests k slice (omega (arith, h))).value (emit_nests op.DeleteSubscript 0))
   delete_nests k (tree.List at elts) h = deletes_nest k elts (omega (arith, h))
   delete_nests k (tree.Tuple at elts) h = deletes_nest k elts (omega (arith, h))
   delete_nests k other h = refuse_nests (error.Delete (deletion_name other))

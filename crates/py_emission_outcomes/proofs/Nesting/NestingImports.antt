@@ -7,13 +7,15 @@ use Rattle.py_bytecode.specs.Objects as const
 use Rattle.py_bytecode.specs.Objects.{Const, consts_of}
 use Rattle.py_base.specs.declared.errors.CodegenErrorType.TheVariants as error
 use Rattle.py_emission.specs.EmissionFutures.{check_features, emission_of_future, after_future_import}
-use Rattle.py_emission.specs.EmissionImports.{emission_of_alias, emission_of_attributes, emission_of_from, emission_of_import, emission_of_imported, emission_of_module, emission_of_names, emission_of_star, import_step}
+use Rattle.py_emission.specs.EmissionImports.{emission_of_alias, emission_of_attributes, emission_of_from, emission_of_import}
+use Rattle.py_emission.specs.EmissionImports.{emission_of_imported, emission_of_module, emission_of_names, emission_of_star, import_step}
 use Rattle.py_emission.specs.EmissionStmts.{emission_of_import_from}
 use Rattle.py_emission.specs.Futures.{Future, is_feature, postpones}
 use Rattle.py_emission.specs.Imports.{asked_tuple, asked_all, from_future, further_segments, import_name, taken_name, takes_all}
 use Rattle.py_emission_parts.specs.Context.{is_function}
 use Rattle.py_emission_parts.specs.Emitting.{Emission, ◌▸◌}
-use Rattle.py_emission_outcomes.proofs.Nesting.Nests.{Nests, at_nests, constant_nests, context_nests, emit_nests, if_nests, keep_nests, mangled_nests, postponing_nests, refuse_nests, stored_nests, then_nests}
+use Rattle.py_emission_outcomes.proofs.Nesting.Nests.{Nests, at_nests, constant_nests, context_nests, emit_nests, if_nests, keep_nests}
+use Rattle.py_emission_outcomes.proofs.Nesting.Nests.{mangled_nests, postponing_nests, refuse_nests, stored_nests, then_nests}
 
 step_nests : {k : ℕ} (path : Option (List ℕ)) → Nests k (import_step path)
 step_nests None = emit_nests op.ImportNameless 0
@@ -47,7 +49,9 @@ names_flat [] = omega arith
 names_flat (a ∷ rest) = let h = names_flat rest in omega (arith, h)
 
 star_nests : {k : ℕ} (path : Option (List ℕ)) (level : ℕ) → 1 ≤ k → Nests k (emission_of_star path level)
-star_nests path level some = context_nests (λ c. if_nests (is_function c.typ) (refuse_nests error.FunctionImportStar) (then_nests (module_nests path level asked_all (omega (arith, some))) (emit_nests op.ImportStar 0)))
+star_nests path level some = context_nests
+    (λ c. if_nests (is_function c.typ) (refuse_nests error.FunctionImportStar)
+    (then_nests (module_nests path level asked_all (omega (arith, some))) (emit_nests op.ImportStar 0)))
 
 from_nests : {k : ℕ} (path : Option (List ℕ)) (names : List Alias) (level : ℕ) → 1 ≤ k → Nests k (emission_of_from path names level)
 from_nests path names level some =

@@ -8,8 +8,10 @@ use Rattle.py_bytecode.specs.declared.instruction.Instruction.TheVariants as op
 use Rattle.py_bytecode.specs.Nesting.{consts_nesting}
 use Rattle.py_bytecode.specs.Objects.{consts_of}
 use Rattle.py_emission.specs.Texts.{after_doc, doc_of, first_text, unless_text}
-use Rattle.py_emission.specs.EmissionFutures.{emission_behind, emission_of_future, after_future_import}
-use Rattle.py_emission.specs.EmissionMods.{emission_of_block, emission_of_doc, emission_of_interactive, emission_of_mod, emission_of_printed, emission_of_program, emission_of_prompt, emission_of_single, emission_of_value, emission_outcome, stored_and_returned}
+use Rattle.py_emission.specs.EmissionFutures.{emission_after, emission_of_future, after_future_import}
+use Rattle.py_emission.specs.EmissionMods.{emission_of_block, emission_of_doc, emission_of_interactive, emission_of_mod}
+use Rattle.py_emission.specs.EmissionMods.{emission_of_printed, emission_of_program, emission_of_prompt, emission_of_single}
+use Rattle.py_emission.specs.EmissionMods.{emission_of_value, emission_outcome, stored_and_returned}
 use Rattle.py_emission.specs.EmissionStmts.{emission_of_stmts}
 use Rattle.py_emission.specs.Futures.{Future, future_of}
 use Rattle.py_emission.specs.Predicates.{any_annotates, none}
@@ -36,19 +38,22 @@ module _ (k : ℕ) (some : 1 ≤ k) where
   abbrev StmtsNest : (tree.Stmts → Emission) → Type 0
   StmtsNest a = (ss : tree.Stmts) → 2 * stmts_nesting ss ≤ k → Nests k (a ss)
 
-  nesting_mod_behind_nests : (a : tree.Stmts → Emission) → StmtsNest a → StmtsNest (emission_behind a)
-  nesting_mod_behind_nests a x tree.no_stmts h = x tree.no_stmts h
-  nesting_mod_behind_nests a x (tree.more_stmts s ss) h = go (future_of s) (x (tree.more_stmts s ss) h) (nesting_mod_behind_nests a x ss (omega (arith, h)))
+  nesting_mod_after_nests : (a : tree.Stmts → Emission) → StmtsNest a → StmtsNest (emission_after a)
+  nesting_mod_after_nests a x tree.no_stmts h = x tree.no_stmts h
+  nesting_mod_after_nests a x (tree.more_stmts s ss) h = go (future_of s) (x (tree.more_stmts s ss) h) (nesting_mod_after_nests a x ss (omega (arith, h)))
     where
-      go : (o : Option Future) → Nests k (a (tree.more_stmts s ss)) → Nests k (emission_behind a ss)
-          → Nests k (elim o [ None ↦ a (tree.more_stmts s ss) | Some f ↦ emission_of_future f ▸ after_future_import f (emission_behind a ss) ])
+      go : (o : Option Future) → Nests k (a (tree.more_stmts s ss)) → Nests k (emission_after a ss)
+          → Nests k (elim o [ None ↦ a (tree.more_stmts s ss) | Some f ↦ emission_of_future f ▸ after_future_import f (emission_after a ss) ])
       go None y z = y
       go (Some f) y z = future_nests f some z
 
   program_nests : (ss : tree.Stmts) → 2 * stmts_nesting ss ≤ k → Nests k (emission_of_program ss)
   program_nests ss h =
       let l = left_nesting (first_text ss) ss in
-      then_nests (level_nests (λ l. doc_nests (doc_of l ss))) (then_nests (setup_nests k (any_annotates (after_doc ss))) (then_nests (nesting_mod_behind_nests emission_of_stmts (stmts_nest k) (after_doc ss) (omega (arith, h, l))) (none_nests op.ReturnConst)))
+      then_nests (level_nests (λ l. doc_nests (doc_of l ss)))
+      (then_nests (setup_nests k (any_annotates (after_doc ss)))
+      (then_nests (nesting_mod_after_nests emission_of_stmts (stmts_nest k) (after_doc ss) (omega (arith, h, l)))
+      (none_nests op.ReturnConst)))
 
   -- what is entered at a prompt
   printed_nests : {value rest : Emission} (last : Bool) → Nests k value → Nests k rest → Nests k (emission_of_printed last value rest)
@@ -90,7 +95,7 @@ module _ (k : ℕ) (some : 1 ≤ k) where
 
   interactive_nests : (m : Mode) → StmtsNest (emission_of_interactive m)
   interactive_nests mode.Single ss h = prompt_nests ss h
-  interactive_nests other ss h = nesting_mod_behind_nests emission_of_block block_nests ss h
+  interactive_nests other ss h = nesting_mod_after_nests emission_of_block block_nests ss h
 
 mod_nests : (t : tree.Mod) (m : Mode) → Nests (2 * nesting t) (emission_of_mod t m)
 mod_nests (tree.Module body) m = program_nests (2 * nesting (tree.Module body)) (omega arith) body (omega arith)

@@ -9,12 +9,18 @@ use Rattle.py_bytecode.specs.Nesting.{const_nesting, consts_nesting}
 use Rattle.py_bytecode.specs.Objects as const
 use Rattle.py_bytecode.specs.Objects.{Const}
 use Rattle.py_base.specs.declared.errors.CodegenErrorType.TheVariants as error
-use Rattle.py_emission_parts.specs.Elements.{Element, Single, Spread, Callee, Function, Method, after_star, bare, before_star, behind, front, run_tuple, groups, pairs, sides, has_starred, stars}
+use Rattle.py_emission_parts.specs.Elements.{Element, Single, Spread, Callee, Function, Method, after_star, bare, before_star}
+use Rattle.py_emission_parts.specs.Elements.{later_elements, front, run_tuple, groups, pairs, sides, has_starred, stars}
 use Rattle.py_emission_parts.specs.Emitting.{Emission}
-use Rattle.py_emission_parts.specs.EmissionParts.{Emissions, Keywords, Stores, counted_build, call_by, keyword_checks, dict_value, display, elements, emission_of_call, emission_of_dict, in_turn, joined_map, joined_value, map_of, map_of_pairs, name_values, names_in, packed_arguments, packed_tuple, positional_call, plain_store, slice_step, slice_value, unpack, unpack_emission, unpack_starred, updates, value_or, values, values_in}
+use Rattle.py_emission_parts.specs.EmissionParts.{Emissions, Keywords, Stores, counted_build, call_by, keyword_checks, dict_value, display}
+use Rattle.py_emission_parts.specs.EmissionParts.{elements, emission_of_call, emission_of_dict, in_turn, joined_map, joined_value, map_of}
+use Rattle.py_emission_parts.specs.EmissionParts.{map_of_pairs, name_values, names_in, packed_arguments, packed_tuple, positional_call}
+use Rattle.py_emission_parts.specs.EmissionParts.{plain_store, slice_step, slice_value, unpack, unpack_emission, unpack_starred, updates}
+use Rattle.py_emission_parts.specs.EmissionParts.{value_or, values, values_in}
 use Rattle.py_emission_parts.specs.Refused.{few_aside, no_assignment}
 use Rattle.py_emission_parts.specs.TableParts.{any}
-use Rattle.py_emission_outcomes.proofs.Nesting.Nests.{Nests, at_nests, constant_nests, count_nests, emit_nests, if_nests, keep_nests, mangled_nests, refuse_nests, text_nests, then_nests, unless_debug_nests}
+use Rattle.py_emission_outcomes.proofs.Nesting.Nests.{Nests, at_nests, constant_nests, count_nests, emit_nests, if_nests, keep_nests}
+use Rattle.py_emission_outcomes.proofs.Nesting.Nests.{mangled_nests, refuse_nests, text_nests, then_nests, unless_debug_nests}
 
 -- it holds of each of them
 abbrev pub Every : {A : Type 0} → (A → Type 0) → List A → Type 0
@@ -140,7 +146,8 @@ module _ (k : ℕ) where
   packed_tuple_nests : (es : List (Element Emission Emission)) (ks : Keywords) → Every (ElementNests k) es → Nests k (packed_tuple es ks)
   packed_tuple_nests es ks x =
       if_nests (has_starred es)
-      (then_nests (turn_nests (groups (counted_build op.BuildTuple) [] es) (tuples_nest es x)) (then_nests (checked_nests ks) (count_nests op.BuildTupleUnpack (length (groups (counted_build op.BuildTuple) [] es)))))
+      (then_nests (turn_nests (groups (counted_build op.BuildTuple) [] es) (tuples_nest es x))
+      (then_nests (checked_nests ks) (count_nests op.BuildTupleUnpack (length (groups (counted_build op.BuildTuple) [] es)))))
       (then_nests (turn_nests (bare es) (bare_nest es x)) (then_nests (checked_nests ks) (count_nests op.BuildTuple (length es))))
 
   packed_nests : (es : List (Element Emission Emission)) (ks : Keywords) → Every (ElementNests k) es → Every (KeywordNests k) ks → Nests k (packed_arguments es ks)
@@ -180,10 +187,10 @@ module _ (k : ℕ) where
   front_nests (Single p ∷ es) x = (x.0, front_nests es x.1)
   front_nests (Spread v ∷ es) x = tt
 
-  nesting_part_behind_nests : (es : List (Element (Emission × Emission) Emission)) → Every (OneNests (PairNests k) k) es → Every (OneNests (PairNests k) k) (behind es)
-  nesting_part_behind_nests [] x = tt
-  nesting_part_behind_nests (Single p ∷ es) x = nesting_part_behind_nests es x.1
-  nesting_part_behind_nests (Spread v ∷ es) x = x
+  nesting_part_after_nests : (es : List (Element (Emission × Emission) Emission)) → Every (OneNests (PairNests k) k) es → Every (OneNests (PairNests k) k) (later_elements es)
+  nesting_part_after_nests [] x = tt
+  nesting_part_after_nests (Single p ∷ es) x = nesting_part_after_nests es x.1
+  nesting_part_after_nests (Spread v ∷ es) x = x
 
   pairs_nest : (ks : List (Option Emission)) (vs : List Emission) → Every (SomeNests k) ks → Every (Nests k) vs → Every (OneNests (PairNests k) k) (pairs ks vs)
   pairs_nest [] vs x y = tt
@@ -193,7 +200,9 @@ module _ (k : ℕ) where
 
   dict_value_nests : (es : List (Element (Emission × Emission) Emission)) → Every (OneNests (PairNests k) k) es → Nests k (dict_value es)
   dict_value_nests es x =
-      then_nests (pairs_map_nests (front es) (front_nests es x)) (updates_nest (groups map_of_pairs [] (behind es)) (groups_nest (PairNests k) map_of_pairs pairs_map_nests [] (behind es) tt (nesting_part_behind_nests es x)))
+      then_nests (pairs_map_nests (front es) (front_nests es x))
+      (updates_nest (groups map_of_pairs [] (later_elements es))
+      (groups_nest (PairNests k) map_of_pairs pairs_map_nests [] (later_elements es) tt (nesting_part_after_nests es x)))
 
   pub dict_nests : (ks : List (Option Emission)) (vs : List Emission) → Every (SomeNests k) ks → Every (Nests k) vs → Nests k (emission_of_dict ks vs)
   dict_nests ks vs x y = if_nests (nat_eq (length ks) (length vs)) (dict_value_nests (pairs ks vs) (pairs_nest ks vs x y)) (refuse_nests (error.MalformedTree shape.UnevenLists))

@@ -1,4 +1,4 @@
--- Functions of a scope within nest one deeper than it: lambdas, comprehensions, functions and their context.
+-- Functions of a nested scope nest one deeper than it: lambdas, comprehensions, functions and their context.
 use Rattle.std.proofs.Common.{ℕ, ◌+◌, ◌≤◌, List, [], ◌∷◌, length, Bool, false, Option, Some, None, codes, arith}
 use Rattle.py_tree.specs.Tree as tree
 use Rattle.py_base.specs.declared.shapes.Malformed.TheVariants as shape
@@ -11,14 +11,20 @@ use Rattle.py_scope_counts.specs.Counts.{scopes_in_annotations}
 use Rattle.py_emission.specs.Emission.{lambda_value}
 use Rattle.py_emission.specs.Parameters.{function_shape, parameters}
 use Rattle.py_base.specs.declared.errors.CodegenErrorType.TheVariants as error
-use Rattle.py_emission_parts.specs.Children.{DefaultEmissions, cell_loads, closure, decorated_value, decorations, docstring_store, emission_of_defaults, enter_parameters, flags_of_defaults, free_names, function_made, function_scope, made_function, named_annotation, some_emitted}
-use Rattle.py_emission_parts.specs.Within.{comprehension_inside, lambda_inside, some_flag}
-use Rattle.py_emission_parts.specs.Comprehensions.{ClauseEmissions, as_element, called_at_once, clause, clauses, comprehension, comprehension_shape, conditions, further_clauses, collection_scope, generator_body}
+use Rattle.py_emission_parts.specs.Children.{DefaultEmissions, cell_loads, closure, decorated_value, decorations, docstring_store}
+use Rattle.py_emission_parts.specs.Children.{emission_of_defaults, enter_parameters, flags_of_defaults, free_names, function_made}
+use Rattle.py_emission_parts.specs.Children.{function_scope, made_function, named_annotation, some_emitted}
+use Rattle.py_emission_parts.specs.NestedScopes.{comprehension_inside, lambda_inside, some_flag}
+use Rattle.py_emission_parts.specs.Comprehensions.{ClauseEmissions, as_element, called_at_once, clause, clauses, comprehension}
+use Rattle.py_emission_parts.specs.Comprehensions.{comprehension_shape, conditions, further_clauses, collection_scope, generator_body}
 use Rattle.py_emission_parts.specs.Context.{mangled_by, qualified_under}
 use Rattle.py_emission_parts.specs.Emitting.{Emission}
 use Rattle.py_emission_parts.specs.EmissionParts.{Emissions, counted_build, map_of}
 use Rattle.py_emission_parts.specs.Refused.{no_assignment}
-use Rattle.py_emission_outcomes.proofs.Nesting.Nests.{Nests, two_nest, cell_nests, child_nests, constant_nests, context_nests, count_nests, emit_nests, generating_nests, if_nests, jump_nests, keep_nests, name_nests, none_added, none_nests, refuse_nests, scopes_nest, text_nests, then_nests, unless_debug_nests, nest_varname_added, varname_nests}
+use Rattle.py_emission_outcomes.proofs.Nesting.Nests.{Nests, two_nest, cell_nests, child_nests, constant_nests, context_nests, count_nests}
+use Rattle.py_emission_outcomes.proofs.Nesting.Nests.{emit_nests, generating_nests, if_nests, jump_nests, keep_nests, name_nests}
+use Rattle.py_emission_outcomes.proofs.Nesting.Nests.{none_added, none_nests, refuse_nests, scopes_nest, text_nests, then_nests}
+use Rattle.py_emission_outcomes.proofs.Nesting.Nests.{unless_debug_nests, nest_varname_added, varname_nests}
 use Rattle.py_emission_outcomes.proofs.Nesting.NestingParts.{Every, NamedNests, NestsWell, built_nests, map_nests, turn_nests}
 
 module _ (k : ℕ) where
@@ -33,7 +39,9 @@ module _ (k : ℕ) where
 
   pub made_nests : (flags : ℕ) (name : List ℕ) (o : Object) → nesting o ≤ k → Nests k (made_function flags name o)
   made_nests flags name o l =
-      then_nests (closure_nests (free_names o)) (then_nests (constant_nests op.LoadConst (const.code o) l) (then_nests (text_nests op.LoadConst name) (emit_nests op.MakeFunction (flags + some_flag 0x01 (free_names o)))))
+      then_nests (closure_nests (free_names o))
+      (then_nests (constant_nests op.LoadConst (const.code o) l)
+      (then_nests (text_nests op.LoadConst name) (emit_nests op.MakeFunction (flags + some_flag 0x01 (free_names o)))))
 
   -- what is built of values, where there are any
   pub some_built_nests : (i : Instruction) (vs : List Emission) → Every (Nests k) vs → Nests k (some_emitted (counted_build i) vs)
@@ -84,7 +92,9 @@ pub lambda_nests : {k : ℕ} {returned : Emission} (j : ℕ) (params : tree.Argu
 unfolding lambda_value
 lambda_nests {k = k} j params d l x y =
     then_nests (defaults_nest k d x)
-    (child_nests j lambda_inside (function_shape params (codes "<lambda>")) (scope_nests j (parameters params) y) (λ o below. then_nests (scopes_nest (λ postponed. scopes_in_annotations postponed params)) (made_nests k (flags_of_defaults d) (codes "<lambda>") o (omega (arith, l, below)))))
+    (child_nests j lambda_inside (function_shape params (codes "<lambda>")) (scope_nests j (parameters params) y)
+    (λ o below. then_nests (scopes_nest (λ postponed. scopes_in_annotations postponed params))
+    (made_nests k (flags_of_defaults d) (codes "<lambda>") o (omega (arith, l, below)))))
 
 pub element_nests : {k : ℕ} {a : Emission} → Nests k a → Nests k (as_element a)
 unfolding as_element
@@ -101,15 +111,17 @@ module _ (k : ℕ) where
   conditions_nest [] start x = keep_nests
   conditions_nest (e ∷ es) start x = then_nests (x.0.test false start) (conditions_nest es start x.1)
 
-  clause_nests : {iterator within : Emission} (c : ClauseEmissions) → Nests k iterator → ClauseNests k c → Nests k within → Nests k (clause iterator c within)
+  clause_nests : {iterator nested : Emission} (c : ClauseEmissions) → Nests k iterator → ClauseNests k c → Nests k nested → Nests k (clause iterator c nested)
   clause_nests c x y z =
-      two_nest (λ start end. x) (λ start end. then_nests (jump_nests op.ForIter end) (then_nests y.target (then_nests (conditions_nest c.conditions start y.conditions) (then_nests z (jump_nests op.Jump start))))) (λ start end. keep_nests)
+      two_nest (λ start end. x) (λ start end. then_nests (jump_nests op.ForIter end)
+      (then_nests y.target (then_nests (conditions_nest c.conditions start y.conditions) (then_nests z (jump_nests op.Jump start)))))
+      (λ start end. keep_nests)
 
-  further_nest : {within : Emission} (cs : List ClauseEmissions) → Every (ClauseNests k) cs → Nests k within → Nests k (further_clauses cs within)
+  further_nest : {nested : Emission} (cs : List ClauseEmissions) → Every (ClauseNests k) cs → Nests k nested → Nests k (further_clauses cs nested)
   further_nest [] x y = y
   further_nest (c ∷ cs) x y = clause_nests c (then_nests x.0.iterable (emit_nests op.GetIter 0)) x.0 (further_nest cs x.1 y)
 
-  clauses_nest : {within : Emission} (cs : List ClauseEmissions) → Every (ClauseNests k) cs → Nests k within → Nests k (clauses cs within)
+  clauses_nest : {nested : Emission} (cs : List ClauseEmissions) → Every (ClauseNests k) cs → Nests k nested → Nests k (clauses cs nested)
   clauses_nest [] x y = y
   clauses_nest (c ∷ cs) x y = clause_nests c (varname_nests op.LoadFast (codes ".0")) x.0 (further_nest cs x.1 y)
 

@@ -15,7 +15,11 @@ use Rattle.py_emission.specs.Texts.{after_doc, stmt_text}
 use Rattle.py_base.specs.declared.errors.CodegenErrorType.{CodegenErrorType}
 use Rattle.py_base.specs.declared.errors.CodegenErrorType.TheVariants as error
 use Rattle.py_emission.specs.EmissionDefs.{emission_of_built, emission_of_end, emission_of_function}
-use Rattle.py_emission.specs.EmissionStmts.{emission_of_annotated, emission_of_annotation, emission_of_assert, emission_of_assign, emission_of_augment, emission_of_declared, emission_of_handlers, emission_of_item, emission_of_items, emission_of_last, emission_of_message, emission_of_operand, emission_of_raise, emission_of_rest, emission_of_returned, emission_of_stmt, emission_of_stmts, leave_loop}
+use Rattle.py_emission.specs.EmissionStmts.{emission_of_annotated, emission_of_annotation, emission_of_assert, emission_of_assign}
+use Rattle.py_emission.specs.EmissionStmts.{emission_of_augment, emission_of_declared, emission_of_handlers, emission_of_item}
+use Rattle.py_emission.specs.EmissionStmts.{emission_of_items, emission_of_last, emission_of_message, emission_of_operand}
+use Rattle.py_emission.specs.EmissionStmts.{emission_of_raise, emission_of_rest, emission_of_returned, emission_of_stmt, emission_of_stmts}
+use Rattle.py_emission.specs.EmissionStmts.{leave_loop}
 use Rattle.py_emission.specs.Predicates.{but_doc, itemless, message_count, none}
 use Rattle.py_emission_parts.specs.Children.{decorated_value}
 use Rattle.py_emission_parts.specs.Context.{is_function, mangled_by}
@@ -23,7 +27,10 @@ use Rattle.py_emission_parts.specs.Emitting.{Emission, LoopBlocks, ◌▸◌}
 use Rattle.py_emission_parts.specs.EmissionParts.{values}
 use Rattle.py_emission_parts.specs.Refused.{no_assignment}
 use Rattle.py_emission_parts.specs.TableParts.{binary_case}
-use Rattle.py_emission_outcomes.proofs.Nesting.Nests.{Nests, three_nest, at_nests, context_nests, emit_nests, if_nests, in_function_nests, jump_nests, keep_nests, level_nests, load_nests, loop_nests, loops_nest, mangled_nests, move_nests, name_nests, none_nests, refuse_nests, scopes_nest, stored_nests, text_nests, then_nests, unless_debug_nests}
+use Rattle.py_emission_outcomes.proofs.Nesting.Nests.{Nests, three_nest, at_nests, context_nests, emit_nests, if_nests, in_function_nests}
+use Rattle.py_emission_outcomes.proofs.Nesting.Nests.{jump_nests, keep_nests, level_nests, load_nests, loop_nests, loops_nest}
+use Rattle.py_emission_outcomes.proofs.Nesting.Nests.{mangled_nests, move_nests, name_nests, none_nests, refuse_nests, scopes_nest}
+use Rattle.py_emission_outcomes.proofs.Nesting.Nests.{stored_nests, text_nests, then_nests, unless_debug_nests}
 use Rattle.py_emission_outcomes.proofs.Nesting.NestingParts.{values_nest}
 use Rattle.py_emission_outcomes.proofs.Nesting.NestingTests.{choice_nests, only_nests}
 use Rattle.py_emission_outcomes.proofs.Nesting.NestingScopes.{decorated_nests}
@@ -47,7 +54,10 @@ module _ (k : ℕ) where
   augment_nests (tree.Name at id) o h x = then_nests (load_nests id) (then_nests (operand_nests o x) (stored_nests id))
   augment_nests (tree.Attribute at value attr) o h x =
       unless_debug_nests no_assignment attr
-      (then_nests (expr_nests k value (omega (arith, h))).value (then_nests (emit_nests op.Duplicate 0) (then_nests (mangled_nests op.LoadAttr attr) (then_nests (operand_nests o x) (then_nests (emit_nests op.Rotate2 0) (mangled_nests op.StoreAttr attr))))))
+      (then_nests (expr_nests k value (omega (arith, h))).value
+      (then_nests (emit_nests op.Duplicate 0)
+      (then_nests (mangled_nests op.LoadAttr attr)
+      (then_nests (operand_nests o x) (then_nests (emit_nests op.Rotate2 0) (mangled_nests op.StoreAttr attr))))))
   augment_nests (tree.Subscript at value slice) o h x =
       then_nests (expr_nests k value (omega (arith, h))).value (then_nests (expr_nests k slice (omega (arith, h))).value
       (then_nests (emit_nests op.Duplicate2 0) (then_nests (emit_nests op.Subscript 0) (then_nests (operand_nests o x) (then_nests (emit_nests op.Rotate3 0) (emit_nests op.StoreSubscript 0))))))
@@ -58,7 +68,8 @@ module _ (k : ℕ) where
   declared_nests target (tree.some_expr e) h g = then_nests (expr_nests k e g).value (stores_nest k target h).alone
 
   annotation_nests : (target : tree.Expr) → Nests k (emission_of_annotation target)
-  annotation_nests (tree.Name at id) = then_nests (name_nests op.LoadNameAny (codes "__annotations__")) (then_nests (context_nests (λ c. text_nests op.LoadConst (mangled_by c id))) (emit_nests op.StoreSubscript 0))
+  annotation_nests (tree.Name at id) = then_nests (name_nests op.LoadNameAny (codes "__annotations__"))
+      (then_nests (context_nests (λ c. text_nests op.LoadConst (mangled_by c id))) (emit_nests op.StoreSubscript 0))
   annotation_nests other = emit_nests op.Pop 0
 
   annotated_nests : (target note : tree.Expr) → 2 * expr_nesting note ≤ k → Nests k (emission_of_annotated target note)
@@ -95,9 +106,9 @@ module _ (k : ℕ) where
   assert_nests t msg level h g =
       if_nests (nat_eq level 0) (asserted_nests (message_count msg) (expr_nests k t h).test (message_nests msg g)) (scopes_nest (λ postponed. scopes_in postponed t + scopes_in_opt postponed msg))
 
-  last_part_nests : {last : Emission} (ss : tree.Stmts) → Nests k last → Nests k (emission_of_last ss last)
-  last_part_nests tree.no_stmts x = keep_nests
-  last_part_nests (tree.more_stmts s ss) x = then_nests x (emit_nests op.EndFinally 0)
+  finally_block_nests : {last : Emission} (ss : tree.Stmts) → Nests k last → Nests k (emission_of_last ss last)
+  finally_block_nests tree.no_stmts x = keep_nests
+  finally_block_nests (tree.more_stmts s ss) x = then_nests x (emit_nests op.EndFinally 0)
 
   but_doc_nests : {v w : Emission} (text : Option (List ℕ)) → Nests k v → Nests k w → Nests k (but_doc text v w)
   but_doc_nests None x y = y
@@ -130,23 +141,31 @@ mutual
   stmt_nests k (tree.Assign at targets value) h = at_nests at (then_nests (expr_nests k value (omega (arith, h))).value (assign_nests k targets (omega (arith, h))))
   stmt_nests k (tree.TypeAlias at name generic value) h = at_nests at (alias_nests k name generic value (omega (arith, h)) (omega (arith, h)))
   stmt_nests k (tree.AugAssign at target o value) h = at_nests at (augment_nests k target o (omega (arith, h)) (expr_nests k value (omega (arith, h))).value)
-  stmt_nests k (tree.AnnAssign at target note value simple) h = at_nests at (then_nests (declared_nests k target value (omega (arith, h)) (omega (arith, h))) (annotated_nests k target note (omega (arith, h))))
+  stmt_nests k (tree.AnnAssign at target note value simple) h =
+      at_nests at (then_nests (declared_nests k target value (omega (arith, h)) (omega (arith, h)))
+      (annotated_nests k target note (omega (arith, h))))
   stmt_nests k (tree.If at t body orelse) h =
       let x = (expr_nests k t (omega (arith, h))).test in
       let y = stmts_nest k body (omega (arith, h)) in
       at_nests at (if_nests (none orelse) (only_nests x y) (choice_nests x y (stmts_nest k orelse (omega (arith, h)))))
   stmt_nests k (tree.While at t body orelse) h =
       at_nests at (three_nest (λ start other end. emit_nests op.SetupLoop 0)
-      (λ start other end. then_nests ((expr_nests k t (omega (arith, h))).test false other) (then_nests (loop_nests (record { on_break = end; on_continue = start }) (stmts_nest k body (omega (arith, h)))) (jump_nests op.Jump start)))
+      (λ start other end. then_nests ((expr_nests k t (omega (arith, h))).test false other)
+      (then_nests (loop_nests (record { on_break = end; on_continue = start }) (stmts_nest k body (omega (arith, h))))
+      (jump_nests op.Jump start)))
       (λ start other end. then_nests (emit_nests op.PopBlock 0) (stmts_nest k orelse (omega (arith, h)))) (λ start other end. keep_nests))
   stmt_nests k (tree.For at target iter body orelse) h =
-      at_nests at (for_nests (expr_nests k iter (omega (arith, h))).value (stores_nest k target (omega (arith, h))).alone (stmts_nest k body (omega (arith, h))) (stmts_nest k orelse (omega (arith, h))))
+      at_nests at (for_nests (expr_nests k iter (omega (arith, h))).value (stores_nest k target (omega (arith, h))).alone
+      (stmts_nest k body (omega (arith, h))) (stmts_nest k orelse (omega (arith, h))))
   stmt_nests k (tree.With at items body) h =
-      at_nests at (if_nests (itemless items) (refuse_nests error.EmptyWithItems) (items_nest k at items (omega (arith, h)) (if_nests (none body) (refuse_nests error.EmptyWithBody) (stmts_nest k body (omega (arith, h))))))
+      at_nests at (if_nests (itemless items) (refuse_nests error.EmptyWithItems)
+      (items_nest k at items (omega (arith, h))
+      (if_nests (none body) (refuse_nests error.EmptyWithBody) (stmts_nest k body (omega (arith, h))))))
   stmt_nests k (tree.Raise at exc cause) h = at_nests at (raise_nests k exc cause (omega (arith, h)) (omega (arith, h)))
   stmt_nests k (tree.Try at body excepts orelse finalbody) h =
       let last = not (none finalbody) in
-      at_nests at (try_nests last (stmts_nest k body (omega (arith, h))) (λ end. handlers_nest k excepts last end (omega (arith, h))) (stmts_nest k orelse (omega (arith, h))) (last_part_nests k finalbody (stmts_nest k finalbody (omega (arith, h)))))
+      at_nests at (try_nests last (stmts_nest k body (omega (arith, h))) (λ end. handlers_nest k excepts last end (omega (arith, h)))
+      (stmts_nest k orelse (omega (arith, h))) (finally_block_nests k finalbody (stmts_nest k finalbody (omega (arith, h)))))
   stmt_nests k (tree.Assert at t msg) h = at_nests at (level_nests (λ l. assert_nests k t msg l (omega (arith, h)) (omega (arith, h))))
   stmt_nests k (tree.Import at names) h = at_nests at (import_nests names)
   stmt_nests k (tree.ImportFrom at path names level) h = at_nests at (import_from_nests path names level (omega (arith, h)))
@@ -173,4 +192,5 @@ mutual
   handlers_nest k (tree.more_handlers tree.no_expr name body rest) last end h =
       handler_nests last end (λ next. emit_nests op.Pop 0) (stmts_nest k body (omega (arith, h))) (handlers_nest k rest last end (omega (arith, h)))
   handlers_nest k (tree.more_handlers (tree.some_expr e) name body rest) last end h =
-      handler_nests last end (λ next. typed_nests name next (expr_nests k e (omega (arith, h))).value) (named_body_nests name (stmts_nest k body (omega (arith, h)))) (handlers_nest k rest last end (omega (arith, h)))
+      handler_nests last end (λ next. typed_nests name next (expr_nests k e (omega (arith, h))).value)
+      (named_body_nests name (stmts_nest k body (omega (arith, h)))) (handlers_nest k rest last end (omega (arith, h)))

@@ -11,7 +11,10 @@ use Rattle.py_bytecode.specs.declared.instruction.Instruction.TheVariants as op
 use Rattle.py_bytecode.specs.Values.{flip}
 use Rattle.py_base.specs.declared.errors.CodegenErrorType.TheVariants as error
 use Rattle.py_emission_parts.specs.Emitting.{Emission, ◌▸◌, emit, move}
-use Rattle.py_emission_parts.specs.EmissionParts.{Emissions, bool_emissions, bool_test, bool_value, chain, choice, comparisons, emission_of_compare, first_comparison, keeping_jump, links, only, ordinary, past_tests, shorts, some_test, some_values, tested_value, testing_jump, tests, truth_of, unary_emissions, unary_value, values}
+use Rattle.py_emission_parts.specs.EmissionParts.{Emissions, bool_emissions, bool_test, bool_value, chain, choice, comparisons}
+use Rattle.py_emission_parts.specs.EmissionParts.{emission_of_compare, first_comparison, keeping_jump, links, only, ordinary, past_tests}
+use Rattle.py_emission_parts.specs.EmissionParts.{shorts, some_test, some_values, tested_value, testing_jump, tests, truth_of}
+use Rattle.py_emission_parts.specs.EmissionParts.{unary_emissions, unary_value, values}
 use Rattle.py_emission_parts.specs.TableParts.{deciding_truth, unary_case}
 use Rattle.py_emission_outcomes.proofs.Nesting.Nests.{Nests, at_nests, comparison_nests, emit_nests, if_nests, jump_nests, keep_nests, link_nests, one_nests, refuse_nests, then_nests, two_nest}
 use Rattle.py_emission_outcomes.proofs.Nesting.NestingParts.{Every, NestsWell, turn_nests, values_nest}

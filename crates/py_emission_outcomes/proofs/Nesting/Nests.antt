@@ -20,9 +20,12 @@ use Rattle.py_emission_parts.specs.Children.{child, load_cell}
 use Rattle.py_emission_parts.specs.Running.{run}
 use Rattle.py_emission_parts.proofs.EmissionLawLemmas.{EmissionLawHolds}
 use Rattle.py_emission_parts.proofs.ConstantLawLemmas.{All, Asks, stays_good}
-use Rattle.py_emission_parts.specs.Within.{Shape}
+use Rattle.py_emission_parts.specs.NestedScopes.{Shape}
 use Rattle.py_emission_parts.specs.Context.{Context, access_kind, cell_place, is_function, mangled_by}
-use Rattle.py_emission_parts.specs.Emitting.{State, Outcome, Emission, LoopBlocks, ◌▸◌, add_constant, add_varname, by_context, by_level, by_loops, emit, emit_constant, emit_count, emit_mangled, emit_name, emit_varname, generator_mark, in_loop, jump, keep, move, one_block, pass_over, postponed_part, refuse, three_blocks, two_blocks}
+use Rattle.py_emission_parts.specs.Emitting.{State, Outcome, Emission, LoopBlocks, ◌▸◌, add_constant, add_varname, by_context, by_level}
+use Rattle.py_emission_parts.specs.Emitting.{by_loops, emit, emit_constant, emit_count, emit_mangled, emit_name, emit_varname}
+use Rattle.py_emission_parts.specs.Emitting.{generator_mark, in_loop, jump, keep, move, one_block, pass_over, postponed_part, refuse}
+use Rattle.py_emission_parts.specs.Emitting.{three_blocks, two_blocks}
 use Rattle.py_emission_parts.specs.EmissionParts.{emission_of_comparison, emission_of_link, only_in_function, pass_scopes, unless_debug}
 use Rattle.py_emission_parts.specs.Refused.{no_assignment, no_deletion}
 use Rattle.py_emission_parts.specs.Sealed.{Head, assembled_object}
@@ -227,13 +230,13 @@ unfolding assembled_object
 sealed_nests j level h s x = let d = deepest j s.constants x in omega (arith, d)
 
 -- a nested scope, whose constants nest so deep at most
-pub child_nests : {k : ℕ} {body : Emission} {follow : Object → Emission} (j : ℕ) (within : Context → ℕ → Context) (h : Shape) → Nests j body
-    → ((o : Object) → nesting o ≤ j + 1 → Nests k (follow o)) → Nests k (child within h body follow)
+pub child_nests : {k : ℕ} {body : Emission} {follow : Object → Emission} (j : ℕ) (nested : Context → ℕ → Context) (h : Shape) → Nests j body
+    → ((o : Object) → nesting o ≤ j + 1 → Nests k (follow o)) → Nests k (child nested h body follow)
 unfolding child
-child_nests j within h x y = record {
+child_nests j nested h x y = record {
   nests = (j, x.nests, λ o l. (y o l).nests);
 }
 
--- from a state whose constants nest so deep at most, it comes to one whose constants do
+-- from a state whose constants nest so deep at most, it reaches one whose constants do
 pub nests_run : {k : ℕ} {a : Emission} → Nests k a → (s : State) → AllNest k s.constants → DoneNests k (run a s)
 nests_run {k = k} {a = a} x s h = stays_good (λ n c. const_nesting c ≤ n) (λ n o. nesting o ≤ n + 1) sealed_nests a k s x.nests h

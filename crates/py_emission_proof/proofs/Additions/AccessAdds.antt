@@ -15,7 +15,7 @@ use Rattle.py_scope.specs.declared.table_type.SymbolTableType.{SymbolTableType}
 use Rattle.py_control.specs.Form.{Resolved, Scope}
 use Rattle.py_control.specs.Code.{Do}
 use Rattle.py_emission_parts.specs.Context.{Context, access_kind, cell_place, deref_kind, is_class, is_function, kind_by, mangled_by, place_by, scope_of}
-use Rattle.py_emission_parts.specs.Emitting.{Around, Done, by_context, emit, emit_mangled, emit_name, emit_varname, place_in, with_varname}
+use Rattle.py_emission_parts.specs.Emitting.{NodeContext, Done, by_context, emit, emit_mangled, emit_name, emit_varname, place_in, with_varname}
 use Rattle.py_emission_parts.specs.Running.{run}
 use Rattle.py_emission_parts.specs.Accesses.{access_by, name_access, accessed_in}
 use Rattle.py_emission_proof.proofs.Additions.AddedCodeLemmas.{IsPlain, cells_of}
@@ -26,10 +26,14 @@ use Rattle.py_emission_proof.proofs.Additions.Instructions.{delete_adds, local_a
 use Rattle.py_emission_proof.proofs.Additions.Texts.{text_eq_sound}
 
 -- an instruction that names a name as the innermost class writes it
-pub mangled_adds : (i : Instruction) (x : List ℕ) (f : List ℕ → Instr Scope ℕ) → ((y : List ℕ) → StepAdds (emit_name i y) (f y)) → (c : Around)
+pub mangled_adds : (i : Instruction) (x : List ℕ) (f : List ℕ → Instr Scope ℕ) → ((y : List ℕ) → StepAdds (emit_name i y) (f y)) → (c : NodeContext)
     → StepHere c (emit_mangled i x) (f (mangled_by c.context x))
 unfolding emit_mangled
-mangled_adds i x f h c n k = record { does = λ s r b g z e. (h (mangled_by c.context x) c n k).does s r b g z (subst (λ (a : Around). run (emit_name i (mangled_by a.context x)) s ≡ Done r) (sym z.around) e) }
+mangled_adds i x f h c n k = record {
+  does = λ s r b g z e.
+      (h (mangled_by c.context x) c n k).does s r b g z
+      (subst (λ (a : NodeContext). run (emit_name i (mangled_by a.context x)) s ≡ Done r) (sym z.node_context) e);
+}
 
 -- an instruction that names one of the code's own names
 pub own_adds : (i : Instruction) (x : List ℕ) (f : List ℕ → Instr Scope ℕ) → IsPlain (Do (f x))
@@ -38,13 +42,19 @@ pub own_adds : (i : Instruction) (x : List ℕ) (f : List ℕ → Instr Scope �
 unfolding emit_varname emit with_varname
 own_adds i x f plain is c m k = emission_sequence_yields (λ s r h g z e.
     let n = place_in text_eq s.varnames x in
-    adds_own x s r _ 0 0 (emit_step i n (f x) (with_varname x s) r plain (λ d t b. is d t n ∙ ap (λ y. for_some y (λ w. instr_as d (f w))) (entry_stays (insert_if_new text_eq s.varnames x) b.varnames t.varnames n x (entered_stands text_eq text_eq_sound s.varnames x) b.varnames_are)) e))
+    adds_own x s r _ 0 0 (emit_step i n (f x) (with_varname x s) r plain
+    (λ d t b. is d t n ∙ ap (λ y. for_some y (λ w. instr_as d (f w)))
+    (entry_stays (insert_if_new text_eq s.varnames x) b.varnames t.varnames n x
+    (entered_stands text_eq text_eq_sound s.varnames x) b.varnames_are)) e))
 
 -- an instruction that names a cell, where the name stands among the cells
-cell_adds : (i : Instruction) (x : List ℕ) (p : ℕ) (f : List ℕ → Instr Scope ℕ) (c : Around) → IsPlain (Do (f x))
+cell_adds : (i : Instruction) (x : List ℕ) (p : ℕ) (f : List ℕ → Instr Scope ℕ) (c : NodeContext) → IsPlain (Do (f x))
     → ((d : ℕ → Object) (t : Tables) → instr_of t None i p ≡ for_some (slice_get t.cells p) (λ y. instr_as d (f y))) → slice_get (cells_of c) p ≡ Some x
     → StepHere c (emit i p) (f x)
-cell_adds i x p f c plain is at n k = emission_sequence_yields (λ s r h g z e. emit_step i p (f x) s r plain (λ d t b. is d t ∙ ap (λ ys. for_some (slice_get ys p) (λ y. instr_as d (f y))) (b.cells_are ∙ ap cells_of (sym z.around)) ∙ ap (λ y. for_some y (λ w. instr_as d (f w))) at) e)
+cell_adds i x p f c plain is at n k = emission_sequence_yields
+    (λ s r h g z e. emit_step i p (f x) s r plain
+    (λ d t b. is d t ∙ ap (λ ys. for_some (slice_get ys p) (λ y. instr_as d (f y))) (b.cells_are ∙ ap cells_of (sym z.node_context))
+    ∙ ap (λ y. for_some y (λ w. instr_as d (f w))) at) e)
 
 -- a scope says something of each name, and a class looks a cell up in another way where it is loaded
 abbrev Said : Usage → Kind → Type 0
@@ -58,7 +68,7 @@ Said Store ClassDeref = ⊥
 Said Delete ClassDeref = ⊥
 
 -- a name that is a cell stands at its place
-abbrev AccessAddStands : Around → Kind → List ℕ → (place : ℕ) → Type 0
+abbrev AccessAddStands : NodeContext → Kind → List ℕ → (place : ℕ) → Type 0
 AccessAddStands c Unsaid x p = Unit {0}
 AccessAddStands c Fast x p = Unit {0}
 AccessAddStands c ByName x p = Unit {0}
@@ -66,7 +76,7 @@ AccessAddStands c Global x p = Unit {0}
 AccessAddStands c Deref x p = slice_get (cells_of c) p ≡ Some x
 AccessAddStands c ClassDeref x p = slice_get (cells_of c) p ≡ Some x
 
-by_adds : (u : Usage) (k : Kind) (x : List ℕ) (p : ℕ) (c : Around) → Said u k → AccessAddStands c k x p → StepHere c (access_by u k x p) (Access k u x (place_by k p))
+by_adds : (u : Usage) (k : Kind) (x : List ℕ) (p : ℕ) (c : NodeContext) → Said u k → AccessAddStands c k x p → StepHere c (access_by u k x p) (Access k u x (place_by k p))
 by_adds u Unsaid x p c said at = absurd said
 by_adds Load Fast x p c said at = own_adds op.LoadFast x (λ z. Access Fast Load z 0) (refl, refl) (λ d t n. refl) c
 by_adds Store Fast x p c said at = own_adds op.StoreFast x (λ z. Access Fast Store z 0) (refl, refl) (λ d t n. refl) c
@@ -101,7 +111,7 @@ said typ u scope.GlobalImplicit = said_if (is_function typ) u Global ByName tt t
 said typ u scope.Free = deref_said typ u
 said typ u scope.Cell = deref_said typ u
 
-module _ (c : Around) (x : List ℕ) (p : ℕ) where
+module _ (c : NodeContext) (x : List ℕ) (p : ℕ) where
   stands_if : (b : Bool) (k j : Kind) → AccessAddStands c k x p → AccessAddStands c j x p → AccessAddStands c (if b then k else j) x p
   stands_if true k j h g = h
   stands_if false k j h g = g
@@ -111,7 +121,7 @@ module _ (c : Around) (x : List ℕ) (p : ℕ) where
   deref_stands typ Store h = h
   deref_stands typ Delete h = h
 
-access_add_standing : (c : Around) → Settled c.context → (u : Usage) (x : List ℕ) (s : SymbolScope) → scope_of c.context x ≡ s
+access_add_standing : (c : NodeContext) → Settled c.context → (u : Usage) (x : List ℕ) (s : SymbolScope) → scope_of c.context x ≡ s
     → AccessAddStands c (kind_by c.context.typ u s) x (cell_place c.context x)
 access_add_standing c h u x scope.Unknown e = stands_if c x (cell_place c.context x) (is_function c.context.typ) Global ByName tt tt
 access_add_standing c h u x scope.Local e = stands_if c x (cell_place c.context x) (is_function c.context.typ) Fast ByName tt tt
@@ -124,11 +134,12 @@ access_add_standing c h u x scope.Cell e = deref_stands c x (cell_place c.contex
 abbrev pub access_in : Context → Usage → List ℕ → Instr Scope ℕ
 access_in c u y = Access (access_kind c u Resolved y) u y (place_by (access_kind c u Resolved y) (cell_place c y))
 
-pub accessed_adds : (u : Usage) (x : List ℕ) (c : Around) → StepHere c (name_access u x) (access_in c.context u (mangled_by c.context x))
+pub accessed_adds : (u : Usage) (x : List ℕ) (c : NodeContext) → StepHere c (name_access u x) (access_in c.context u (mangled_by c.context x))
 unfolding name_access by_context
 accessed_adds u x c n k = record {
   does = λ s r b g z e.
       let y : List ℕ = mangled_by c.context x in
-      (by_adds u (access_kind c.context u Resolved y) y (cell_place c.context y) c (said c.context.typ u (scope_of c.context y)) (access_add_standing c z.settled u y (scope_of c.context y) refl) n k).does s r b g z
-      (subst (λ (a : Around). run (accessed_in a.context u (mangled_by a.context x)) s ≡ Done r) (sym z.around) e);
+      (by_adds u (access_kind c.context u Resolved y) y (cell_place c.context y) c (said c.context.typ u (scope_of c.context y))
+      (access_add_standing c z.settled u y (scope_of c.context y) refl) n k).does s r b g z
+      (subst (λ (a : NodeContext). run (accessed_in a.context u (mangled_by a.context x)) s ≡ Done r) (sym z.node_context) e);
 }

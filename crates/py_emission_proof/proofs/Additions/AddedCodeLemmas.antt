@@ -12,15 +12,16 @@ use Rattle.py_control.specs.Code.{Item, Do, Label}
 use Rattle.py_control.specs.CodeRuns.{children}
 use Rattle.py_control.specs.Places.{items_over}
 use Rattle.py_control_proof.proofs.CodeOver.{over-append}
-use Rattle.py_emission_parts.specs.Emitting.{Step, Put, Begin, Around, State, with_step}
+use Rattle.py_emission_parts.specs.Emitting.{Step, Put, Begin, NodeContext, State, with_step}
 use Rattle.py_emission_parts.specs.Context.{Context}
 use Rattle.py_emission_proof.specs.Distinct.{AreDistinct}
 use Rattle.py_emission_proof.specs.Loads.{loads}
-use Rattle.py_emission_proof.proofs.Additions.Burden.{cells_in, cells-append}
-use Rattle.py_emission_proof.proofs.Additions.Codes.{Codes, Counted, Ground, Numbered, by_number, codes_then, counted_join, counted_none, no_codes, none_between, numbered_back, numbered_front, loads_join, code_scopes}
+use Rattle.py_emission_proof.proofs.Additions.SizeBound.{cells_in, cells-append}
+use Rattle.py_emission_proof.proofs.Additions.Codes.{Codes, Counted, Ground, Numbered, by_number, codes_then, counted_join, counted_none}
+use Rattle.py_emission_proof.proofs.Additions.Codes.{no_codes, none_between, numbered_back, numbered_front, loads_join, code_scopes}
 
 -- cells come first, and then free names
-abbrev pub cells_of : Around → List (List ℕ)
+abbrev pub cells_of : NodeContext → List (List ℕ)
 cells_of a = a.context.cells ++ a.context.frees
 
 -- tables that begin with those of a state, with the cells of its scope
@@ -29,7 +30,7 @@ pub record Begins (s : State) (t : Tables) : Type 0 where
   pub names_are : t.names ≡ s.names ++ names
   pub varnames : List (List ℕ)
   pub varnames_are : t.varnames ≡ s.varnames ++ varnames
-  pub cells_are : t.cells ≡ cells_of s.around
+  pub cells_are : t.cells ≡ cells_of s.node_context
   pub constants : List Const
   pub constants_are : t.constants ≡ s.constants ++ constants
 
@@ -91,13 +92,13 @@ abbrev pub read_as : (ℕ → Object) → List (Item Scope) → List (Item Objec
 read_as d is = items_over (by_number d) is
 
 abbrev pub scopes_in : State → List ScopeEntry
-scopes_in s = s.around.context.scopes
+scopes_in s = s.node_context.context.scopes
 
 abbrev pub ground_of : Context → Ground
 ground_of c = (c.source, c.scopes)
 
 abbrev pub ground_in : State → Ground
-ground_in s = ground_of s.around.context
+ground_in s = ground_of s.node_context.context
 
 -- what stands in the second state beyond the first: these items, which load these children, with so many blocks more
 pub record Added (s s1 : State) (is : List (Item Scope)) (m : ℕ) (made : List (Object × Scope)) : Type 0 where
@@ -113,7 +114,7 @@ pub record Added (s s1 : State) (is : List (Item Scope)) (m : ℕ) (made : List 
   pub steps_are : s1.steps ≡ s.steps ++ steps
   pub reads : (d : ℕ → Object) → Numbered d made → (t : Tables) → Begins s1 t → AllRead t steps (read_as d is)
   pub inside : AllInside s1.blocks steps
-  pub around_are : s1.around ≡ s.around
+  pub node_contexts_are : s1.node_context ≡ s.node_context
   -- a table that has no name twice has none twice afterwards
   pub distinct : AreDistinct s.names → AreDistinct s1.names
   pub own_distinct : AreDistinct s.varnames → AreDistinct s1.varnames
@@ -146,7 +147,7 @@ begins_before s s1 is m ps t a b = record {
   varnames_are = b.varnames_are ∙ ap (λ x. x ++ b.varnames) a.varnames_are ∙ append_assoc s.varnames a.varnames b.varnames;
   constants = a.constants ++ b.constants;
   constants_are = b.constants_are ∙ ap (λ x. x ++ b.constants) a.constants_are ∙ append_assoc s.constants a.constants b.constants;
-  cells_are = b.cells_are ∙ ap cells_of a.around_are;
+  cells_are = b.cells_are ∙ ap cells_of a.node_contexts_are;
 }
 
 pub added_join : (s s1 s2 : State) (is js : List (Item Scope)) (m n : ℕ) (ps qs : List (Object × Scope)) → Added s s1 is m ps → Added s1 s2 js n qs → Added s s2 (is ++ js) (m + n) (ps ++ qs)
@@ -157,7 +158,8 @@ added_join s s1 s2 is js m n ps qs a b = record {
   varnames_are = b.varnames_are ∙ ap (λ x. x ++ b.varnames) a.varnames_are ∙ append_assoc s.varnames a.varnames b.varnames;
   constants = a.constants ++ b.constants;
   constants_are = b.constants_are ∙ ap (λ x. x ++ b.constants) a.constants_are ∙ append_assoc s.constants a.constants b.constants;
-  codes = codes_then (ground_in s) ps qs a.constants b.constants s1.constants s2.constants is js b.constants_are a.codes (subst (λ (x : Around). Codes (ground_of x.context) qs b.constants s2.constants js) a.around_are b.codes);
+  codes = codes_then (ground_in s) ps qs a.constants b.constants s1.constants s2.constants is js b.constants_are a.codes
+      (subst (λ (x : NodeContext). Codes (ground_of x.context) qs b.constants s2.constants js) a.node_contexts_are b.codes);
   blocks_are = let p = a.blocks_are in let q = b.blocks_are in omega arith;
   steps = a.steps ++ b.steps;
   steps_are = b.steps_are ∙ ap (λ x. x ++ b.steps) a.steps_are ∙ append_assoc s.steps a.steps b.steps;
@@ -165,7 +167,7 @@ added_join s s1 s2 is js m n ps qs a b = record {
       subst (λ x. AllRead t (a.steps ++ b.steps) x) (sym (over-append (by_number d) is js))
       (read_join t a.steps b.steps (read_as d is) (read_as d js) (a.reads d (numbered_front d ps qs z) t (begins_before s1 s2 js n qs t b h)) (b.reads d (numbered_back d ps qs z) t h));
   inside = inside_join s2.blocks a.steps b.steps (all_inside_more a.steps s1.blocks s2.blocks (let q = b.blocks_are in omega arith) a.inside) b.inside;
-  around_are = b.around_are ∙ a.around_are;
+  node_contexts_are = b.node_contexts_are ∙ a.node_contexts_are;
   distinct = λ h. b.distinct (a.distinct h);
   own_distinct = λ h. b.own_distinct (a.own_distinct h);
 }
@@ -178,7 +180,7 @@ adds_join s s1 s2 is js m n l k a b = record {
   counted = counted_join s.next s1.next s2.next a.made b.made a.counted b.counted;
   cells =
       let p = a.cells in
-      let q = subst (λ (x : Around). cells_in js ≤ loads x.context.scopes (code_scopes b.made)) a.added.around_are b.cells in
+      let q = subst (λ (x : NodeContext). cells_in js ≤ loads x.context.scopes (code_scopes b.made)) a.added.node_contexts_are b.cells in
       let e = cells-append is js in
       let f = loads_join (scopes_in s) a.made b.made in
       omega (arith, p, q, e, f);
@@ -198,7 +200,7 @@ added_nothing s = record {
   steps_are = sym (append-nil s.steps);
   reads = λ d z t b. tt;
   inside = tt;
-  around_are = refl;
+  node_contexts_are = refl;
   distinct = λ h. h;
   own_distinct = λ h. h;
 }
@@ -219,7 +221,16 @@ adds_nothing s = adds_plain s s [] 0 0 refl (omega arith) (added_nothing s)
 -- another step makes no difference to the tables
 begins_same : (x : Step) (s : State) (t : Tables) → Begins (with_step x s) t → Begins s t
 unfolding with_step
-begins_same x s t b = record { names = b.names; names_are = b.names_are; varnames = b.varnames; varnames_are = b.varnames_are; constants = b.constants; constants_are = b.constants_are; cells_are = b.cells_are }
+begins_same x s t b = record {
+  names = b.names;
+  names_are = b.names_are;
+  varnames = b.varnames;
+  varnames_are = b.varnames_are;
+  constants =
+      b.constants;
+  constants_are = b.constants_are;
+  cells_are = b.cells_are;
+}
 
 -- an instruction that loads no child and no cell
 abbrev pub IsPlain : Item Scope → Type 0
@@ -243,7 +254,7 @@ added_step x s i ps c r n = record {
   steps_are = refl;
   reads = λ d z t b. r d z t (begins_same x s t b);
   inside = (n, tt);
-  around_are = refl;
+  node_contexts_are = refl;
   distinct = λ h. h;
   own_distinct = λ h. h;
 }

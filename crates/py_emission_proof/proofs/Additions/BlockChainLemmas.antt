@@ -8,7 +8,7 @@ use Rattle.py_bytecode.specs.Machine.{Instr}
 use Rattle.py_bytecode.specs.Decode.{Tables}
 use Rattle.py_bytecode.specs.Table.{row_of}
 use Rattle.py_dataflow.specs.declared.info.InstructionInfo.{InstructionInfo}
-use Rattle.py_ir.specs.Chain.{Blk, blk, cut, body}
+use Rattle.py_ir.specs.Chain.{Blk, blk, without_unreachable, body}
 use Rattle.py_control.specs.Code.{Item, Do, Label}
 use Rattle.py_emission_parts.specs.Emitting.{Step, Put, Begin}
 use Rattle.py_emission_parts.specs.Listed.{Begun}
@@ -18,19 +18,19 @@ use Rattle.py_emission_proof.proofs.Additions.AddedCodeLemmas.{AddedCodeReads, A
 use Rattle.py_emit.proofs.Chains.{ChainLeads}
 
 -- a number is one of these
-abbrev pub In : ℕ → List ℕ → Type 0
-In b [] = ⊥
-In b (c ∷ cs) = (b ≡ c) ⊎ In b cs
+abbrev pub InChain : ℕ → List ℕ → Type 0
+InChain b [] = ⊥
+InChain b (c ∷ cs) = (b ≡ c) ⊎ InChain b cs
 
-in_at : (b : ℕ) (cs : List ℕ) (k : ℕ) → k < length cs → get_or cs k b ≡ b → In b cs
+in_at : (b : ℕ) (cs : List ℕ) (k : ℕ) → k < length cs → get_or cs k b ≡ b → InChain b cs
 in_at b [] k l e = absurd (omega arith)
 in_at b (c ∷ cs) zero l e = inl (sym e)
 in_at b (c ∷ cs) (suc k) l e = inr (in_at b cs k (omega arith) e)
 
-pub contained : (b : ℕ) (cs : List ℕ) → Contains cs b → In b cs
+pub contained : (b : ℕ) (cs : List ℕ) → Contains cs b → InChain b cs
 contained b cs h = in_at b cs h.0 h.1 h.2
 
-pub contains : (b : ℕ) (cs : List ℕ) → In b cs → Contains cs b
+pub contains : (b : ℕ) (cs : List ℕ) → InChain b cs → Contains cs b
 contains b [] h = absurd h
 contains b (c ∷ cs) (inl e) = (0, omega arith, sym e)
 contains b (c ∷ cs) (inr h) = let r = contains b cs h in (suc r.0, (let l = r.1 in omega (arith, l)), r.2)
@@ -66,12 +66,16 @@ module _ (t : Tables) (n : ℕ) where
 
   -- the instructions of each block of a chain
   pub fine_block : (bs : List Blk) (k c : ℕ) (cs : List ℕ) → ChainLeads bs (c ∷ cs) → length (c ∷ cs) ≤ k → AllFine t n (steps_from bs k c) → (b : ℕ)
-      → In b (c ∷ cs) → AllFine t n (map step_of (blk bs b).items)
+      → InChain b (c ∷ cs) → AllFine t n (map step_of (blk bs b).items)
   fine_block bs zero c cs leads enough h b w = absurd (omega (arith, enough))
-  fine_block bs (suc k) c cs leads enough h b (inl e) = subst (λ a. AllFine t n (map step_of (blk bs a).items)) (sym e) (fine_front (map step_of (blk bs c).items) (onwards (blk bs c).next (steps_from bs k)) h)
+  fine_block bs (suc k) c cs leads enough h b (inl e) =
+      subst (λ a. AllFine t n (map step_of (blk bs a).items)) (sym e)
+      (fine_front (map step_of (blk bs c).items) (onwards (blk bs c).next (steps_from bs k)) h)
   fine_block bs (suc k) c [] leads enough h b (inr w) = absurd w
   fine_block bs (suc k) c (d ∷ cs) leads enough h b (inr w) =
-      fine_block bs k d cs leads.1 (omega (arith, enough)) (fine_next d (blk bs c).next (steps_from bs k) leads.0 (fine_back (map step_of (blk bs c).items) (onwards (blk bs c).next (steps_from bs k)) h)) b w
+      fine_block bs k d cs leads.1 (omega (arith, enough))
+      (fine_next d (blk bs c).next (steps_from bs k) leads.0
+      (fine_back (map step_of (blk bs c).items) (onwards (blk bs c).next (steps_from bs k)) h)) b w
 
   pub fine_at : (xs : List InstructionInfo) (k : ℕ) (x : InstructionInfo) → slice_get xs k ≡ Some x → AllFine t n (map step_of xs) → Fine t n (step_of x)
   fine_at [] k x e h = absurd cc
@@ -80,14 +84,14 @@ module _ (t : Tables) (n : ℕ) where
 
 -- what is left of a block stands in it
 cut_if : (b : Bool) (y : InstructionInfo) (xs : List InstructionInfo) (k : ℕ) (x : InstructionInfo)
-    → ((j : ℕ) → slice_get (cut xs) j ≡ Some x → slice_get xs j ≡ Some x) → slice_get (if b then y ∷ [] else (y ∷ cut xs)) k ≡ Some x
+    → ((j : ℕ) → slice_get (without_unreachable xs) j ≡ Some x → slice_get xs j ≡ Some x) → slice_get (if b then y ∷ [] else (y ∷ without_unreachable xs)) k ≡ Some x
     → slice_get (y ∷ xs) k ≡ Some x
 cut_if true y xs zero x h e = e
 cut_if true y xs (suc k) x h e = absurd cc
 cut_if false y xs zero x h e = e
 cut_if false y xs (suc k) x h e = h k e
 
-block_chain_cut_at : (xs : List InstructionInfo) (k : ℕ) (x : InstructionInfo) → slice_get (cut xs) k ≡ Some x → slice_get xs k ≡ Some x
+block_chain_cut_at : (xs : List InstructionInfo) (k : ℕ) (x : InstructionInfo) → slice_get (without_unreachable xs) k ≡ Some x → slice_get xs k ≡ Some x
 block_chain_cut_at [] k x e = e
 block_chain_cut_at (y ∷ xs) k x e = cut_if (row_of y.instr).leaves y xs k x (λ j g. block_chain_cut_at xs j x g) e
 
@@ -126,7 +130,7 @@ begun_next b c (Some d) go e (inl h) = inl (let same : d ≡ c = cc in h ∙ sam
 begun_next b c (Some d) go e (inr h) = inr (let same : d ≡ c = cc in subst (λ a. Begun b (go a)) same h)
 
 -- a block that begins in the steps of a chain is one of it
-pub begun_in : (bs : List Blk) (k c : ℕ) (cs : List ℕ) → ChainLeads bs (c ∷ cs) → (b : ℕ) → Begun b (steps_from bs k c) → In b (c ∷ cs)
+pub begun_in : (bs : List Blk) (k c : ℕ) (cs : List ℕ) → ChainLeads bs (c ∷ cs) → (b : ℕ) → Begun b (steps_from bs k c) → InChain b (c ∷ cs)
 begun_in bs zero c cs leads b h = absurd h
 begun_in bs (suc k) c [] leads b h = absurd (begun_none b (blk bs c).next (steps_from bs k) leads (begun_back b (blk bs c).items (onwards (blk bs c).next (steps_from bs k)) h))
 begun_in bs (suc k) c (d ∷ cs) leads b h = elim (begun_next b d (blk bs c).next (steps_from bs k) leads.0 (begun_back b (blk bs c).items (onwards (blk bs c).next (steps_from bs k)) h)) [

@@ -86,7 +86,9 @@ module _ (t : Tables) where
 
   fit_range : (xs : List Step) → AllFit xs → InRange (items_in xs)
   fit_range [] h = All-nil (λ (x : InstructionInfo). x.arg.0 < 2 ^ 32)
-  fit_range (Put o n to at ∷ xs) h = All-cons (λ (x : InstructionInfo). x.arg.0 < 2 ^ 32) (record { instr = o; arg = record { 0 = n }; target = record { 0 = number_of to }; location = at }) (items_in xs) h.0 (fit_range xs h.1)
+  fit_range (Put o n to at ∷ xs) h = All-cons (λ (x : InstructionInfo). x.arg.0 < 2 ^ 32)
+      (record { instr = o; arg = record { 0 = n }; target = record { 0 = number_of to }; location = at }) (items_in xs) h.0
+      (fit_range xs h.1)
   fit_range (Begin b ∷ xs) h = fit_range xs h
 
   pub in_range : (level : ℕ) (xs : List Step) (items : List (Item Object)) → AllRead t xs items → InRange (items_in (steps_at level xs))

@@ -13,12 +13,12 @@ use Rattle.py_control.specs.Code.{Item, Do, cell_codes, class_code}
 use Rattle.py_control.specs.Agree.{cells_of}
 use Rattle.py_emission_parts.specs.Children.{load_cell}
 use Rattle.py_emission_parts.specs.Classes.{cell_returned, class_end, class_names}
-use Rattle.py_emission_parts.specs.Within.{behind_name, doc_const}
+use Rattle.py_emission_parts.specs.NestedScopes.{after_name, doc_const}
 use Rattle.py_emission_parts.specs.Context.{cell_place, class_cells}
 use Rattle.py_emission_parts.specs.Elements.{Element, Single, Spread, has_starred}
 use Rattle.py_emission_parts.specs.EmissionParts as emitting
 use Rattle.py_emission_parts.specs.TableParts as table
-use Rattle.py_emission_parts.specs.Emitting.{Around, Emission, State, Done, ◌▸◌, by_context, emit, emit_constant, emit_name}
+use Rattle.py_emission_parts.specs.Emitting.{NodeContext, Emission, State, Done, ◌▸◌, by_context, emit, emit_constant, emit_name}
 use Rattle.py_emission_parts.specs.Running.{run}
 use Rattle.py_emission_proof.proofs.Additions.AddedCodeLemmas.{Adds, settled_adds}
 use Rattle.py_emission_proof.proofs.Additions.Cells.{Quietly, load_adds, quietly_then}
@@ -41,7 +41,7 @@ doc_value : (doc : Option (List ℕ)) → value_of (doc_const doc) ≡ Constant 
 doc_value None = refl
 doc_value (Some text) = refl
 
-pub names_yield : (doc : Option (List ℕ)) (c : Around) (n k : ℕ) → Yields c n k (class_names doc) (names_code c.context.path doc) 0 0
+pub names_yield : (doc : Option (List ℕ)) (c : NodeContext) (n k : ℕ) → Yields c n k (class_names doc) (names_code c.context.path doc) 0 0
 names_yield doc c n k =
     after_these (global_adds (codes "__name__") c n k) (after_these (local_adds (codes "__module__") c n k)
     (after_these (context_gives (λ d. emit_constant op.LoadConst (const.str d.path)) (constant_adds (const.str c.context.path) refl c n k)) (after_these (local_adds (codes "__qualname__") c n k)
@@ -51,7 +51,7 @@ names_yield doc c n k =
 quiet : (s r : State) (is : List (Item Scope)) → Adds s r is 0 0 → Quietly s r is
 quiet s r is a = record { added = settled_adds s r is 0 a; next_is = let n = a.next_is in omega (arith, n) }
 
-module _ (c : Around) where
+module _ (c : NodeContext) where
   -- a cell is kept and returned
   cell_end : (x : List ℕ) (s r : State) → EmissionSequenceStands c s → run (cell_returned (x ∷ [])) s ≡ Done r → Quietly s r (class_code (cells_of (cell_place c.context) (x ∷ [])))
   cell_end x s r z e =
@@ -60,7 +60,7 @@ module _ (c : Around) where
       let a = load_adds c x s h.0 z h.1 in
       let b = after_these (duplicate_adds c h.0.blocks h.0.next) (after_these (local_adds (codes "__classcell__") c h.0.blocks h.0.next) (return_value_adds c h.0.blocks h.0.next)) in
       quietly_then s h.0 r (cell_codes (cells_of (cell_place c.context) (x ∷ []))) (Do Duplicate ∷ Do (Access ByName Store classcell 0) ∷ Do ReturnValue ∷ []) a
-      (quiet h.0 r _ (b.does h.0 r refl refl (still z a.added.around_are) h.2).0)
+      (quiet h.0 r _ (b.does h.0 r refl refl (still z a.added.node_contexts_are) h.2).0)
 
   -- or None is returned
   none_end : (s r : State) → EmissionSequenceStands c s → run (cell_returned []) s ≡ Done r → Quietly s r (class_code [])
@@ -75,17 +75,20 @@ module _ (c : Around) where
   pub end_adds : (s r : State) → EmissionSequenceStands c s → run class_end s ≡ Done r → Quietly s r (class_code (cells_of (cell_place c.context) (class_cells c.context)))
   unfolding by_context
   end_adds s r z e =
-      end_if (list_any (text_eq (codes "__class__")) c.context.cells) (codes "__class__") s r z (subst (λ (u : Around). run (cell_returned (class_cells u.context)) s ≡ Done r) (sym z.around) e)
+      end_if (list_any (text_eq (codes "__class__")) c.context.cells) (codes "__class__") s r z
+      (subst (λ (u : NodeContext). run (cell_returned (class_cells u.context)) s ≡ Done r) (sym z.node_context) e)
 
 -- two values before the elements, which make a tuple of their own where one of these is starred
-module _ (i : Interp Scope) (c : Around) where
-  pub behind_adds : (k a y : ℕ) (v w : Emission) (f g : VForm) (es : List (Element Emission Emission)) (fs : List (Element VForm VForm)) → ValueAdds i c k a v f
+module _ (i : Interp Scope) (c : NodeContext) where
+  pub after_adds : (k a y : ℕ) (v w : Emission) (f g : VForm) (es : List (Element Emission Emission)) (fs : List (Element VForm VForm)) → ValueAdds i c k a v f
       → ValueAdds i c (k + a) 0 w g → AllElementsAdd i c (k + a) y es fs
-      → AllElementsAdd i c k (a + y) (behind_name (emitting.counted_build op.BuildTuple) v w es) (behind_name (table.built_form op.BuildTuple) f g fs)
-  behind_adds k a y v w f g es fs h e rest = go (has_starred es) (has_starred fs) (same_starred (ValueAdds i c) (ValueAdds i c) (k + a) y es fs rest)
+      → AllElementsAdd i c k (a + y) (after_name (emitting.counted_build op.BuildTuple) v w es) (after_name (table.built_form op.BuildTuple) f g fs)
+  after_adds k a y v w f g es fs h e rest = go (has_starred es) (has_starred fs) (same_starred (ValueAdds i c) (ValueAdds i c) (k + a) y es fs rest)
     where
       go : (b d : Bool) → b ≡ d
-          → AllElementsAdd i c k (a + y) (if b then Spread (emitting.counted_build op.BuildTuple (v ∷ w ∷ [])) ∷ es else Single v ∷ Single w ∷ es) (if d then Spread (table.built_form op.BuildTuple (f ∷ g ∷ [])) ∷ fs else Single f ∷ Single g ∷ fs)
+          → AllElementsAdd i c k (a + y)
+          (if b then Spread (emitting.counted_build op.BuildTuple (v ∷ w ∷ [])) ∷ es else Single v ∷ Single w ∷ es)
+          (if d then Spread (table.built_form op.BuildTuple (f ∷ g ∷ [])) ∷ fs else Single f ∷ Single g ∷ fs)
       go true true same = (a, y, refl, built_adds i c op.BuildTuple tuple_builds k a (v ∷ w ∷ []) (f ∷ g ∷ []) (a, 0, omega arith, h, (0, 0, refl, e, refl)), rest)
       go true false same = absurd cc
       go false true same = absurd cc

@@ -1,4 +1,5 @@
--- The cells and the free names of a code object are those of its scope's number, and so it is for each code object within it, beside the scope from which it is made.
+-- The cells and the free names of a code object are those of its scope's number, and so it is for each code object nested in it, beside the
+-- scope from which it is made.
 use Rattle.std.proofs.Common.{◌≡◌, ℕ, zero, suc, List, false}
 use Rattle.py_bytecode.specs.Objects.{Object, head}
 use Rattle.py_bytecode.specs.Values.{Answer}
@@ -18,7 +19,7 @@ pub record Named (scopes : List ScopeEntry) (o : Object) (s : Scope) : Type 0 wh
   pub frees : (head o).freevars ≡ frees_among (symbols_in scopes (head_of s).number)
 
 -- so it is of the context in which a scope's code is emitted
-pub record Says (c : Context) (s : Scope) : Type 0 where
+pub record CodeNameSays (c : Context) (s : Scope) : Type 0 where
   pub cells : c.cells ≡ cells_among (symbols_in c.scopes (head_of s).number)
   pub frees : c.frees ≡ frees_among (symbols_in c.scopes (head_of s).number)
 
@@ -26,4 +27,6 @@ pub record Says (c : Context) (s : Scope) : Type 0 where
 abbrev pub IsMadeSo : (Object → Scope → Type 0) → (n : ℕ) → Object → Scope → Type 0
 IsMadeSo N zero o s = Unit {0}
 IsMadeSo N (suc n) o s =
-    N o s × Looped false (form_of s) × (items : List (Item (Object × Scope))) × ((answers : List Answer) → machine o answers ≡ runs_code (items_over (λ p. p.0) items) answers) × (items_over (λ p. p.1) items ≡ body_code (exactly (λ t. t) s) (form_of s)) × AllOf (λ p. IsMadeSo N n p.0 p.1) (children items)
+    N o s × Looped false (form_of s) × (items : List (Item (Object × Scope)))
+    × ((answers : List Answer) → machine o answers ≡ runs_code (items_over (λ p. p.0) items) answers)
+    × (items_over (λ p. p.1) items ≡ body_code (exactly (λ t. t) s) (form_of s)) × AllOf (λ p. IsMadeSo N n p.0 p.1) (children items)

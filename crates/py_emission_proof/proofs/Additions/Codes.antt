@@ -65,7 +65,7 @@ pub record MadeFrom (ground : Ground) (p : Object × Scope) : Type 0 where
   pub named : (n : ℕ) → IsMadeSo (Named ground.1) n p.0 p.1
   pub well : Everywhere (WellMade ground.0 ground.1) p.0
 
--- no code of a scope, and none within it, loads more cells than a tree of a size below 2^22 has uses of names
+-- no code of a scope, and none nested in it, loads more cells than a tree of a size below 2^22 has uses of names
 pub record LoadsFew (entries : List ScopeEntry) (s : Scope) : Type 0 where
   pub down : (n : ℕ) → LoadsUpTo entries (3 * 2 ^ 22) n s
 
@@ -136,13 +136,17 @@ all_known P ps a xs h = all_so (CodeKnown (objects ps)) P (one_known P ps a) xs 
 
 -- what is among some constants is among more of them
 pub known_more : (all more : List Const) (xs : List Object) → AllKnown xs (codes_in all) → AllKnown xs (codes_in (all ++ more))
-known_more all more xs h = subst (λ ks. AllKnown xs ks) (sym (codes_join all more)) (all_so (CodeKnown (codes_in all)) (CodeKnown (codes_in all ++ codes_in more)) (known_front (codes_in all) (codes_in more)) xs h)
+known_more all more xs h = subst (λ ks. AllKnown xs ks) (sym (codes_join all more))
+    (all_so (CodeKnown (codes_in all)) (CodeKnown (codes_in all ++ codes_in more)) (known_front (codes_in all) (codes_in more)) xs h)
 
 pub wider : (a b c d : ℕ) (ps : List (Object × Scope)) → a ≤ b → c ≤ d → AllBetween b c ps → AllBetween a d ps
-wider a b c d ps le more h = all_so (λ (p : Object × Scope). (b ≤ code_number_of p.1) × (code_number_of p.1 < c)) (λ (p : Object × Scope). (a ≤ code_number_of p.1) × (code_number_of p.1 < d)) (λ p q. (let x = q.0 in omega (arith, le, x), let y = q.1 in omega (arith, more, y))) ps h
+wider a b c d ps le more h = all_so (λ (p : Object × Scope). (b ≤ code_number_of p.1) × (code_number_of p.1 < c))
+    (λ (p : Object × Scope). (a ≤ code_number_of p.1) × (code_number_of p.1 < d))
+    (λ p q. (let x = q.0 in omega (arith, le, x), let y = q.1 in omega (arith, more, y))) ps h
 
 free_below : (n b c : ℕ) (qs : List (Object × Scope)) → n < b → AllBetween b c qs → Free n qs
-free_below n b c qs lt h = all_so (λ (p : Object × Scope). (b ≤ code_number_of p.1) × (code_number_of p.1 < c)) (λ (p : Object × Scope). code_number_of p.1 ≢ n) (λ p q e. let x = q.0 in omega (arith, lt, x, e)) qs h
+free_below n b c qs lt h = all_so (λ (p : Object × Scope). (b ≤ code_number_of p.1) × (code_number_of p.1 < c))
+    (λ (p : Object × Scope). code_number_of p.1 ≢ n) (λ p q e. let x = q.0 in omega (arith, lt, x, e)) qs h
 
 pub apart_join : (ps qs : List (Object × Scope)) → AllApart ps → AllApart qs → AllOf (λ p. Free (code_number_of p.1) qs) ps → AllApart (ps ++ qs)
 apart_join [] qs g h f = h
@@ -152,7 +156,9 @@ pub counted_join : (a b c : ℕ) (ps qs : List (Object × Scope)) → Counted a 
 counted_join a b c ps qs g h = record {
   ordered = let x = g.ordered in let y = h.ordered in omega (arith, x, y);
   between = all_join (λ p. (a ≤ code_number_of p.1) × (code_number_of p.1 < c)) ps qs (wider a a b c ps (omega arith) h.ordered g.between) (wider a b c c qs g.ordered (omega arith) h.between);
-  apart = apart_join ps qs g.apart h.apart (all_so (λ (p : Object × Scope). (a ≤ code_number_of p.1) × (code_number_of p.1 < b)) (λ (p : Object × Scope). Free (code_number_of p.1) qs) (λ p q. free_below (code_number_of p.1) b c qs q.1 h.between) ps g.between);
+  apart = apart_join ps qs g.apart h.apart
+      (all_so (λ (p : Object × Scope). (a ≤ code_number_of p.1) × (code_number_of p.1 < b))
+      (λ (p : Object × Scope). Free (code_number_of p.1) qs) (λ p q. free_below (code_number_of p.1) b c qs q.1 h.between) ps g.between);
 }
 
 pub counted_none : (a b : ℕ) → a ≤ b → Counted a b []
@@ -162,8 +168,12 @@ counted_none a b le = record { ordered = le; between = tt; apart = tt }
 pub counted_first : (a b c : ℕ) (ps : List (Object × Scope)) (p : Object × Scope) → code_number_of p.1 ≡ a → a < b → Counted b c ps → Counted a c (ps ++ p ∷ [])
 counted_first a b c ps p e lt h = record {
   ordered = let x = h.ordered in omega (arith, lt, x);
-  between = all_join (λ q. (a ≤ code_number_of q.1) × (code_number_of q.1 < c)) ps (p ∷ []) (wider a b c c ps (omega (arith, lt)) (omega arith) h.between) ((omega (arith, e), let x = h.ordered in omega (arith, e, lt, x)), tt);
-  apart = apart_join ps (p ∷ []) h.apart (tt, tt) (all_so (λ (q : Object × Scope). (b ≤ code_number_of q.1) × (code_number_of q.1 < c)) (λ (q : Object × Scope). Free (code_number_of q.1) (p ∷ [])) (λ q z. ((λ f. let x = z.0 in omega (arith, e, lt, x, f)), tt)) ps h.between);
+  between = all_join (λ q. (a ≤ code_number_of q.1) × (code_number_of q.1 < c)) ps (p ∷ [])
+      (wider a b c c ps (omega (arith, lt)) (omega arith) h.between) ((omega (arith, e), let x = h.ordered in omega (arith, e, lt, x)), tt);
+  apart = apart_join ps (p ∷ []) h.apart (tt, tt)
+      (all_so (λ (q : Object × Scope). (b ≤ code_number_of q.1) × (code_number_of q.1 < c))
+      (λ (q : Object × Scope). Free (code_number_of q.1) (p ∷ []))
+      (λ q z. ((λ f. let x = z.0 in omega (arith, e, lt, x, f)), tt)) ps h.between);
 }
 
 -- numbers between the same two are none
@@ -183,7 +193,9 @@ codes_then ground ps qs xs ys one all is js e p q = record {
       let ks = objects ps in
       let os = objects qs in
       subst (λ l. AllKnown l (objects (ps ++ qs))) (sym (codes_join xs ys)) (subst (λ l. AllKnown (codes_in xs ++ codes_in ys) l) (sym (objects_join ps qs))
-      (all_join (CodeKnown (ks ++ os)) (codes_in xs) (codes_in ys) (all_so (CodeKnown ks) (CodeKnown (ks ++ os)) (known_front ks os) (codes_in xs) p.known) (all_so (CodeKnown os) (CodeKnown (ks ++ os)) (known_back ks os) (codes_in ys) q.known)));
+      (all_join (CodeKnown (ks ++ os)) (codes_in xs) (codes_in ys)
+      (all_so (CodeKnown ks) (CodeKnown (ks ++ os)) (known_front ks os) (codes_in xs) p.known)
+      (all_so (CodeKnown os) (CodeKnown (ks ++ os)) (known_back ks os) (codes_in ys) q.known)));
   kept =
       subst (λ l. AllKnown l (codes_in all)) (sym (objects_join ps qs))
       (all_join (CodeKnown (codes_in all)) (objects ps) (objects qs) (subst (λ l. AllKnown (objects ps) (codes_in l)) (sym e) (known_more one ys (objects ps) p.kept)) q.kept);
@@ -227,7 +239,26 @@ loads_join entries (p ∷ ps) qs = let e = loads_join entries ps qs in omega (ar
 
 -- no object in particular
 abbrev pub nowhere : Object
-nowhere = object_of (record { flags = 0; posonlyarg_count = 0; arg_count = 0; kwonlyarg_count = 0; source_path = []; first_line_number = None; obj_name = []; max_stackdepth = 0; instructions = []; locations = []; names = []; varnames = []; cellvars = []; freevars = []; cell2arg = None }) no_consts
+nowhere = object_of
+    (record {
+      flags = 0;
+      posonlyarg_count = 0;
+      arg_count = 0;
+      kwonlyarg_count = 0;
+      source_path = [];
+      first_line_number = None;
+      obj_name =
+          [];
+      max_stackdepth = 0;
+      instructions = [];
+      locations = [];
+      names = [];
+      varnames = [];
+      cellvars = [];
+      freevars = [];
+      cell2arg =
+          None;
+    }) no_consts
 
 -- the objects by the numbers of their scopes
 abbrev pub stand_at : List (Object × Scope) → ℕ → Object

@@ -7,9 +7,9 @@ use Rattle.py_emission_parts.specs.TableParts as table
 use Rattle.py_emission_parts.specs.TableParts.{any, some_built}
 use Rattle.py_emission_parts.specs.EmissionParts as emitting
 use Rattle.py_emission_parts.specs.EmissionParts.{map_of}
-use Rattle.py_emission_parts.specs.Emitting.{Around, Emission, ◌▸◌}
+use Rattle.py_emission_parts.specs.Emitting.{NodeContext, Emission, ◌▸◌}
 use Rattle.py_emission_parts.specs.Children.{some_emitted}
-use Rattle.py_emission_parts.specs.Within.{some_flag}
+use Rattle.py_emission_parts.specs.NestedScopes.{some_flag}
 use Rattle.py_emission_proof.proofs.Additions.CallAdds.{NamedAdds, map_of_adds}
 use Rattle.py_emission_proof.proofs.Additions.DisplayAdds.{built_adds}
 use Rattle.py_emission_proof.proofs.Additions.EmissionSequenceLemmas.{after_these, keep_yields, next_as, scopes_as}
@@ -25,7 +25,7 @@ same_flag R flag k l [] (y ∷ ys) a = absurd a
 same_flag R flag k l (x ∷ xs) [] a = absurd a
 same_flag R flag k l (x ∷ xs) (y ∷ ys) a = refl
 
-module _ (i : Interp Scope) (c : Around) where
+module _ (i : Interp Scope) (c : NodeContext) where
   -- a tuple of the positional ones
   pub tuple_adds : (k l m : ℕ) (vs : List Emission) (fs : List VForm) (p : Emission) (rest : VForms) → AllValuesAdd i c k l vs fs
       → PartsAdd i c (k + l) m p rest
@@ -33,7 +33,9 @@ module _ (i : Interp Scope) (c : Around) where
   tuple_adds k l m [] [] p rest a h n = scopes_as (let e : m ≡ l + m = omega (arith, a) in e) (after_these keep_yields (next_as (let e : k + l ≡ k = omega (arith, a) in e) (h n)))
   tuple_adds k l m [] (f ∷ fs) p rest a h n = absurd a
   tuple_adds k l m (v ∷ vs) [] p rest a h n = absurd a
-  tuple_adds k l m (v ∷ vs) (f ∷ fs) p rest a h n = more_parts i c k l m (emitting.counted_build op.BuildTuple (v ∷ vs)) p (table.built_form op.BuildTuple (f ∷ fs)) rest (built_adds i c op.BuildTuple tuple_builds k l (v ∷ vs) (f ∷ fs) a) h n
+  tuple_adds k l m (v ∷ vs) (f ∷ fs) p rest a h n =
+      more_parts i c k l m (emitting.counted_build op.BuildTuple (v ∷ vs)) p (table.built_form op.BuildTuple (f ∷ fs)) rest
+      (built_adds i c op.BuildTuple tuple_builds k l (v ∷ vs) (f ∷ fs) a) h n
 
   -- a map by names
   pub map_adds : (k l : ℕ) (ps : List (List ℕ × Emission)) (qs : List (List ℕ × VForm)) → Threaded (NamedAdds i c) k l ps qs

@@ -6,11 +6,11 @@ use Rattle.py_bytecode.specs.Values.{operation, Bare}
 use Rattle.py_bytecode.specs.Machine.{Operate}
 use Rattle.py_control.specs.Form.{Interp, Scope, VForm, VOp, VMore, VNone}
 use Rattle.py_control.specs.Code.{count as form_count}
-use Rattle.py_emission_parts.specs.Elements.{Element, groups, front, behind, sides}
+use Rattle.py_emission_parts.specs.Elements.{Element, groups, front, later_elements, sides}
 use Rattle.py_emission_parts.specs.TableParts as table
 use Rattle.py_emission_parts.specs.TableParts.{parts_of, counted_operation, updated_map, dict_form, slice_form, joined_form}
 use Rattle.py_emission_parts.specs.EmissionParts as emitting
-use Rattle.py_emission_parts.specs.Emitting.{Around, Emission, ◌▸◌, emit, emit_count}
+use Rattle.py_emission_parts.specs.Emitting.{NodeContext, Emission, ◌▸◌, emit, emit_count}
 use Rattle.py_emission_parts.specs.EmissionParts.{in_turn, updates, dict_value, slice_value, joined_value}
 use Rattle.py_emission_proof.proofs.Additions.EmissionSequenceLemmas.{regroup_late, scopes_as, then_keep}
 use Rattle.py_emission_proof.proofs.Additions.Threaded.{Relation, Threaded, Alike, AlikeElement, threaded_same_length, threaded_parted, groups_alike, threaded_as}
@@ -19,7 +19,7 @@ use Rattle.py_emission_proof.proofs.Additions.Instructions.{map_adds, string_bui
 use Rattle.py_emission_proof.proofs.Additions.FormAdds.{ValueAdds, OptionAdds, AllValuesAdd, value_or_adds, more_parts, form_add_two_parts, values_add, operation_adds, two_add}
 use Rattle.py_emission_proof.proofs.Additions.DisplayAdds.{built_adds}
 
-module _ (i : Interp Scope) (c : Around) where
+module _ (i : Interp Scope) (c : NodeContext) where
   -- a key and its value
   abbrev pub PairAdds : Relation (Emission × Emission) (VForm × VForm)
   PairAdds k l p q = (a : ℕ) × (b : ℕ) × (l ≡ a + b) × ValueAdds i c k a p.0 q.0 × ValueAdds i c (k + a) b p.1 q.1
@@ -35,8 +35,20 @@ module _ (i : Interp Scope) (c : Around) where
   sides_add k l (p ∷ ps) (q ∷ qs) a =
       let h = a.3 in
       let d = a.2 in
-      let e = h.2 in
-      (h.0, h.1 + a.1, omega (arith, d, e), h.3, (h.1, a.1, refl, h.4, threaded_as (ValueAdds i c) (k + a.0) (k + h.0 + h.1) a.1 a.1 (sides ps) (sides qs) (omega (arith, e)) refl (sides_add (k + a.0) a.1 ps qs a.4)))
+      let e = h.2 in (
+        h.0,
+        h.1 + a.1,
+        omega (arith, d, e),
+        h.3,
+        (
+          h.1,
+          a.1,
+          refl,
+          h.4,
+          threaded_as (ValueAdds i c) (k + a.0) (k + h.0 + h.1) a.1 a.1 (sides ps) (sides qs) (omega (arith, e)) refl
+              (sides_add (k + a.0) a.1 ps qs a.4),
+        ),
+      )
 
   two_sides : (ps : List (VForm × VForm)) → 2 * length ps ≡ form_count (parts_of (sides ps))
   two_sides [] = refl
@@ -60,23 +72,34 @@ module _ (i : Interp Scope) (c : Around) where
   dict_map_adds k l ps qs a =
       let n = length ps in
       let m = length qs in
-      let step : StepAdds (emit_count op.BuildMap n) (Operate (counted_operation op.BuildMap m) (2 * m) (Some 1)) = subst (λ z. StepAdds (emit_count op.BuildMap n) (Operate (counted_operation op.BuildMap z) (2 * z) (Some 1))) (threaded_same_length PairAdds k l ps qs a) (map_adds n) in
-      operation_adds i c k l (counted_operation op.BuildMap m) (in_turn (sides ps)) (emit_count op.BuildMap n) (parts_of (sides qs)) (values_add i c k l (sides ps) (sides qs) (sides_add k l ps qs a)) (subst (λ z. StepAdds (emit_count op.BuildMap n) (Operate (counted_operation op.BuildMap m) z (Some 1))) (two_sides qs) step c)
+      let step : StepAdds (emit_count op.BuildMap n) (Operate (counted_operation op.BuildMap m) (2 * m) (Some 1)) =
+      subst (λ z. StepAdds (emit_count op.BuildMap n) (Operate (counted_operation op.BuildMap z) (2 * z) (Some 1)))
+      (threaded_same_length PairAdds k l ps qs a) (map_adds n) in
+      operation_adds i c k l (counted_operation op.BuildMap m) (in_turn (sides ps)) (emit_count op.BuildMap n) (parts_of (sides qs))
+      (values_add i c k l (sides ps) (sides qs) (sides_add k l ps qs a))
+      (subst (λ z. StepAdds (emit_count op.BuildMap n) (Operate (counted_operation op.BuildMap m) z (Some 1))) (two_sides qs) step c)
 
   pub dict_adds : (k l : ℕ) (es : List (Element (Emission × Emission) Emission)) (fs : List (Element (VForm × VForm) VForm)) → EntriesAdd k l es fs → ValueAdds i c k l (dict_value es) (dict_form fs)
   dict_adds k l es fs a n =
       let p = threaded_parted PairAdds (ValueAdds i c) k l es fs a in
-      let later = groups_alike PairAdds (ValueAdds i c) emitting.map_of_pairs table.map_of_pairs dict_map_adds (k + p.first) 0 p.rest (behind es) (behind fs) [] [] refl (threaded_as (AlikeElement PairAdds (ValueAdds i c)) (k + p.first) (k + p.first + 0) p.rest p.rest (behind es) (behind fs) (omega arith) refl p.behinds) in
+      let later = groups_alike PairAdds (ValueAdds i c) emitting.map_of_pairs table.map_of_pairs dict_map_adds (k + p.first) 0 p.rest
+      (later_elements es) (later_elements fs) [] [] refl
+      (threaded_as (AlikeElement PairAdds (ValueAdds i c)) (k + p.first) (k + p.first + 0) p.rest p.rest (later_elements es)
+      (later_elements fs) (omega arith) refl p.afters) in
       scopes_as (sym p.together)
-      (updates_add k p.first p.rest (emitting.map_of_pairs (front es)) (table.map_of_pairs (front fs)) (groups emitting.map_of_pairs [] (behind es)) (groups table.map_of_pairs [] (behind fs))
+      (updates_add k p.first p.rest (emitting.map_of_pairs (front es)) (table.map_of_pairs (front fs))
+      (groups emitting.map_of_pairs [] (later_elements es)) (groups table.map_of_pairs [] (later_elements fs))
       (dict_map_adds k p.first (front es) (front fs) p.fronts)
-      (threaded_as (ValueAdds i c) (k + p.first) (k + p.first) (0 + p.rest) p.rest (groups emitting.map_of_pairs [] (behind es)) (groups table.map_of_pairs [] (behind fs)) refl (omega arith) later) n)
+      (threaded_as (ValueAdds i c) (k + p.first) (k + p.first) (0 + p.rest) p.rest (groups emitting.map_of_pairs [] (later_elements es))
+      (groups table.map_of_pairs [] (later_elements fs)) refl (omega arith) later) n)
 
   pub slice_adds : (k x y z : ℕ) (lower upper step : Option Emission) (f g h : Option VForm) → OptionAdds i c k x lower f → OptionAdds i c (k + x) y upper g
       → OptionAdds i c (k + x + y) z step h → ValueAdds i c k (x + (y + z)) (slice_value lower upper step) (slice_form f g h)
   slice_adds k x y z lower upper None f g None p q r n =
       scopes_as (let e : x + y ≡ x + (y + z) = omega (arith, r) in e)
-      (two_add i c k x y (counted_operation op.BuildSlice 0) (emitting.value_or const.none lower) (emitting.value_or const.none upper) (emit op.BuildSlice 0) (table.value_or const.none f) (table.value_or const.none g) (value_or_adds i c k x const.none refl lower f p) (value_or_adds i c (k + x) y const.none refl upper g q)
+      (two_add i c k x y (counted_operation op.BuildSlice 0) (emitting.value_or const.none lower) (emitting.value_or const.none upper)
+      (emit op.BuildSlice 0) (table.value_or const.none f) (table.value_or const.none g)
+      (value_or_adds i c k x const.none refl lower f p) (value_or_adds i c (k + x) y const.none refl upper g q)
       (emit_adds op.BuildSlice 0 (Operate (counted_operation op.BuildSlice 0) 2 (Some 1)) (refl, refl) (λ d t. refl) c) n)
   slice_adds k x y z lower upper None f g (Some h) p q r n = absurd r
   slice_adds k x y z lower upper (Some w) f g None p q r n = absurd r
@@ -86,7 +109,8 @@ module _ (i : Interp Scope) (c : Around) where
       let first = table.value_or const.none f in
       let second = table.value_or const.none g in
       regroup_late v u w (emit op.BuildSlice 1) (operation_adds i c k (x + (y + z)) (counted_operation op.BuildSlice 1) (v ▸ u ▸ w) (emit op.BuildSlice 1) (VMore first (VMore second (VMore h VNone)))
-      (more_parts i c k x (y + z) v (u ▸ w) first (VMore second (VMore h VNone)) (value_or_adds i c k x const.none refl lower f p) (form_add_two_parts i c (k + x) y z u w second h (value_or_adds i c (k + x) y const.none refl upper g q) r))
+      (more_parts i c k x (y + z) v (u ▸ w) first (VMore second (VMore h VNone)) (value_or_adds i c k x const.none refl lower f p)
+      (form_add_two_parts i c (k + x) y z u w second h (value_or_adds i c (k + x) y const.none refl upper g q) r))
       (emit_adds op.BuildSlice 1 (Operate (counted_operation op.BuildSlice 1) 3 (Some 1)) (refl, refl) (λ d t. refl) c) n)
 
   -- one text, within which no scope stands, or what is built of the values

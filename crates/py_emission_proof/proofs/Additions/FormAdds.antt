@@ -15,7 +15,7 @@ use Rattle.py_emission_parts.specs.TableParts as table
 use Rattle.py_emission_parts.specs.TableParts.{ExprForms, parts_of, is_debug}
 use Rattle.py_base.specs.declared.errors.CodegenErrorType.TheVariants as error
 use Rattle.py_emission_parts.specs.EmissionParts as emitting
-use Rattle.py_emission_parts.specs.Emitting.{Around, Emission, ◌▸◌, emit, emit_mangled, keep, move, refuse}
+use Rattle.py_emission_parts.specs.Emitting.{NodeContext, Emission, ◌▸◌, emit, emit_mangled, keep, move, refuse}
 use Rattle.py_emission_parts.specs.EmissionParts.{Emissions, unless_debug, in_turn}
 use Rattle.py_emission_proof.proofs.Additions.EmissionSequenceLemmas.{Gives, Yields, after_these, gives_as, keep_yields, moved_gives, refused_gives, regroup, scopes_as, then_these, then_yields}
 use Rattle.py_emission_proof.proofs.Additions.Threaded.{Relation, Threaded, AlikeElement}
@@ -24,7 +24,7 @@ use Rattle.py_emission_proof.proofs.Additions.Instructions.{constant_adds, metho
 use Rattle.py_emission_proof.proofs.Additions.AccessAdds.{mangled_adds}
 
 -- a change is refused, or adds what it adds
-pub unless_debug_gives : {c : Around} {n k : ℕ} {v : Emission} {p : List (Item Scope)} {m l : ℕ} {P : Type 0} (text name : List ℕ) → Gives c n k v p m l P
+pub unless_debug_gives : {c : NodeContext} {n k : ℕ} {v : Emission} {p : List (Item Scope)} {m l : ℕ} {P : Type 0} (text name : List ℕ) → Gives c n k v p m l P
     → Gives c n k (unless_debug text name v) p m l P
 unless_debug_gives {c = c} {n = n} {k = k} {v = v} {p = p} {m = m} {l = l} {P = P} text name h = go (is_debug name)
   where
@@ -37,7 +37,7 @@ pub form_add_as_many : (fs : List VForm) → form_count (parts_of fs) ≡ length
 form_add_as_many [] = refl
 form_add_as_many (f ∷ fs) = ap suc (form_add_as_many fs)
 
-module _ (i : Interp Scope) (c : Around) where
+module _ (i : Interp Scope) (c : NodeContext) where
   -- a value is added
   abbrev pub ValueAdds : Relation Emission VForm
   ValueAdds k l v f = (n : ℕ) → Yields c n k v (code_v i f n) (labels_v f) l
@@ -137,7 +137,9 @@ module _ (i : Interp Scope) (c : Around) where
   -- a method of a value
   pub method_parts : (k a b : ℕ) (name : List ℕ) (v p : Emission) (f : VForm) (fs : VForms) → ValueAdds k a v f → PartsAdd (k + a) b p fs
       → PartsAdd k (a + b) (v ▸ emit_mangled op.LoadMethod name ▸ p) (VMethod (table.named_operation op.LoadMethod (mangled_by c.context name)) f fs)
-  method_parts k a b name v p f fs h g n = then_yields (h n) (after_these (mangled_adds op.LoadMethod name (λ y. Operate (table.named_operation op.LoadMethod y) 1 (Some 3)) method_adds c (n + labels_v f) (k + a)) (g (n + labels_v f)))
+  method_parts k a b name v p f fs h g n = then_yields (h n)
+      (after_these (mangled_adds op.LoadMethod name (λ y. Operate (table.named_operation op.LoadMethod y) 1 (Some 3)) method_adds c
+      (n + labels_v f) (k + a)) (g (n + labels_v f)))
 
   pub values_add : (k l : ℕ) (vs : List Emission) (fs : List VForm) → AllValuesAdd k l vs fs → PartsAdd k l (in_turn vs) (parts_of fs)
   values_add k l [] [] a n = scopes_as (sym a) (no_parts k n)

@@ -15,13 +15,14 @@ use Rattle.py_bytecode.specs.declared.instruction.OperandKind.TheVariants as kin
 use Rattle.py_bytecode.specs.Objects.{Const, Object}
 use Rattle.py_bytecode.specs.Equality.{const_eq, text_eq, insert_if_new}
 use Rattle.py_bytecode.specs.Values.{Value, Constant, It, ByName, Global, Load, Store, Delete, operation, Bare}
-use Rattle.py_bytecode.specs.Machine.{Instr, Push, Access, Append, Operate, Unpack, Pop, Duplicate, Duplicate2, Rotate2, Rotate3, Jump, JumpIf, JumpIfOrPop, SetupLoop, PopBlock, Break, Continue, ReturnConst, ReturnValue}
+use Rattle.py_bytecode.specs.Machine.{Instr, Push, Access, Append, Operate, Unpack, Pop, Duplicate, Duplicate2, Rotate2, Rotate3, Jump}
+use Rattle.py_bytecode.specs.Machine.{JumpIf, JumpIfOrPop, SetupLoop, PopBlock, Break, Continue, ReturnConst, ReturnValue}
 use Rattle.py_bytecode.specs.Decode.{Tables, instr_of, value_of, for_some, within}
 use Rattle.py_bytecode.proofs.Entered.{entered_stands, constant_stands}
 use Rattle.py_control.specs.Form.{Scope}
 use Rattle.py_control.specs.Code.{Do}
 use Rattle.py_emission_parts.specs.TableParts.{binary, binary_case, inplace, unary_operation, unary_case, conversion_case, comparison_operation, counted_operation, named_operation}
-use Rattle.py_emission_parts.specs.Emitting.{Around, Emission, emit, emit_count, emit_name, emit_constant, jump, place_in, with_name, with_constant}
+use Rattle.py_emission_parts.specs.Emitting.{NodeContext, Emission, emit, emit_count, emit_name, emit_constant, jump, place_in, with_name, with_constant}
 use Rattle.py_emission_parts.specs.Running.{run}
 use Rattle.py_emission_parts.specs.EmissionParts.{keeping_jump, testing_jump, emission_of_comparison}
 use Rattle.py_emission_proof.proofs.Additions.EmissionSequenceLemmas.{Yields, emission_sequence_yields}
@@ -99,8 +100,12 @@ count_adds i n x plain is c m k = emission_sequence_yields (λ s r b g z e.
     emit_step i n x s r plain (λ d t h. is d t (search (rules, q.0))) q.1)
 
 -- it takes so many values, and gives one
-takes_adds : (i : Instruction) (n m p : ℕ) → ((t : Tables) → instr_of {P = ℕ} t None i n ≡ within kind.Count n (Operate (counted_operation i n) m (Some 1))) → m ≡ p → StepAdds (emit_count i n) (Operate (counted_operation i n) p (Some 1))
-takes_adds i n m p is same = count_adds i n (Operate (counted_operation i n) p (Some 1)) (refl, refl) (λ d t h. is t ∙ instruction_chosen (nat_lt n (2 ^ 30)) (Operate (counted_operation i n) m (Some 1)) (search (rules, h)) ∙ ap (λ z. Some (Operate (counted_operation i n) z (Some 1))) same)
+takes_adds : (i : Instruction) (n m p : ℕ)
+    → ((t : Tables) → instr_of {P = ℕ} t None i n ≡ within kind.Count n (Operate (counted_operation i n) m (Some 1))) → m ≡ p
+    → StepAdds (emit_count i n) (Operate (counted_operation i n) p (Some 1))
+takes_adds i n m p is same = count_adds i n (Operate (counted_operation i n) p (Some 1)) (refl, refl)
+    (λ d t h. is t ∙ instruction_chosen (nat_lt n (2 ^ 30)) (Operate (counted_operation i n) m (Some 1)) (search (rules, h))
+    ∙ ap (λ z. Some (Operate (counted_operation i n) z (Some 1))) same)
 
 -- an instruction that builds one value of as many as it counts
 abbrev pub Builds : Instruction → Type 0
@@ -150,21 +155,28 @@ keyword_method_adds n = takes_adds op.CallMethodKeyword n (n + 4) (3 + suc n) (�
 
 -- with one tuple of arguments, and one map of keywords where n is 1
 pub spread_call_adds : (n : ℕ) → n < 2 → StepAdds (emit_count op.CallFunctionEx n) (Operate (counted_operation op.CallFunctionEx n) (suc (suc n)) (Some 1))
-spread_call_adds n few = count_adds op.CallFunctionEx n (Operate (counted_operation op.CallFunctionEx n) (suc (suc n)) (Some 1)) (refl, refl) (λ d t h. instruction_chosen (nat_lt n 2) (Operate (counted_operation op.CallFunctionEx n) (n + 2) (Some 1)) (search (rules, few)) ∙ ap (λ z. Some (Operate (counted_operation op.CallFunctionEx n) z (Some 1))) (omega arith))
+spread_call_adds n few = count_adds op.CallFunctionEx n (Operate (counted_operation op.CallFunctionEx n) (suc (suc n)) (Some 1))
+    (refl, refl) (λ d t h. instruction_chosen (nat_lt n 2) (Operate (counted_operation op.CallFunctionEx n) (n + 2) (Some 1))
+    (search (rules, few)) ∙ ap (λ z. Some (Operate (counted_operation op.CallFunctionEx n) z (Some 1))) (omega arith))
 
 pub spread_method_adds : (n : ℕ) → n < 2 → StepAdds (emit_count op.CallMethodEx n) (Operate (counted_operation op.CallMethodEx n) (3 + suc n) (Some 1))
-spread_method_adds n few = count_adds op.CallMethodEx n (Operate (counted_operation op.CallMethodEx n) (3 + suc n) (Some 1)) (refl, refl) (λ d t h. instruction_chosen (nat_lt n 2) (Operate (counted_operation op.CallMethodEx n) (n + 4) (Some 1)) (search (rules, few)) ∙ ap (λ z. Some (Operate (counted_operation op.CallMethodEx n) z (Some 1))) (omega arith))
+spread_method_adds n few = count_adds op.CallMethodEx n (Operate (counted_operation op.CallMethodEx n) (3 + suc n) (Some 1)) (refl, refl)
+    (λ d t h. instruction_chosen (nat_lt n 2) (Operate (counted_operation op.CallMethodEx n) (n + 4) (Some 1)) (search (rules, few))
+    ∙ ap (λ z. Some (Operate (counted_operation op.CallMethodEx n) z (Some 1))) (omega arith))
 
 -- a value is unpacked to as many
 pub unpack_adds : (n : ℕ) → StepAdds (emit_count op.UnpackSequence n) (Unpack (counted_operation op.UnpackSequence n) n)
-unpack_adds n = count_adds op.UnpackSequence n (Unpack (counted_operation op.UnpackSequence n) n) (refl, refl) (λ d t h. instruction_chosen (nat_lt n (2 ^ 30)) (Unpack (counted_operation op.UnpackSequence n) n) (search (rules, h)))
+unpack_adds n = count_adds op.UnpackSequence n (Unpack (counted_operation op.UnpackSequence n) n) (refl, refl)
+    (λ d t h. instruction_chosen (nat_lt n (2 ^ 30)) (Unpack (counted_operation op.UnpackSequence n) n) (search (rules, h)))
 
 -- to so many before a star, so many after it, and a list of the others
 pub unpack_star_adds : (x y n : ℕ) → n ≡ x + 256 * y → x < 256 → y < 256 → StepAdds (emit op.UnpackEx n) (Unpack (counted_operation op.UnpackEx n) (x + y + 1))
 unpack_star_adds x y n is below after =
     let small : n < 2 ^ 16 = omega (arith, is, below, after) in
     let many : n % 256 + n / 256 + 1 ≡ x + y + 1 = omega (arith, is, below, after) in
-    emit_adds op.UnpackEx n (Unpack (counted_operation op.UnpackEx n) (x + y + 1)) (refl, refl) (λ d t. instruction_chosen (nat_lt n (2 ^ 16)) (Unpack (counted_operation op.UnpackEx n) (n % 256 + n / 256 + 1)) (search (rules, small)) ∙ ap (λ z. Some (Unpack (counted_operation op.UnpackEx n) z)) many)
+    emit_adds op.UnpackEx n (Unpack (counted_operation op.UnpackEx n) (x + y + 1)) (refl, refl)
+    (λ d t. instruction_chosen (nat_lt n (2 ^ 16)) (Unpack (counted_operation op.UnpackEx n) (n % 256 + n / 256 + 1))
+    (search (rules, small)) ∙ ap (λ z. Some (Unpack (counted_operation op.UnpackEx n) z)) many)
 
 -- what makes an empty collection
 abbrev pub MakesEmpty : Instruction → Type 0
@@ -184,13 +196,16 @@ abbrev pub Appends : Instruction → (values : ℕ) → Type 0
 Appends i m = (n : ℕ) → n < 2 ^ 30 → StepAdds (emit i n) (Append (operation i Bare) m n)
 
 pub list_appends : Appends op.ListAppend 1
-list_appends n few = emit_adds op.ListAppend n (Append (operation op.ListAppend Bare) 1 n) (refl, refl) (λ d t. instruction_chosen (nat_lt n (2 ^ 30)) (Append (operation op.ListAppend Bare) 1 n) (search (rules, few)))
+list_appends n few = emit_adds op.ListAppend n (Append (operation op.ListAppend Bare) 1 n) (refl, refl)
+    (λ d t. instruction_chosen (nat_lt n (2 ^ 30)) (Append (operation op.ListAppend Bare) 1 n) (search (rules, few)))
 
 pub set_appends : Appends op.SetAdd 1
-set_appends n few = emit_adds op.SetAdd n (Append (operation op.SetAdd Bare) 1 n) (refl, refl) (λ d t. instruction_chosen (nat_lt n (2 ^ 30)) (Append (operation op.SetAdd Bare) 1 n) (search (rules, few)))
+set_appends n few = emit_adds op.SetAdd n (Append (operation op.SetAdd Bare) 1 n) (refl, refl)
+    (λ d t. instruction_chosen (nat_lt n (2 ^ 30)) (Append (operation op.SetAdd Bare) 1 n) (search (rules, few)))
 
 pub map_appends : Appends op.MapAdd 2
-map_appends n few = emit_adds op.MapAdd n (Append (operation op.MapAdd Bare) 2 n) (refl, refl) (λ d t. instruction_chosen (nat_lt n (2 ^ 30)) (Append (operation op.MapAdd Bare) 2 n) (search (rules, few)))
+map_appends n few = emit_adds op.MapAdd n (Append (operation op.MapAdd Bare) 2 n) (refl, refl)
+    (λ d t. instruction_chosen (nat_lt n (2 ^ 30)) (Append (operation op.MapAdd Bare) 2 n) (search (rules, few)))
 
 -- a conversion
 reads_conversion : (c : ConversionFlag) (t : Tables) (to : Option ℕ)
@@ -209,7 +224,10 @@ pub named_adds : (i : Instruction) (x : List ℕ) (f : List ℕ → Instr Scope 
 unfolding emit_name emit with_name
 named_adds i x f plain is c m k = emission_sequence_yields (λ s r h g z e.
     let n = place_in text_eq s.names x in
-    adds_named x s r _ 0 0 (emit_step i n (f x) (with_name x s) r plain (λ d t b. is d t n ∙ ap (λ y. for_some y (λ w. instr_as d (f w))) (entry_stays (insert_if_new text_eq s.names x) b.names t.names n x (entered_stands text_eq text_eq_sound s.names x) b.names_are)) e))
+    adds_named x s r _ 0 0 (emit_step i n (f x) (with_name x s) r plain
+    (λ d t b. is d t n ∙ ap (λ y. for_some y (λ w. instr_as d (f w)))
+    (entry_stays (insert_if_new text_eq s.names x) b.names t.names n x (entered_stands text_eq text_eq_sound s.names x) b.names_are))
+    e))
 
 -- a name is loaded
 pub name_adds : (x : List ℕ) → StepAdds (emit_name op.LoadNameAny x) (Access ByName Load x 0)
@@ -256,7 +274,10 @@ entered_adds : (i : Instruction) (d : Const) (f : Value Object → Instr Object 
 unfolding emit_constant emit with_constant
 entered_adds i d f x plain v is same c m k = emission_sequence_yields (λ s r h g z e.
     let n = place_in const_eq s.constants d in
-    adds_constant d v s r _ 0 0 (emit_step i n x (with_constant d s) r plain (λ a t b. is t n ∙ ap (λ y. for_some y (λ w. f (value_of w))) (entry_stays (insert_if_new const_eq s.constants d) b.constants t.constants n d (constant_stands s.constants d) b.constants_are) ∙ ap (λ w. Some (f w)) v ∙ ap Some (same a)) e))
+    adds_constant d v s r _ 0 0 (emit_step i n x (with_constant d s) r plain
+    (λ a t b. is t n ∙ ap (λ y. for_some y (λ w. f (value_of w)))
+    (entry_stays (insert_if_new const_eq s.constants d) b.constants t.constants n d (constant_stands s.constants d) b.constants_are)
+    ∙ ap (λ w. Some (f w)) v ∙ ap Some (same a)) e))
 
 pub constant_adds : (d : Const) → value_of d ≡ Constant d → StepAdds (emit_constant op.LoadConst d) (Push (It (Constant d)))
 constant_adds d v = entered_adds op.LoadConst d (λ w. Push (It w)) (Push (It (Constant d))) (refl, refl) v (λ t n. refl) (λ e. refl)
@@ -266,7 +287,7 @@ return_adds d v = entered_adds op.ReturnConst d ReturnConst (ReturnConst (Consta
 
 -- jumps
 abbrev pub JumpAdds : (ℕ → Emission) → (ℕ → Instr Scope ℕ) → Type 0
-JumpAdds v x = (b : ℕ) (c : Around) (n k : ℕ) → b < n → Yields c n k (v b) (Do (x b) ∷ []) 0 0
+JumpAdds v x = (b : ℕ) (c : NodeContext) (n k : ℕ) → b < n → Yields c n k (v b) (Do (x b) ∷ []) 0 0
 
 pub testing_adds : (t : Bool) → JumpAdds (jump (testing_jump t)) (JumpIf t)
 testing_adds true b = jump_adds op.JumpIfTrue b (JumpIf true b) (refl, refl) refl (λ d t. refl)

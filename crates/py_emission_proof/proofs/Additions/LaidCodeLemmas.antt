@@ -110,7 +110,15 @@ module _ (t : Tables) (bs : List Blk) where
       let same : d ≡ c = cc in
       let named : c ≡ l = sym same ∙ r.0 in
       let rest = k items (subst (λ n. AllRead t (go n) items) same r.1) in
-      record { place = rest.place; laid = (long_at b, laid_code_next_at bs b (Some l) (e ∙ ap Some named), subst (λ n. Laid t (coded_blocks bs) items (Of n 0) rest.place) named rest.laid); ends = rest.ends }
+      record {
+        place = rest.place;
+        laid = (
+          long_at b,
+          laid_code_next_at bs b (Some l) (e ∙ ap Some named),
+          subst (λ n. Laid t (coded_blocks bs) items (Of n 0) rest.place) named rest.laid,
+        );
+        ends = rest.ends;
+      }
 
   inside_next : (c : ℕ) (o : Option ℕ) (go : ℕ → List Step) → o ≡ Some c → AllInside (length bs) (onwards o go) → AllInside (length bs) (go c)
   inside_next c None go e h = absurd cc
@@ -124,7 +132,9 @@ module _ (t : Tables) (bs : List Blk) where
       let xs : List Step = map step_of (blk bs c).items in
       let ys : List Step = onwards (blk bs c).next (steps_from bs n) in
       let p = laid_code_parted t xs ys items r in
-      lay_joined items p.front p.back (Of c 0) (Of c (length (blk bs c).items)) p.are (lay_block c p.front p.first (inside_front (length bs) xs ys h)) (lay_end c (blk bs c).next (steps_from bs n) p.back leads leads p.second)
+      lay_joined items p.front p.back (Of c 0) (Of c (length (blk bs c).items)) p.are
+      (lay_block c p.front p.first (inside_front (length bs) xs ys h))
+      (lay_end c (blk bs c).next (steps_from bs n) p.back leads leads p.second)
   lay (suc n) c (d ∷ cs) items leads enough r h =
       let xs : List Step = map step_of (blk bs c).items in
       let ys : List Step = onwards (blk bs c).next (steps_from bs n) in

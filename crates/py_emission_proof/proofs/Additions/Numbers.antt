@@ -6,7 +6,7 @@ use Rattle.py_bytecode.specs.Table.{row_of}
 use Rattle.py_bytecode.specs.Objects.{Object}
 use Rattle.py_bytecode.specs.Decode.{Tables}
 use Rattle.py_dataflow.specs.declared.info.InstructionInfo.{InstructionInfo}
-use Rattle.py_ir.specs.Chain.{Blk, blk, cut, body, flat}
+use Rattle.py_ir.specs.Chain.{Blk, blk, without_unreachable, body, flat}
 use Rattle.py_control.specs.Code.{Item, Do, Label, size}
 use Rattle.py_emission_parts.specs.Emitting.{Step}
 use Rattle.py_control_proof.proofs.Moves.{size-append}
@@ -22,11 +22,11 @@ read_size t (x ∷ xs) [] r = absurd r
 read_size t (x ∷ xs) (Do i ∷ items) r = ap suc (read_size t xs items r.1)
 read_size t (x ∷ xs) (Label l ∷ items) r = absurd r.0
 
-cut_short : (xs : List InstructionInfo) → length (cut xs) ≤ length xs
+cut_short : (xs : List InstructionInfo) → length (without_unreachable xs) ≤ length xs
 cut_short [] = omega arith
 cut_short (x ∷ xs) = go (row_of x.instr).leaves (cut_short xs)
   where
-    go : (b : Bool) → length (cut xs) ≤ length xs → length (if b then x ∷ [] else (x ∷ cut xs)) ≤ length (x ∷ xs)
+    go : (b : Bool) → length (without_unreachable xs) ≤ length xs → length (if b then x ∷ [] else (x ∷ without_unreachable xs)) ≤ length (x ∷ xs)
     go true h = omega arith
     go false h = omega (arith, h)
 
@@ -57,7 +57,8 @@ module _ (t : Tables) (level : ℕ) (bs : List Blk) where
       → length (flat level bs (c ∷ cs)) ≤ size items
   left_of_chain zero c cs items leads enough r = absurd (omega (arith, enough))
   left_of_chain (suc n) c [] items leads enough r =
-      numbers_joined (blk bs c).items (onwards (blk bs c).next (steps_from bs n)) [] items (laid_code_parted t (map step_of (blk bs c).items) (onwards (blk bs c).next (steps_from bs n)) items r) (omega arith)
+      numbers_joined (blk bs c).items (onwards (blk bs c).next (steps_from bs n)) [] items
+      (laid_code_parted t (map step_of (blk bs c).items) (onwards (blk bs c).next (steps_from bs n)) items r) (omega arith)
   left_of_chain (suc n) c (d ∷ cs) items leads enough r =
       let p = laid_code_parted t (map step_of (blk bs c).items) (onwards (blk bs c).next (steps_from bs n)) items r in
       numbers_joined (blk bs c).items (onwards (blk bs c).next (steps_from bs n)) (flat level bs (d ∷ cs)) items p

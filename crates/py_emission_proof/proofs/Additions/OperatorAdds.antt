@@ -13,34 +13,39 @@ use Rattle.py_bytecode.specs.Values.{flip}
 use Rattle.py_control.specs.Form.{Interp, Scope, VForm, VOp, VChoice, VAt, VMore, VNone, TTruth}
 use Rattle.py_control.specs.Code.{Item, Label, code_v, labels_v, labels_t, labels_ts, labels_ss, labels_ls, code_t, code_ts, code_ss, code_ls, link_code}
 use Rattle.py_emission_parts.specs.TableParts as table
-use Rattle.py_emission_parts.specs.TableParts.{ExprForms, no_operand, shorts_of, part_test, tests_of, bool_forms, unary_forms, links_of, compare_form, deciding_truth, unary_operation, comparison_operation}
+use Rattle.py_emission_parts.specs.TableParts.{ExprForms, no_operand, shorts_of, part_test, tests_of, bool_forms, unary_forms, links_of}
+use Rattle.py_emission_parts.specs.TableParts.{compare_form, deciding_truth, unary_operation, comparison_operation}
 use Rattle.py_base.specs.declared.errors.CodegenErrorType.{CodegenErrorType}
 use Rattle.py_base.specs.declared.errors.CodegenErrorType.TheVariants as error
 use Rattle.py_emission_parts.specs.EmissionParts as emitting
-use Rattle.py_emission_parts.specs.Emitting.{Around, Emission, ◌▸◌, refuse, emit, jump, keep, move}
-use Rattle.py_emission_parts.specs.EmissionParts.{Emissions, in_turn, shorts, bool_value, tests, bool_test, bool_emissions, unary_value, unary_emissions, emission_of_comparison, emission_of_link, links, chain, comparisons, emission_of_compare, choice}
-use Rattle.py_emission_proof.proofs.Additions.EmissionSequenceLemmas.{Gives, Yields, after_these, gives_as, items_so, keep_yields, moved_gives, moved_refused, never_on, one_ends, refused_gives, scopes_as, so, then_keep, then_these, then_yields, two_give}
+use Rattle.py_emission_parts.specs.Emitting.{NodeContext, Emission, ◌▸◌, refuse, emit, jump, keep, move}
+use Rattle.py_emission_parts.specs.EmissionParts.{Emissions, in_turn, shorts, bool_value, tests, bool_test, bool_emissions, unary_value}
+use Rattle.py_emission_parts.specs.EmissionParts.{unary_emissions, emission_of_comparison, emission_of_link, links, chain, comparisons}
+use Rattle.py_emission_parts.specs.EmissionParts.{emission_of_compare, choice}
+use Rattle.py_emission_proof.proofs.Additions.EmissionSequenceLemmas.{Gives, Yields, after_these, gives_as, items_so, keep_yields}
+use Rattle.py_emission_proof.proofs.Additions.EmissionSequenceLemmas.{moved_gives, moved_refused, never_on, one_ends, refused_gives}
+use Rattle.py_emission_proof.proofs.Additions.EmissionSequenceLemmas.{scopes_as, so, then_keep, then_these, then_yields, two_give}
 use Rattle.py_emission_proof.proofs.Additions.Instructions.{unary_adds, comparison_adds, keeping_adds, duplicate_adds, rotate_two_adds, rotate_three_adds, pop_adds, going_adds, return_value_adds}
 use Rattle.py_emission_proof.proofs.Additions.Shapes.{choice_gives}
 use Rattle.py_emission_proof.proofs.Additions.FormAdds.{ValueAdds, TestAdds, ReturnAdds, AddsForms, AllAddForms, IsPushed, ordinary_adds, pushed_adds, truth_adds, moved_adds, one_adds, two_add}
 
 -- where it is not refused, this is added
-pub if_not_gives : {c : Around} {n k : ℕ} {v : Emission} {p : List (Item Scope)} {m l : ℕ} {P : Type 0} (b : Bool) (e : CodegenErrorType)
+pub if_not_gives : {c : NodeContext} {n k : ℕ} {v : Emission} {p : List (Item Scope)} {m l : ℕ} {P : Type 0} (b : Bool) (e : CodegenErrorType)
     → (b ≡ false → Gives c n k v p m l P) → Gives c n k (if b then refuse e else v) p m l P
 if_not_gives true e h = refused_gives e
 if_not_gives false e h = h refl
 
-pub if_gives : {c : Around} {n k : ℕ} {v : Emission} {p : List (Item Scope)} {m l : ℕ} {P : Type 0} (b : Bool) (e : CodegenErrorType)
+pub if_gives : {c : NodeContext} {n k : ℕ} {v : Emission} {p : List (Item Scope)} {m l : ℕ} {P : Type 0} (b : Bool) (e : CodegenErrorType)
     → (b ≡ true → Gives c n k v p m l P) → Gives c n k (if b then v else refuse e) p m l P
 if_gives true e h = h refl
 if_gives false e h = refused_gives e
 
-either_gives : {c : Around} {n k : ℕ} {p : List (Item Scope)} {m l : ℕ} {P : Type 0} (b : Bool) (v w : Emission) → (b ≡ true → Gives c n k v p m l P)
+either_gives : {c : NodeContext} {n k : ℕ} {p : List (Item Scope)} {m l : ℕ} {P : Type 0} (b : Bool) (v w : Emission) → (b ≡ true → Gives c n k v p m l P)
     → (b ≡ false → Gives c n k w p m l P) → Gives c n k (if b then v else w) p m l P
 either_gives true v w h g = h refl
 either_gives false v w h g = g refl
 
-module _ (i : Interp Scope) (c : Around) where
+module _ (i : Interp Scope) (c : NodeContext) where
   -- `and` and `or`
   shorts_add : (d : BoolOp) (end : ℕ) (k a b : ℕ) (x : Emissions) (f : ExprForms) (es : List Emissions) (fs : List ExprForms) → AddsForms i c k a x f
       → AllAddForms i c (k + a) b es fs → (n : ℕ) → end < n
@@ -50,7 +55,9 @@ module _ (i : Interp Scope) (c : Around) where
   shorts_add d end k a b x f (y ∷ ys) [] h g n lt = absurd g
   shorts_add d end k a b x f (y ∷ ys) (z ∷ gs) h g n lt =
       let e = g.2 in
-      scopes_as (omega (arith, e)) (then_yields (h.value n) (after_these (keeping_adds (deciding_truth d) end c (n + labels_v f.value) (k + a) (omega (arith, lt))) (shorts_add d end (k + a) g.0 g.1 y z ys gs g.3 g.4 (n + labels_v f.value) (omega (arith, lt)))))
+      scopes_as (omega (arith, e)) (then_yields (h.value n)
+      (after_these (keeping_adds (deciding_truth d) end c (n + labels_v f.value) (k + a) (omega (arith, lt)))
+      (shorts_add d end (k + a) g.0 g.1 y z ys gs g.3 g.4 (n + labels_v f.value) (omega (arith, lt)))))
 
   abbrev operator_add_turned : BoolOp → Bool → Bool
   operator_add_turned And t = t
@@ -75,12 +82,16 @@ module _ (i : Interp Scope) (c : Around) where
   tests_add d out t to k a b x f (y ∷ ys) [] h g n lt le = absurd g
   tests_add d out t to k a b x f (y ∷ ys) (z ∷ gs) h g n lt le =
       let e = g.2 in
-      scopes_as (omega (arith, e)) (then_yields (stop_adds d k a x f h out n lt) (tests_add d out t to (k + a) g.0 g.1 y z ys gs g.3 g.4 (n + labels_t (part_test d f.test) false) (omega (arith, lt)) (omega (arith, le))))
+      scopes_as (omega (arith, e)) (then_yields (stop_adds d k a x f h out n lt)
+      (tests_add d out t to (k + a) g.0 g.1 y z ys gs g.3 g.4 (n + labels_t (part_test d f.test) false) (omega (arith, lt))
+      (omega (arith, le))))
 
   -- the tests where a value that decides goes past the others
   past_adds : (d : BoolOp) (t : Bool) (to k a b : ℕ) (x : Emissions) (f : ExprForms) (es : List Emissions) (fs : List ExprForms) → AddsForms i c k a x f
       → AllAddForms i c (k + a) b es fs → (n : ℕ) → to < n
-      → Yields c n k (emitting.past_tests (deciding_truth d) t (x ∷ es) to) (code_ts i (tests_of d f fs) (operator_add_turned d t) to n (1 + n) ++ Label n ∷ []) (1 + labels_ts (tests_of d f fs) (operator_add_turned d t)) (a + b)
+      → Yields c n k (emitting.past_tests (deciding_truth d) t (x ∷ es) to)
+      (code_ts i (tests_of d f fs) (operator_add_turned d t) to n (1 + n) ++ Label n ∷ [])
+      (1 + labels_ts (tests_of d f fs) (operator_add_turned d t)) (a + b)
   past_adds d t to k a b x f es fs h g n lt =
       one_ends (λ end. tests (deciding_truth d) end t to (x ∷ es)) (tests_add d n t to k a b x f es fs h g (1 + n) (omega arith) (omega (arith, lt)))
 
@@ -106,13 +117,17 @@ module _ (i : Interp Scope) (c : Around) where
   bool_adds k l at d (x ∷ es) (f ∷ fs) a =
       let none = nat_eq (length (x ∷ es)) 0 in
       let same : a.0 + a.1 ≡ l = sym a.2 in
-      let value = moved_adds i c k l at (bool_value d (x ∷ es)) (bool_forms at d (f ∷ fs)).value (λ n. if_not_gives none (error.MalformedTree shape.NoOperand) (λ e. scopes_as same (some_values_add at d k a.0 a.1 x f es fs a.3 a.4 n))) in
+      let value = moved_adds i c k l at (bool_value d (x ∷ es)) (bool_forms at d (f ∷ fs)).value
+      (λ n. if_not_gives none (error.MalformedTree shape.NoOperand)
+      (λ e. scopes_as same (some_values_add at d k a.0 a.1 x f es fs a.3 a.4 n))) in
       ordinary_adds i c k l (move at ▸ bool_value d (x ∷ es)) (bool_test d (x ∷ es)) (bool_forms at d (f ∷ fs)).value (bool_forms at d (f ∷ fs)).test value
       (λ t to n lt. if_not_gives none (error.MalformedTree shape.NoOperand) (λ e. scopes_as same (some_test_adds at d k a.0 a.1 x f es fs a.3 a.4 t to n lt)))
       (pushed_adds i c k l (move at ▸ bool_value d (x ∷ es)) (bool_forms at d (f ∷ fs)).value (λ n. refl) value)
 
   unary_value_adds : (k l : ℕ) (at : SourceLocation) (u : UnaryOp) (x : Emissions) (f : ExprForms) → AddsForms i c k l x f → ValueAdds i c k l (unary_value at u x) (unary_forms at u f).value
-  unary_value_adds k l at u x f h = moved_adds i c k l at (x.value ▸ emit op.UnaryOperation (table.unary_case u)) (VOp (unary_operation u) (VMore f.value VNone)) (one_adds i c k l (unary_operation u) x.value (emit op.UnaryOperation (table.unary_case u)) f.value h.value (unary_adds u c))
+  unary_value_adds k l at u x f h = moved_adds i c k l at (x.value ▸ emit op.UnaryOperation (table.unary_case u))
+      (VOp (unary_operation u) (VMore f.value VNone))
+      (one_adds i c k l (unary_operation u) x.value (emit op.UnaryOperation (table.unary_case u)) f.value h.value (unary_adds u c))
 
   unary_test_adds : (k l : ℕ) (at : SourceLocation) (u : UnaryOp) (x : Emissions) (f : ExprForms) → AddsForms i c k l x f → TestAdds i c k l (emitting.unary_test at u x) (table.unary_test at u f)
   unary_test_adds k l at unary.Not x f h = λ t to n lt. h.test (flip t) to n lt
@@ -123,7 +138,8 @@ module _ (i : Interp Scope) (c : Around) where
   pub unary_forms_add : (k l : ℕ) (at : SourceLocation) (u : UnaryOp) (x : Emissions) (f : ExprForms) → AddsForms i c k l x f → AddsForms i c k l (unary_emissions at u x) (unary_forms at u f)
   unary_forms_add k l at u x f h =
       let value = unary_value_adds k l at u x f h in
-      ordinary_adds i c k l (unary_value at u x) (emitting.unary_test at u x) (unary_forms at u f).value (table.unary_test at u f) value (unary_test_adds k l at u x f h) (pushed_adds i c k l (unary_value at u x) (unary_forms at u f).value (λ n. refl) value)
+      ordinary_adds i c k l (unary_value at u x) (emitting.unary_test at u x) (unary_forms at u f).value (table.unary_test at u f) value
+      (unary_test_adds k l at u x f h) (pushed_adds i c k l (unary_value at u x) (unary_forms at u f).value (λ n. refl) value)
 
   -- comparisons
   link_adds : (o : CmpOp) (out n k : ℕ) → out < n → Yields c n k (emission_of_link o out) (link_code (comparison_operation o) out) 0 0
@@ -141,7 +157,9 @@ module _ (i : Interp Scope) (c : Around) where
   links_add out o (p ∷ ops) k a b x f (y ∷ ys) (w ∷ gs) z h g n lt =
       let m = n + labels_v f.value in
       let e = g.2 in
-      scopes_as (omega (arith, e)) (then_yields (h.value n) (after_these (link_adds o out m (k + a) (omega (arith, lt))) (links_add out p ops (k + a) g.0 g.1 y w ys gs (omega (arith, z)) g.3 g.4 m (omega (arith, lt)))))
+      scopes_as (omega (arith, e)) (then_yields (h.value n)
+      (after_these (link_adds o out m (k + a) (omega (arith, lt)))
+      (links_add out p ops (k + a) g.0 g.1 y w ys gs (omega (arith, z)) g.3 g.4 m (omega (arith, lt)))))
 
   chain_adds : (k x1 y1 z1 w1 : ℕ) (x : Emissions) (f : ExprForms) (o p : CmpOp) (ops : List CmpOp) (y z : Emissions) (g h : ExprForms) (es : List Emissions) (fs : List ExprForms)
       → length ops ≡ length es → AddsForms i c k x1 x f → AddsForms i c (k + x1) y1 y g → AddsForms i c (k + x1 + y1) z1 z h
@@ -150,7 +168,9 @@ module _ (i : Interp Scope) (c : Around) where
   chain_adds k x1 y1 z1 w1 x f o p ops y z g h es fs even hx hy hz a n =
       gives_as (simp append_assoc) (omega arith) (omega arith)
       (so (λ h. tt) (two_give (λ out end. x.value ▸ links out (o ∷ p ∷ ops) (y ∷ z ∷ es) ▸ jump op.Jump end) (λ out end. emit op.Rotate2 0 ▸ emit op.Pop 0) (λ out end. keep)
-      (then_yields (hx.value (2 + n)) (then_these (links_add n o (p ∷ ops) (k + x1) y1 (z1 + w1) y g (z ∷ es) (h ∷ fs) (omega (arith, even)) hy (z1, w1, refl, hz, a) (2 + n + labels_v f.value) (omega arith)) (going_adds (1 + n) c _ _ (omega arith))))
+      (then_yields (hx.value (2 + n))
+      (then_these (links_add n o (p ∷ ops) (k + x1) y1 (z1 + w1) y g (z ∷ es) (h ∷ fs) (omega (arith, even)) hy (z1, w1, refl, hz, a)
+      (2 + n + labels_v f.value) (omega arith)) (going_adds (1 + n) c _ _ (omega arith))))
       (after_these (rotate_two_adds c _ _) (pop_adds c _ _)) keep_yields))
 
   -- one comparison, or more
@@ -163,7 +183,12 @@ module _ (i : Interp Scope) (c : Around) where
   compared_adds k a b x f (o ∷ []) (y ∷ []) (w ∷ []) some even h g n =
       let d = g.2 in
       let z = g.4 in
-      either_gives (nat_lt 1 (length (o ∷ []))) (chain x.value (o ∷ []) (y ∷ [])) (x.value ▸ in_turn (emitting.values (y ∷ [])) ▸ emission_of_comparison o) (λ e. absurd {0} (let u : 1 < length (o ∷ []) = search (rules, e) in omega (arith, u))) (λ e. scopes_as (omega (arith, d, z)) (two_add i c k a g.0 (comparison_operation o) x.value (in_turn (emitting.values (y ∷ []))) (emission_of_comparison o) f.value w.value h.value (λ j. then_keep (g.3.value j)) (comparison_adds o c) n))
+      either_gives (nat_lt 1 (length (o ∷ []))) (chain x.value (o ∷ []) (y ∷ []))
+      (x.value ▸ in_turn (emitting.values (y ∷ [])) ▸ emission_of_comparison o)
+      (λ e. absurd {0} (let u : 1 < length (o ∷ []) = search (rules, e) in omega (arith, u)))
+      (λ e. scopes_as (omega (arith, d, z))
+      (two_add i c k a g.0 (comparison_operation o) x.value (in_turn (emitting.values (y ∷ [])))
+      (emission_of_comparison o) f.value w.value h.value (λ j. then_keep (g.3.value j)) (comparison_adds o c) n))
   compared_adds k a b x f (o ∷ []) (y ∷ []) (w ∷ j ∷ gs) some even h g n = absurd g.4
   compared_adds k a b x f (o ∷ []) (y ∷ z ∷ es) (w ∷ gs) some even h g n = absurd (omega (arith, even))
   compared_adds k a b x f (o ∷ p ∷ ops) (y ∷ []) (w ∷ gs) some even h g n = absurd (omega (arith, even))
@@ -171,7 +196,11 @@ module _ (i : Interp Scope) (c : Around) where
   compared_adds k a b x f (o ∷ p ∷ ops) (y ∷ z ∷ es) (w ∷ j ∷ gs) some even h g n =
       let d = g.2 in
       let q = g.4.2 in
-      either_gives (nat_lt 1 (length (o ∷ p ∷ ops))) (chain x.value (o ∷ p ∷ ops) (y ∷ z ∷ es)) (x.value ▸ in_turn (emitting.values (y ∷ z ∷ es)) ▸ emission_of_comparison o) (λ e. scopes_as (omega (arith, d, q)) (chain_adds k a g.0 g.4.0 g.4.1 x f o p ops y z w j es gs (omega (arith, even)) h g.3 g.4.3 g.4.4 n)) (λ e. absurd {0} (let u : ¬ (1 < length (o ∷ p ∷ ops)) = search (rules, e) in u (omega arith)))
+      either_gives (nat_lt 1 (length (o ∷ p ∷ ops))) (chain x.value (o ∷ p ∷ ops) (y ∷ z ∷ es))
+      (x.value ▸ in_turn (emitting.values (y ∷ z ∷ es)) ▸ emission_of_comparison o)
+      (λ e. scopes_as (omega (arith, d, q))
+      (chain_adds k a g.0 g.4.0 g.4.1 x f o p ops y z w j es gs (omega (arith, even)) h g.3 g.4.3 g.4.4 n))
+      (λ e. absurd {0} (let u : ¬ (1 < length (o ∷ p ∷ ops)) = search (rules, e) in u (omega arith)))
 
   pub compare_adds : (k a b : ℕ) (x : Emissions) (f : ExprForms) (ops : List CmpOp) (es : List Emissions) (fs : List ExprForms) → AddsForms i c k a x f
       → AllAddForms i c (k + a) b es fs → ValueAdds i c k (a + b) (emission_of_compare x.value ops es) (compare_form f.value ops fs)

@@ -1,4 +1,4 @@
--- No more instructions of a code can be come to than there are units of the blocks that it lies in.
+-- No more instructions of a code can be reached than there are units of the blocks that it lies in.
 use Rattle.std.proofs.Common.{◌≡◌, ℕ, zero, suc, ◌+◌, ◌≤◌, ◌^◌, ◌*◌, ◌%◌, List, [], ◌∷◌, ◌++◌, length, map, Bool, true, false, Option, Some, None, refl, ap, subst, arith}
 use Rattle.std.specs.Prelude.{if◌then◌else◌}
 use Rattle.std.proofs.lemmas.List.{length-append, length-map}
@@ -11,9 +11,9 @@ use Rattle.py_bytecode.specs.Decode.{Tables}
 use Rattle.py_bytecode.specs.Units.{is_prefix}
 use Rattle.py_dataflow.specs.declared.info.InstructionInfo.{InstructionInfo}
 use Rattle.py_layout.specs.Written.{IsAssembled, decode, operand_in, reads}
-use Rattle.py_ir.specs.Chain.{Blk, blk, block_number, cut, body, flat}
+use Rattle.py_ir.specs.Chain.{Blk, blk, block_number, without_unreachable, body, flat}
 use Rattle.py_control.specs.Code.{Item, Do, Label}
-use Rattle.py_control_proof.specs.Live.{stays, live}
+use Rattle.py_control_proof.specs.Reachable.{stays, reachable_count}
 use Rattle.py_emission_parts.specs.Emitting.{Step}
 use Rattle.py_control_proof.proofs.Stays.{stays_row}
 use Rattle.py_emit.specs.Steps.{step_of, onwards, steps_from}
@@ -21,15 +21,15 @@ use Rattle.py_emission_proof.proofs.Additions.AddedCodeLemmas.{AllRead}
 use Rattle.py_emit.proofs.Chains.{ChainLeads}
 use Rattle.py_emission_proof.proofs.Additions.LaidCodeLemmas.{laid_code_parted}
 
--- whether the first can be come to makes no difference where there is none, or a label stands before it
+-- whether the first can be reached makes no difference where there is none, or a label stands before it
 abbrev Fresh : List (Item Object) → Type 0
-Fresh items = (b : Bool) → live b items ≡ live true items
+Fresh items = (b : Bool) → reachable_count b items ≡ reachable_count true items
 
-live_joined : (b : Bool) (front back : List (Item Object)) → Fresh back → live b (front ++ back) ≡ live b front + live true back
-live_joined b [] back fresh = let f = fresh b in omega (arith, f)
-live_joined b (Label l ∷ front) back fresh = live_joined true front back fresh
-live_joined true (Do i ∷ front) back fresh = let ih = live_joined (stays i) front back fresh in omega (arith, ih)
-live_joined false (Do i ∷ front) back fresh = live_joined false front back fresh
+reachable_joined : (b : Bool) (front back : List (Item Object)) → Fresh back → reachable_count b (front ++ back) ≡ reachable_count b front + reachable_count true back
+reachable_joined b [] back fresh = let f = fresh b in omega (arith, f)
+reachable_joined b (Label l ∷ front) back fresh = reachable_joined true front back fresh
+reachable_joined true (Do i ∷ front) back fresh = let ih = reachable_joined (stays i) front back fresh in omega (arith, ih)
+reachable_joined false (Do i ∷ front) back fresh = reachable_joined false front back fresh
 
 fresh_onwards : (t : Tables) (o : Option ℕ) (go : ℕ → List Step) (items : List (Item Object)) → AllRead t (onwards o go) items → Fresh items
 fresh_onwards t None go [] r b = refl
@@ -39,54 +39,55 @@ fresh_onwards t (Some c) go (Do i ∷ items) r b = absurd r.0
 fresh_onwards t (Some c) go (Label l ∷ items) r b = refl
 
 -- no more than all
-live_all : (t : Tables) (b : Bool) (xs : List InstructionInfo) (items : List (Item Object)) → AllRead t (map step_of xs) items → live b items ≤ length xs
-live_all t b [] [] r = omega arith
-live_all t b [] (i ∷ items) r = absurd r
-live_all t b (x ∷ xs) [] r = absurd r
-live_all t b (x ∷ xs) (Label l ∷ items) r = absurd r.0
-live_all t true (x ∷ xs) (Do i ∷ items) r = let ih = live_all t (stays i) xs items r.1 in omega (arith, ih)
-live_all t false (x ∷ xs) (Do i ∷ items) r = let ih = live_all t false xs items r.1 in omega (arith, ih)
+reachable_all : (t : Tables) (b : Bool) (xs : List InstructionInfo) (items : List (Item Object)) → AllRead t (map step_of xs) items → reachable_count b items ≤ length xs
+reachable_all t b [] [] r = omega arith
+reachable_all t b [] (i ∷ items) r = absurd r
+reachable_all t b (x ∷ xs) [] r = absurd r
+reachable_all t b (x ∷ xs) (Label l ∷ items) r = absurd r.0
+reachable_all t true (x ∷ xs) (Do i ∷ items) r = let ih = reachable_all t (stays i) xs items r.1 in omega (arith, ih)
+reachable_all t false (x ∷ xs) (Do i ∷ items) r = let ih = reachable_all t false xs items r.1 in omega (arith, ih)
 
--- none where the first cannot be come to
-live_none : (t : Tables) (xs : List InstructionInfo) (items : List (Item Object)) → AllRead t (map step_of xs) items → live false items ≡ 0
-live_none t [] [] r = refl
-live_none t [] (i ∷ items) r = absurd r
-live_none t (x ∷ xs) [] r = absurd r
-live_none t (x ∷ xs) (Label l ∷ items) r = absurd r.0
-live_none t (x ∷ xs) (Do i ∷ items) r = live_none t xs items r.1
+-- none where the first cannot be reached
+reachable_none : (t : Tables) (xs : List InstructionInfo) (items : List (Item Object)) → AllRead t (map step_of xs) items → reachable_count false items ≡ 0
+reachable_none t [] [] r = refl
+reachable_none t [] (i ∷ items) r = absurd r
+reachable_none t (x ∷ xs) [] r = absurd r
+reachable_none t (x ∷ xs) (Label l ∷ items) r = absurd r.0
+reachable_none t (x ∷ xs) (Do i ∷ items) r = reachable_none t xs items r.1
 
 reachable_unit_one_more : (leaves stay : Bool) (x : InstructionInfo) (xs : List InstructionInfo) (items : List (Item Object)) → stay ≡ flip leaves
-    → live false items ≡ 0 → live true items ≤ length xs → suc (live stay items) ≤ length (if leaves then x ∷ [] else (x ∷ xs))
+    → reachable_count false items ≡ 0 → reachable_count true items ≤ length xs → suc (reachable_count stay items) ≤ length (if leaves then x ∷ [] else (x ∷ xs))
 reachable_unit_one_more true true x xs items e none few = absurd cc
 reachable_unit_one_more true false x xs items e none few = omega (arith, none)
 reachable_unit_one_more false true x xs items e none few = omega (arith, few)
 reachable_unit_one_more false false x xs items e none few = absurd cc
 
 -- no more than up to the first that never goes on
-live_cut : (t : Tables) (xs : List InstructionInfo) (items : List (Item Object)) → AllRead t (map step_of xs) items → live true items ≤ length (cut xs)
-live_cut t [] [] r = omega arith
-live_cut t [] (i ∷ items) r = absurd r
-live_cut t (x ∷ xs) [] r = absurd r
-live_cut t (x ∷ xs) (Label l ∷ items) r = absurd r.0
-live_cut t (x ∷ xs) (Do i ∷ items) r = reachable_unit_one_more (row_of x.instr).leaves (stays i) x (cut xs) items (stays_row t (block_number x.target.0) x.instr x.arg.0 i r.0.is) (live_none t xs items r.1) (live_cut t xs items r.1)
+reachable_cut : (t : Tables) (xs : List InstructionInfo) (items : List (Item Object)) → AllRead t (map step_of xs) items → reachable_count true items ≤ length (without_unreachable xs)
+reachable_cut t [] [] r = omega arith
+reachable_cut t [] (i ∷ items) r = absurd r
+reachable_cut t (x ∷ xs) [] r = absurd r
+reachable_cut t (x ∷ xs) (Label l ∷ items) r = absurd r.0
+reachable_cut t (x ∷ xs) (Do i ∷ items) r = reachable_unit_one_more (row_of x.instr).leaves (stays i) x (without_unreachable xs) items
+    (stays_row t (block_number x.target.0) x.instr x.arg.0 i r.0.is) (reachable_none t xs items r.1) (reachable_cut t xs items r.1)
 
-live_body : (t : Tables) (level : ℕ) (xs : List InstructionInfo) (items : List (Item Object)) → AllRead t (map step_of xs) items → live true items ≤ length (body level xs)
-live_body t zero xs items r = live_all t true xs items r
-live_body t (suc level) xs items r = live_cut t xs items r
+reachable_body : (t : Tables) (level : ℕ) (xs : List InstructionInfo) (items : List (Item Object)) → AllRead t (map step_of xs) items → reachable_count true items ≤ length (body level xs)
+reachable_body t zero xs items r = reachable_all t true xs items r
+reachable_body t (suc level) xs items r = reachable_cut t xs items r
 
 module _ (t : Tables) (level : ℕ) (bs : List Blk) where
   -- a block, and what follows it
-  few_joined : (items front back : List (Item Object)) (xs ys : List InstructionInfo) → items ≡ front ++ back → Fresh back → live true front ≤ length xs
-      → live true back ≤ length ys → live true items ≤ length (xs ++ ys)
-  few_joined items front back xs ys e fresh f g = let a = ap (live true) e in let j = live_joined true front back fresh in let l = length-append xs ys in omega (arith, a, j, l, f, g)
+  few_joined : (items front back : List (Item Object)) (xs ys : List InstructionInfo) → items ≡ front ++ back → Fresh back → reachable_count true front ≤ length xs
+      → reachable_count true back ≤ length ys → reachable_count true items ≤ length (xs ++ ys)
+  few_joined items front back xs ys e fresh f g = let a = ap (reachable_count true) e in let j = reachable_joined true front back fresh in let l = length-append xs ys in omega (arith, a, j, l, f, g)
 
-  few_end : (o : Option ℕ) (go : ℕ → List Step) (items : List (Item Object)) → o ≡ None → AllRead t (onwards o go) items → live true items ≤ 0
+  few_end : (o : Option ℕ) (go : ℕ → List Step) (items : List (Item Object)) → o ≡ None → AllRead t (onwards o go) items → reachable_count true items ≤ 0
   few_end (Some c) go items e r = absurd cc
   few_end None go (i ∷ items) e r = absurd r
   few_end None go [] e r = omega arith
 
   few_next : (c m : ℕ) (o : Option ℕ) (go : ℕ → List Step) (items : List (Item Object)) → o ≡ Some c → AllRead t (onwards o go) items
-      → ((js : List (Item Object)) → AllRead t (go c) js → live true js ≤ m) → live true items ≤ m
+      → ((js : List (Item Object)) → AllRead t (go c) js → reachable_count true js ≤ m) → reachable_count true items ≤ m
   few_next c m None go items e r k = absurd cc
   few_next c m (Some d) go [] e r k = absurd r
   few_next c m (Some d) go (Do i ∷ items) e r k = absurd r.0
@@ -94,18 +95,23 @@ module _ (t : Tables) (level : ℕ) (bs : List Blk) where
 
   -- of a chain from one of its blocks on
   pub reachable_unit_few : (n c : ℕ) (cs : List ℕ) (items : List (Item Object)) → ChainLeads bs (c ∷ cs) → length (c ∷ cs) ≤ n
-      → AllRead t (steps_from bs n c) items → live true items ≤ length (flat level bs (c ∷ cs))
+      → AllRead t (steps_from bs n c) items → reachable_count true items ≤ length (flat level bs (c ∷ cs))
   reachable_unit_few zero c cs items leads enough r = absurd (omega (arith, enough))
   reachable_unit_few (suc n) c [] items leads enough r =
       let p = laid_code_parted t (map step_of (blk bs c).items) (onwards (blk bs c).next (steps_from bs n)) items r in
-      few_joined items p.front p.back (body level (blk bs c).items) [] p.are (fresh_onwards t (blk bs c).next (steps_from bs n) p.back p.second) (live_body t level (blk bs c).items p.front p.first) (few_end (blk bs c).next (steps_from bs n) p.back leads p.second)
+      few_joined items p.front p.back (body level (blk bs c).items) [] p.are
+      (fresh_onwards t (blk bs c).next (steps_from bs n) p.back p.second) (reachable_body t level (blk bs c).items p.front p.first)
+      (few_end (blk bs c).next (steps_from bs n) p.back leads p.second)
   reachable_unit_few (suc n) c (d ∷ cs) items leads enough r =
       let p = laid_code_parted t (map step_of (blk bs c).items) (onwards (blk bs c).next (steps_from bs n)) items r in
-      few_joined items p.front p.back (body level (blk bs c).items) (flat level bs (d ∷ cs)) p.are (fresh_onwards t (blk bs c).next (steps_from bs n) p.back p.second) (live_body t level (blk bs c).items p.front p.first)
+      few_joined items p.front p.back (body level (blk bs c).items) (flat level bs (d ∷ cs)) p.are
+      (fresh_onwards t (blk bs c).next (steps_from bs n) p.back p.second) (reachable_body t level (blk bs c).items p.front p.first)
       (few_next d (length (flat level bs (d ∷ cs))) (blk bs c).next (steps_from bs n) p.back leads.0 p.second (λ js g. reachable_unit_few n d cs js leads.1 (omega (arith, enough)) g))
 
 -- as many units as instructions, or more
-decode_one : (high : ℕ) (us : List CodeUnit) (b : Bool) (u : CodeUnit) → length (decode high us) ≤ length us → length (decode 0 us) ≤ length us → length (if b then decode high us else (record { op = u.op; operand = high } ∷ decode 0 us)) ≤ length (u ∷ us)
+decode_one : (high : ℕ) (us : List CodeUnit) (b : Bool) (u : CodeUnit) → length (decode high us) ≤ length us
+    → length (decode 0 us) ≤ length us → length (if b then decode high us else (record { op = u.op; operand = high } ∷ decode 0 us))
+    ≤ length (u ∷ us)
 decode_one high us true u l m = omega (arith, l)
 decode_one high us false u l m = omega (arith, m)
 

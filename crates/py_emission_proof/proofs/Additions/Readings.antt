@@ -19,7 +19,7 @@ use Rattle.py_control_proof.proofs.Labels.{placed_once}
 use Rattle.py_control_proof.proofs.Dataflow.Blocks.{laid_is_sound}
 use Rattle.py_emit.specs.Steps.{steps_in}
 use Rattle.py_emission_proof.proofs.Additions.AddedCodeLemmas.{AllRead, AllInside}
-use Rattle.py_emission_proof.proofs.Additions.Burden.{burden, burden_is, cells_in}
+use Rattle.py_emission_proof.proofs.Additions.SizeBound.{size_bound, size_bound_is, cells_in}
 use Rattle.py_emission_proof.proofs.Additions.Refuted.{refuted_target_inside, jump_has_target, other_has_none, no_prefix_given, operand_inside, few_enough, laid_along}
 
 -- blocks whose steps read as the code of a scope, over these objects of the scopes nested in it
@@ -28,7 +28,7 @@ pub record Read (d : Scope → Object) (t : Tables) (bs : List Blk) (s : Scope) 
   pub inside : AllInside (length bs) (steps_in bs)
   pub blocks : length bs ≡ 1 + labels (form_of s)
   pub looped : Looped false (form_of s)
-  pub small : burden (body_code (exactly d s) (form_of s)) < 2 ^ 27
+  pub small : size_bound (body_code (exactly d s) (form_of s)) < 2 ^ 27
   pub cells : cells_in (body_code (exactly d s) (form_of s)) ≤ 2 ^ 24
 
 module _ (d : Scope → Object) (t : Tables) (level : ℕ) (bs : List Blk) (s : Scope) (r : Read d t bs s) (cs : List ℕ) (chain : IsChain bs cs) where
@@ -45,11 +45,11 @@ module _ (d : Scope → Object) (t : Tables) (level : ℕ) (bs : List Blk) (s : 
       let q = r.blocks in
       let small = r.small in
       let cells = r.cells in
-      let both = burden_is reading_items in
+      let both = size_bound_is reading_items in
       laid_is_sound d s t (coded_blocks bs) l.place l.laid l.ends (omega (arith, long, q)) r.looped (2 ^ 32) (omega (arith, small, cells, both))
 
   abbrev reading_few : 4 * Rattle.py_control.specs.Code.size reading_items < 2 ^ 32
-  reading_few = let small = r.small in let cells = r.cells in let both = burden_is reading_items in omega (arith, small, cells, both)
+  reading_few = let small = r.small in let cells = r.cells in let both = size_bound_is reading_items in omega (arith, small, cells, both)
 
   pub only_sizes : (e : FinalizeError) → refusals.Holds t level bs e → IsOfSize e
   only_sizes FinalizeError.NoBlocks h = absurd (no_blocks bs cs chain h)

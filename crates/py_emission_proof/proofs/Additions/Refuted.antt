@@ -20,7 +20,7 @@ use Rattle.py_emit.proofs.Chains.{ChainLeads, chain_leads, chain_short}
 use Rattle.py_emission_proof.proofs.Additions.DecodedInstructionLemmas.{operand_within, no_prefix, jump_aims}
 use Rattle.py_emission_proof.proofs.Additions.LaidCodeLemmas.{Lays, lay}
 use Rattle.py_emission_proof.proofs.Additions.Numbers.{left_of_chain}
-use Rattle.py_emission_proof.proofs.Additions.BlockChainLemmas.{In, contained, contains, Fine, all_fine, fine_block, fine_at, body_at, begun_read, begun_in}
+use Rattle.py_emission_proof.proofs.Additions.BlockChainLemmas.{InChain, contained, contains, Fine, all_fine, fine_block, fine_at, body_at, begun_read, begun_in}
 use Rattle.py_emission_proof.proofs.Additions.Widths.{not_too_many}
 
 number_if : (b : Bool) (n : ℕ) → nat_eq n 0xffff_ffff ≡ b → n ≢ 0xffff_ffff → (if b then None else Some n) ≡ Some n
@@ -64,7 +64,7 @@ module _ (t : Tables) (level : ℕ) (bs : List Blk) (items : List (Item Object))
       let a = refuted_along bs cs chain in
       subst (λ z. Contains z b) (sym a.are) (contains b (0 ∷ a.others) (go a.others a.leads (cases_lt 0 b)))
     where
-      go : (others : List ℕ) → ChainLeads bs (0 ∷ others) → (0 < b) ⊎ (b ≤ 0) → In b (0 ∷ others)
+      go : (others : List ℕ) → ChainLeads bs (0 ∷ others) → (0 < b) ⊎ (b ≤ 0) → InChain b (0 ∷ others)
       go others leads (inl p) = begun_in bs (length bs) 0 others leads b (begun_read t b (steps_in bs) items reads (placed b (omega (arith, p)) l))
       go others leads (inr z) = inl (omega (arith, z))
 

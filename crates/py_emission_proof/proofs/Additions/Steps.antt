@@ -14,8 +14,8 @@ use Rattle.py_dataflow.specs.Flat.{is_jump}
 use Rattle.py_control.specs.Form.{Scope}
 use Rattle.py_control.specs.Code.{Item, Do}
 use Rattle.py_control.specs.Places.{instr_over}
-use Rattle.py_emission_parts.specs.Emitting.{Put, State, Outcome, Done, TooWide, Around, Emission, with_step, with_name, with_varname, with_constant, emit, jump}
-use Rattle.py_emission_parts.specs.Running.{put, run}
+use Rattle.py_emission_parts.specs.Emitting.{Put, State, Outcome, Done, TooWide, NodeContext, Emission, with_step, with_name, with_varname, with_constant, emit, jump}
+use Rattle.py_emission_parts.specs.Running.{put_instruction, run}
 use Rattle.py_control.specs.CodeRuns.{loaded_children}
 use Rattle.py_emission_proof.proofs.Additions.DistinctNames.{entered_distinct}
 use Rattle.py_emission_proof.proofs.Additions.AddedCodeLemmas.{Added, Begins, Adds, IsPlain, added_step, adds_step}
@@ -23,12 +23,12 @@ use Rattle.py_emission_proof.proofs.Additions.Codes.{by_number, codes_after, no_
 use Rattle.py_emission_proof.proofs.Additions.EmissionSequenceLemmas.{Yields, emission_sequence_yields, done_is}
 
 -- one instruction is added with this around it
-abbrev pub StepHere : Around → Emission → Instr Scope ℕ → Type 0
+abbrev pub StepHere : NodeContext → Emission → Instr Scope ℕ → Type 0
 StepHere c v x = (n k : ℕ) → Yields c n k v (Do x ∷ []) 0 0
 
 -- and with anything around it
 abbrev pub StepAdds : Emission → Instr Scope ℕ → Type 0
-StepAdds v x = (c : Around) → StepHere c v x
+StepAdds v x = (c : NodeContext) → StepHere c v x
 
 pub fits_if : (b : Bool) (o : Outcome) (r : State) → (if b then o else TooWide) ≡ Done r → (b ≡ true) × (o ≡ Done r)
 fits_if true o r e = (refl, e)
@@ -42,7 +42,7 @@ instr_as d x = instr_over (by_number d) (λ p. p) x
 pub emit_read : (i : Instruction) (n : ℕ) (x : Instr Scope ℕ) (s r : State) → loaded_children x ≡ []
     → ((d : ℕ → Object) (t : Tables) → Begins s t → instr_of t None i n ≡ Some (instr_as d x)) → run (emit i n) s ≡ Done r
     → Added s r (Do x ∷ []) 0 [] × (r.next ≡ s.next)
-unfolding emit put with_step
+unfolding emit put_instruction with_step
 emit_read i n x s r none is e =
     let y = Put i n None s.location in
     let p = fits_if (nat_lt n (2 ^ 32)) (Done (with_step y s)) r e in
@@ -52,7 +52,7 @@ emit_read i n x s r none is e =
 -- an instruction that reads so in all tables that begin with those so far
 pub emit_step : (i : Instruction) (n : ℕ) (x : Instr Scope ℕ) (s r : State) → IsPlain (Do x)
     → ((d : ℕ → Object) (t : Tables) → Begins s t → instr_of t None i n ≡ Some (instr_as d x)) → run (emit i n) s ≡ Done r → Adds s r (Do x ∷ []) 0 0
-unfolding emit put
+unfolding emit put_instruction
 emit_step i n x s r plain is e =
     let y = Put i n None s.location in
     let p = fits_if (nat_lt n (2 ^ 32)) (Done (with_step y s)) r e in
@@ -62,11 +62,13 @@ pub emit_adds : (i : Instruction) (n : ℕ) (x : Instr Scope ℕ) → IsPlain (D
 emit_adds i n x plain is c m k = emission_sequence_yields (λ s r b g z e. emit_step i n x s r plain (λ d t h. is d t) e)
 
 pub jump_adds : (i : Instruction) (b : ℕ) (x : Instr Scope ℕ) → IsPlain (Do x) → is_jump i ≡ true
-    → ((d : ℕ → Object) (t : Tables) → instr_of t (Some b) i 0 ≡ Some (instr_as d x)) → (c : Around) (n k : ℕ) → b < n → Yields c n k (jump i b) (Do x ∷ []) 0 0
+    → ((d : ℕ → Object) (t : Tables) → instr_of t (Some b) i 0 ≡ Some (instr_as d x)) → (c : NodeContext) (n k : ℕ) → b < n → Yields c n k (jump i b) (Do x ∷ []) 0 0
 unfolding jump
 jump_adds i b x plain j is c n k lt = emission_sequence_yields (λ s r f g z e.
     let y = Put i 0 (Some b) s.location in
-    subst (λ u. Adds s u (Do x ∷ []) 0 0) (done_is (with_step y s) r e) (adds_step y s (Do x) plain (λ d t h. (record { fits = omega arith; is = is d t; aims = λ w. absurd (cc (j, w)) }, tt)) (omega (arith, f, lt))))
+    subst (λ u. Adds s u (Do x ∷ []) 0 0) (done_is (with_step y s) r e)
+    (adds_step y s (Do x) plain (λ d t h. (record { fits = omega arith; is = is d t; aims = λ w. absurd (cc (j, w)) }, tt))
+    (omega (arith, f, lt))))
 
 -- a table's entry stays where more entries follow
 within_list : {A : Type 0} (xs : List A) (n : ℕ) (x : A) → slice_get xs n ≡ Some x → n < length xs
@@ -109,7 +111,7 @@ adds_named x s r is m l h =
         steps_are = a.steps_are;
         reads = a.reads;
         inside = a.inside;
-        around_are = a.around_are;
+        node_contexts_are = a.node_contexts_are;
         distinct = λ d. a.distinct (entered_distinct s.names x d);
         own_distinct = a.own_distinct;
       };
@@ -139,7 +141,7 @@ adds_own x s r is m l h =
         steps_are = a.steps_are;
         reads = a.reads;
         inside = a.inside;
-        around_are = a.around_are;
+        node_contexts_are = a.node_contexts_are;
         distinct = a.distinct;
         own_distinct = λ d. a.own_distinct (entered_distinct s.varnames x d);
       };
@@ -183,7 +185,7 @@ adds_constant c v s r is m l h =
         steps_are = a.steps_are;
         reads = a.reads;
         inside = a.inside;
-        around_are = a.around_are;
+        node_contexts_are = a.node_contexts_are;
         distinct = a.distinct;
         own_distinct = a.own_distinct;
       };

@@ -9,40 +9,41 @@ use Rattle.py_control.specs.Form.{Interp, Scope, VForm, VForms, VKeep, Target, G
 use Rattle.py_control.specs.Code.{Do, count as form_count, labels_v, labels_vs, labels_g, labels_gs, code_g, code_gs}
 use Rattle.py_emission_parts.specs.Elements.{Element, bare, stars, before_star, after_star}
 use Rattle.py_emission_parts.specs.TableParts.{TargetForms, plain_target, targets_of, unpack_operation, unpacked_to, counted_operation}
-use Rattle.py_emission_parts.specs.Emitting.{Around, Emission, ◌▸◌, emit, emit_count, move, refuse}
+use Rattle.py_emission_parts.specs.Emitting.{NodeContext, Emission, ◌▸◌, emit, emit_count, move, refuse}
 use Rattle.py_emission_parts.specs.EmissionParts as emitting
 use Rattle.py_emission_parts.specs.EmissionParts.{Stores, plain_store, in_turn, unpack, unpack_starred, unless_debug}
 use Rattle.py_emission_parts.specs.Refused.{few_aside}
 use Rattle.py_base.specs.declared.errors.CodegenErrorType.{CodegenErrorType}
 use Rattle.py_base.specs.declared.errors.CodegenErrorType.TheVariants as error
 use Rattle.py_emission_proof.proofs.Additions.EmissionSequenceLemmas.{Yields, after_these, keep_yields, moved_refused, refused_gives, scopes_as, then_these, then_yields}
-use Rattle.py_emission_proof.proofs.Additions.Threaded.{Relation, Threaded, Alike, AlikeElement, threaded_same_length, same_stars, same_before, same_after, bare_alike, bare_length, threaded_around_star}
+use Rattle.py_emission_proof.proofs.Additions.Threaded.{Relation, Threaded, Alike, AlikeElement, threaded_same_length, same_stars}
+use Rattle.py_emission_proof.proofs.Additions.Threaded.{same_before, same_after, bare_alike, bare_length, threaded_beside_star}
 use Rattle.py_emission_proof.proofs.Additions.Steps.{StepAdds, StepHere}
 use Rattle.py_emission_proof.proofs.Additions.Instructions.{duplicate_adds, pop_adds, unpack_adds, unpack_star_adds}
 use Rattle.py_emission_proof.proofs.Additions.FormAdds.{ValueAdds, PartsAdd, unless_debug_gives}
 
 -- a store is added
-abbrev pub TargetAdds : Interp Scope → Around → Relation Emission Target
+abbrev pub TargetAdds : Interp Scope → NodeContext → Relation Emission Target
 TargetAdds i c k l v t = (n : ℕ) → Yields c n k v (code_g i t n) (labels_g t) l
 
 -- alone and among others
-pub record AddsTarget (i : Interp Scope) (c : Around) (k l : ℕ) (e : Stores) (t : TargetForms) : Type 0 where
+pub record AddsTarget (i : Interp Scope) (c : NodeContext) (k l : ℕ) (e : Stores) (t : TargetForms) : Type 0 where
   pub alone : TargetAdds i c k l e.alone t.alone
   pub element : AlikeElement (TargetAdds i c) (TargetAdds i c) k l e.element t.element
 
-abbrev pub StoresAdd : Interp Scope → Around → Relation (List (Element Emission Emission)) (List (Element Target Target))
+abbrev pub StoresAdd : Interp Scope → NodeContext → Relation (List (Element Emission Emission)) (List (Element Target Target))
 StoresAdd i c = Alike (TargetAdds i c) (TargetAdds i c)
 
 as_many_targets : (ts : List Target) → targets (targets_of ts) ≡ length ts
 as_many_targets [] = refl
 as_many_targets (t ∷ ts) = ap suc (as_many_targets ts)
 
-both_true : (b c : Bool) → (b && c) ≡ true → (b ≡ true) × (c ≡ true)
-both_true true true e = (refl, refl)
-both_true true false e = absurd cc
-both_true false c e = absurd cc
+target_add_both_true : (b c : Bool) → (b && c) ≡ true → (b ≡ true) × (c ≡ true)
+target_add_both_true true true e = (refl, refl)
+target_add_both_true true false e = absurd cc
+target_add_both_true false c e = absurd cc
 
-module _ (i : Interp Scope) (c : Around) where
+module _ (i : Interp Scope) (c : NodeContext) where
   pub plain_adds : (k l : ℕ) (v : Emission) (t : Target) → TargetAdds i c k l v t → AddsTarget i c k l (plain_store v) (plain_target t)
   plain_adds k l v t h = record { alone = h; element = h }
 
@@ -90,10 +91,13 @@ module _ (i : Interp Scope) (c : Around) where
       n = before_star es + 256 * after_star es
 
       go : (b o : Bool) → few_aside es ≡ b
-          → Yields d k j (if b then (if o then emit op.UnpackEx n else refuse error.MultipleStarArgs) else (move at ▸ refuse error.TooManyStarUnpack)) (Do (Unpack (counted_operation op.UnpackEx n) (length es)) ∷ []) 0 0
+          → Yields d k j (if b then (if o then emit op.UnpackEx n else refuse error.MultipleStarArgs)
+          else (move at ▸ refuse error.TooManyStarUnpack)) (Do (Unpack (counted_operation op.UnpackEx n) (length es)) ∷ []) 0 0
       go true true w =
-          let f = both_true (nat_lt (before_star es) 256) (nat_lt (after_star es) 256) w in
-          subst (λ z. Yields d k j (emit op.UnpackEx n) (Do (Unpack (counted_operation op.UnpackEx n) z) ∷ []) 0 0) (threaded_around_star es some) (unpack_star_adds (before_star es) (after_star es) n refl (search (rules, f.0)) (search (rules, f.1)) d k j)
+          let f = target_add_both_true (nat_lt (before_star es) 256) (nat_lt (after_star es) 256) w in
+          subst (λ z. Yields d k j (emit op.UnpackEx n) (Do (Unpack (counted_operation op.UnpackEx n) z) ∷ []) 0 0)
+          (threaded_beside_star es some)
+          (unpack_star_adds (before_star es) (after_star es) n refl (search (rules, f.0)) (search (rules, f.1)) d k j)
       go true false w = refused_gives error.MultipleStarArgs
       go false o w = moved_refused at error.TooManyStarUnpack
 
@@ -101,7 +105,9 @@ module _ (i : Interp Scope) (c : Around) where
   unpacking_adds at es d k j = go (nat_eq (stars es) 0) refl
     where
       go : (b : Bool) → nat_eq (stars es) 0 ≡ b
-          → Yields d k j (if b then emit_count op.UnpackSequence (length es) else unpack_starred at es) (Do (Unpack (if b then counted_operation op.UnpackSequence (length es) else counted_operation op.UnpackEx (before_star es + 256 * after_star es)) (length es)) ∷ []) 0 0
+          → Yields d k j (if b then emit_count op.UnpackSequence (length es) else unpack_starred at es)
+          (Do (Unpack (if b then counted_operation op.UnpackSequence (length es) else counted_operation op.UnpackEx
+          (before_star es + 256 * after_star es)) (length es)) ∷ []) 0 0
       go true w = unpack_adds (length es) d k j
       go false w = star_adds at es (search (rules, w)) d k j
 
@@ -111,5 +117,7 @@ module _ (i : Interp Scope) (c : Around) where
       let gs = bare ts in
       let many : length es ≡ targets (targets_of gs) = threaded_same_length (AlikeElement (TargetAdds i c) (TargetAdds i c)) k l es ts a ∙ sym (bare_length ts) ∙ sym (as_many_targets gs) in
       let first : StepAdds (emitting.unpack_emission at es) (Unpack (unpack_operation ts) (targets (targets_of gs))) =
-      subst (λ z. StepAdds (emitting.unpack_emission at es) (Unpack (unpack_operation ts) z)) many (subst (λ x. StepAdds (emitting.unpack_emission at es) (Unpack x (length es))) (same_unpacking k l es ts a) (unpacking_adds at es)) in
+      subst (λ z. StepAdds (emitting.unpack_emission at es) (Unpack (unpack_operation ts) z)) many
+      (subst (λ x. StepAdds (emitting.unpack_emission at es) (Unpack x (length es))) (same_unpacking k l es ts a)
+      (unpacking_adds at es)) in
       after_these (first c n k) (turn_adds k l (bare es) gs (bare_alike (TargetAdds i c) k l es ts a) n)

@@ -1,7 +1,7 @@
--- Lists that are related member by member, each member from the number of the next scope on that those before it come to, and elements that
+-- Lists that are related member by member, each member from the number of the next scope on that those before it reach, and elements that
 -- are so too.
 use Rattle.std.proofs.Common.{◌≡◌, ◌≢◌, ℕ, suc, ◌+◌, List, [], ◌∷◌, ◌++◌, length, refl, ap, subst, arith}
-use Rattle.py_emission_parts.specs.Elements.{Element, Single, Spread, has_starred, bare, stars, before_star, after_star, run_tuple, groups, front, behind}
+use Rattle.py_emission_parts.specs.Elements.{Element, Single, Spread, has_starred, bare, stars, before_star, after_star, run_tuple, groups, front, later_elements}
 
 -- two things that are related where k is the number of the next scope, with so many scopes in them
 abbrev pub Relation : (B C : Type 0) → Type 1
@@ -65,10 +65,10 @@ module _ {A B C D : Type 0} (R : Relation B C) (Q : Relation A D) where
     pub rest : ℕ
     pub together : l ≡ first + rest
     pub fronts : Threaded R k first (front es) (front fs)
-    pub behinds : Alike (k + first) rest (behind es) (behind fs)
+    pub afters : Alike (k + first) rest (later_elements es) (later_elements fs)
 
   pub threaded_parted : (k l : ℕ) (es : List (Element B A)) (fs : List (Element C D)) → Alike k l es fs → ThreadedParted k l es fs
-  threaded_parted k l [] [] a = record { first = 0; rest = l; together = omega arith; fronts = refl; behinds = a }
+  threaded_parted k l [] [] a = record { first = 0; rest = l; together = omega arith; fronts = refl; afters = a }
   threaded_parted k l [] (f ∷ fs) a = absurd a
   threaded_parted k l (e ∷ es) [] a = absurd a
   threaded_parted k l (Single v ∷ es) (Single f ∷ fs) a =
@@ -80,12 +80,12 @@ module _ {A B C D : Type 0} (R : Relation B C) (Q : Relation A D) where
         rest = p.rest;
         together = omega (arith, d, e);
         fronts = (a.0, p.first, refl, a.3, p.fronts);
-        behinds = threaded_as (AlikeElement R Q) (k + a.0 + p.first) (k + (a.0 + p.first)) p.rest p.rest (behind es) (behind fs) (omega arith) refl p.behinds;
+        afters = threaded_as (AlikeElement R Q) (k + a.0 + p.first) (k + (a.0 + p.first)) p.rest p.rest (later_elements es) (later_elements fs) (omega arith) refl p.afters;
       }
   threaded_parted k l (Single v ∷ es) (Spread f ∷ fs) a = absurd a.3
   threaded_parted k l (Spread v ∷ es) (Single f ∷ fs) a = absurd a.3
   threaded_parted k l (Spread v ∷ es) (Spread f ∷ fs) a =
-      record { first = 0; rest = l; together = omega arith; fronts = refl; behinds = threaded_as (AlikeElement R Q) k (k + 0) l l (Spread v ∷ es) (Spread f ∷ fs) (omega arith) refl a }
+      record { first = 0; rest = l; together = omega arith; fronts = refl; afters = threaded_as (AlikeElement R Q) k (k + 0) l l (Spread v ∷ es) (Spread f ∷ fs) (omega arith) refl a }
 
   module _ (T : List B → A) (U : List C → D) (makes : (k l : ℕ) (xs : List B) (ys : List C) → Threaded R k l xs ys → Q k l (T xs) (U ys)) where
     grouped_alike : (k l : ℕ) (xs : List B) (ys : List C) → Threaded R k l xs ys → Threaded Q k l (run_tuple T xs) (run_tuple U ys)
@@ -103,12 +103,20 @@ module _ {A B C D : Type 0} (R : Relation B C) (Q : Relation A D) where
     groups_alike k a b (Single v ∷ es) (Single f ∷ fs) xs ys r h =
         let e = h.2 in
         threaded_as Q k k (a + h.0 + h.1) (a + b) (groups T (xs ++ v ∷ []) es) (groups U (ys ++ f ∷ []) fs) refl (omega (arith, e))
-        (groups_alike k (a + h.0) h.1 es fs (xs ++ v ∷ []) (ys ++ f ∷ []) (threaded_push R k a h.0 xs v ys f r h.3) (threaded_as (AlikeElement R Q) (k + a + h.0) (k + (a + h.0)) h.1 h.1 es fs (omega arith) refl h.4))
+        (groups_alike k (a + h.0) h.1 es fs (xs ++ v ∷ []) (ys ++ f ∷ []) (threaded_push R k a h.0 xs v ys f r h.3)
+        (threaded_as (AlikeElement R Q) (k + a + h.0) (k + (a + h.0)) h.1 h.1 es fs (omega arith) refl h.4))
     groups_alike k a b (Single v ∷ es) (Spread f ∷ fs) xs ys r h = absurd h.3
     groups_alike k a b (Spread v ∷ es) (Single f ∷ fs) xs ys r h = absurd h.3
     groups_alike k a b (Spread v ∷ es) (Spread f ∷ fs) xs ys r h =
-        threaded_join Q k a b (run_tuple T xs) (v ∷ groups T [] es) (run_tuple U ys) (f ∷ groups U [] fs) (grouped_alike k a xs ys r)
-        (h.0, h.1, h.2, h.3, threaded_as Q (k + a + h.0) (k + a + h.0) (0 + h.1) h.1 (groups T [] es) (groups U [] fs) refl (omega arith) (groups_alike (k + a + h.0) 0 h.1 es fs [] [] refl (threaded_as (AlikeElement R Q) (k + a + h.0) (k + a + h.0 + 0) h.1 h.1 es fs (omega arith) refl h.4)))
+        threaded_join Q k a b (run_tuple T xs) (v ∷ groups T [] es) (run_tuple U ys) (f ∷ groups U [] fs) (grouped_alike k a xs ys r) (
+          h.0,
+          h.1,
+          h.2,
+          h.3,
+          threaded_as Q (k + a + h.0) (k + a + h.0) (0 + h.1) h.1 (groups T [] es) (groups U [] fs) refl (omega arith)
+              (groups_alike (k + a + h.0) 0 h.1 es fs [] [] refl
+              (threaded_as (AlikeElement R Q) (k + a + h.0) (k + a + h.0 + 0) h.1 h.1 es fs (omega arith) refl h.4)),
+        )
 
 module _ {A D : Type 0} (R : Relation A D) where
   pub bare_alike : (k l : ℕ) (es : List (Element A A)) (fs : List (Element D D)) → Alike R R k l es fs → Threaded R k l (bare es) (bare fs)
@@ -155,7 +163,7 @@ module _ {A : Type 0} where
   bare_length (Spread f ∷ fs) = ap suc (bare_length fs)
 
   -- those before the first star, the star, and those after it
-  pub threaded_around_star : (es : List (Element A A)) → stars es ≢ 0 → before_star es + after_star es + 1 ≡ length es
-  threaded_around_star [] some = absurd (some refl)
-  threaded_around_star (Single x ∷ es) some = let h = threaded_around_star es some in omega (arith, h)
-  threaded_around_star (Spread x ∷ es) some = omega arith
+  pub threaded_beside_star : (es : List (Element A A)) → stars es ≢ 0 → before_star es + after_star es + 1 ≡ length es
+  threaded_beside_star [] some = absurd (some refl)
+  threaded_beside_star (Single x ∷ es) some = let h = threaded_beside_star es some in omega (arith, h)
+  threaded_beside_star (Spread x ∷ es) some = omega arith

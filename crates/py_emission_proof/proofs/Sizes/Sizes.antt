@@ -12,12 +12,17 @@ use Rattle.py_bytecode.specs.Values.{Bare, operation}
 use Rattle.py_control.specs.Form.{Interp, VForm, VConst, VLoad, VOp, VNone, VMore, VAt, VKeep, VMake, GPut, Resolved, SReturn, Scope, MkScope}
 use Rattle.py_emission.specs.Texts.{texts_of}
 use Rattle.py_control.specs.Code.{labels_v}
-use Rattle.py_emission_parts.specs.TableParts.{ExprForms, tested_form, values, elements, parts_of, conversion_case, counted_operation, named_operation, binary, display, value_or, debug_constant, is_debug, no_operand, unpacked_to}
-use Rattle.py_emission_parts.specs.Within.{lambda_inside}
+use Rattle.py_emission_parts.specs.TableParts.{ExprForms, tested_form, values, elements, parts_of, conversion_case, counted_operation}
+use Rattle.py_emission_parts.specs.TableParts.{named_operation, binary, display, value_or, debug_constant, is_debug, no_operand}
+use Rattle.py_emission_parts.specs.TableParts.{unpacked_to}
+use Rattle.py_emission_parts.specs.NestedScopes.{lambda_inside}
 use Rattle.py_emission_parts.specs.Context.{Context, head_of, mangled_by}
-use Rattle.py_meaning.specs.Table.{after, after_all, after_args, after_clauses, after_defaults, after_opt, after_key, after_value, but_first_key, but_first_value, expr_forms, all_forms, opt_form, key_forms, value_forms, default_forms, positional_defaults, keyword_defaults, keyword_forms, target_forms, all_targets, first_iterable, unsupported_forms}
+use Rattle.py_meaning.specs.Table.{after, after_all, after_args, after_clauses, after_defaults, after_opt, after_key, after_value}
+use Rattle.py_meaning.specs.Table.{but_first_key, but_first_value, expr_forms, all_forms, opt_form, key_forms, value_forms, default_forms}
+use Rattle.py_meaning.specs.Table.{positional_defaults, keyword_defaults, keyword_forms, target_forms, all_targets, first_iterable}
+use Rattle.py_meaning.specs.Table.{unsupported_forms}
 use Rattle.py_meaning.specs.TableScopes.{Defaults, default_flags, default_parts}
-use Rattle.py_emission_proof.proofs.Additions.Burden.{burden-append}
+use Rattle.py_emission_proof.proofs.Additions.SizeBound.{size_bound-append}
 use Rattle.py_emission_proof.proofs.Sizes.Together.{Together, Possible, OneElement, join_together}
 use Rattle.py_emission_proof.proofs.Sizes.Small.{FormSmall, TargetSmall, Small, SmallTarget, tested_small, plain_small, values_small, elements_small, one_small, two_small}
 use Rattle.py_emission_proof.proofs.Sizes.SmallOperators.{bool_small, unary_small, compare_small, choice_small}
@@ -44,7 +49,7 @@ module _ (i : Interp Object) where
   formatted_small o spec f a b x y n =
       let p = y n in
       let q = value_or_small i (const.str []) spec b x (n + labels_v f) in
-      simp burden-append (omega (arith, p, q))
+      simp size_bound-append (omega (arith, p, q))
 
   attribute_small : (f : VForm) (name : List ℕ) (a : ℕ) → FormSmall i f a → FormSmall i (VOp (named_operation op.LoadAttr name) (VMore f VNone)) (a + 2)
   attribute_small f name a x n = let p = one_small i (named_operation op.LoadAttr name) f a x n in omega (arith, p)
@@ -81,21 +86,31 @@ module _ (i : Interp Object) where
         let inner = lambda_inside c m in
         let s = MkScope (head_of inner) (SReturn (expr_forms inner (suc m) body).value) in
         let share = params_shared params in
-        tested_small i _ (arguments_size params + expr_size body + 1) (lambda_small (default_forms c k params) s (codes "<lambda>") (positional_size params) (keyword_size params) (arguments_size params + expr_size body + 1) (positional_small c k params) (keyword_small c k params) (omega (arith, share)))
+        tested_small i _ (arguments_size params + expr_size body + 1)
+        (lambda_small (default_forms c k params) s (codes "<lambda>") (positional_size params) (keyword_size params)
+        (arguments_size params + expr_size body + 1) (positional_small c k params) (keyword_small c k params) (omega (arith, share)))
     expr_small c k (tree.IfExp at t body orelse) =
         let m = after c k t in
         let l = after c m body in
-        tested_small i _ _ (choice_small i (expr_forms c k t) (expr_forms c m body) (expr_forms c l orelse) (expr_size t) (expr_size body) (expr_size orelse) (expr_small c k t) (expr_small c m body) (expr_small c l orelse))
+        tested_small i _ _ (choice_small i (expr_forms c k t) (expr_forms c m body) (expr_forms c l orelse) (expr_size t) (expr_size body)
+        (expr_size orelse) (expr_small c k t) (expr_small c m body) (expr_small c l orelse))
     expr_small c k (tree.Dict at keys others) =
-        tested_small i _ _ (dict_small i (key_forms c k keys others) (value_forms c k keys others) (keys_size keys) (exprs_size others) (keys_small c k keys others) (dict_values_small c k keys others))
+        tested_small i _ _ (dict_small i (key_forms c k keys others) (value_forms c k keys others) (keys_size keys) (exprs_size others)
+        (keys_small c k keys others) (dict_values_small c k keys others))
     expr_small c k (tree.Set at elts) = displayed_small at op.BuildSet op.BuildSetUnpack (all_forms c k elts) (exprs_size elts) (exprs_small c k elts)
-    expr_small c k (tree.ListComp at elt gs) = let m = after c (after_clauses c (suc k) gs) elt in called_small i _ _ _ _ (expr_size elt + generators_size gs) (first_small c m (expr_size elt) gs (expr_some elt))
-    expr_small c k (tree.SetComp at elt gs) = let m = after c (after_clauses c (suc k) gs) elt in called_small i _ _ _ _ (expr_size elt + generators_size gs) (first_small c m (expr_size elt) gs (expr_some elt))
+    expr_small c k (tree.ListComp at elt gs) = let m =
+        after c (after_clauses c (suc k) gs) elt in called_small i _ _ _ _ (expr_size elt + generators_size gs)
+        (first_small c m (expr_size elt) gs (expr_some elt))
+    expr_small c k (tree.SetComp at elt gs) = let m =
+        after c (after_clauses c (suc k) gs) elt in called_small i _ _ _ _ (expr_size elt + generators_size gs)
+        (first_small c m (expr_size elt) gs (expr_some elt))
     expr_small c k (tree.DictComp at key value gs) =
         let some = expr_some key in
         let m = after c (after c (after_clauses c (suc k) gs) key) value in
         called_small i _ _ _ _ (expr_size key + expr_size value + generators_size gs) (first_small c m (expr_size key + expr_size value) gs (omega (arith, some)))
-    expr_small c k (tree.GeneratorExp at elt gs) = let m = after c (after_clauses c (suc k) gs) elt in called_small i _ _ _ _ (expr_size elt + generators_size gs) (first_small c m (expr_size elt) gs (expr_some elt))
+    expr_small c k (tree.GeneratorExp at elt gs) = let m =
+        after c (after_clauses c (suc k) gs) elt in called_small i _ _ _ _ (expr_size elt + generators_size gs)
+        (first_small c m (expr_size elt) gs (expr_some elt))
     expr_small c k (tree.Await at value) = unsupported_small at (expr_size value + 1) (omega arith)
     expr_small c k (tree.Yield at value) = tested_small i _ _ (yield_small i (opt_form c k value) (opt_expr_size value) (opt_small c k value))
     expr_small c k (tree.YieldFrom at value) = tested_small i _ _ (yield_from_small i (expr_forms c k value).value (expr_size value) (expr_small c k value).value)
@@ -106,10 +121,12 @@ module _ (i : Interp Object) where
         let m = after c k func in
         let l = after_all c m args in
         let places = elements_small i (all_forms c m args) (exprs_size args) (exprs_small c m args) in
-        tested_small i _ _ (call_small i (expr_forms c k func).callee (elements (all_forms c m args)) (keyword_forms c l keywords) (expr_size func) (exprs_size args) (keywords_size keywords) (expr_small c k func).callee places (keywords_small c l keywords))
+        tested_small i _ _ (call_small i (expr_forms c k func).callee (elements (all_forms c m args)) (keyword_forms c l keywords)
+        (expr_size func) (exprs_size args) (keywords_size keywords) (expr_small c k func).callee places (keywords_small c l keywords))
     expr_small c k (tree.FormattedValue at value conversion spec) =
         let m = after c k value in
-        tested_small i _ _ (formatted_small (conversion_case conversion) (opt_form c m spec) (expr_forms c k value).value (expr_size value) (opt_expr_size spec) (opt_small c m spec) (expr_small c k value).value)
+        tested_small i _ _ (formatted_small (conversion_case conversion) (opt_form c m spec) (expr_forms c k value).value (expr_size value)
+        (opt_expr_size spec) (opt_small c m spec) (expr_small c k value).value)
     expr_small c k (tree.JoinedStr at parts) =
         tested_small i _ _ (joined_small i (texts_of parts) (values (all_forms c k parts)) (exprs_size parts) (values_small i (all_forms c k parts) (exprs_size parts) (exprs_small c k parts)))
     expr_small c k (tree.Constant at v) = tested_small i _ _ (λ n. omega arith)
@@ -121,7 +138,8 @@ module _ (i : Interp Object) where
         record { value = whole; test = y.test; element = whole; callee = λ n. let p = x.value n in omega (arith, p) }
     expr_small c k (tree.Subscript at value slice) =
         let m = after c k value in
-        tested_small i _ _ (two_small i (operation op.Subscript Bare) (expr_forms c k value).value (expr_forms c m slice).value (expr_size value) (expr_size slice) (expr_small c k value).value (expr_small c m slice).value)
+        tested_small i _ _ (two_small i (operation op.Subscript Bare) (expr_forms c k value).value (expr_forms c m slice).value
+        (expr_size value) (expr_size slice) (expr_small c k value).value (expr_small c m slice).value)
     expr_small c k (tree.Starred at value) =
         let x = expr_small c k value in
         let f = (expr_forms c k value).value in
@@ -135,7 +153,8 @@ module _ (i : Interp Object) where
     expr_small c k (tree.Slice at lower upper step) =
         let m = after_opt c k lower in
         let l = after_opt c m upper in
-        tested_small i _ _ (slice_small i (opt_form c k lower) (opt_form c m upper) (opt_form c l step) (opt_expr_size lower) (opt_expr_size upper) (opt_expr_size step) (opt_small c k lower) (opt_small c m upper) (opt_small c l step))
+        tested_small i _ _ (slice_small i (opt_form c k lower) (opt_form c m upper) (opt_form c l step) (opt_expr_size lower)
+        (opt_expr_size upper) (opt_expr_size step) (opt_small c k lower) (opt_small c m upper) (opt_small c l step))
 
     pub exprs_small : (c : Context) (k : ℕ) (ts : tree.Exprs) → Together (Small i) (all_forms c k ts) (exprs_size ts)
     exprs_small c k tree.no_exprs = tt
@@ -177,7 +196,8 @@ module _ (i : Interp Object) where
     pub positional_small : (c : Context) (k : ℕ) (params : tree.Arguments) → Together (FormSmall i) (default_forms c k params).positional (positional_size params)
     positional_small c k (tree.arguments posonly args vararg kwonly kwarg) =
         let m = after_args c k posonly in
-        join_together (FormSmall i) (positional_defaults c k posonly) (positional_defaults c m args) (default_size posonly) (default_size args) (positionals_small c k posonly) (positionals_small c m args)
+        join_together (FormSmall i) (positional_defaults c k posonly) (positional_defaults c m args) (default_size posonly)
+        (default_size args) (positionals_small c k posonly) (positionals_small c m args)
 
     positionals_small : (c : Context) (k : ℕ) (args : tree.Args) → Together (FormSmall i) (positional_defaults c k args) (default_size args)
     positionals_small c k tree.no_args = tt
@@ -190,7 +210,8 @@ module _ (i : Interp Object) where
     by_name_small : (c : Context) (k : ℕ) (args : tree.Args) → Together (NotedSmall i) (keyword_defaults c k args) (default_size args)
     by_name_small c k tree.no_args = tt
     by_name_small c k (tree.more_args a tree.no_expr rest) = by_name_small c k rest
-    by_name_small c k (tree.more_args (tree.arg at name annotation) (tree.some_expr e) rest) = (expr_size e, default_size rest, (expr_small c k e).value, by_name_small c (after c k e) rest, omega arith)
+    by_name_small c k (tree.more_args (tree.arg at name annotation) (tree.some_expr e) rest) =
+        (expr_size e, default_size rest, (expr_small c k e).value, by_name_small c (after c k e) rest, omega arith)
 
     pub target_small : (c : Context) (k : ℕ) (t : tree.Expr) → SmallTarget i (target_forms c k t) (expr_size t)
     target_small c k (tree.Name at x) = store_small i (mangled_by c x) 2 (omega arith)

@@ -1,4 +1,4 @@
--- What imports weigh.
+-- The size bounds of imports.
 use Rattle.std.proofs.Common.{◌≡◌, ℕ, ◌+◌, List, [], ◌∷◌, drop, length, Bool, true, false, Option, Some, None, arith}
 use Rattle.std.specs.Prelude.{nat_eq, if◌then◌else◌}
 use Rattle.std.specs.List.{slice_split}
@@ -15,17 +15,17 @@ use Rattle.py_emission_parts.specs.Context.{Context, mangled_by}
 use Rattle.py_emission_parts.specs.TableParts.{named_operation}
 use Rattle.py_emission.specs.Imports.{asked_tuple, asked_all, further_segments, import_name, taken_name, takes_all}
 use Rattle.py_meaning.specs.TableImports.{attributes, from_form, import_form, import_value, module_value, taken_from}
-use Rattle.py_emission_proof.proofs.Additions.Burden.{burden-append}
+use Rattle.py_emission_proof.proofs.Additions.SizeBound.{size_bound-append}
 use Rattle.py_emission_proof.proofs.Sizes.Small.{FormSmall, one_small}
 use Rattle.py_emission_proof.proofs.Sizes.SmallAssigns.{CodeSmall}
 
-small_import_behind_first : (xs : List (List ℕ)) (n : ℕ) → length xs ≡ n + 1 → length (drop 1 xs) ≡ n
-small_import_behind_first [] n e = absurd (omega (arith, e))
-small_import_behind_first (x ∷ xs) n e = omega (arith, e)
+small_import_after_first : (xs : List (List ℕ)) (n : ℕ) → length xs ≡ n + 1 → length (drop 1 xs) ≡ n
+small_import_after_first [] n e = absurd (omega (arith, e))
+small_import_after_first (x ∷ xs) n e = omega (arith, e)
 
 -- there is a further segment for each dot
 further_are : (path : List ℕ) → length (further_segments path) ≡ dots path
-further_are path = small_import_behind_first (slice_split (λ b. nat_eq b 46) path) (dots path) (length-slice_split (λ b. nat_eq b 46) path)
+further_are path = small_import_after_first (slice_split (λ b. nat_eq b 46) path) (dots path) (length-slice_split (λ b. nat_eq b 46) path)
 
 module _ (i : Interp Object) (c : Context) where
   import_value_small : (path : Option (List ℕ)) (level : ℕ) (names : Const) → FormSmall i (import_value c path level names) 1
@@ -49,11 +49,11 @@ module _ (i : Interp Object) (c : Context) where
   import_small (a ∷ rest) x n =
       let p = module_small a.name a.asname n in
       let q = import_small rest x (n + labels (SInto (module_value c a.name a.asname) (GStore Resolved (mangled_by c (import_name a))))) in
-      simp burden-append (omega (arith, p, q))
+      simp size_bound-append (omega (arith, p, q))
 
   kept_small : (f : VForm) (s : ℕ) (a : Alias) → FormSmall i f s
       → FormSmall i (VKeep f (Some (named_operation op.ImportFrom (mangled_by c a.name))) (GStore Resolved (mangled_by c (taken_name a)))) (s + 1)
-  kept_small f s a h n = let p = h n in simp burden-append (omega (arith, p))
+  kept_small f s a h n = let p = h n in simp size_bound-append (omega (arith, p))
 
   taken_small : (f : VForm) (s : ℕ) (names : List Alias) → FormSmall i f s → FormSmall i (taken_from c f names) (s + aliases_size names)
   taken_small f s [] h n = let p = h n in omega (arith, p)
@@ -62,11 +62,12 @@ module _ (i : Interp Object) (c : Context) where
       omega (arith, p)
 
   all_or_small : (b : Bool) (path : Option (List ℕ)) (names : List Alias) (level : ℕ)
-      → CodeSmall i c (if b then SInto (import_value c path level asked_all) (GPut (operation op.ImportStar Bare) VNone) else SInto (taken_from c (import_value c path level (asked_tuple names)) names) GDrop) (aliases_size names + 1)
-  all_or_small true path names level x n = let p = import_value_small path level asked_all n in simp burden-append (omega (arith, p))
+      → CodeSmall i c (if b then SInto (import_value c path level asked_all) (GPut (operation op.ImportStar Bare) VNone) else SInto
+      (taken_from c (import_value c path level (asked_tuple names)) names) GDrop) (aliases_size names + 1)
+  all_or_small true path names level x n = let p = import_value_small path level asked_all n in simp size_bound-append (omega (arith, p))
   all_or_small false path names level x n =
       let p = taken_small (import_value c path level (asked_tuple names)) 1 names (import_value_small path level (asked_tuple names)) n in
-      simp burden-append (omega (arith, p))
+      simp size_bound-append (omega (arith, p))
 
   pub from_small : (path : Option (List ℕ)) (names : List Alias) (level : ℕ) → CodeSmall i c (from_form c path names level) (aliases_size names + 1)
   from_small path names level x n = all_or_small (takes_all names) path names level x n

@@ -1,4 +1,5 @@
--- What type parameters weigh, and functions, classes and aliases that may have them. A type-parameter scope weighs nothing where it stands, but its function, the defaults that it is handed, and the call.
+-- The size bounds of type parameters, and functions, classes and aliases that may have them. A type-parameter scope has a size bound of 0
+-- where it stands, but its function, the defaults that it is handed, and the call.
 use Rattle.std.proofs.Common.{ℕ, suc, ◌+◌, ◌*◌, ◌≤◌, List, [], ◌∷◌, length, arith}
 use Rattle.py_tree.specs.Tree as tree
 use Rattle.py_limits.specs.Size.{arguments_size, expr_size, exprs_size, keywords_size, opt_expr_size, type_param_size, type_params_size}
@@ -8,15 +9,15 @@ use Rattle.py_bytecode.specs.Objects.{Object}
 use Rattle.py_bytecode.specs.Values.{Operation, operation, Bare}
 use Rattle.py_control.specs.Form.{Interp, VForm, VConst, VMake, VSwap, VForms, VNone, VMore, SForm, SReturn, Scope, MkScope}
 use Rattle.py_control.specs.Code.{labels_v}
-use Rattle.py_emission_parts.specs.Within.{class_path, passed_defaults, handed_parts, hidden_inside, hidden_name}
+use Rattle.py_emission_parts.specs.NestedScopes.{class_path, passed_defaults, handed_parts, type_param_scope_inside, type_param_scope_name}
 use Rattle.py_emission_parts.specs.Context.{Context, head_of}
 use Rattle.py_emission_parts.specs.TableParts.{counted_operation, values}
 use Rattle.py_meaning.specs.StmtCounts.{scopes_in_param}
 use Rattle.py_meaning.specs.StmtParts.{class_value, function_value}
 use Rattle.py_meaning.specs.Table.{after_all, after_defaults, all_forms, default_forms, expr_form}
-use Rattle.py_meaning.specs.TableParams.{after_hidden, alias_form, alias_value, built_value, def_form, hidden_call, no_defaults, own_number, param_form, param_forms, params_form}
+use Rattle.py_meaning.specs.TableParams.{after_type_param_scope, alias_form, alias_value, built_value, def_form, type_param_scope_call, no_defaults, own_number, param_form, param_forms, params_form}
 use Rattle.py_meaning.specs.TableScopes.{Defaults, decorated_form, default_flags, default_parts}
-use Rattle.py_emission_proof.proofs.Additions.Burden.{burden-append}
+use Rattle.py_emission_proof.proofs.Additions.SizeBound.{size_bound-append}
 use Rattle.py_emission_proof.proofs.Sizes.Together.{Together}
 use Rattle.py_emission_proof.proofs.Sizes.Small.{FormSmall, values_small}
 use Rattle.py_emission_proof.proofs.Sizes.SmallAssigns.{CodeSmall}
@@ -46,11 +47,11 @@ module _ (i : Interp Object) where
       omega (arith, p, q)
 
   -- whatever stands in the type-parameter scope
-  hidden_call_small : (s : Scope) (name : List ℕ) (d : Defaults) (a b : ℕ) → Together (FormSmall i) d.positional a → Together (NotedSmall i) d.keyword b
-      → ValueWithin i (hidden_call s name d) (16 * (a + b) + 14)
-  hidden_call_small s name d a b x y n =
-      let f : VForm = VMake 0 VNone s (hidden_name name) VNone in
-      let made : ValueWithin i f 8 = λ k. let p = make_small i 0 VNone VNone s (hidden_name name) 0 0 (λ l. omega arith) (λ l. omega arith) k in omega (arith, p) in
+  type_param_scope_call_small : (s : Scope) (name : List ℕ) (d : Defaults) (a b : ℕ) → Together (FormSmall i) d.positional a → Together (NotedSmall i) d.keyword b
+      → ValueWithin i (type_param_scope_call s name d) (16 * (a + b) + 14)
+  type_param_scope_call_small s name d a b x y n =
+      let f : VForm = VMake 0 VNone s (type_param_scope_name name) VNone in
+      let made : ValueWithin i f 8 = λ k. let p = make_small i 0 VNone VNone s (type_param_scope_name name) 0 0 (λ l. omega arith) (λ l. omega arith) k in omega (arith, p) in
       let parts = first_within i f (default_parts d VNone) 8 (16 * (a + b) + 4) made (defaults_small i d a b x y) in
       let p = operation_within i (counted_operation op.CallFunctionPositional (length (passed_defaults d.positional d.keyword))) (VMore f (default_parts d VNone)) (8 + (16 * (a + b) + 4)) parts n in
       omega (arith, p)
@@ -60,12 +61,12 @@ module _ (i : Interp Object) where
   swapped_small o f g v a b x y n =
       let p = x n in
       let q = y (n + labels_v f) in
-      simp burden-append (omega (arith, p, q))
+      simp size_bound-append (omega (arith, p, q))
 
 module _ (i : Interp Object) (c : Context) where
   param_small : (k : ℕ) (t : tree.TypeParam) → FormSmall i (param_form c k t) (type_param_size t)
   param_small k (tree.TypeVar at name tree.no_expr) n = omega arith
-  param_small k (tree.TypeVar at name (tree.some_expr e)) n = let p = (expr_small i c k e).value n in simp burden-append (omega (arith, p))
+  param_small k (tree.TypeVar at name (tree.some_expr e)) n = let p = (expr_small i c k e).value n in simp size_bound-append (omega (arith, p))
   param_small k (tree.ParamSpec at name) n = omega arith
   param_small k (tree.TypeVarTuple at name) n = omega arith
 
@@ -82,12 +83,16 @@ module _ (i : Interp Object) (c : Context) where
   params_last_small k ts n = let p = first_within i (params_form c k ts) VNone (16 * type_params_size ts + 2) 0 (params_form_small k ts) (λ l. omega arith) n in omega (arith, p)
 
   -- what stands in a type-parameter scope: a function, a class and an alias
-  pub generic_function_small : {A B : Type 0} (ps : List A) (ks : List B) (k m flags : ℕ) (generic : tree.TypeParams) (name : List ℕ) (params : tree.Arguments) (body : tree.Stmts) (returns : tree.OptExpr) (f : SForm)
-      → ValueWithin i (function_value c m flags (handed_parts (passed_defaults ps ks) (VMore (params_form c k generic) VNone)) name params body returns f) (16 * (arguments_size params + opt_expr_size returns + type_params_size generic) + 6)
+  pub generic_function_small : {A B : Type 0} (ps : List A) (ks : List B) (k m flags : ℕ) (generic : tree.TypeParams) (name : List ℕ)
+      (params : tree.Arguments) (body : tree.Stmts) (returns : tree.OptExpr) (f : SForm)
+      → ValueWithin i (function_value c m flags (handed_parts (passed_defaults ps ks) (VMore (params_form c k generic) VNone)) name params
+      body returns f) (16 * (arguments_size params + opt_expr_size returns + type_params_size generic) + 6)
   generic_function_small ps ks k m flags generic name params body returns f n =
       let parts = handed_parts (passed_defaults ps ks) (VMore (params_form c k generic) VNone) in
       let a = 16 * type_params_size generic + 2 + 4 in
-      let p = function_value_small i c m flags parts a name params body returns f (handed_small i ps ks (VMore (params_form c k generic) VNone) (16 * type_params_size generic + 2) (params_last_small k generic)) n in
+      let p = function_value_small i c m flags parts a name params body returns f
+      (handed_small i ps ks (VMore (params_form c k generic) VNone) (16 * type_params_size generic + 2) (params_last_small k generic))
+      n in
       let e = params_shared params in
       omega (arith, p, e)
 
@@ -101,10 +106,11 @@ module _ (i : Interp Object) (c : Context) where
       → ValueWithin i (VSwap (operation op.TypeAlias Bare) (params_form c k generic) (expr_form c m e) (VMore (VConst (const.str name)) VNone)) (16 * (type_params_size generic + expr_size e) + 7)
   generic_alias_small k m generic name e n =
       let value : ValueWithin i (expr_form c m e) (16 * expr_size e) = λ l. let q = (expr_small i c m e).value l in omega (arith, q) in
-      let p = swapped_small i (operation op.TypeAlias Bare) (params_form c k generic) (expr_form c m e) (const.str name) (16 * type_params_size generic + 2) (16 * expr_size e) (params_form_small k generic) value n in
+      let p = swapped_small i (operation op.TypeAlias Bare) (params_form c k generic) (expr_form c m e) (const.str name)
+      (16 * type_params_size generic + 2) (16 * expr_size e) (params_form_small k generic) value n in
       omega (arith, p)
 
-  -- a function, whose type parameters weigh nothing where it stands
+  -- a function, whose type parameters have a size bound of 0 where it stands
   defined_small : (k : ℕ) (name : List ℕ) (params : tree.Arguments) (body : tree.Stmts) (returns : tree.OptExpr) (generic : tree.TypeParams) (f : SForm)
       → ValueWithin i (def_form c k name params body returns generic f) (16 * (arguments_size params + opt_expr_size returns) + 4)
   defined_small k name params body returns tree.no_type_params f n =
@@ -114,22 +120,26 @@ module _ (i : Interp Object) (c : Context) where
       let e = params_shared params in
       omega (arith, p, e)
   defined_small k name params body returns (tree.more_type_params t ts) f n =
-      let j = hidden_inside c k in
-      let l = after_hidden c k (tree.more_type_params t ts) params body returns in
+      let j = type_param_scope_inside c k in
+      let l = after_type_param_scope c k (tree.more_type_params t ts) params body returns in
       let d = default_forms c l params in
       let parts = handed_parts (passed_defaults d.positional d.keyword) (VMore (params_form j (suc k) (tree.more_type_params t ts)) VNone) in
       let s = MkScope (head_of j) (SReturn (function_value j (own_number c k (tree.more_type_params t ts)) (0x10 + default_flags d) parts name params body returns f)) in
-      let p = hidden_call_small i s name d (positional_size params) (keyword_size params) (positional_small i c l params) (keyword_small i c l params) n in
+      let p = type_param_scope_call_small i s name d (positional_size params) (keyword_size params) (positional_small i c l params) (keyword_small i c l params) n in
       let e = params_shared params in
       omega (arith, p, e)
 
   -- and with its decorators
   pub def_small : (k : ℕ) (name : List ℕ) (params : tree.Arguments) (body : tree.Stmts) (decorators : tree.Exprs) (returns : tree.OptExpr) (generic : tree.TypeParams) (f : SForm)
-      → ValueWithin i (decorated_form (values (all_forms c k decorators)) (def_form c (after_all c k decorators) name params body returns generic f)) (16 * (arguments_size params + exprs_size decorators + opt_expr_size returns) + 4)
+      → ValueWithin i (decorated_form (values (all_forms c k decorators))
+      (def_form c (after_all c k decorators) name params body returns generic f))
+      (16 * (arguments_size params + exprs_size decorators + opt_expr_size returns) + 4)
   def_small k name params body decorators returns generic f n =
       let m = after_all c k decorators in
       let ds = values_small i (all_forms c k decorators) (exprs_size decorators) (exprs_small i c k decorators) in
-      let p = decorated_small i (values (all_forms c k decorators)) (def_form c m name params body returns generic f) (exprs_size decorators) (16 * (arguments_size params + opt_expr_size returns) + 4) ds (defined_small m name params body returns generic f) n in
+      let p = decorated_small i (values (all_forms c k decorators)) (def_form c m name params body returns generic f)
+      (exprs_size decorators) (16 * (arguments_size params + opt_expr_size returns) + 4) ds
+      (defined_small m name params body returns generic f) n in
       omega (arith, p)
 
   -- a class
@@ -139,29 +149,37 @@ module _ (i : Interp Object) (c : Context) where
       let p = class_value_small i c (class_path c name) k 0 VNone 0 name bases keywords body f (λ l. omega arith) n in
       omega (arith, p)
   built_small k name bases keywords body (tree.more_type_params t ts) f n =
-      let j = hidden_inside c k in
-      let s = MkScope (head_of j) (SReturn (class_value j (class_path c name) (own_number c k (tree.more_type_params t ts)) 0x10 (VMore (params_form j (suc k) (tree.more_type_params t ts)) VNone) name bases keywords body f)) in
-      let p = hidden_call_small i s name no_defaults 0 0 tt tt n in
+      let j = type_param_scope_inside c k in
+      let s = MkScope (head_of j) (SReturn
+      (class_value j (class_path c name) (own_number c k (tree.more_type_params t ts)) 0x10
+      (VMore (params_form j (suc k) (tree.more_type_params t ts)) VNone) name bases keywords body f)) in
+      let p = type_param_scope_call_small i s name no_defaults 0 0 tt tt n in
       omega (arith, p)
 
   pub class_small : (k : ℕ) (name : List ℕ) (bases : tree.Exprs) (keywords : tree.Keywords) (body : tree.Stmts) (decorators : tree.Exprs) (generic : tree.TypeParams) (f : SForm)
-      → ValueWithin i (decorated_form (values (all_forms c k decorators)) (built_value c (after_all c k decorators) name bases keywords body generic f)) (16 * (exprs_size bases + keywords_size keywords + exprs_size decorators) + 28)
+      → ValueWithin i (decorated_form (values (all_forms c k decorators))
+      (built_value c (after_all c k decorators) name bases keywords body generic f))
+      (16 * (exprs_size bases + keywords_size keywords + exprs_size decorators) + 28)
   class_small k name bases keywords body decorators generic f n =
       let m = after_all c k decorators in
       let ds = values_small i (all_forms c k decorators) (exprs_size decorators) (exprs_small i c k decorators) in
-      let p = decorated_small i (values (all_forms c k decorators)) (built_value c m name bases keywords body generic f) (exprs_size decorators) (16 * (exprs_size bases + keywords_size keywords) + 28) ds (built_small m name bases keywords body generic f) n in
+      let p = decorated_small i (values (all_forms c k decorators)) (built_value c m name bases keywords body generic f)
+      (exprs_size decorators) (16 * (exprs_size bases + keywords_size keywords) + 28) ds
+      (built_small m name bases keywords body generic f) n in
       omega (arith, p)
 
   -- an alias
   alias_value_small : (k : ℕ) (name : List ℕ) (generic : tree.TypeParams) (e : tree.Expr) → ValueWithin i (alias_value c k name generic e) (16 * expr_size e + 14)
-  alias_value_small k name tree.no_type_params e n = let p = (expr_small i c k e).value n in simp burden-append (omega (arith, p))
+  alias_value_small k name tree.no_type_params e n = let p = (expr_small i c k e).value n in simp size_bound-append (omega (arith, p))
   alias_value_small k name (tree.more_type_params t ts) e n =
-      let j = hidden_inside c k in
-      let s = MkScope (head_of j) (SReturn (VSwap (operation op.TypeAlias Bare) (params_form j (suc k) (tree.more_type_params t ts)) (expr_form j (own_number c k (tree.more_type_params t ts)) e) (VMore (VConst (const.str name)) VNone))) in
-      let p = hidden_call_small i s name no_defaults 0 0 tt tt n in
+      let j = type_param_scope_inside c k in
+      let s = MkScope (head_of j) (SReturn
+      (VSwap (operation op.TypeAlias Bare) (params_form j (suc k) (tree.more_type_params t ts))
+      (expr_form j (own_number c k (tree.more_type_params t ts)) e) (VMore (VConst (const.str name)) VNone))) in
+      let p = type_param_scope_call_small i s name no_defaults 0 0 tt tt n in
       omega (arith, p)
 
   pub alias_small : (k : ℕ) (target : tree.Expr) (generic : tree.TypeParams) (e : tree.Expr)
       → CodeSmall i c (alias_form c k target generic e) (expr_size target + type_params_size generic + expr_size e + 1)
-  alias_small k (tree.Name at id) generic e x n = let p = alias_value_small k id generic e n in simp burden-append (omega (arith, p))
+  alias_small k (tree.Name at id) generic e x n = let p = alias_value_small k id generic e n in simp size_bound-append (omega (arith, p))
   alias_small k other generic e x n = omega arith

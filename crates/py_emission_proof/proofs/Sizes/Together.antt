@@ -1,6 +1,6 @@
 -- What it is for things to have at most such a size together.
 use Rattle.std.proofs.Common.{ℕ, ◌+◌, ◌≤◌, List, [], ◌∷◌, ◌++◌, Option, Some, None, arith}
-use Rattle.py_emission_parts.specs.Elements.{Element, Single, Spread, bare, run_tuple, groups, front, behind}
+use Rattle.py_emission_parts.specs.Elements.{Element, Single, Spread, bare, run_tuple, groups, front, later_elements}
 
 -- the size is shared among them
 abbrev pub Together : {A : Type 0} → (A → ℕ → Type 0) → List A → ℕ → Type 0
@@ -39,15 +39,22 @@ module _ {B A : Type 0} (P : B → ℕ → Type 0) (Q : A → ℕ → Type 0) wh
     pub first : ℕ
     pub rest : ℕ
     pub front_together : Together P (front es) first
-    pub behind_together : Together (OneElement P Q) (behind es) rest
+    pub after_together : Together (OneElement P Q) (later_elements es) rest
     pub within : first + rest ≤ s
 
   pub together_parted : (es : List (Element B A)) (s : ℕ) → Together (OneElement P Q) es s → TogetherParted es s
-  together_parted [] s h = record { first = 0; rest = 0; front_together = tt; behind_together = tt; within = omega arith }
+  together_parted [] s h = record { first = 0; rest = 0; front_together = tt; after_together = tt; within = omega arith }
   together_parted (Single x ∷ es) s h =
       let p = together_parted es h.1 h.3 in
-      record { first = h.0 + p.first; rest = p.rest; front_together = (h.0, p.first, h.2, p.front_together, omega arith); behind_together = p.behind_together; within = (let e = p.within in let d = h.4 in omega (arith, e, d)) }
-  together_parted (Spread x ∷ es) s h = record { first = 0; rest = s; front_together = tt; behind_together = h; within = omega arith }
+      record {
+        first = h.0 + p.first;
+        rest = p.rest;
+        front_together = (h.0, p.first, h.2, p.front_together, omega arith);
+        after_together =
+            p.after_together;
+        within = (let e = p.within in let d = h.4 in omega (arith, e, d));
+      }
+  together_parted (Spread x ∷ es) s h = record { first = 0; rest = s; front_together = tt; after_together = h; within = omega arith }
 
   module _ (T : List B → A) (makes : (x : B) (xs : List B) (r : ℕ) → Together P (x ∷ xs) r → Q (T (x ∷ xs)) r) where
     grouped_together : (run : List B) (r : ℕ) → Together P run r → Together Q (run_tuple T run) r
@@ -58,7 +65,9 @@ module _ {B A : Type 0} (P : B → ℕ → Type 0) (Q : A → ℕ → Type 0) wh
     pub groups_together : (run : List B) (es : List (Element B A)) (r s : ℕ) → Together P run r → Together (OneElement P Q) es s → Together Q (groups T run es) (r + s)
     groups_together run [] r s p h = more_together Q (run_tuple T run) r (r + s) (omega arith) (grouped_together run r p)
     groups_together run (Single x ∷ es) r s p h =
-        more_together Q (groups T (run ++ x ∷ []) es) (r + h.0 + h.1) (r + s) (let e = h.4 in omega (arith, e)) (groups_together (run ++ x ∷ []) es (r + h.0) h.1 (push_together P run x r h.0 p h.2) h.3)
+        more_together Q (groups T (run ++ x ∷ []) es) (r + h.0 + h.1) (r + s) (let e = h.4 in omega (arith, e))
+        (groups_together (run ++ x ∷ []) es (r + h.0) h.1 (push_together P run x r h.0 p h.2) h.3)
     groups_together run (Spread x ∷ es) r s p h =
         more_together Q (run_tuple T run ++ x ∷ groups T [] es) (r + (h.0 + h.1)) (r + s) (let e = h.4 in omega (arith, e))
-        (join_together Q (run_tuple T run) (x ∷ groups T [] es) r (h.0 + h.1) (grouped_together run r p) (h.0, h.1, h.2, more_together Q (groups T [] es) (0 + h.1) h.1 (omega arith) (groups_together [] es 0 h.1 tt h.3), omega arith))
+        (join_together Q (run_tuple T run) (x ∷ groups T [] es) r (h.0 + h.1) (grouped_together run r p)
+        (h.0, h.1, h.2, more_together Q (groups T [] es) (0 + h.1) h.1 (omega arith) (groups_together [] es 0 h.1 tt h.3), omega arith))

@@ -8,10 +8,10 @@ use Rattle.py_control.specs.Code.{labels, code}
 use Rattle.py_control.specs.Looped.{Looped}
 use Rattle.py_meaning.specs.StmtCounts.{scopes_in_stmt, scopes_in_stmts}
 use Rattle.py_meaning.specs.TableStmts.{stmt_form, stmts_form}
-use Rattle.py_emission_parts.specs.Emitting.{Around, Emission, LoopBlocks, ◌▸◌, move}
+use Rattle.py_emission_parts.specs.Emitting.{NodeContext, Emission, LoopBlocks, ◌▸◌, move}
 use Rattle.py_emission.specs.EmissionStmts.{emission_of_stmt, emission_of_stmts}
 use Rattle.py_emission_proof.proofs.Additions.EmissionSequenceLemmas.{Gives, moved_gives, so}
-use Rattle.py_emission_proof.proofs.Trees.Told.{told_outer, told_context}
+use Rattle.py_emission_proof.proofs.Trees.Told.{table_outer, table_context}
 use Rattle.py_emission_proof.proofs.Trees.AssignAdds.{ActAdds}
 use Rattle.py_emission_proof.proofs.Trees.Unlooped.{Unlooped}
 
@@ -33,15 +33,15 @@ in_more None b m n le h = tt
 in_more (Some x) b m n le h = let p = h.1 in let q = h.2 in (h.0, omega (arith, le, p), omega (arith, le, q))
 
 -- an emission adds the code of the form from n blocks on, where k is the number of the next scope, and l scopes; its labels in a loop are these
-abbrev pub Controls : Around → Loops → (n k l : ℕ) → Emission → SForm → Type 0
-Controls c b n k l v g = Gives c n k v (code (told_outer c) g b n) (labels g) l (Looped (control_held c.loops) g)
+abbrev pub Controls : NodeContext → Loops → (n k l : ℕ) → Emission → SForm → Type 0
+Controls c b n k l v g = Gives c n k v (code (table_outer c) g b n) (labels g) l (Looped (control_held c.loops) g)
 
 abbrev pub StmtAdds : tree.Stmt → Type 0
-StmtAdds t = (c : Around) (k : ℕ) (b : Loops) (n : ℕ) → InLoop c.loops b n → Controls c b n k (scopes_in_stmt c.context.postponed t) (emission_of_stmt t) (stmt_form (told_context c) k t)
+StmtAdds t = (c : NodeContext) (k : ℕ) (b : Loops) (n : ℕ) → InLoop c.loops b n → Controls c b n k (scopes_in_stmt c.context.postponed t) (emission_of_stmt t) (stmt_form (table_context c) k t)
 
 abbrev pub StmtsAdd : tree.Stmts → Type 0
-StmtsAdd ts = (c : Around) (k : ℕ) (b : Loops) (n : ℕ) → InLoop c.loops b n → Controls c b n k (scopes_in_stmts c.context.postponed ts) (emission_of_stmts ts) (stmts_form (told_context c) k ts)
+StmtsAdd ts = (c : NodeContext) (k : ℕ) (b : Loops) (n : ℕ) → InLoop c.loops b n → Controls c b n k (scopes_in_stmts c.context.postponed ts) (emission_of_stmts ts) (stmts_form (table_context c) k ts)
 
 -- what leaves no loop, from where it stands
-pub act_gives : (c : Around) (b : Loops) (n k l : ℕ) (at : SourceLocation) (v : Emission) (g : SForm) → ActAdds (told_outer c) c k l v g → Unlooped g → Controls c b n k l (move at ▸ v) g
+pub act_gives : (c : NodeContext) (b : Loops) (n k l : ℕ) (at : SourceLocation) (v : Emission) (g : SForm) → ActAdds (table_outer c) c k l v g → Unlooped g → Controls c b n k l (move at ▸ v) g
 act_gives c b n k l at v g h u = moved_gives at (so (λ z. u (control_held c.loops)) (h b n))

@@ -20,13 +20,13 @@ use Rattle.py_emit.specs.States.{IsUnrefused}
 use Rattle.py_emission_proof.proofs.Additions.AddedCodeLemmas.{Begins}
 use Rattle.py_emission_proof.proofs.Additions.Codes.{LoadsFew}
 use Rattle.py_emission_proof.proofs.Additions.Readings.{only_memory}
-use Rattle.py_emission_proof.proofs.Additions.Within.{Emitted, child_at, reading}
+use Rattle.py_emission_proof.proofs.Additions.NestedScopes.{Emitted, child_at, reading}
 use Rattle.py_emission_proof.proofs.Trees.Programs.{first_place, tree_adds}
 
--- the head has the cells and the free names of what stands around
+-- the head has the cells and the free names of the context
 pub record IsCelled (head : Head) (o : State) : Type 0 where
-  pub cellvars : head.cellvars ≡ o.around.context.cells
-  pub freevars : head.freevars ≡ o.around.context.frees
+  pub cellvars : head.cellvars ≡ o.node_context.context.cells
+  pub freevars : head.freevars ≡ o.node_context.context.frees
 
 -- what holds an emission begins with its tables
 pub begins_all : (info : CodeInfo) (head : Head) (o : State) → IsCelled head o → Holds info head o → Begins o (tables_of info)
@@ -44,7 +44,9 @@ begins_all info head o k h = record {
 pub emitted_unrefused : (c : Context) (at : SourceLocation) (k : ℕ) (s : Scope) (o : State) → Emitted c at k s o → (level : ℕ) (info : CodeInfo) (head : Head)
     → IsCelled head o → Holds info head o → IsUnrefused level info
 emitted_unrefused c at k s o a level info head celled h cs chain short e refused =
-    only_memory (child_at c at k s o a) (tables_of info) level (map plain info.blocks) s (reading c at k s o a (tables_of info) (map plain info.blocks) (begins_all info head o celled h) h.steps (length-map info.blocks plain ∙ h.blocks)) cs chain e short refused.0
+    only_memory (child_at c at k s o a) (tables_of info) level (map plain info.blocks) s
+    (reading c at k s o a (tables_of info) (map plain info.blocks) (begins_all info head o celled h) h.steps
+    (length-map info.blocks plain ∙ h.blocks)) cs chain e short refused.0
 
 -- and so is that of a tree
 pub never_refused : (t : tree.Mod) (m : Mode) (l : ℕ) (path : List ℕ) (scopes : List ScopeEntry) (o : State) (info : CodeInfo) (head : Head)

@@ -7,7 +7,7 @@ use Rattle.py_scope_counts.specs.Counts.{scopes_in, scopes_in_annotation}
 use Rattle.py_bytecode.specs.Objects as const
 use Rattle.py_annotation_text.specs.Annotation.{annotation}
 use Rattle.py_base.specs.declared.errors.CodegenErrorType.TheVariants as error
-use Rattle.py_emission_parts.specs.Emitting.{Around}
+use Rattle.py_emission_parts.specs.Emitting.{NodeContext}
 use Rattle.py_emission.specs.Emission.{emission}
 use Rattle.py_emission.specs.EmissionDefs.{emission_of_note, emission_of_text}
 use Rattle.py_meaning.specs.Table.{expr_form}
@@ -16,17 +16,19 @@ use Rattle.py_emission_proof.proofs.Additions.EmissionSequenceLemmas.{context_gi
 use Rattle.py_emission_proof.proofs.Additions.FormAdds.{ValueAdds}
 use Rattle.py_emission_proof.proofs.Additions.Instructions.{constant_adds}
 use Rattle.py_emission_proof.proofs.Trees.ExprAdds.{expr_adds}
-use Rattle.py_emission_proof.proofs.Trees.Told.{told_outer, told_context}
+use Rattle.py_emission_proof.proofs.Trees.Told.{table_outer, table_context}
 
-module _ (c : Around) (k : ℕ) where
-  text_adds : (text : Option (List ℕ)) → ValueAdds (told_outer c) c k 0 (emission_of_text text) (text_form text)
+module _ (c : NodeContext) (k : ℕ) where
+  text_adds : (text : Option (List ℕ)) → ValueAdds (table_outer c) c k 0 (emission_of_text text) (text_form text)
   text_adds None n = refused_gives error.NotImplementedYet
   text_adds (Some text) n = constant_adds (const.str text) refl c n k
 
   note_add_told_or : (z : Bool) (e : tree.Expr) → expr_size e < 2 ^ 22
-      → ValueAdds (told_outer c) c k (if z then 0 else scopes_in c.context.postponed e) (if z then emission_of_text (annotation e) else emission e) (if z then text_form (annotation e) else expr_form (told_context c) k e)
+      → ValueAdds (table_outer c) c k (if z then 0 else scopes_in c.context.postponed e)
+      (if z then emission_of_text (annotation e) else emission e)
+      (if z then text_form (annotation e) else expr_form (table_context c) k e)
   note_add_told_or true e few = text_adds (annotation e)
   note_add_told_or false e few = (expr_adds c k e few).value
 
-  pub note_value_adds : (e : tree.Expr) → expr_size e < 2 ^ 22 → ValueAdds (told_outer c) c k (scopes_in_annotation c.context.postponed e) (emission_of_note e) (note_form (told_context c) k e)
+  pub note_value_adds : (e : tree.Expr) → expr_size e < 2 ^ 22 → ValueAdds (table_outer c) c k (scopes_in_annotation c.context.postponed e) (emission_of_note e) (note_form (table_context c) k e)
   note_value_adds e few n = context_gives (λ d. if d.postponed then emission_of_text (annotation e) else emission e) (note_add_told_or c.context.postponed e few n)

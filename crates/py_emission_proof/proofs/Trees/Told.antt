@@ -1,11 +1,11 @@
--- What the table is told by what stands around, and the present scope as its code sees it.
+-- What the table is given by the context, and the present scope as its code sees it.
 use Rattle.std.proofs.Common.{ℕ, []}
 use Rattle.py_base.specs.declared.location.SourceLocation.{SourceLocation}
 use Rattle.py_control.specs.Form.{Interp, Scope, MkScope, VForm, VAt, SSkip}
 use Rattle.py_control.specs.Agree.{exactly}
 use Rattle.py_emission_parts.specs.Context.{Context, head_of}
 use Rattle.py_emission_parts.specs.EmissionParts as emitting
-use Rattle.py_emission_parts.specs.Emitting.{Around, Emission, ◌▸◌, move}
+use Rattle.py_emission_parts.specs.Emitting.{NodeContext, Emission, ◌▸◌, move}
 use Rattle.py_emission_parts.specs.TableParts as table
 use Rattle.py_emission_proof.proofs.Additions.FormAdds.{AddsForms, IsPushed, ValueAdds, moved_adds, tested_adds}
 
@@ -13,15 +13,15 @@ use Rattle.py_emission_proof.proofs.Additions.FormAdds.{AddsForms, IsPushed, Val
 abbrev pub pathless : Context → Context
 pathless c = record c { source = [] }
 
--- what the table is told by what stands around
-abbrev pub told_context : Around → Context
-told_context c = pathless c.context
+-- what the table is given by the context
+abbrev pub table_context : NodeContext → Context
+table_context c = pathless c.context
 
 -- the present scope as its code sees it, over the scopes nested in it
-abbrev pub told_outer : Around → Interp Scope
-told_outer c = exactly (λ x. x) (MkScope (head_of (told_context c)) SSkip)
+abbrev pub table_outer : NodeContext → Interp Scope
+table_outer c = exactly (λ x. x) (MkScope (head_of (table_context c)) SSkip)
 
 -- a value, from where it stands
-pub value_adds : (c : Around) (k l : ℕ) (at : SourceLocation) (v : Emission) (g : VForm) → IsPushed (told_outer c) c g → ValueAdds (told_outer c) c k l v g
-    → AddsForms (told_outer c) c k l (emitting.tested_value (move at ▸ v)) (table.tested_form (VAt at g))
-value_adds c k l at v g p h = tested_adds (told_outer c) c k l (move at ▸ v) (VAt at g) p (moved_adds (told_outer c) c k l at v g h)
+pub value_adds : (c : NodeContext) (k l : ℕ) (at : SourceLocation) (v : Emission) (g : VForm) → IsPushed (table_outer c) c g → ValueAdds (table_outer c) c k l v g
+    → AddsForms (table_outer c) c k l (emitting.tested_value (move at ▸ v)) (table.tested_form (VAt at g))
+value_adds c k l at v g p h = tested_adds (table_outer c) c k l (move at ▸ v) (VAt at g) p (moved_adds (table_outer c) c k l at v g h)

@@ -20,10 +20,14 @@ use Rattle.py_emission.specs.Emission.{all_emissions, emission, emission_of_retu
 use Rattle.py_emit.specs.States.{state}
 use Rattle.py_emit.proofs.Joined.{first_refuses, goes_as, refuses_as, same_error, went}
 use Rattle.py_expr_parts.specs.Calls.{callee_value, is_method}
-use Rattle.py_expr_parts.specs.Turns.{element_behind, group_count, group_rest, groups_by, run_behind}
+use Rattle.py_expr_parts.specs.Turns.{element_after, group_count, group_rest, groups_by, run_length_after}
 use Rattle.py_expr.proofs.+code.Answers.CallSteps.{call_entered, named_goes, plain_goes, positional_plain, tuple_plain, type_taken}
 use Rattle.py_expr.proofs.+code.Answers.ClauseSteps.{clause_begins, clause_refused, clauses_go_on, condition_refused, conditions_go_on, end_is, end_waits, start_waits}
-use Rattle.py_expr.proofs.+code.Answers.ComprehensionSteps.{body_refused, clauses_closed, clauses_refused, clauses_wait, comprehension_awaits, comprehension_called, comprehension_goes, comprehension_inner, comprehension_left, comprehension_made, comprehension_refused, dict_goes, function_refused, generator_goes, iterable_refused, no_generator, turn_refused, unstarred_done, unstarred_refused}
+use Rattle.py_expr.proofs.+code.Answers.ComprehensionSteps.{body_refused, clauses_closed, clauses_refused, clauses_wait}
+use Rattle.py_expr.proofs.+code.Answers.ComprehensionSteps.{comprehension_awaits, comprehension_called, comprehension_goes}
+use Rattle.py_expr.proofs.+code.Answers.ComprehensionSteps.{comprehension_inner, comprehension_left, comprehension_made}
+use Rattle.py_expr.proofs.+code.Answers.ComprehensionSteps.{comprehension_refused, dict_goes, function_refused, generator_goes}
+use Rattle.py_expr.proofs.+code.Answers.ComprehensionSteps.{iterable_refused, no_generator, turn_refused, unstarred_done, unstarred_refused}
 use Rattle.py_expr.proofs.+code.Answers.LambdaSteps.{defaults_refused, lambda_goes, lambda_inner, lambda_left, lambda_not_begun, lambda_refused, lambda_step_scope_refused}
 use Rattle.py_expr.proofs.+code.Answers.MapLoops.{keyword_refused, map_alone, map_refused, maps_begin, maps_go_on, maps_joined}
 use Rattle.py_expr.proofs.+code.Answers.StoreLoops.{attribute_stored, element_stored, store_refused, stores_go_on}
@@ -35,7 +39,8 @@ use Rattle.py_expr_parts.proofs.Otherwise.{function_callee, plain_element, truth
 use Rattle.py_expr_scopes.proofs.OpenBlocks.{open_block_apart, begin_opens, block_opens, jump_opens, opens}
 use Rattle.py_expr_parts.proofs.InFunctions.{inside_function}
 use Rattle.py_expr_parts.proofs.Steps.{many_emissions}
-use Rattle.py_expr_parts.proofs.Turns.{a_chain, either_jump, even_dict, if_not, turn_if_so, links_at, many_keys, no_operand, one_comparison, other_test, path_of, refused_shape, shorts_at, tests_at, uneven_dict, uneven_lists}
+use Rattle.py_expr_parts.proofs.Turns.{a_chain, either_jump, even_dict, if_not, turn_if_so, links_at, many_keys, no_operand, one_comparison}
+use Rattle.py_expr_parts.proofs.Turns.{other_test, path_of, refused_shape, shorts_at, tests_at, uneven_dict, uneven_lists}
 use Rattle.py_expr.proofs.+code.Goals as goal
 
 pub expressions::compile_expression-returns : goal.expressions::compile_expression-returns
@@ -43,7 +48,8 @@ expressions::compile_expression-returns t c = record {
   goes =
       let e = expr_tree c.args.expr.now in
       let s = state c.args.em.now in
-      goes_as _ _ _ _ (entering e s ∙ ap (λ at. run (emission e) (with_location at s)) (sym c.location.ensures) ∙ ap (run (emission e)) (sym c.set_location.ensures.state)) c.compile_entered.ensures.goes;
+      goes_as _ _ _ _ (entering e s ∙ ap (λ at. run (emission e) (with_location at s)) (sym c.location.ensures)
+      ∙ ap (run (emission e)) (sym c.set_location.ensures.state)) c.compile_entered.ensures.goes;
   same = search rules;
 }
 
@@ -52,26 +58,43 @@ returns::compile_return-returns t c = record {
   goes =
       let e = expr_tree c.args.expr.now in
       let s = state c.args.em.now in
-      goes_as _ _ _ _ (entering_return e s ∙ ap (λ at. run (emission_of_return e) (with_location at s)) (sym c.location.ensures) ∙ ap (run (emission_of_return e)) (sym c.set_location.ensures.state)) c.return_entered.ensures.goes;
+      goes_as _ _ _ _ (entering_return e s ∙ ap (λ at. run (emission_of_return e) (with_location at s)) (sym c.location.ensures)
+      ∙ ap (run (emission_of_return e)) (sym c.set_location.ensures.state)) c.return_entered.ensures.goes;
   same = search rules;
 }
 
 pub conditions::compile_bool_value-returns-then-is_empty : goal.conditions::compile_bool_value-returns-then-is_empty
 conditions::compile_bool_value-returns-then-is_empty t c =
     let none = ap (λ n. nat_eq n 0) (many_emissions c.args.values.now) ∙ sym c.is_empty.ensures ∙ c.if-is_empty.true in
-    record { goes = λ n. ap (λ (f : Emission). run f (state c.args.em.now)) (turn_if_so _ _ (some_values c.args.op (all_emissions (exprs expr_tree c.args.values.now))) none) ∙ refused_shape _ (state c.args.em.now) _ c.refuse-error.result c.refuse-error.ensures.told; same = path_of _ (state c.args.em.now) _ c.refuse-error.result c.refuse-error.ensures.told }
+    record {
+      goes = λ n. ap (λ (f : Emission). run f (state c.args.em.now))
+          (turn_if_so _ _ (some_values c.args.op (all_emissions (exprs expr_tree c.args.values.now))) none)
+          ∙ refused_shape _ (state c.args.em.now) _ c.refuse-error.result c.refuse-error.ensures.told;
+      same =
+          path_of _ (state c.args.em.now) _ c.refuse-error.result c.refuse-error.ensures.told;
+    }
 
 pub conditions::compile_bool_value-returns : goal.conditions::compile_bool_value-returns
 conditions::compile_bool_value-returns t c =
     let some = ap (λ n. nat_eq n 0) (many_emissions c.args.values.now) ∙ sym c.is_empty.ensures ∙ c.if-is_empty.false in
-    record { goes = goes_as _ _ _ _ (ap (λ (f : Emission). run f (state c.args.em.now)) (if_not _ _ (some_values c.args.op (all_emissions (exprs expr_tree c.args.values.now))) some)) c.compile_some_values.ensures.goes; same = c.compile_some_values.ensures.same }
+    record {
+      goes = goes_as _ _ _ _ (ap (λ (f : Emission). run f (state c.args.em.now))
+          (if_not _ _ (some_values c.args.op (all_emissions (exprs expr_tree c.args.values.now))) some)) c.compile_some_values.ensures.goes;
+      same = c.compile_some_values.ensures.same;
+    }
 
 pub conditions::compile_bool_test-returns-then-is_empty : goal.conditions::compile_bool_test-returns-then-is_empty
 conditions::compile_bool_test-returns-then-is_empty t c =
     let xs = c.args.e.now.values in
     let es = all_emissions (exprs expr_tree xs) in
     let none = ap (λ n. nat_eq n 0) (many_emissions xs) ∙ ap (λ ys. nat_eq (length ys) 0) (sym c.as_slice-values.ensures) ∙ sym c.is_empty.ensures ∙ c.if-is_empty.true in
-    record { goes = λ n. ap (λ (f : Emission). run f (state c.args.em.now)) (turn_if_so _ _ (some_test (deciding_truth c.args.e.now.op) c.args.jump.now.truth es c.args.jump.now.block.0) none) ∙ refused_shape _ (state c.args.em.now) _ c.refuse-error.result c.refuse-error.ensures.told; same = path_of _ (state c.args.em.now) _ c.refuse-error.result c.refuse-error.ensures.told }
+    record {
+      goes = λ n. ap (λ (f : Emission). run f (state c.args.em.now))
+          (turn_if_so _ _ (some_test (deciding_truth c.args.e.now.op) c.args.jump.now.truth es c.args.jump.now.block.0) none)
+          ∙ refused_shape _ (state c.args.em.now) _ c.refuse-error.result c.refuse-error.ensures.told;
+      same =
+          path_of _ (state c.args.em.now) _ c.refuse-error.result c.refuse-error.ensures.told;
+    }
 
 pub conditions::compile_bool_test-returns : goal.conditions::compile_bool_test-returns
 conditions::compile_bool_test-returns t c =
@@ -80,19 +103,39 @@ conditions::compile_bool_test-returns t c =
     let some = ap (λ n. nat_eq n 0) (many_emissions xs) ∙ ap (λ ys. nat_eq (length ys) 0) (sym c.as_slice-values.ensures) ∙ sym c.is_empty.ensures ∙ c.if-is_empty.false in
     let same = ap (λ (d : Bool). some_test d c.args.jump.now.truth es c.args.jump.now.block.0) (sym c.deciding.ensures) in
     let seen = ap (λ ys. some_test c.deciding.result c.args.jump.now.truth (all_emissions (exprs expr_tree ys)) c.args.jump.now.block.0) (sym c.as_slice-values.ensures) in
-    record { goes = goes_as _ _ _ _ (ap (λ (f : Emission). run f (state c.args.em.now)) (if_not _ _ (some_test (deciding_truth c.args.e.now.op) c.args.jump.now.truth es c.args.jump.now.block.0) some ∙ same ∙ seen)) c.compile_some_test.ensures.goes; same = c.compile_some_test.ensures.same }
+    record {
+      goes = goes_as _ _ _ _ (ap (λ (f : Emission). run f (state c.args.em.now))
+          (if_not _ _ (some_test (deciding_truth c.args.e.now.op) c.args.jump.now.truth es c.args.jump.now.block.0) some ∙ same ∙ seen))
+          c.compile_some_test.ensures.goes;
+      same = c.compile_some_test.ensures.same;
+    }
 
 pub conditions::compile_some_values-switch_to_block-requires : goal.conditions::compile_some_values-switch_to_block-requires
 conditions::compile_some_values-switch_to_block-requires t c =
-    record { made = opens (shorts c.args.op c.in_ok-end.end.0 (all_emissions (exprs expr_tree c.args.values.now))) _ _ _ c.in_ok-compile_shorts.ensures.goes c.in_ok-end.ensures.made; below = c.in_ok-end.ensures.below }
+    record {
+      made = opens (shorts c.args.op c.in_ok-end.end.0 (all_emissions (exprs expr_tree c.args.values.now)))
+          _ _ _ c.in_ok-compile_shorts.ensures.goes c.in_ok-end.ensures.made;
+      below = c.in_ok-end.ensures.below;
+    }
 
 pub conditions::compile_past_tests-switch_to_block-requires : goal.conditions::compile_past_tests-switch_to_block-requires
 conditions::compile_past_tests-switch_to_block-requires t c =
-    record { made = opens (tests c.args.deciding c.in_ok-end.end.0 c.args.jump.now.truth c.args.jump.now.block.0 (all_emissions (exprs expr_tree c.args.values.now))) _ _ _ c.in_ok-compile_tests.ensures.goes c.in_ok-end.ensures.made; below = c.in_ok-end.ensures.below }
+    record {
+      made = opens (tests c.args.deciding c.in_ok-end.end.0 c.args.jump.now.truth c.args.jump.now.block.0
+          (all_emissions (exprs expr_tree c.args.values.now))) _ _ _ c.in_ok-compile_tests.ensures.goes c.in_ok-end.ensures.made;
+      below =
+          c.in_ok-end.ensures.below;
+    }
 
 pub conditions::compile_some_test-returns : goal.conditions::compile_some_test-returns
 conditions::compile_some_test-returns t c =
-    record { goes = goes_as _ _ _ _ (ap (λ (f : Emission). run f (state c.args.em.now)) (other_test c.args.deciding c.args.jump.now.truth (all_emissions (exprs expr_tree c.args.values.now)) c.args.jump.now.block.0 c.if-jump-deciding.false)) c.compile_past_tests.ensures.goes; same = c.compile_past_tests.ensures.same }
+    record {
+      goes = goes_as _ _ _ _ (ap (λ (f : Emission). run f (state c.args.em.now))
+          (other_test c.args.deciding c.args.jump.now.truth
+          (all_emissions (exprs expr_tree c.args.values.now)) c.args.jump.now.block.0 c.if-jump-deciding.false))
+          c.compile_past_tests.ensures.goes;
+      same = c.compile_past_tests.ensures.same;
+    }
 
 pub comparisons::compile_chain-switch_to_block-requires : goal.comparisons::compile_chain-switch_to_block-requires
 comparisons::compile_chain-switch_to_block-requires t c =
@@ -133,52 +176,88 @@ comparisons::compile_compare-returns t c =
     let es = all_emissions (exprs expr_tree c.args.e.now.comparators) in
     let long = c.len-count.ensures in
     let wide = c.len.ensures ∙ sym (many_emissions c.args.e.now.comparators) in
-    record { goes = goes_as _ _ _ _ (ap (λ (f : Emission). run f (state c.args.em.now)) (one_comparison (emissions (expr_tree c.args.e.now.left.value)).value c.args.e.now.ops es (λ e. c.if-count-eq0.false (long ∙ e)) (sym long ∙ c.if-count-len.false ∙ wide) (λ h. absurd (let g = c.if-count-gt1.false in omega (arith, h, g, long))))) c.compile_one_comparison.ensures.goes; same = c.compile_one_comparison.ensures.same }
+    record {
+      goes = goes_as _ _ _ _ (ap (λ (f : Emission). run f (state c.args.em.now))
+          (one_comparison (emissions (expr_tree c.args.e.now.left.value)).value c.args.e.now.ops es (λ e. c.if-count-eq0.false (long ∙ e))
+          (sym long ∙ c.if-count-len.false ∙ wide) (λ h. absurd (let g = c.if-count-gt1.false in omega (arith, h, g, long)))))
+          c.compile_one_comparison.ensures.goes;
+      same = c.compile_one_comparison.ensures.same;
+    }
 
 pub comparisons::compile_compare-returns-then-count-eq0 : goal.comparisons::compile_compare-returns-then-count-eq0
 comparisons::compile_compare-returns-then-count-eq0 t c =
     let es = all_emissions (exprs expr_tree c.args.e.now.comparators) in
-    record { goes = λ n. ap (λ (f : Emission). run f (state c.args.em.now)) (no_operand (emissions (expr_tree c.args.e.now.left.value)).value c.args.e.now.ops es (sym c.len-count.ensures ∙ c.if-count-eq0.true)) ∙ refused_shape _ (state c.args.em.now) _ c.refuse-error.result c.refuse-error.ensures.told; same = path_of _ (state c.args.em.now) _ c.refuse-error.result c.refuse-error.ensures.told }
+    record {
+      goes = λ n. ap (λ (f : Emission). run f (state c.args.em.now))
+          (no_operand (emissions (expr_tree c.args.e.now.left.value)).value c.args.e.now.ops es
+          (sym c.len-count.ensures ∙ c.if-count-eq0.true))
+          ∙ refused_shape _ (state c.args.em.now) _ c.refuse-error.result c.refuse-error.ensures.told;
+      same =
+          path_of _ (state c.args.em.now) _ c.refuse-error.result c.refuse-error.ensures.told;
+    }
 
 pub comparisons::compile_compare-returns-then-count-gt1 : goal.comparisons::compile_compare-returns-then-count-gt1
 comparisons::compile_compare-returns-then-count-gt1 t c =
     let es = all_emissions (exprs expr_tree c.args.e.now.comparators) in
     let long = c.len-count.ensures in
     let wide = c.len.ensures ∙ sym (many_emissions c.args.e.now.comparators) in
-    record { goes = goes_as _ _ _ _ (ap (λ (f : Emission). run f (state c.args.em.now)) (a_chain (emissions (expr_tree c.args.e.now.left.value)).value c.args.e.now.ops es (λ e. c.if-count-eq0.false (long ∙ e)) (sym long ∙ c.if-count-len.false ∙ wide) (subst (λ n. 1 < n) long c.if-count-gt1.true))) c.compile_chain.ensures.goes; same = c.compile_chain.ensures.same }
+    record {
+      goes = goes_as _ _ _ _ (ap (λ (f : Emission). run f (state c.args.em.now))
+          (a_chain (emissions (expr_tree c.args.e.now.left.value)).value c.args.e.now.ops es (λ e. c.if-count-eq0.false (long ∙ e))
+          (sym long ∙ c.if-count-len.false ∙ wide) (subst (λ n. 1 < n) long c.if-count-gt1.true))) c.compile_chain.ensures.goes;
+      same =
+          c.compile_chain.ensures.same;
+    }
 
 pub comparisons::compile_compare-returns-then-count-len : goal.comparisons::compile_compare-returns-then-count-len
 comparisons::compile_compare-returns-then-count-len t c =
     let es = all_emissions (exprs expr_tree c.args.e.now.comparators) in
     let long = c.len-count.ensures in
     let wide = c.len.ensures ∙ sym (many_emissions c.args.e.now.comparators) in
-    record { goes = λ n. ap (λ (f : Emission). run f (state c.args.em.now)) (uneven_lists (emissions (expr_tree c.args.e.now.left.value)).value c.args.e.now.ops es (λ e. c.if-count-eq0.false (long ∙ e)) (λ e. c.if-count-len.true (long ∙ e ∙ sym wide))) ∙ refused_shape _ (state c.args.em.now) _ c.refuse-error-then-count-len.result c.refuse-error-then-count-len.ensures.told; same = path_of _ (state c.args.em.now) _ c.refuse-error-then-count-len.result c.refuse-error-then-count-len.ensures.told }
+    record {
+      goes = λ n. ap (λ (f : Emission). run f (state c.args.em.now))
+          (uneven_lists (emissions (expr_tree c.args.e.now.left.value)).value c.args.e.now.ops es (λ e. c.if-count-eq0.false (long ∙ e))
+          (λ e. c.if-count-len.true (long ∙ e ∙ sym wide)))
+          ∙ refused_shape _ (state c.args.em.now) _ c.refuse-error-then-count-len.result c.refuse-error-then-count-len.ensures.told;
+      same =
+          path_of _ (state c.args.em.now) _ c.refuse-error-then-count-len.result c.refuse-error-then-count-len.ensures.told;
+    }
 
 pub comparisons::compile_links-loop-i-preserved : goal.comparisons::compile_links-loop-i-preserved
 comparisons::compile_links-loop-i-preserved t c = (
   c.in_ok-compile_linked.ensures.same ∙ c.loop-i.invariant.0,
-  c.loop-i.invariant.1 ∙ ap (λ (f : Action). f (state c.loop-i.em)) (links_at c.args.out.0 c.args.ops.now comparison.Eq c.args.values.now c.loop-i.i _ c.index-values-i.result c.index-values-i.is c.requires.even c.loop-i-test.true) ∙ went _ _ _ c.in_ok-compile_linked.ensures.goes,
+  c.loop-i.invariant.1 ∙ ap (λ (f : Action). f (state c.loop-i.em))
+      (links_at c.args.out.0 c.args.ops.now comparison.Eq c.args.values.now c.loop-i.i _ c.index-values-i.result c.index-values-i.is
+      c.requires.even c.loop-i-test.true) ∙ went _ _ _ c.in_ok-compile_linked.ensures.goes,
 )
 
 pub comparisons::compile_links-returns-in_err-compile_linked : goal.comparisons::compile_links-returns-in_err-compile_linked
 comparisons::compile_links-returns-in_err-compile_linked t c =
     let r : c.from_residual.result ≡ Err c.in_err-compile_linked.field-0.0 = grind arith in
     record {
-      goes = first_refuses _ _ _ _ _ _ r (c.loop-i.invariant.1 ∙ ap (λ (f : Action). f (state c.loop-i.em)) (links_at c.args.out.0 c.args.ops.now comparison.Eq c.args.values.now c.loop-i.i _ c.index-values-i.result c.index-values-i.is c.requires.even c.loop-i-test.true)) c.in_err-compile_linked.ensures.goes;
+      goes = first_refuses _ _ _ _ _ _ r
+          (c.loop-i.invariant.1 ∙ ap (λ (f : Action). f (state c.loop-i.em))
+          (links_at c.args.out.0 c.args.ops.now comparison.Eq c.args.values.now c.loop-i.i _ c.index-values-i.result c.index-values-i.is
+          c.requires.even c.loop-i-test.true)) c.in_err-compile_linked.ensures.goes;
       same = same_error _ _ _ _ _ r c.in_err-compile_linked.ensures.same c.loop-i.invariant.0;
     }
 
 pub conditions::compile_shorts-loop-i-preserved : goal.conditions::compile_shorts-loop-i-preserved
 conditions::compile_shorts-loop-i-preserved t c = (
   c.in_ok-compile_short.ensures.same ∙ c.loop-i.invariant.0,
-  c.loop-i.invariant.1 ∙ ap (λ (f : Action). f (state c.loop-i.em)) (shorts_at c.args.op c.args.end.0 c.args.values.now c.loop-i.i _ c.index-values-i.result c.index-values-i.is c.loop-i-test.true) ∙ went _ _ _ c.in_ok-compile_short.ensures.goes,
+  c.loop-i.invariant.1 ∙ ap (λ (f : Action). f (state c.loop-i.em))
+      (shorts_at c.args.op c.args.end.0 c.args.values.now c.loop-i.i _ c.index-values-i.result c.index-values-i.is c.loop-i-test.true)
+      ∙ went _ _ _ c.in_ok-compile_short.ensures.goes,
 )
 
 pub conditions::compile_shorts-returns-in_err-compile_short : goal.conditions::compile_shorts-returns-in_err-compile_short
 conditions::compile_shorts-returns-in_err-compile_short t c =
     let r : c.from_residual.result ≡ Err c.in_err-compile_short.field-0.0 = grind arith in
     record {
-      goes = first_refuses _ _ _ _ _ _ r (c.loop-i.invariant.1 ∙ ap (λ (f : Action). f (state c.loop-i.em)) (shorts_at c.args.op c.args.end.0 c.args.values.now c.loop-i.i _ c.index-values-i.result c.index-values-i.is c.loop-i-test.true)) c.in_err-compile_short.ensures.goes;
+      goes = first_refuses _ _ _ _ _ _ r
+          (c.loop-i.invariant.1 ∙ ap (λ (f : Action). f (state c.loop-i.em))
+          (shorts_at c.args.op c.args.end.0 c.args.values.now c.loop-i.i _ c.index-values-i.result c.index-values-i.is c.loop-i-test.true))
+          c.in_err-compile_short.ensures.goes;
       same = same_error _ _ _ _ _ r c.in_err-compile_short.ensures.same c.loop-i.invariant.0;
     }
 
@@ -186,8 +265,12 @@ pub conditions::compile_tests-loop-i-preserved : goal.conditions::compile_tests-
 conditions::compile_tests-loop-i-preserved t c = (
   c.in_ok-compile_test.ensures.same ∙ c.loop-i.invariant.0,
   c.loop-i.invariant.1
-      ∙ ap (λ (f : Action). f (state c.loop-i.em)) (tests_at c.args.stop.now.truth c.args.stop.now.block.0 c.args.last.now.truth c.args.last.now.block.0 c.args.values.now c.loop-i.i _ c.index-values-i.result c.index-values-i.is c.loop-i-test.true)
-      ∙ went _ _ _ (ap (λ (f : Emission). run f (state c.loop-i.em)) (either_jump (expr_tree c.index-values-i.result) _ c.either-jump.result.now c.args.stop.now c.args.last.now c.either-jump.ensures) ∙ c.in_ok-compile_test.ensures.goes),
+      ∙ ap (λ (f : Action). f (state c.loop-i.em))
+      (tests_at c.args.stop.now.truth c.args.stop.now.block.0 c.args.last.now.truth c.args.last.now.block.0 c.args.values.now c.loop-i.i
+      _ c.index-values-i.result c.index-values-i.is c.loop-i-test.true)
+      ∙ went _ _ _ (ap (λ (f : Emission). run f (state c.loop-i.em))
+      (either_jump (expr_tree c.index-values-i.result) _ c.either-jump.result.now c.args.stop.now c.args.last.now c.either-jump.ensures)
+      ∙ c.in_ok-compile_test.ensures.goes),
 )
 
 pub conditions::compile_tests-returns-in_err-compile_test : goal.conditions::compile_tests-returns-in_err-compile_test
@@ -195,8 +278,12 @@ conditions::compile_tests-returns-in_err-compile_test t c =
     let r : c.from_residual.result ≡ Err c.in_err-compile_test.field-0.0 = grind arith in
     record {
       goes = first_refuses _ _ _ _ _ _ r
-          (c.loop-i.invariant.1 ∙ ap (λ (f : Action). f (state c.loop-i.em)) (tests_at c.args.stop.now.truth c.args.stop.now.block.0 c.args.last.now.truth c.args.last.now.block.0 c.args.values.now c.loop-i.i _ c.index-values-i.result c.index-values-i.is c.loop-i-test.true))
-          (λ n. ap (λ (f : Emission). run f (state c.loop-i.em)) (either_jump (expr_tree c.index-values-i.result) _ c.either-jump.result.now c.args.stop.now c.args.last.now c.either-jump.ensures) ∙ c.in_err-compile_test.ensures.goes n);
+          (c.loop-i.invariant.1 ∙ ap (λ (f : Action). f (state c.loop-i.em))
+          (tests_at c.args.stop.now.truth c.args.stop.now.block.0 c.args.last.now.truth c.args.last.now.block.0 c.args.values.now
+          c.loop-i.i _ c.index-values-i.result c.index-values-i.is c.loop-i-test.true))
+          (λ n. ap (λ (f : Emission). run f (state c.loop-i.em))
+          (either_jump (expr_tree c.index-values-i.result) _ c.either-jump.result.now c.args.stop.now c.args.last.now
+          c.either-jump.ensures) ∙ c.in_err-compile_test.ensures.goes n);
       same = same_error _ _ _ _ _ r c.in_err-compile_test.ensures.same c.loop-i.invariant.0;
     }
 
@@ -229,7 +316,7 @@ elements::compile_element-returns-in_ok-compile_expression-in_default t c =
     record {
       count = sym (ap (groups_by c.args.run) f);
       emits = record {
-        goes = ap (λ (v : Element Emission Emission). run (element_behind c.args.run v) (state c.args.em.now)) f ∙ c.in_ok-compile_expression-in_default.ensures.goes;
+        goes = ap (λ (v : Element Emission Emission). run (element_after c.args.run v) (state c.args.em.now)) f ∙ c.in_ok-compile_expression-in_default.ensures.goes;
         same = c.in_ok-compile_expression-in_default.ensures.same;
       };
     }
@@ -241,14 +328,16 @@ elements::compile_element-returns-in_err-compile_expression-in_default t c =
     record {
       count = grind arith;
       emits = record {
-        goes = refuses_as _ _ _ _ _ r (ap (λ (v : Element Emission Emission). run (element_behind c.args.run v) (state c.args.em.now)) f) c.in_err-compile_expression-in_default.ensures.goes;
+        goes = refuses_as _ _ _ _ _ r (ap (λ (v : Element Emission Emission). run (element_after c.args.run v) (state c.args.em.now)) f) c.in_err-compile_expression-in_default.ensures.goes;
         same = same_error _ _ _ _ _ r c.in_err-compile_expression-in_default.ensures.same refl;
       };
     }
 
 pub conditions::compile_test-returns-in_default : goal.conditions::compile_test-returns-in_default
 conditions::compile_test-returns-in_default t c = record {
-  goes = goes_as _ _ _ _ (ap (λ (f : Emission). run f (state c.args.em.now)) (truth_test c.args.expr.now c.in_default.not-BoolOp c.in_default.not-UnaryOp c.args.jump.now.truth c.args.jump.now.block.0)) c.compile_truth-in_default.ensures.goes;
+  goes = goes_as _ _ _ _ (ap (λ (f : Emission). run f (state c.args.em.now))
+      (truth_test c.args.expr.now c.in_default.not-BoolOp c.in_default.not-UnaryOp c.args.jump.now.truth c.args.jump.now.block.0))
+      c.compile_truth-in_default.ensures.goes;
   same = c.compile_truth-in_default.ensures.same;
 }
 
@@ -266,7 +355,9 @@ pub displays::compile_display-returns-in_err-compile_expressions : goal.displays
 displays::compile_display-returns-in_err-compile_expressions t c = record {
   goes =
       let r : c.from_residual.result ≡ Err c.in_err-compile_expressions.field-0.0 = grind arith in
-      first_refuses _ _ _ _ _ _ r (ap (λ (f : Emission). run f (state c.args.em.now)) (display_plain c.args.elts.now c.args.build c.args.unpack (sym c.has_star.ensures ∙ c.if-has_star.false))) c.in_err-compile_expressions.ensures.goes;
+      first_refuses _ _ _ _ _ _ r (ap (λ (f : Emission). run f (state c.args.em.now))
+      (display_plain c.args.elts.now c.args.build c.args.unpack (sym c.has_star.ensures ∙ c.if-has_star.false)))
+      c.in_err-compile_expressions.ensures.goes;
   same = search rules;
 }
 
@@ -290,20 +381,20 @@ elements::compile_groups-loop-elt-preserved t c =
     let e = (emissions (expr_tree c.elt-item.result)).element in
     let left = elements (all_emissions (exprs expr_tree (drop (c.loop-elt.elt-index + 1) c.args.elts.now))) in
     let here = elements_at c.args.elts.now c.loop-elt.elt-index _ c.elt-item.result c.elt-item.is c.loop-elt-test.true in
-    let behind = c.run_after-run.ensures in
+    let after = c.run_after-run.ensures in
     let many = c.in_ok-groups.ensures.count in
     let few = few_groups c.loop-elt.run e in
     let all = c.loop-elt.invariant.2 in
     let most = c.loop-elt.invariant.3 in
     let next = ap (group_count c.loop-elt.run) here in
-    let last = ap (λ n. group_count n left) behind in (
+    let last = ap (λ n. group_count n left) after in (
       c.in_ok-groups.ensures.emits.same ∙ c.loop-elt.invariant.0,
       c.loop-elt.invariant.1
           ∙ ap (λ (es : List (Element Emission Emission)). run (group_rest c.loop-elt.run es) (state c.loop-elt.em)) here
           ∙ went _ _ _ c.in_ok-groups.ensures.emits.goes
-          ∙ ap (λ n. run (group_rest n left) (state c.compile_element.new.em)) (sym behind),
+          ∙ ap (λ n. run (group_rest n left) (state c.compile_element.new.em)) (sym after),
       omega (arith, all, next, many, last),
-      omega (arith, most, few, many, behind),
+      omega (arith, most, few, many, after),
     )
 
 pub elements::compile_groups-returns-in_err-groups-clause-emits : goal.elements::compile_groups-returns-in_err-groups-clause-emits
@@ -311,7 +402,8 @@ elements::compile_groups-returns-in_err-groups-clause-emits t c = record {
   goes =
       let r : c.from_residual.result ≡ Err c.in_err-groups.field-0.0 = grind arith in
       first_refuses _ _ _ _ _ _ r
-      (c.loop-elt.invariant.1 ∙ ap (λ (es : List (Element Emission Emission)). run (group_rest c.loop-elt.run es) (state c.loop-elt.em)) (elements_at c.args.elts.now c.loop-elt.elt-index _ c.elt-item.result c.elt-item.is c.loop-elt-test.true))
+      (c.loop-elt.invariant.1 ∙ ap (λ (es : List (Element Emission Emission)). run (group_rest c.loop-elt.run es) (state c.loop-elt.em))
+      (elements_at c.args.elts.now c.loop-elt.elt-index _ c.elt-item.result c.elt-item.is c.loop-elt-test.true))
       c.in_err-groups.ensures.emits.goes;
   same = search rules;
 }
@@ -322,7 +414,13 @@ displays::compile_dict-returns-then-count-len t c =
     let vs = values (all_emissions (exprs expr_tree c.args.e.now.values)) in
     let long = c.len-count.ensures ∙ sym (many_keys c.args.e.now.keys) in
     let wide = c.len.ensures ∙ sym (many_values c.args.e.now.values) in
-    record { goes = λ n. ap (λ (f : Emission). run f (state c.args.em.now)) (uneven_dict ks vs (λ e. c.if-count-len.true (long ∙ e ∙ sym wide))) ∙ refused_shape _ (state c.args.em.now) _ c.refuse-error.result c.refuse-error.ensures.told; same = path_of _ (state c.args.em.now) _ c.refuse-error.result c.refuse-error.ensures.told }
+    record {
+      goes = λ n. ap (λ (f : Emission). run f (state c.args.em.now))
+          (uneven_dict ks vs (λ e. c.if-count-len.true (long ∙ e ∙ sym wide)))
+          ∙ refused_shape _ (state c.args.em.now) _ c.refuse-error.result c.refuse-error.ensures.told;
+      same =
+          path_of _ (state c.args.em.now) _ c.refuse-error.result c.refuse-error.ensures.told;
+    }
 
 pub displays::compile_dict-returns : goal.displays::compile_dict-returns
 displays::compile_dict-returns t c =
@@ -330,7 +428,11 @@ displays::compile_dict-returns t c =
     let vs = values (all_emissions (exprs expr_tree c.args.e.now.values)) in
     let long = c.len-count.ensures ∙ sym (many_keys c.args.e.now.keys) in
     let wide = c.len.ensures ∙ sym (many_values c.args.e.now.values) in
-    record { goes = goes_as _ _ _ _ (ap (λ (f : Emission). run f (state c.args.em.now)) (even_dict ks vs (sym long ∙ c.if-count-len.false ∙ wide))) c.compile_entries.ensures.goes; same = c.compile_entries.ensures.same }
+    record {
+      goes = goes_as _ _ _ _ (ap (λ (f : Emission). run f (state c.args.em.now))
+          (even_dict ks vs (sym long ∙ c.if-count-len.false ∙ wide))) c.compile_entries.ensures.goes;
+      same = c.compile_entries.ensures.same;
+    }
 
 pub displays::compile_entries-loop-i-init : goal.displays::compile_entries-loop-i-init
 displays::compile_entries-loop-i-init = entries_begin
@@ -402,13 +504,18 @@ pub keywords::compile_values-returns-in_err-compile_expression : goal.keywords::
 keywords::compile_values-returns-in_err-compile_expression t c = record {
   goes =
       let r : c.from_residual.result ≡ Err c.in_err-compile_expression.field-0.0 = grind arith in
-      first_refuses _ _ _ _ _ _ r (c.loop-keyword.invariant.1 ∙ ap (λ (f : Emission). run f (state c.loop-keyword.em)) (values_at c.args.keywords.now c.loop-keyword.keyword-index _ c.keyword-item.result c.keyword-item.is c.loop-keyword-test.true)) c.in_err-compile_expression.ensures.goes;
+      first_refuses _ _ _ _ _ _ r (c.loop-keyword.invariant.1
+      ∙ ap (λ (f : Emission). run f (state c.loop-keyword.em))
+      (values_at c.args.keywords.now c.loop-keyword.keyword-index _ c.keyword-item.result c.keyword-item.is c.loop-keyword-test.true))
+      c.in_err-compile_expression.ensures.goes;
   same = search rules;
 }
 
 pub returns::return_entered-returns-in_default : goal.returns::return_entered-returns-in_default
 returns::return_entered-returns-in_default t c = record {
-  goes = goes_as _ _ _ _ (ap (λ (f : Emission). run f (state c.args.em.now)) (value_return c.args.expr.now c.in_default.not-JoinedStr c.in_default.not-Constant c.in_default.not-Name)) c.return_value.ensures.goes;
+  goes = goes_as _ _ _ _ (ap (λ (f : Emission). run f (state c.args.em.now))
+      (value_return c.args.expr.now c.in_default.not-JoinedStr c.in_default.not-Constant c.in_default.not-Name))
+      c.return_value.ensures.goes;
   same = c.return_value.ensures.same;
 }
 

@@ -21,16 +21,28 @@ use Rattle.py_expr_scopes.proofs.OpenClauses.{none_open}
 use Rattle.py_expr.proofs.+code.Given as goal
 
 abbrev pub invariant-expressions::compile_expressions-loop-item : goal.invariant-expressions::compile_expressions-loop-item
-invariant-expressions::compile_expressions-loop-item l = (rest l.em ≡ rest l.initial.em) × (run (emission_of_exprs (exprs expr_tree l.items)) (state l.initial.em) ≡ run (emission_of_exprs (exprs expr_tree (drop l.item-index l.items))) (state l.em))
+invariant-expressions::compile_expressions-loop-item l =
+    (rest l.em ≡ rest l.initial.em)
+    × (run (emission_of_exprs (exprs expr_tree l.items)) (state l.initial.em)
+    ≡ run (emission_of_exprs (exprs expr_tree (drop l.item-index l.items))) (state l.em))
 
 abbrev pub invariant-conditions::compile_shorts-loop-i : goal.invariant-conditions::compile_shorts-loop-i
-invariant-conditions::compile_shorts-loop-i l = (rest l.em ≡ rest l.initial.em) × (run (shorts l.op l.end.0 (all_emissions (exprs expr_tree l.values))) (state l.initial.em) ≡ run (shorts l.op l.end.0 (all_emissions (exprs expr_tree (drop l.i l.values)))) (state l.em))
+invariant-conditions::compile_shorts-loop-i l =
+    (rest l.em ≡ rest l.initial.em)
+    × (run (shorts l.op l.end.0 (all_emissions (exprs expr_tree l.values))) (state l.initial.em)
+    ≡ run (shorts l.op l.end.0 (all_emissions (exprs expr_tree (drop l.i l.values)))) (state l.em))
 
 abbrev pub invariant-comparisons::compile_links-loop-i : goal.invariant-comparisons::compile_links-loop-i
-invariant-comparisons::compile_links-loop-i l = (rest l.em ≡ rest l.initial.em) × (run (links l.out.0 l.ops (all_emissions (exprs expr_tree l.values))) (state l.initial.em) ≡ run (links l.out.0 (drop l.i l.ops) (all_emissions (exprs expr_tree (drop l.i l.values)))) (state l.em))
+invariant-comparisons::compile_links-loop-i l =
+    (rest l.em ≡ rest l.initial.em)
+    × (run (links l.out.0 l.ops (all_emissions (exprs expr_tree l.values))) (state l.initial.em)
+    ≡ run (links l.out.0 (drop l.i l.ops) (all_emissions (exprs expr_tree (drop l.i l.values)))) (state l.em))
 
 abbrev pub invariant-conditions::compile_tests-loop-i : goal.invariant-conditions::compile_tests-loop-i
-invariant-conditions::compile_tests-loop-i l = (rest l.em ≡ rest l.initial.em) × (run (tests l.stop.truth l.stop.block.0 l.last.truth l.last.block.0 (all_emissions (exprs expr_tree l.values))) (state l.initial.em) ≡ run (tests l.stop.truth l.stop.block.0 l.last.truth l.last.block.0 (all_emissions (exprs expr_tree (drop l.i l.values)))) (state l.em))
+invariant-conditions::compile_tests-loop-i l = (rest l.em ≡ rest l.initial.em)
+    × (run (tests l.stop.truth l.stop.block.0 l.last.truth l.last.block.0 (all_emissions (exprs expr_tree l.values))) (state l.initial.em)
+    ≡ run (tests l.stop.truth l.stop.block.0 l.last.truth l.last.block.0 (all_emissions (exprs expr_tree (drop l.i l.values))))
+    (state l.em))
 
 abbrev pub invariant-elements::compile_groups-loop-elt : goal.invariant-elements::compile_groups-loop-elt
 invariant-elements::compile_groups-loop-elt l =
@@ -180,10 +192,15 @@ abbrev pub decreases-expressions::compile_subscript : goal.decreases-expressions
 decreases-expressions::compile_subscript l = 16 * goal.size-expressions::compile_subscript l + 8
 
 abbrev pub invariant-targets::compile_stores-loop-elt : goal.invariant-targets::compile_stores-loop-elt
-invariant-targets::compile_stores-loop-elt l = (rest l.em ≡ rest l.initial.em) × (run (in_turn (bare (all_stores (exprs expr_tree l.elts)))) (state l.initial.em) ≡ run (in_turn (bare (all_stores (exprs expr_tree (drop l.elt-index l.elts))))) (state l.em))
+invariant-targets::compile_stores-loop-elt l = (rest l.em ≡ rest l.initial.em)
+    × (run (in_turn (bare (all_stores (exprs expr_tree l.elts)))) (state l.initial.em)
+    ≡ run (in_turn (bare (all_stores (exprs expr_tree (drop l.elt-index l.elts))))) (state l.em))
 
 abbrev pub invariant-keywords::compile_values-loop-keyword : goal.invariant-keywords::compile_values-loop-keyword
-invariant-keywords::compile_values-loop-keyword l = (rest l.em ≡ rest l.initial.em) × (run (in_turn (values_in (keyword_emissions (keywords expr_tree l.keywords)))) (state l.initial.em) ≡ run (in_turn (values_in (keyword_emissions (keywords expr_tree (drop l.keyword-index l.keywords))))) (state l.em))
+invariant-keywords::compile_values-loop-keyword l =
+    (rest l.em ≡ rest l.initial.em)
+    × (run (in_turn (values_in (keyword_emissions (keywords expr_tree l.keywords)))) (state l.initial.em)
+    ≡ run (in_turn (values_in (keyword_emissions (keywords expr_tree (drop l.keyword-index l.keywords))))) (state l.em))
 
 abbrev pub invariant-keywords::compile_maps-loop-keyword : goal.invariant-keywords::compile_maps-loop-keyword
 invariant-keywords::compile_maps-loop-keyword l =
@@ -318,10 +335,15 @@ abbrev pub invariant-clauses::open_clauses-loop-clause : goal.invariant-clauses:
 invariant-clauses::open_clauses-loop-clause l =
     (rest l.em ≡ rest l.initial.em)
     × AllOpen l.blocks (state l.em)
-    × ((within : Emission) → run (clauses (clause_emissions (generators expr_tree l.generators)) within) (state l.initial.em) ≡ (run (clauses_by (none_open l.blocks) (clause_emissions (generators expr_tree (drop l.clause-index l.generators))) within) ▹ closed_clauses l.blocks) (state l.em))
+    × ((nested : Emission) → run (clauses (clause_emissions (generators expr_tree l.generators)) nested) (state l.initial.em)
+    ≡ (run (clauses_by (none_open l.blocks) (clause_emissions (generators expr_tree (drop l.clause-index l.generators))) nested) ▹
+    closed_clauses l.blocks) (state l.em))
 
 abbrev pub invariant-clauses::compile_conditions-loop-condition : goal.invariant-clauses::compile_conditions-loop-condition
-invariant-clauses::compile_conditions-loop-condition l = (rest l.em ≡ rest l.initial.em) × (run (conditions (all_emissions (exprs expr_tree l.ifs)) l.start.0) (state l.initial.em) ≡ run (conditions (all_emissions (exprs expr_tree (drop l.condition-index l.ifs))) l.start.0) (state l.em))
+invariant-clauses::compile_conditions-loop-condition l =
+    (rest l.em ≡ rest l.initial.em)
+    × (run (conditions (all_emissions (exprs expr_tree l.ifs)) l.start.0) (state l.initial.em)
+    ≡ run (conditions (all_emissions (exprs expr_tree (drop l.condition-index l.ifs))) l.start.0) (state l.em))
 
 abbrev pub decreases-clauses::compile_conditions : goal.decreases-clauses::compile_conditions
 decreases-clauses::compile_conditions l = 16 * goal.size-clauses::compile_conditions l + 4

@@ -37,7 +37,7 @@ deletion_ends : (class : Option (List ℕ)) (e : tree.Expr) → expr_shapes clas
     → EndsBy s (delete_faults (in_function s) s.location e) (delete_end s.location e) (run (emission_of_delete e) s)
 deletion_ends class e h s =
     let alone = tree.more_exprs e tree.no_exprs in
-    let one = ends_so (append-nil (delete_faults (in_function s) s.location e)) (deletions_end class s.around s.location alone (ap (λ l. l ++ []) h)) in
+    let one = ends_so (append-nil (delete_faults (in_function s) s.location e)) (deletions_end class s.node_context s.location alone (ap (λ l. l ++ []) h)) in
     ends_by s _ _ _ ((unkept_ends (emission_of_delete e) one).ends s refl refl)
 
 pub deletion_calls : DeletionCalls

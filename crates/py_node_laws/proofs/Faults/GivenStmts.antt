@@ -22,11 +22,16 @@ use Rattle.py_meaning.specs.Ends.{ends_of, expr_end, items_end, last_of}
 use Rattle.py_meaning.specs.StmtEnds.{Setting, declared_end, function_start, param_ends, rest_end, scope_setting, stmt_end}
 use Rattle.py_meaning.specs.ExprFaults.{Fault, assign_faults, debug_faults, declared_faults, expr_faults, exprs_faults, fault_at, faults_to, opt_expr_faults, when}
 use Rattle.py_meaning.specs.Scanned.{fault_as, scan_faults}
-use Rattle.py_meaning.specs.Faults.{annotated_faults, class_faults, compile_faults, def_faults, faults_behind, first_setting, future_faults, handlers_faults, interactive_faults, items_faults, malformed_faults, match_faults, prompt_faults, rest_faults, setting_after, stmt_faults, stmts_faults, too_deep, too_large, whole}
+use Rattle.py_meaning.specs.Faults.{annotated_faults, class_faults, compile_faults, def_faults, faults_after, first_setting, future_faults}
+use Rattle.py_meaning.specs.Faults.{handlers_faults, interactive_faults, items_faults, malformed_faults, match_faults, prompt_faults}
+use Rattle.py_meaning.specs.Faults.{rest_faults, setting_after, stmt_faults, stmts_faults, too_deep, too_large, whole}
 use Rattle.py_node_laws.specs.GivenErrors.{AreGiven, IsGiven, NeverGiven}
 use Rattle.py_node_laws.proofs.Faults.Givens.{debug_given, given_joined, one_if, three}
 use Rattle.py_node_laws.proofs.Faults.GivenExprs.{to_given}
-use Rattle.py_node_laws.proofs.Faults.GivenParts.{alias_given, annotated_given, asserted_given, assigned_given, augmented_given, class_given, declared_given, def_given, deletes_given, exprs_given, from_given, future_given, imported_given, items_given, looped_given, matched_given, opt_value_given, raised_given, value_given}
+use Rattle.py_node_laws.proofs.Faults.GivenParts.{alias_given, annotated_given, asserted_given, assigned_given, augmented_given}
+use Rattle.py_node_laws.proofs.Faults.GivenParts.{class_given, declared_given, def_given, deletes_given, exprs_given, from_given}
+use Rattle.py_node_laws.proofs.Faults.GivenParts.{future_given, imported_given, items_given, looped_given, matched_given, opt_value_given}
+use Rattle.py_node_laws.proofs.Faults.GivenParts.{raised_given, value_given}
 
 four : (ws xs ys zs : List Fault) → AreGiven ws → AreGiven xs → AreGiven ys → AreGiven zs → AreGiven (ws ++ xs ++ ys ++ zs)
 four ws xs ys zs a b c d = given_joined (ws ++ xs ++ ys) zs (three ws xs ys a b c) d
@@ -42,31 +47,50 @@ mutual
       let q = rest_end (scope_setting true c) (function_start p params generic) body in
       let own = rest_faults (scope_setting true c) body in
       let e = stmt_end c (tree.FunctionDef at name params body decorators returns generic) in
-      given_joined (exprs_faults c.in_function decorators) (def_faults c.postponed c.in_function p q params returns generic own ++ debug_faults no_assignment e name) (exprs_given c.in_function decorators)
-      (given_joined (def_faults c.postponed c.in_function p q params returns generic own) (debug_faults no_assignment e name) (def_given c.postponed c.in_function p q params returns generic own (rest_given (scope_setting true c) body)) (debug_given no_assignment e name))
+      given_joined (exprs_faults c.in_function decorators)
+      (def_faults c.postponed c.in_function p q params returns generic own ++ debug_faults no_assignment e name)
+      (exprs_given c.in_function decorators)
+      (given_joined (def_faults c.postponed c.in_function p q params returns generic own) (debug_faults no_assignment e name)
+      (def_given c.postponed c.in_function p q params returns generic own (rest_given (scope_setting true c) body))
+      (debug_given no_assignment e name))
   stmt_given c b (tree.ClassDef at name bases keywords body decorators generic) =
       let p = last_of at (ends_of decorators) in
       let q = rest_end (scope_setting false c) (last_of p (param_ends generic)) body in
       let own = rest_faults (scope_setting false c) body in
       let e = stmt_end c (tree.ClassDef at name bases keywords body decorators generic) in
       given_joined (exprs_faults c.in_function decorators) (class_faults c.in_function p q bases keywords generic own ++ debug_faults no_assignment e name) (exprs_given c.in_function decorators)
-      (given_joined (class_faults c.in_function p q bases keywords generic own) (debug_faults no_assignment e name) (class_given c.in_function p q bases keywords generic own (rest_given (scope_setting false c) body)) (debug_given no_assignment e name))
+      (given_joined (class_faults c.in_function p q bases keywords generic own) (debug_faults no_assignment e name)
+      (class_given c.in_function p q bases keywords generic own (rest_given (scope_setting false c) body))
+      (debug_given no_assignment e name))
   stmt_given c b (tree.TypeAlias at name generic value) = alias_given c.in_function at name generic value
-  stmt_given c b (tree.Return at value) = given_joined (when (not c.in_function) (fault_at error.InvalidReturn at)) (opt_expr_faults c.in_function value) (one_if (not c.in_function) (fault_at error.InvalidReturn at) tt) (opt_value_given c.in_function value)
+  stmt_given c b (tree.Return at value) = given_joined (when (not c.in_function) (fault_at error.InvalidReturn at))
+      (opt_expr_faults c.in_function value) (one_if (not c.in_function) (fault_at error.InvalidReturn at) tt)
+      (opt_value_given c.in_function value)
   stmt_given c b (tree.Delete at targets) = deletes_given c.in_function at targets
-  stmt_given c b (tree.Assign at targets value) = given_joined (expr_faults c.in_function value) (assign_faults c.in_function (expr_end value) targets) (value_given c.in_function value) (assigned_given c.in_function (expr_end value) targets)
+  stmt_given c b (tree.Assign at targets value) =
+      given_joined (expr_faults c.in_function value) (assign_faults c.in_function (expr_end value) targets)
+      (value_given c.in_function value) (assigned_given c.in_function (expr_end value) targets)
   stmt_given c b (tree.AugAssign at target o value) = augmented_given c.in_function at target value
   stmt_given c b (tree.AnnAssign at target annotation value simple) =
-      given_joined (declared_faults c.in_function target value) (annotated_faults c.postponed c.in_function (declared_end at target value) annotation) (declared_given c.in_function target value) (annotated_given c.postponed c.in_function (declared_end at target value) annotation)
-  stmt_given c b (tree.If at t body orelse) = three (expr_faults c.in_function t) (stmts_faults c b body) (stmts_faults c b orelse) (value_given c.in_function t) (stmts_given c b body) (stmts_given c b orelse)
-  stmt_given c b (tree.While at t body orelse) = three (expr_faults c.in_function t) (stmts_faults c true body) (stmts_faults c b orelse) (value_given c.in_function t) (stmts_given c true body) (stmts_given c b orelse)
+      given_joined (declared_faults c.in_function target value)
+      (annotated_faults c.postponed c.in_function (declared_end at target value) annotation) (declared_given c.in_function target value)
+      (annotated_given c.postponed c.in_function (declared_end at target value) annotation)
+  stmt_given c b (tree.If at t body orelse) = three (expr_faults c.in_function t) (stmts_faults c b body) (stmts_faults c b orelse)
+      (value_given c.in_function t) (stmts_given c b body) (stmts_given c b orelse)
+  stmt_given c b (tree.While at t body orelse) = three (expr_faults c.in_function t) (stmts_faults c true body) (stmts_faults c b orelse)
+      (value_given c.in_function t) (stmts_given c true body) (stmts_given c b orelse)
   stmt_given c b (tree.For at target iter body orelse) =
-      four (expr_faults c.in_function iter) (faults_to c.in_function (expr_end iter) target).alone (stmts_faults c true body) (stmts_faults c b orelse) (value_given c.in_function iter) (to_given c.in_function (expr_end iter) target).alone (stmts_given c true body) (stmts_given c b orelse)
+      four (expr_faults c.in_function iter) (faults_to c.in_function (expr_end iter) target).alone (stmts_faults c true body)
+      (stmts_faults c b orelse) (value_given c.in_function iter) (to_given c.in_function (expr_end iter) target).alone
+      (stmts_given c true body) (stmts_given c b orelse)
   stmt_given c b (tree.With at items body) =
       four (when (itemless items) (fault_at error.EmptyWithItems at)) (items_faults c.in_function items) (when (none body) (fault_at error.EmptyWithBody (items_end at items))) (stmts_faults c b body)
-      (one_if (itemless items) (fault_at error.EmptyWithItems at) tt) (items_given c.in_function items) (one_if (none body) (fault_at error.EmptyWithBody (items_end at items)) tt) (stmts_given c b body)
+      (one_if (itemless items) (fault_at error.EmptyWithItems at) tt) (items_given c.in_function items)
+      (one_if (none body) (fault_at error.EmptyWithBody (items_end at items)) tt) (stmts_given c b body)
   stmt_given c b (tree.Raise at exc cause) = raised_given c.in_function exc cause
-  stmt_given c b (tree.Try at body excepts orelse finalbody) = four (stmts_faults c b body) (handlers_faults c b excepts) (stmts_faults c b orelse) (stmts_faults c b finalbody) (stmts_given c b body) (handlers_given c b excepts) (stmts_given c b orelse) (stmts_given c b finalbody)
+  stmt_given c b (tree.Try at body excepts orelse finalbody) =
+      four (stmts_faults c b body) (handlers_faults c b excepts) (stmts_faults c b orelse) (stmts_faults c b finalbody)
+      (stmts_given c b body) (handlers_given c b excepts) (stmts_given c b orelse) (stmts_given c b finalbody)
   stmt_given c b (tree.Assert at t msg) = asserted_given c t msg
   stmt_given c b (tree.Import at names) = imported_given at names
   stmt_given c b (tree.ImportFrom at path names level) = from_given c.in_function at path names
@@ -84,33 +108,39 @@ mutual
 
   rest_given : (c : Setting) (ts : tree.Stmts) → AreGiven (rest_faults c ts)
   rest_given c tree.no_stmts = tt
-  rest_given c (tree.more_stmts s ss) = but_doc_given (stmt_text s) (stmts_faults c false ss) (stmt_faults c false s ++ stmts_faults c false ss) (stmts_given c false ss) (given_joined (stmt_faults c false s) (stmts_faults c false ss) (stmt_given c false s) (stmts_given c false ss))
+  rest_given c (tree.more_stmts s ss) = but_doc_given (stmt_text s) (stmts_faults c false ss)
+      (stmt_faults c false s ++ stmts_faults c false ss) (stmts_given c false ss)
+      (given_joined (stmt_faults c false s) (stmts_faults c false ss) (stmt_given c false s) (stmts_given c false ss))
 
   handlers_given : (c : Setting) (b : Bool) (hs : tree.Handlers) → AreGiven (handlers_faults c b hs)
   handlers_given c b tree.no_handlers = tt
-  handlers_given c b (tree.more_handlers type name body rest) = three (match_faults c.in_function type name) (stmts_faults c b body) (handlers_faults c b rest) (matched_given c.in_function type name) (stmts_given c b body) (handlers_given c b rest)
+  handlers_given c b (tree.more_handlers type name body rest) =
+      three (match_faults c.in_function type name) (stmts_faults c b body) (handlers_faults c b rest)
+      (matched_given c.in_function type name) (stmts_given c b body) (handlers_given c b rest)
 
 -- future imports before the other statements
-given_stmt_behind : (c : Setting) (o : Option Future) (xs : List Fault) (ys : Setting → List Fault) → AreGiven xs → ((d : Setting) → AreGiven (ys d))
+given_stmt_after : (c : Setting) (o : Option Future) (xs : List Fault) (ys : Setting → List Fault) → AreGiven xs → ((d : Setting) → AreGiven (ys d))
     → AreGiven (elim o [ None ↦ xs | Some f ↦ future_faults c.in_function f ++ ys (setting_after f c) ])
-given_stmt_behind c None xs ys a h = a
-given_stmt_behind c (Some f) xs ys a h = given_joined (future_faults c.in_function f) (ys (setting_after f c)) (future_given c.in_function f) (h (setting_after f c))
+given_stmt_after c None xs ys a h = a
+given_stmt_after c (Some f) xs ys a h = given_joined (future_faults c.in_function f) (ys (setting_after f c)) (future_given c.in_function f) (h (setting_after f c))
 
-behind_given : (c : Setting) (ts : tree.Stmts) → AreGiven (faults_behind c ts)
-behind_given c tree.no_stmts = tt
-behind_given c (tree.more_stmts s ss) = given_stmt_behind c (future_of s) (stmts_faults c false (tree.more_stmts s ss)) (λ d. faults_behind d ss) (stmts_given c false (tree.more_stmts s ss)) (λ d. behind_given d ss)
+after_given : (c : Setting) (ts : tree.Stmts) → AreGiven (faults_after c ts)
+after_given c tree.no_stmts = tt
+after_given c (tree.more_stmts s ss) = given_stmt_after c (future_of s) (stmts_faults c false (tree.more_stmts s ss))
+    (λ d. faults_after d ss) (stmts_given c false (tree.more_stmts s ss)) (λ d. after_given d ss)
 
 prompt_given : (c : Setting) (ts : tree.Stmts) → AreGiven (prompt_faults c ts)
 prompt_given c tree.no_stmts = tt
 prompt_given c (tree.more_stmts (tree.StmtExpr at value) ss) = given_joined (expr_faults c.in_function value) (prompt_faults c ss) (value_given c.in_function value) (prompt_given c ss)
-prompt_given c (tree.more_stmts s ss) = given_stmt_behind c (future_of s) (stmts_faults c false (tree.more_stmts s ss)) (λ d. prompt_faults d ss) (stmts_given c false (tree.more_stmts s ss)) (λ d. prompt_given d ss)
+prompt_given c (tree.more_stmts s ss) = given_stmt_after c (future_of s) (stmts_faults c false (tree.more_stmts s ss))
+    (λ d. prompt_faults d ss) (stmts_given c false (tree.more_stmts s ss)) (λ d. prompt_given d ss)
 
 interactive_given : (m : Mode) (c : Setting) (ts : tree.Stmts) → AreGiven (interactive_faults m c ts)
 interactive_given mode.Single c ts = prompt_given c ts
-interactive_given other c ts = behind_given c ts
+interactive_given other c ts = after_given c ts
 
 compiled_given : (m : Mode) (level : ℕ) (t : tree.Mod) → AreGiven (compile_faults m level t)
-compiled_given m level (tree.Module body) = behind_given (first_setting level) (after_doc body)
+compiled_given m level (tree.Module body) = after_given (first_setting level) (after_doc body)
 compiled_given m level (tree.Interactive body) = interactive_given m (first_setting level) body
 compiled_given m level (tree.Expression value) = value_given false value
 compiled_given m level other = (tt, tt)

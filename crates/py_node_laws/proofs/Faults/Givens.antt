@@ -7,9 +7,10 @@ use Rattle.py_base.specs.declared.errors.CodegenErrorType.TheVariants as error
 use Rattle.py_base.specs.declared.location.SourceLocation.{SourceLocation}
 use Rattle.py_control.specs.Agree.{AllOf}
 use Rattle.py_emission_parts.specs.Elements.{pairs, flat}
-use Rattle.py_emission_parts.specs.Refused.{no_assignment, retold}
+use Rattle.py_emission_parts.specs.Refused.{no_assignment, rewritten}
 use Rattle.py_emission_parts.specs.TableParts.{is_debug}
-use Rattle.py_meaning.specs.ExprFaults.{ExprFaults, Fault, TargetFaults, debug_faults, elements, fault_at, if_any, in_order, joined_faults, keyword_faults, parameter_faults, retold_faults, values, when}
+use Rattle.py_meaning.specs.ExprFaults.{ExprFaults, Fault, TargetFaults, debug_faults, elements, fault_at, if_any, in_order, joined_faults}
+use Rattle.py_meaning.specs.ExprFaults.{keyword_faults, parameter_faults, rewritten_faults, values, when}
 use Rattle.py_node_laws.specs.GivenErrors.{AreGiven, IsGiven}
 
 pub given_joined : (xs ys : List Fault) → AreGiven xs → AreGiven ys → AreGiven (xs ++ ys)
@@ -39,16 +40,16 @@ pub parameters_given : (p : SourceLocation) (names : List (List ℕ)) → AreGiv
 parameters_given p [] = tt
 parameters_given p (x ∷ xs) = given_joined (debug_faults no_assignment p x) (parameter_faults p xs) (debug_given no_assignment p x) (parameters_given p xs)
 
-told_so : (e : CodegenErrorType) → IsGiven e → IsGiven (retold e)
+told_so : (e : CodegenErrorType) → IsGiven e → IsGiven (rewritten e)
 told_so error.InvalidStarExpr h = tt
 told_so error.AsyncYieldFrom h = h
 told_so error.AsyncReturnValue h = h
 told_so error.MissingCell h = h
 told_so other h = tt
 
-pub retold_given : (fs : List Fault) → AreGiven fs → AreGiven (retold_faults fs)
-retold_given [] h = tt
-retold_given (f ∷ fs) h = (told_so f.error h.0, retold_given fs h.1)
+pub rewritten_given : (fs : List Fault) → AreGiven fs → AreGiven (rewritten_faults fs)
+rewritten_given [] h = tt
+rewritten_given (f ∷ fs) h = (told_so f.error h.0, rewritten_given fs h.1)
 
 -- of an expression, as a value and as an element, and of a target
 pub record Well (f : ExprFaults) : Type 0 where

@@ -9,26 +9,26 @@ use Rattle.py_emission_outcomes.proofs.Faults.RefusingExprs.{expr_ends, store_en
 use Rattle.py_emission_outcomes.proofs.Faults.RefusingStmts.{stmt_ends, stmts_end_so}
 use Rattle.py_node_laws.specs.NodeFaults.{BodiesEnd, DeletesEnd, EndsBy, ExprsEnd, StatementsEnd, TargetsEnd, TestsEnd}
 
-pub ends_by : (s : State) (fs : List Fault) (q : SourceLocation) (o : Outcome) → RefusalEnds s.around fs q o → EndsBy s fs q o
+pub ends_by : (s : State) (fs : List Fault) (q : SourceLocation) (o : Outcome) → RefusalEnds s.node_context fs q o → EndsBy s fs q o
 ends_by s fs q o (Wide e) = subst (EndsBy s fs q) (sym e) tt
 ends_by s fs q o (Misses at e) = subst (EndsBy s fs q) (sym e) (λ n. absurd (n refl))
 ends_by s fs q o (Stops x at rest f g) = subst (EndsBy s fs q) (sym f) (λ n. (rest, g))
-ends_by s fs q o (GoesOn r at around f g) = subst (EndsBy s fs q) (sym f) (g, at, around)
+ends_by s fs q o (GoesOn r at node_context f g) = subst (EndsBy s fs q) (sym f) (g, at, node_context)
 
 pub exprs_end : ExprsEnd
-exprs_end class e h s = ends_by s _ _ _ (((expr_ends class s.around e h).value s.location).ends s refl refl)
+exprs_end class e h s = ends_by s _ _ _ (((expr_ends class s.node_context e h).value s.location).ends s refl refl)
 
 pub tests_end : TestsEnd
-tests_end class e h truth block s = ends_by s _ _ _ (((expr_ends class s.around e h).test s.location truth block).ends s refl refl)
+tests_end class e h truth block s = ends_by s _ _ _ (((expr_ends class s.node_context e h).test s.location truth block).ends s refl refl)
 
 pub targets_end : TargetsEnd
-targets_end class e h s = ends_by s _ _ _ ((store_ends class s.around s.location e h).alone.ends s refl refl)
+targets_end class e h s = ends_by s _ _ _ ((store_ends class s.node_context s.location e h).alone.ends s refl refl)
 
 pub deletes_end : DeletesEnd
-deletes_end class es h s = ends_by s _ _ _ ((deletions_end class s.around s.location es h).ends s refl refl)
+deletes_end class es h s = ends_by s _ _ _ ((deletions_end class s.node_context s.location es h).ends s refl refl)
 
 pub statements_end : StatementsEnd
-statements_end class t h s = ends_by s _ _ _ ((stmt_ends class s.around s.location t h).ends s refl refl)
+statements_end class t h s = ends_by s _ _ _ ((stmt_ends class s.node_context s.location t h).ends s refl refl)
 
 pub bodies_end : BodiesEnd
-bodies_end class ts h s = ends_by s _ _ _ ((stmts_end_so class s.around s.location ts h).ends s refl refl)
+bodies_end class ts h s = ends_by s _ _ _ ((stmts_end_so class s.node_context s.location ts h).ends s refl refl)

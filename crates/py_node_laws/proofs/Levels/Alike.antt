@@ -1,7 +1,8 @@
 -- Two runs that are each the same as a third are the same, where their children are; so codes that agree with one scope run alike.
 use Rattle.std.proofs.Common.{sym, ◌∙◌, subst, ℕ, zero, suc, List, [], ◌∷◌}
 use Rattle.py_bytecode.specs.Objects.{Object}
-use Rattle.py_bytecode.specs.Values.{Value, Constant, Given, Child, Entry, It, Cells, Event, Operates, Makes, Accesses, StoresCells, AsksTruth, AsksNext, Outcome, Returned, RaisedOut, Stopped, Wrong, Leaked, Going, Ran}
+use Rattle.py_bytecode.specs.Values.{Value, Constant, Given, Child, Entry, It, Cells, Event, Operates, Makes, Accesses, StoresCells}
+use Rattle.py_bytecode.specs.Values.{AsksTruth, AsksNext, Outcome, Returned, RaisedOut, Stopped, Wrong, Leaked, Going, Ran}
 use Rattle.py_control.specs.Agree.{SameValue, SameValues, SameEvent, SameEvents, SameEntry, SameOutcome, SameRan}
 use Rattle.py_control.specs.Agreement.{Agree, Agrees}
 use Rattle.py_control.specs.Form.{Scope}

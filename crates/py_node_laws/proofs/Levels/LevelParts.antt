@@ -8,19 +8,23 @@ use Rattle.py_bytecode.specs.Objects as const
 use Rattle.py_bytecode.specs.Values.{operation, Bare, Number}
 use Rattle.py_scope_counts.specs.Counts.{scopes_in_arg, scopes_in_returns}
 use Rattle.py_annotation_text.specs.Annotation.{annotation}
-use Rattle.py_emission_parts.specs.Within.{behind_name, class_path, class_within, function_inside, passed_defaults, handed_parts, hidden_inside}
-use Rattle.py_emission_parts.specs.Context.{Context, inside, is_function, mangled_by, qualified_under, with_path, within_class}
+use Rattle.py_emission_parts.specs.NestedScopes.{after_name, class_path, nested_class, function_inside, passed_defaults, handed_parts, type_param_scope_inside}
+use Rattle.py_emission_parts.specs.Context.{Context, inside, is_function, mangled_by, qualified_under, with_path, nested_in_class}
 use Rattle.py_emission_parts.specs.Elements.{Function}
 use Rattle.py_emission.specs.Texts.{after_doc, doc_of, first_text}
-use Rattle.py_control.specs.Form.{VForm, VForms, VConst, VOp, VMake, VKeep, VSwap, VNone, VMore, Resolved, Target, GDrop, GStore, SForm, SSkip, SThen, SDo, SInto, SReturn, SAugment, SAugmentTwo, SWith, MkScope}
+use Rattle.py_control.specs.Form.{VForm, VForms, VConst, VOp, VMake, VKeep, VSwap, VNone, VMore, Resolved, Target, GDrop, GStore, SForm}
+use Rattle.py_control.specs.Form.{SSkip, SThen, SDo, SInto, SReturn, SAugment, SAugmentTwo, SWith, MkScope}
 use Rattle.py_emission_parts.specs.TableParts.{built_form, call_form, elements, inplace, named_operation}
 use Rattle.py_node_laws.specs.Levels.{FreeArg, FreeArgs, FreeArguments, FreeExpr, FreeExprs, FreeItems, FreeKeywords, FreeOpt, FreeOptArg, FreeParam, FreeParams, Undocumented}
 use Rattle.py_meaning.specs.StmtCounts.{scopes_in_param, scopes_in_stmts}
-use Rattle.py_meaning.specs.StmtParts.{annotated_form, annotation_target, assign_form, assigned_form, augment_form, class_function, class_value, declared_form, function_value, item_target, raise_form, removal, removals, return_form, with_form}
+use Rattle.py_meaning.specs.StmtParts.{annotated_form, annotation_target, assign_form, assigned_form, augment_form, class_function}
+use Rattle.py_meaning.specs.StmtParts.{class_value, declared_form, function_value, item_target, raise_form, removal, removals, return_form}
+use Rattle.py_meaning.specs.StmtParts.{with_form}
 use Rattle.py_emission.specs.Predicates.{any_annotates}
 use Rattle.py_meaning.specs.Table.{after, after_all, after_defaults, after_opt, expr_form, target_form}
 use Rattle.py_meaning.specs.TableNotes.{arg_note, arg_notes, note_form, note_forms, opt_arg_note, opt_note, param_notes, past_notes, past_opt_arg, text_form}
-use Rattle.py_meaning.specs.TableParams.{after_hidden, alias_form, alias_value, built_value, def_form, hidden_call, kept_as, no_defaults, own_number, param_form, param_forms, params_form}
+use Rattle.py_meaning.specs.TableParams.{after_type_param_scope, alias_form, alias_value, built_value, def_form, type_param_scope_call}
+use Rattle.py_meaning.specs.TableParams.{kept_as, no_defaults, own_number, param_form, param_forms, params_form}
 use Rattle.py_meaning.specs.TableScopes.{build_class, class_form, default_flags, default_parts, function_form}
 use Rattle.py_node_laws.proofs.Levels.LevelExprs.{at_level, same_all, same_defaults, same_expr, same_head, same_keywords, same_name, same_target}
 
@@ -40,7 +44,9 @@ mutual
   same_removal : (k : ℕ) (c : Context) (n : ℕ) (e : tree.Expr) → FreeExpr e → removal c n e ≡ removal (at_level k c) n e
   same_removal k c n (tree.Name at id) h = refl
   same_removal k c n (tree.Attribute at value attr) h = λ i. SDo (named_operation op.DeleteAttr (mangled_by c attr)) false (VMore (same_expr k c n value h i).value VNone)
-  same_removal k c n (tree.Subscript at value slice) h = λ i. SDo (operation op.DeleteSubscript Bare) false (VMore (same_expr k c n value h.0 i).value (VMore (same_expr k c (after c n value) slice h.1 i).value VNone))
+  same_removal k c n (tree.Subscript at value slice) h = λ i.
+      SDo (operation op.DeleteSubscript Bare) false
+      (VMore (same_expr k c n value h.0 i).value (VMore (same_expr k c (after c n value) slice h.1 i).value VNone))
   same_removal k c n (tree.List at elts) h = same_removals k c n elts h
   same_removal k c n (tree.Tuple at elts) h = same_removals k c n elts h
   same_removal k c n other h = refl
@@ -62,9 +68,11 @@ same_assign k c n f g (tree.more_exprs e es) p h = same_assigned k c (after c n 
 pub same_augment : (k : ℕ) (c : Context) (n : ℕ) (t : tree.Expr) (o : Operator) (e : tree.Expr) → FreeExpr t → FreeExpr e → augment_form c n t o e ≡ augment_form (at_level k c) n t o e
 same_augment k c n (tree.Name at id) o e ht he = λ i. SInto (VOp (inplace o) (VMore (same_name k c id ht i) (VMore (same_expr k c n e he i).value VNone))) (GStore Resolved (mangled_by c id))
 same_augment k c n (tree.Attribute at value attr) o e ht he =
-    λ i. SAugment (same_expr k c n value ht i).value (named_operation op.LoadAttr (mangled_by c attr)) (same_expr k c (after c n value) e he i).value (inplace o) (named_operation op.StoreAttr (mangled_by c attr))
+    λ i. SAugment (same_expr k c n value ht i).value (named_operation op.LoadAttr (mangled_by c attr))
+    (same_expr k c (after c n value) e he i).value (inplace o) (named_operation op.StoreAttr (mangled_by c attr))
 same_augment k c n (tree.Subscript at value slice) o e ht he =
-    λ i. SAugmentTwo (same_expr k c n value ht.0 i).value (same_expr k c (after c n value) slice ht.1 i).value (operation op.Subscript Bare) (same_expr k c (after c (after c n value) slice) e he i).value (inplace o) (operation op.StoreSubscript Bare)
+    λ i. SAugmentTwo (same_expr k c n value ht.0 i).value (same_expr k c (after c n value) slice ht.1 i).value (operation op.Subscript Bare)
+    (same_expr k c (after c (after c n value) slice) e he i).value (inplace o) (operation op.StoreSubscript Bare)
 same_augment k c n other o e ht he = refl
 
 pub same_declared : (k : ℕ) (c : Context) (n : ℕ) (t : tree.Expr) (o : tree.OptExpr) → FreeExpr t → FreeOpt o → declared_form c n t o ≡ declared_form (at_level k c) n t o
@@ -125,7 +133,8 @@ same_notes k c n params returns h r = λ i. same_note k c n (codes "return") ret
 -- type parameters
 same_param : (k : ℕ) (c : Context) (n : ℕ) (t : tree.TypeParam) → FreeParam t → param_form c n t ≡ param_form (at_level k c) n t
 same_param k c n (tree.TypeVar at name tree.no_expr) h = refl
-same_param k c n (tree.TypeVar at name (tree.some_expr e)) h = λ i. kept_as c name (VOp (operation op.TypeVarWithBound Bare) (VMore (same_expr k c n e h i).value (VMore (VConst (const.str name)) VNone)))
+same_param k c n (tree.TypeVar at name (tree.some_expr e)) h = λ i.
+    kept_as c name (VOp (operation op.TypeVarWithBound Bare) (VMore (same_expr k c n e h i).value (VMore (VConst (const.str name)) VNone)))
 same_param k c n (tree.ParamSpec at name) h = refl
 same_param k c n (tree.TypeVarTuple at name) h = refl
 
@@ -142,7 +151,8 @@ same_function_value : (k : ℕ) (c : Context) (n : ℕ) (x y : ℕ) (ps qs : VFo
     → function_value c n x ps name params body returns f ≡ function_value (at_level k c) n y qs name params body returns g
 unfolding inside with_path
 same_function_value k c n x y ps qs name params body returns f g p q h u r e =
-    λ i. function_form (p i) (q i) (MkScope (same_head k (function_inside name c n) i) (e i)) (qualified_under c name) (same_notes k c (suc n + scopes_in_stmts c.postponed body) params returns h r i) (same_doc c.level k body u i)
+    λ i. function_form (p i) (q i) (MkScope (same_head k (function_inside name c n) i) (e i)) (qualified_under c name)
+    (same_notes k c (suc n + scopes_in_stmts c.postponed body) params returns h r i) (same_doc c.level k body u i)
 
 -- a function, without type parameters and with some
 pub same_defined : (k : ℕ) (c : Context) (n : ℕ) (name : List ℕ) (params : tree.Arguments) (body : tree.Stmts) (returns : tree.OptExpr) (generic : tree.TypeParams) (f g : SForm)
@@ -154,21 +164,24 @@ same_defined k c n name params body returns tree.no_type_params f g h u r t p =
     same_function_value k c (after_defaults c n params) _ _ _ _ name params body returns f g (λ i. default_flags (d i)) (λ i. default_parts (d i) VNone) h u r p
 same_defined k c n name params body returns (tree.more_type_params x xs) f g h u r t p =
     let ts = tree.more_type_params x xs in
-    let j = hidden_inside c n in
-    let d = same_defaults k c (after_hidden c n ts params body returns) params h in
-    let v = same_function_value k j (own_number c n ts) _ _ _ _ name params body returns f g (λ i. 0x10 + default_flags (d i)) (λ i. handed_parts (passed_defaults (d i).positional (d i).keyword) (VMore (same_type_params k j (suc n) ts t i) VNone)) h u r p in
-    λ i. hidden_call (MkScope (same_head k j i) (SReturn (v i))) name (d i)
+    let j = type_param_scope_inside c n in
+    let d = same_defaults k c (after_type_param_scope c n ts params body returns) params h in
+    let v = same_function_value k j (own_number c n ts) _ _ _ _ name params body returns f g (λ i. 0x10 + default_flags (d i))
+    (λ i. handed_parts (passed_defaults (d i).positional (d i).keyword) (VMore (same_type_params k j (suc n) ts t i) VNone)) h u r p in
+    λ i. type_param_scope_call (MkScope (same_head k j i) (SReturn (v i))) name (d i)
 
 -- a class of the same parts, whose statements are the same
 same_class_value : (k : ℕ) (c : Context) (path : List ℕ) (n flags : ℕ) (ps qs : VForms) (name : List ℕ) (bases : tree.Exprs) (keywords : tree.Keywords) (body : tree.Stmts) (f g : SForm)
     → ps ≡ qs → FreeExprs bases → FreeKeywords keywords → Undocumented body → f ≡ g
     → class_value c path n flags ps name bases keywords body f ≡ class_value (at_level k c) path n flags qs name bases keywords body g
-unfolding inside with_path within_class
+unfolding inside with_path nested_in_class
 same_class_value k c path n flags ps qs name bases keywords body f g q hb hk u p =
     let m = suc n + scopes_in_stmts c.postponed body in
-    let j = class_within path name c n in
+    let j = nested_class path name c n in
     λ i. let function = VMake flags (q i) (MkScope (same_head k j i) (class_form path (same_doc c.level k body u i) (any_annotates (after_doc body)) (p i))) name VNone in
-    call_form (Function build_class) (behind_name (built_form op.BuildTuple) function (VConst (const.str name)) (elements (same_all k c m bases hb i))) (same_keywords k c (after_all c m bases) keywords hk i)
+    call_form (Function build_class)
+    (after_name (built_form op.BuildTuple) function (VConst (const.str name)) (elements (same_all k c m bases hb i)))
+    (same_keywords k c (after_all c m bases) keywords hk i)
 
 -- a class, without type parameters and with some
 pub same_built : (k : ℕ) (c : Context) (n : ℕ) (name : List ℕ) (bases : tree.Exprs) (keywords : tree.Keywords) (body : tree.Stmts) (generic : tree.TypeParams) (f g : SForm)
@@ -178,19 +191,23 @@ unfolding inside
 same_built k c n name bases keywords body tree.no_type_params f g hb hk u t p = same_class_value k c (class_path c name) n 0 VNone VNone name bases keywords body f g refl hb hk u p
 same_built k c n name bases keywords body (tree.more_type_params x xs) f g hb hk u t p =
     let ts = tree.more_type_params x xs in
-    let j = hidden_inside c n in
+    let j = type_param_scope_inside c n in
     let v = same_class_value k j (class_path c name) (own_number c n ts) 0x10 _ _ name bases keywords body f g (λ i. VMore (same_type_params k j (suc n) ts t i) VNone) hb hk u p in
-    λ i. hidden_call (MkScope (same_head k j i) (SReturn (v i))) name no_defaults
+    λ i. type_param_scope_call (MkScope (same_head k j i) (SReturn (v i))) name no_defaults
 
 -- an alias
 same_alias_value : (k : ℕ) (c : Context) (n : ℕ) (name : List ℕ) (generic : tree.TypeParams) (e : tree.Expr) → FreeParams generic → FreeExpr e
     → alias_value c n name generic e ≡ alias_value (at_level k c) n name generic e
 unfolding inside
-same_alias_value k c n name tree.no_type_params e t h = λ i. VOp (operation op.TypeAlias Bare) (VMore (same_expr k c n e h i).value (VMore (built_form op.BuildTuple []) (VMore (VConst (const.str name)) VNone)))
+same_alias_value k c n name tree.no_type_params e t h = λ i.
+    VOp (operation op.TypeAlias Bare)
+    (VMore (same_expr k c n e h i).value (VMore (built_form op.BuildTuple []) (VMore (VConst (const.str name)) VNone)))
 same_alias_value k c n name (tree.more_type_params x xs) e t h =
     let ts = tree.more_type_params x xs in
-    let j = hidden_inside c n in
-    λ i. hidden_call (MkScope (same_head k j i) (SReturn (VSwap (operation op.TypeAlias Bare) (same_type_params k j (suc n) ts t i) (same_expr k j (own_number c n ts) e h i).value (VMore (VConst (const.str name)) VNone)))) name no_defaults
+    let j = type_param_scope_inside c n in
+    λ i. type_param_scope_call (MkScope (same_head k j i)
+    (SReturn (VSwap (operation op.TypeAlias Bare) (same_type_params k j (suc n) ts t i) (same_expr k j (own_number c n ts) e h i).value
+    (VMore (VConst (const.str name)) VNone)))) name no_defaults
 
 pub same_alias : (k : ℕ) (c : Context) (n : ℕ) (target : tree.Expr) (generic : tree.TypeParams) (e : tree.Expr) → FreeParams generic → FreeExpr e
     → alias_form c n target generic e ≡ alias_form (at_level k c) n target generic e

@@ -43,8 +43,8 @@ abbrev class : tree.Stmts → tree.Stmt
 class body = tree.ClassDef (level_sample_at 1 1) (codes "A") tree.no_exprs tree.no_keywords body tree.no_exprs tree.no_type_params
 
 -- def f(): pass, and then a text, which is no docstring
-level_sample_behind_first : IsLevelFree (tree.Module (two (level_sample_function no_params (two pass text)) text))
-level_sample_behind_first = ((((tt, tt, tt, tt, tt), (tt, (tt, tt)), refl, tt, tt, tt), (tt, tt)), refl)
+level_sample_after_first : IsLevelFree (tree.Module (two (level_sample_function no_params (two pass text)) text))
+level_sample_after_first = ((((tt, tt, tt, tt, tt), (tt, (tt, tt)), refl, tt, tt, tt), (tt, tt)), refl)
 
 -- a text that is entered at a prompt
 at_a_prompt : IsLevelFree (tree.Interactive (level_sample_one text))

@@ -1,9 +1,9 @@
 -- Statements in which the level is not asked are the same forms at every level.
 use Rattle.std.proofs.Common.{◌≡◌, refl, ℕ, suc, ◌+◌}
 use Rattle.py_tree.specs.Tree as tree
-use Rattle.py_emission_parts.specs.Within.{class_path, class_within, function_inside, hidden_inside}
+use Rattle.py_emission_parts.specs.NestedScopes.{class_path, nested_class, function_inside, type_param_scope_inside}
 use Rattle.py_meaning.specs.TableParams.{own_number}
-use Rattle.py_emission_parts.specs.Context.{Context, inside, mangled_by, with_path, within_class}
+use Rattle.py_emission_parts.specs.Context.{Context, inside, mangled_by, with_path, nested_in_class}
 use Rattle.py_emission.specs.Texts.{stmt_text}
 use Rattle.py_control.specs.Form.{Resolved, GDrop, GStore, SThen, SInto, SIf, SIfElse, SWhile, SFor, STry, STryFinal, SAt, HAny, HTyped}
 use Rattle.py_emission_parts.specs.TableParts.{values}
@@ -18,21 +18,32 @@ use Rattle.py_node_laws.proofs.Levels.LevelExprs.{at_level, same_all, same_expr,
 use Rattle.py_node_laws.proofs.Levels.LevelParts.{same_alias, same_annotated, same_assign, same_augment, same_built, same_declared, same_defined, same_raise, same_removals, same_return, same_with}
 
 mutual
-  unfolding inside with_path within_class
+  unfolding inside with_path nested_in_class
 
   pub same_stmt : (k : ℕ) (c : Context) (n : ℕ) (s : tree.Stmt) → FreeStmt s → stmt_form c n s ≡ stmt_form (at_level k c) n s
   same_stmt k c n (tree.FunctionDef at name params body decorators returns tree.no_type_params) h =
       let m = after_all c n decorators in let j = after_defaults c m params in let b = function_inside name c j in
-      λ i. SAt at (SInto (decorated_form (values (same_all k c n decorators h.3 i)) (same_defined k c m name params body returns tree.no_type_params (function_body b (suc j) body) (function_body (at_level k b) (suc j) body) h.0 h.2 h.4 h.5 (same_function k b (suc j) body h.1) i)) (GStore Resolved (mangled_by c name)))
+      λ i. SAt at (SInto (decorated_form (values (same_all k c n decorators h.3 i))
+      (same_defined k c m name params body returns tree.no_type_params (function_body b (suc j) body)
+      (function_body (at_level k b) (suc j) body) h.0 h.2 h.4 h.5 (same_function k b (suc j) body h.1) i))
+      (GStore Resolved (mangled_by c name)))
   same_stmt k c n (tree.FunctionDef at name params body decorators returns (tree.more_type_params x xs)) h =
-      let ts = tree.more_type_params x xs in let m = after_all c n decorators in let j = own_number c m ts in let b = function_inside name (hidden_inside c m) j in
-      λ i. SAt at (SInto (decorated_form (values (same_all k c n decorators h.3 i)) (same_defined k c m name params body returns ts (function_body b (suc j) body) (function_body (at_level k b) (suc j) body) h.0 h.2 h.4 h.5 (same_function k b (suc j) body h.1) i)) (GStore Resolved (mangled_by c name)))
+      let ts = tree.more_type_params x xs in let m = after_all c n decorators in let j = own_number c m ts in let b = function_inside name (type_param_scope_inside c m) j in
+      λ i. SAt at (SInto (decorated_form (values (same_all k c n decorators h.3 i))
+      (same_defined k c m name params body returns ts (function_body b (suc j) body)
+      (function_body (at_level k b) (suc j) body) h.0 h.2 h.4 h.5 (same_function k b (suc j) body h.1) i))
+      (GStore Resolved (mangled_by c name)))
   same_stmt k c n (tree.ClassDef at name bases keywords body decorators tree.no_type_params) h =
-      let m = after_all c n decorators in let b = class_within (class_path c name) name c m in
-      λ i. SAt at (SInto (decorated_form (values (same_all k c n decorators h.4 i)) (same_built k c m name bases keywords body tree.no_type_params (rest_form b (suc m) body) (rest_form (at_level k b) (suc m) body) h.0 h.1 h.3 h.5 (same_rest k b (suc m) body h.2) i)) (GStore Resolved (mangled_by c name)))
+      let m = after_all c n decorators in let b = nested_class (class_path c name) name c m in
+      λ i. SAt at (SInto (decorated_form (values (same_all k c n decorators h.4 i))
+      (same_built k c m name bases keywords body tree.no_type_params (rest_form b (suc m) body)
+      (rest_form (at_level k b) (suc m) body) h.0 h.1 h.3 h.5 (same_rest k b (suc m) body h.2) i))
+      (GStore Resolved (mangled_by c name)))
   same_stmt k c n (tree.ClassDef at name bases keywords body decorators (tree.more_type_params x xs)) h =
-      let ts = tree.more_type_params x xs in let m = after_all c n decorators in let j = own_number c m ts in let b = class_within (class_path c name) name (hidden_inside c m) j in
-      λ i. SAt at (SInto (decorated_form (values (same_all k c n decorators h.4 i)) (same_built k c m name bases keywords body ts (rest_form b (suc j) body) (rest_form (at_level k b) (suc j) body) h.0 h.1 h.3 h.5 (same_rest k b (suc j) body h.2) i)) (GStore Resolved (mangled_by c name)))
+      let ts = tree.more_type_params x xs in let m = after_all c n decorators in let j = own_number c m ts in let b = nested_class (class_path c name) name (type_param_scope_inside c m) j in
+      λ i. SAt at (SInto (decorated_form (values (same_all k c n decorators h.4 i))
+      (same_built k c m name bases keywords body ts (rest_form b (suc j) body) (rest_form (at_level k b) (suc j) body) h.0 h.1 h.3 h.5
+      (same_rest k b (suc j) body h.2) i)) (GStore Resolved (mangled_by c name)))
   same_stmt k c n (tree.TypeAlias at name generic value) h = λ i. SAt at (same_alias k c n name generic value h.1 h.2 i)
   same_stmt k c n (tree.Return at value) h = λ i. SAt at (same_return k c n value h i)
   same_stmt k c n (tree.Delete at targets) h = λ i. SAt at (same_removals k c n targets h i)
@@ -43,7 +54,8 @@ mutual
       λ i. SAt at (SThen (same_declared k c n target value h.0 h.2 i) (same_annotated k c (after c (after_opt c n value) target) target annotation h.1 i))
   same_stmt k c n (tree.For at target iter body orelse) h =
       let m = after c (after c n iter) target in
-      λ i. SAt at (SFor (iterator (same_expr k c n iter h.1 i).value) (same_target k c (after c n iter) target h.0 i).alone (same_stmts k c m body h.2 i) (same_stmts k c (after_stmts c m body) orelse h.3 i))
+      λ i. SAt at (SFor (iterator (same_expr k c n iter h.1 i).value) (same_target k c (after c n iter) target h.0 i).alone
+      (same_stmts k c m body h.2 i) (same_stmts k c (after_stmts c m body) orelse h.3 i))
   same_stmt k c n (tree.While at t body orelse) h =
       λ i. SAt at (SWhile (same_expr k c n t h.0 i).test (same_stmts k c (after c n t) body h.1 i) (same_stmts k c (after_stmts c (after c n t) body) orelse h.2 i))
   same_stmt k c n (tree.If at t body tree.no_stmts) h = λ i. SAt at (SIf (same_expr k c n t h.0 i).test (same_stmts k c (after c n t) body h.1 i))

@@ -9,7 +9,7 @@ use Rattle.py_emission_parts.specs.Context.{Context, inside, outermost}
 use Rattle.py_emission.specs.Texts.{after_doc, unless_text}
 use Rattle.py_control.specs.Form.{VConst, SForm, SThen, SReturn, SAt, MkScope}
 use Rattle.py_emission.specs.Futures.{Future, after_future, future_of, postpones}
-use Rattle.py_meaning.specs.TableImports.{behind_futures, future_form}
+use Rattle.py_meaning.specs.TableImports.{after_futures, future_form}
 use Rattle.py_meaning.specs.Interactive.{block_form, interactive_form, last_form, printed_form, prompt_form, returned_form, single_form}
 use Rattle.py_node_laws.specs.Levels.{FreeStmt, FreeStmts, IsLevelFree, LevelsAgree, Undocumented}
 use Rattle.py_meaning.specs.Meaning.{body, mod_form}
@@ -35,19 +35,30 @@ after_level k f c = go (postpones f)
     go false = refl
 
 -- statements after future imports, where their forms are the same
-same_behind : (k : ℕ) (form : Context → tree.Stmts → SForm) → ((c : Context) (ss : tree.Stmts) → FreeStmts ss → form c ss ≡ form (at_level k c) ss)
-    → (c : Context) (ss : tree.Stmts) → FreeStmts ss → behind_futures form c ss ≡ behind_futures form (at_level k c) ss
-same_behind k form same c tree.no_stmts h = same c tree.no_stmts h
-same_behind k form same c (tree.more_stmts s ss) h = go (future_of s) (λ f. same_behind k form same (after_future f c) ss h.1)
+same_level_after : (k : ℕ) (form : Context → tree.Stmts → SForm) → ((c : Context) (ss : tree.Stmts) → FreeStmts ss → form c ss ≡ form (at_level k c) ss)
+    → (c : Context) (ss : tree.Stmts) → FreeStmts ss → after_futures form c ss ≡ after_futures form (at_level k c) ss
+same_level_after k form same c tree.no_stmts h = same c tree.no_stmts h
+same_level_after k form same c (tree.more_stmts s ss) h = go (future_of s) (λ f. same_level_after k form same (after_future f c) ss h.1)
   where
-    go : (o : Option Future) → ((f : Future) → behind_futures form (after_future f c) ss ≡ behind_futures form (at_level k (after_future f c)) ss) → ◌≡◌ {A = SForm} (elim o [ None ↦ form c (tree.more_stmts s ss) | Some f ↦ SThen (future_form c f) (behind_futures form (after_future f c) ss) ]) (elim o [ None ↦ form (at_level k c) (tree.more_stmts s ss) | Some f ↦ SThen (future_form (at_level k c) f) (behind_futures form (after_future f (at_level k c)) ss) ])
+    go : (o : Option Future) → ((f : Future) → after_futures form (after_future f c) ss
+        ≡ after_futures form (at_level k (after_future f c)) ss)
+        → ◌≡◌ {A = SForm}
+        (elim o [ None ↦ form c (tree.more_stmts s ss) | Some f ↦ SThen (future_form c f) (after_futures form (after_future f c) ss) ])
+        (elim o [
+          | None ↦ form (at_level k c) (tree.more_stmts s ss)
+          | Some f ↦ SThen (future_form (at_level k c) f)
+              (after_futures form (after_future f (at_level k c)) ss)
+        ])
     go None x = same c (tree.more_stmts s ss) h
-    go (Some f) x = ap (SThen (future_form c f)) (x f ∙ ap (λ d. behind_futures form d ss) (sym (after_level k f c)))
+    go (Some f) x = ap (SThen (future_form c f)) (x f ∙ ap (λ d. after_futures form d ss) (sym (after_level k f c)))
 
 same_program : (k : ℕ) (c : Context) (body : tree.Stmts) → FreeStmts body → Undocumented body → program_form c body ≡ program_form (at_level k c) body
 same_program k c body h u =
     let after = subst FreeStmts (sym (all_stay body u)) h in
-    λ i. SThen (doc_form (same_doc c.level k body u i)) (SThen (setup_form (any_annotates (after_doc body))) (SThen (same_behind k (λ d. stmts_form d 1) (λ d ss f. same_stmts k d 1 ss f) c (after_doc body) after i) (SReturn (VConst const.none))))
+    λ i. SThen (doc_form (same_doc c.level k body u i))
+    (SThen (setup_form (any_annotates (after_doc body)))
+    (SThen (same_level_after k (λ d. stmts_form d 1) (λ d ss f. same_stmts k d 1 ss f) c (after_doc body) after i)
+    (SReturn (VConst const.none))))
 
 same_single : (k : ℕ) (c : Context) (n : ℕ) (ss : tree.Stmts) → FreeStmts ss → single_form c n ss ≡ single_form (at_level k c) n ss
 same_single k c n tree.no_stmts h = refl
@@ -59,7 +70,14 @@ same_prompt k c n tree.no_stmts h = refl
 same_prompt k c n (tree.more_stmts (tree.StmtExpr at value) ss) h = λ i. printed_form (none ss) (same_expr k c n value h.0 i).value (same_prompt k c (after c n value) ss h.1 i)
 same_prompt k c n (tree.more_stmts s ss) h = go (future_of s) (λ f. same_prompt k (after_future f c) n ss h.1)
   where
-    go : (o : Option Future) → ((f : Future) → prompt_form (after_future f c) n ss ≡ prompt_form (at_level k (after_future f c)) n ss) → ◌≡◌ {A = SForm} (elim o [ None ↦ single_form c n (tree.more_stmts s ss) | Some f ↦ SThen (future_form c f) (prompt_form (after_future f c) n ss) ]) (elim o [ None ↦ single_form (at_level k c) n (tree.more_stmts s ss) | Some f ↦ SThen (future_form (at_level k c) f) (prompt_form (after_future f (at_level k c)) n ss) ])
+    go : (o : Option Future) → ((f : Future) → prompt_form (after_future f c) n ss ≡ prompt_form (at_level k (after_future f c)) n ss)
+        → ◌≡◌ {A = SForm}
+        (elim o [ None ↦ single_form c n (tree.more_stmts s ss) | Some f ↦ SThen (future_form c f) (prompt_form (after_future f c) n ss) ])
+        (elim o [
+          | None ↦ single_form (at_level k c) n (tree.more_stmts s ss)
+          | Some f ↦ SThen (future_form (at_level k c) f)
+              (prompt_form (after_future f (at_level k c)) n ss)
+        ])
     go None x = same_single k c n (tree.more_stmts s ss) h
     go (Some f) x = ap (SThen (future_form c f)) (x f ∙ ap (λ d. prompt_form d n ss) (sym (after_level k f c)))
 
@@ -76,7 +94,7 @@ same_block k c n (tree.more_stmts s (tree.more_stmts t ts)) h = λ i. SThen (sam
 
 same_interactive : (k : ℕ) (c : Context) (m : Mode) (ss : tree.Stmts) → FreeStmts ss → interactive_form m c ss ≡ interactive_form m (at_level k c) ss
 same_interactive k c mode.Single ss h = same_prompt k c 1 ss h
-same_interactive k c other ss h = same_behind k (λ d. block_form d 1) (λ d ts f. same_block k d 1 ts f) c ss h
+same_interactive k c other ss h = same_level_after k (λ d. block_form d 1) (λ d ts f. same_block k d 1 ts f) c ss h
 
 same_mod : (k : ℕ) (c : Context) (t : tree.Mod) (m : Mode) → IsLevelFree t → mod_form c t m ≡ mod_form (at_level k c) t m
 same_mod k c (tree.Module stmts) m h = same_program k c stmts h.0 h.1

@@ -17,8 +17,8 @@ use Rattle.py_meaning.specs.Meaning.{body}
 use Rattle.py_meaning.specs.Scanned.{scopes_of}
 use Rattle.py_scope_proof.specs.Entered.{ScansTo}
 use Rattle.py_scope_proof.specs.Own.{OwnUpTo, number_of}
-use Rattle.py_scope_proof.specs.Owners.{Placed}
-use Rattle.py_scope_proof.specs.StmtOwners.{owners_of}
+use Rattle.py_scope_proof.specs.ScopeNodes.{Placed}
+use Rattle.py_scope_proof.specs.StmtScopeNodes.{scope_nodes_of}
 use Rattle.py_scope_proof.proofs.NodeScopes.EachOwn.{each_is_its_own}
 use Rattle.py_scope_proof.proofs.NodeScopes.Facts.{Facts, facts}
 use Rattle.py_scope_proof.proofs.NodeScopes.Heads.{own_head, whole_head}
@@ -33,7 +33,8 @@ use Rattle.py_scope_proof.proofs.CellBinding.CellPathLemmas.{AllLinked, UseComes
 capture_reached : (b : ℕ) (within : List Link) (l : Link) (ls : List Link) → AllOf (λ (m : Link). number_of m.scope ≢ b) within → number_of l.scope ≡ b
     → outward_to (Some b) (within ++ l ∷ ls) ≡ l ∷ ls
 capture_reached b [] l ls a e = ap (λ x. if x then l ∷ ls else outward_to (Some b) ls) (subst (λ k. is_number (Some b) k ≡ true) (sym e) (tells_same b))
-capture_reached b (m ∷ within) l ls a e = ap (λ x. if x then m ∷ (within ++ l ∷ ls) else outward_to (Some b) (within ++ l ∷ ls)) (tells_apart b (number_of m.scope) (λ h. a.0 (sym h))) ∙ capture_reached b within l ls a.1 e
+capture_reached b (m ∷ within) l ls a e = ap (λ x. if x then m ∷ (within ++ l ∷ ls) else outward_to (Some b) (within ++ l ∷ ls))
+    (tells_apart b (number_of m.scope) (λ h. a.0 (sym h))) ∙ capture_reached b within l ls a.1 e
 
 abbrev first_cells : List Link → List Name
 first_cells [] = []
@@ -44,15 +45,16 @@ abbrev spot_in : List Link → Name → ℕ
 spot_in [] n = 0
 spot_in (l ∷ ls) n = place_in l n
 
-module _ (t : tree.Mod) (m : Mode) (level : ℕ) (clean : faults t m level ≡ []) (o : Object) (made : (n : ℕ) → IsMadeSo (Named (scopes_of t)) n o (body (scopes_of t) t m level)) (s : State) (scanned : ScansTo t s) where
+module _ (t : tree.Mod) (m : Mode) (level : ℕ) (clean : faults t m level ≡ []) (o : Object)
+    (made : (n : ℕ) → IsMadeSo (Named (scopes_of t)) n o (body (scopes_of t) t m level)) (s : State) (scanned : ScansTo t s) where
   abbrev capture_rows : List Row
   capture_rows = s.scopes.rows
 
   abbrev capture_scopes : List ScopeEntry
   capture_scopes = scopes_of t
 
-  abbrev owners : List Placed
-  owners = owners_of t m
+  abbrev scope_nodes : List Placed
+  scope_nodes = scope_nodes_of t m
 
   abbrev capture_whole : Scope
   capture_whole = body capture_scopes t m level
@@ -64,7 +66,7 @@ module _ (t : tree.Mod) (m : Mode) (level : ℕ) (clean : faults t m level ≡ [
   record CaptureStands (l : Link) (ls : List Link) : Type 0 where
     linked : AllLinked capture_rows capture_scopes f l ls
     made_so : (n : ℕ) → IsMadeSo (Named capture_scopes) n l.code l.scope
-    own : (n : ℕ) → AllOf (OwnUpTo capture_scopes owners (number_of l.scope) n) (kids (form_of l.scope))
+    own : (n : ℕ) → AllOf (OwnUpTo capture_scopes scope_nodes (number_of l.scope) n) (kids (form_of l.scope))
 
   capture_one : (l : Link) → l ≡ outermost o capture_whole → CaptureStands l []
   unfolding inside
@@ -77,8 +79,8 @@ module _ (t : tree.Mod) (m : Mode) (level : ℕ) (clean : faults t m level ≡ [
   capture_more : (l k : Link) (ls : List Link) → IsMadeIn k l → CaptureStands k ls → CaptureStands l (k ∷ ls)
   capture_more l k ls g h = record {
     linked = (
-      record { named = (x 1).0.0; head = own_head capture_scopes owners (number_of k.scope) l.scope (x 1).1.0; there = at.there },
-      record { parent = at.around; below = subst (λ j. j < number_of l.scope) at.around (f.stands.numbered (number_of l.scope) at.above at.there); closure = (x 1).2 },
+      record { named = (x 1).0.0; head = own_head capture_scopes scope_nodes (number_of k.scope) l.scope (x 1).1.0; there = at.there },
+      record { parent = at.enclosing; below = subst (λ j. j < number_of l.scope) at.enclosing (f.stands.numbered (number_of l.scope) at.above at.there); closure = (x 1).2 },
       h.linked,
     );
     made_so = λ n. (x n).0;
@@ -86,8 +88,9 @@ module _ (t : tree.Mod) (m : Mode) (level : ℕ) (clean : faults t m level ≡ [
   }
     where
       x : (n : ℕ)
-          → IsMadeSo (Named capture_scopes) n l.code l.scope × OwnUpTo capture_scopes owners (number_of k.scope) (suc n) l.scope × (l.closure ≡ map (head_of k.scope).cell_place (head_of l.scope).free)
-      x n = inner_made (Named capture_scopes) (OwnUpTo capture_scopes owners (number_of k.scope) (suc n)) n k l (h.made_so (suc n)) (h.own (suc n)) g
+          → IsMadeSo (Named capture_scopes) n l.code l.scope × OwnUpTo capture_scopes scope_nodes (number_of k.scope) (suc n) l.scope
+          × (l.closure ≡ map (head_of k.scope).cell_place (head_of l.scope).free)
+      x n = inner_made (Named capture_scopes) (OwnUpTo capture_scopes scope_nodes (number_of k.scope) (suc n)) n k l (h.made_so (suc n)) (h.own (suc n)) g
 
       at : Standing capture_rows (number_of k.scope) (number_of l.scope)
       at = own_standing t m level s clean scanned (number_of k.scope) l.scope (x 1).1.0
@@ -115,10 +118,10 @@ module _ (t : tree.Mod) (m : Mode) (level : ℕ) (clean : faults t m level ≡ [
   capture_ended : (l : Link) (ls : List Link) (name : Name) (place : ℕ) → UseComes capture_rows capture_scopes f name l ls place → Ended l ls name place
   capture_ended l ls name place u =
       let e = u.comes.ends in record {
-        links = e.link ∷ e.around;
+        links = e.link ∷ e.enclosing;
         cell = e.cell;
         ends = ap (cell_of (l ∷ ls)) u.place_is ∙ e.ends;
-        binds = ap (λ b. outward_to b (l ∷ ls)) u.resolves ∙ ap (outward_to (Some u.binder)) e.parts ∙ capture_reached u.binder e.within e.link e.around e.alone.0 e.binds;
+        binds = ap (λ b. outward_to b (l ∷ ls)) u.resolves ∙ ap (outward_to (Some u.binder)) e.parts ∙ capture_reached u.binder e.within e.link e.enclosing e.alone.0 e.binds;
         named = e.named;
         placed = u.comes.cell_is;
       }
@@ -141,7 +144,9 @@ module _ (t : tree.Mod) (m : Mode) (level : ℕ) (clean : faults t m level ≡ [
   pub captures : Captures capture_rows o capture_whole
   captures = record {
     binders = λ l ls h name place u. comes_to l ls name place (capture_used l ls h name place u);
-    shared = λ l ls h name place u k ks g other spot v. one_cell l ls name place (capture_ended l ls name place (capture_used l ls h name place u)) k ks other spot (capture_ended k ks other spot (capture_used k ks g other spot v));
+    shared = λ l ls h name place u k ks g other spot v.
+        one_cell l ls name place (capture_ended l ls name place (capture_used l ls h name place u)) k ks other spot
+        (capture_ended k ks other spot (capture_used k ks g other spot v));
   }
 
 -- what is made from what a tree without faults means captures so

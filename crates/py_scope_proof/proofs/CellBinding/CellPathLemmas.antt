@@ -1,5 +1,6 @@
--- A place followed outward through linked codes comes to the cell of the scope that binds its name.
-use Rattle.std.proofs.Common.{◌≡◌, ◌≢◌, refl, sym, ap, ◌∙◌, subst, ℕ, zero, suc, ◌+◌, ◌-◌, ◌<◌, ◌≤◌, Bool, true, false, ◌||◌, List, [], ◌∷◌, ◌++◌, length, map, Option, Some, None, ◌⊎◌, inl, inr, arith}
+-- A place followed outward through linked codes reaches the cell of the scope that binds its name.
+use Rattle.std.proofs.Common.{◌≡◌, ◌≢◌, refl, sym, ap, ◌∙◌, subst, ℕ, zero, suc, ◌+◌, ◌-◌, ◌<◌, ◌≤◌, Bool, true, false, ◌||◌, List, [], ◌∷◌}
+use Rattle.std.proofs.Common.{◌++◌, length, map, Option, Some, None, ◌⊎◌, inl, inr, arith}
 use Rattle.std.specs.Prelude.{cond, find, nat_lt, option_map, slice_get, if◌then◌else◌}
 use Rattle.std.specs.List.{position_or_len}
 use Rattle.std.proofs.lemmas.Grind.{common_steps}
@@ -18,7 +19,7 @@ use Rattle.py_scope.specs.Bits.{intersects}
 use Rattle.py_scope.specs.Laws.{LeadsTo, SymbolsFollow}
 use Rattle.py_scope.specs.Names.{Name, same_name}
 use Rattle.py_scope.specs.Outward.{parents}
-use Rattle.py_scope.specs.Resolve.{around, binder_in, cell_scope, is_free_kind, needs, resolve}
+use Rattle.py_scope.specs.Resolve.{outward_scopes, binder_in, cell_scope, is_free_kind, needs, resolve}
 use Rattle.py_scope.proofs.Chains.{outward}
 use Rattle.py_scope.proofs.NameLemmas.{equal_names, names_same}
 use Rattle.py_scope.proofs.Truth.{left_or, never_both, truth_right_or}
@@ -76,7 +77,7 @@ placed_cell Deref n h = refl
 placed_cell ClassDeref n h = refl
 
 -- the symbol that says it
-record Says (ts : List Symbol) (n : Name) : Type 0 where
+record CellPathSays (ts : List Symbol) (n : Name) : Type 0 where
   place : ℕ
   symbol : Symbol
   there : slice_get ts place ≡ Some symbol
@@ -86,15 +87,15 @@ record Says (ts : List Symbol) (n : Name) : Type 0 where
 abbrev cell_path_scope_in : Option Symbol → SymbolScope
 cell_path_scope_in o = elim o [ None ↦ scope.Unknown | Some s ↦ s.scope ]
 
-says : (ts : List Symbol) (n : Name) → OfOuter (cell_path_scope_in (find (λ s. same_name n s.name) ts)) → Says ts n
+says : (ts : List Symbol) (n : Name) → OfOuter (cell_path_scope_in (find (λ s. same_name n s.name) ts)) → CellPathSays ts n
 says [] n h = absurd h
 says (t ∷ ts) n h = by (same_name n t.name) refl h (says ts n)
   where
-    later : Says ts n → Says (t ∷ ts) n
+    later : CellPathSays ts n → CellPathSays (t ∷ ts) n
     later w = record { place = suc w.place; symbol = w.symbol; there = w.there; named = w.named; outer = w.outer }
 
     by : (b : Bool) → same_name n t.name ≡ b → OfOuter (cell_path_scope_in (cond b (Some t) (find (λ s. same_name n s.name) ts)))
-        → (OfOuter (cell_path_scope_in (find (λ s. same_name n s.name) ts)) → Says ts n) → Says (t ∷ ts) n
+        → (OfOuter (cell_path_scope_in (find (λ s. same_name n s.name) ts)) → CellPathSays ts n) → CellPathSays (t ∷ ts) n
     by true e g rest = record { place = 0; symbol = t; there = refl; named = equal_names n t.name e; outer = g }
     by false e g rest = later (rest g)
 
@@ -176,30 +177,30 @@ module _ (rows : List Row) (scopes : List ScopeEntry) (f : Facts rows scopes) wh
   cell_path_others l (m ∷ ls) a = below_all (number_of l.scope) m ls a.2 a.1.below
 
   module _ (n : Name) where
-    abbrev number : Link → ℕ
-    number l = number_of l.scope
+    abbrev link_number : Link → ℕ
+    link_number l = number_of l.scope
 
-    cell_path_follows : (l : Link) → Linked l → SymbolsFollow rows (number l) (symbols_in scopes (number l))
-    cell_path_follows l k = f.follows (number l) k.there
+    cell_path_follows : (l : Link) → Linked l → SymbolsFollow rows (link_number l) (symbols_in scopes (link_number l))
+    cell_path_follows l k = f.follows (link_number l) k.there
 
-    cells_there : (l : Link) → Linked l → is_one_of n (head l.code).cellvars ≡ true → (resolve rows (number l) n).kind ≡ scope.Cell
-    cells_there l k h = listed_cell rows (number l) (symbols_in scopes (number l)) (cell_path_follows l k) n (ap (is_one_of n) (sym k.named.cells) ∙ h)
+    cells_there : (l : Link) → Linked l → is_one_of n (head l.code).cellvars ≡ true → (resolve rows (link_number l) n).kind ≡ scope.Cell
+    cells_there l k h = listed_cell rows (link_number l) (symbols_in scopes (link_number l)) (cell_path_follows l k) n (ap (is_one_of n) (sym k.named.cells) ∙ h)
 
-    frees_there : (l : Link) → Linked l → is_one_of n (head l.code).freevars ≡ true → needs rows (number l) n ≡ true
-    frees_there l k h = wanted_needed rows (number l) (symbols_in scopes (number l)) (cell_path_follows l k) n (ap (is_one_of n) (sym k.named.frees) ∙ h)
+    frees_there : (l : Link) → Linked l → is_one_of n (head l.code).freevars ≡ true → needs rows (link_number l) n ≡ true
+    frees_there l k h = wanted_needed rows (link_number l) (symbols_in scopes (link_number l)) (cell_path_follows l k) n (ap (is_one_of n) (sym k.named.frees) ∙ h)
 
-    cell_named : (l : Link) → Linked l → (resolve rows (number l) n).kind ≡ scope.Cell → is_one_of n (names_of l) ≡ true
+    cell_named : (l : Link) → Linked l → (resolve rows (link_number l) n).kind ≡ scope.Cell → is_one_of n (names_of l) ≡ true
     cell_named l k h =
         cell_path_in_front n (head l.code).cellvars (head l.code).freevars
-        (ap (is_one_of n) k.named.cells ∙ cell_listed rows (number l) (symbols_in scopes (number l)) (cell_path_follows l k) n ((f.stands.needed (number l) n).0 h).0 h)
+        (ap (is_one_of n) k.named.cells ∙ cell_listed rows (link_number l) (symbols_in scopes (link_number l)) (cell_path_follows l k) n ((f.stands.needed (link_number l) n).0 h).0 h)
 
-    free_named : (l : Link) → Linked l → needs rows (number l) n ≡ true → is_one_of n (names_of l) ≡ true
+    free_named : (l : Link) → Linked l → needs rows (link_number l) n ≡ true → is_one_of n (names_of l) ≡ true
     free_named l k h =
         at_the_back n (head l.code).cellvars (head l.code).freevars
-        (ap (is_one_of n) k.named.frees ∙ needed_wanted rows (number l) (symbols_in scopes (number l)) (cell_path_follows l k) n h)
+        (ap (is_one_of n) k.named.frees ∙ needed_wanted rows (link_number l) (symbols_in scopes (link_number l)) (cell_path_follows l k) n h)
 
     -- what leads on from a link is named there
-    lead_named : (l : Link) → Linked l → (es : List ℕ) (b : ℕ) → LeadsTo rows n (number l ∷ es) b → is_one_of n (names_of l) ≡ true
+    lead_named : (l : Link) → Linked l → (es : List ℕ) (b : ℕ) → LeadsTo rows n (link_number l ∷ es) b → is_one_of n (names_of l) ≡ true
     lead_named l k es b (inl h) = cell_named l k h.0
     lead_named l k es b (inr h) = free_named l k h.0
 
@@ -213,7 +214,7 @@ module _ (rows : List Row) (scopes : List ScopeEntry) (f : Facts rows scopes) wh
     pub record CellPathComes (b : ℕ) (l : Link) (ls : List Link) : Type 0 where
       pub ends : EndsAt b (l ∷ ls) n (place_in l n)
       pub cell_is : ends.cell ≡ place_in ends.link n
-      pub further : b ≤ number l
+      pub further : b ≤ link_number l
 
     -- a place among a code's cells ends there
     cell_path_stays : (l : Link) (ls : List Link) (p : ℕ) → p < length (head l.code).cellvars → cell_of (l ∷ ls) p ≡ Some (l ∷ ls, p)
@@ -225,20 +226,22 @@ module _ (rows : List Row) (scopes : List ScopeEntry) (f : Facts rows scopes) wh
 
     -- that of a free name goes on
     cell_path_goes : (l : Link) (ls : List Link) (p q r : ℕ) → p ≡ length (head l.code).cellvars + q → slice_get l.closure q ≡ Some r → cell_of (l ∷ ls) p ≡ cell_of ls r
-    cell_path_goes l ls p q r e g = by (nat_lt p (length (head l.code).cellvars)) (cell_path_past p (length (head l.code).cellvars) (omega (arith, e))) (slice_get l.closure (p - length (head l.code).cellvars)) (ap (slice_get l.closure) (omega (arith, e)) ∙ g)
+    cell_path_goes l ls p q r e g = by (nat_lt p (length (head l.code).cellvars))
+        (cell_path_past p (length (head l.code).cellvars) (omega (arith, e))) (slice_get l.closure (p - length (head l.code).cellvars))
+        (ap (slice_get l.closure) (omega (arith, e)) ∙ g)
       where
         by : (c : Bool) → c ≡ false → (o : Option ℕ) → o ≡ Some r → (if c then Some (l ∷ ls, p) else (elim o [ None ↦ None | Some x ↦ cell_of ls x ])) ≡ cell_of ls r
         by true e o h = absurd cc
         by false e None h = absurd cc
         by false e (Some x) h = ap (cell_of ls) (event_some_is h)
 
-    ends_here : (l : Link) (ls : List Link) → AllLinked l ls → (b : ℕ) → number l ≡ b → place_in l n < length (head l.code).cellvars
+    ends_here : (l : Link) (ls : List Link) → AllLinked l ls → (b : ℕ) → link_number l ≡ b → place_in l n < length (head l.code).cellvars
         → slice_get (head l.code).cellvars (place_in l n) ≡ Some n → CellPathComes b l ls
     ends_here l ls a b e lt g = record {
       ends = record {
         within = [];
         link = l;
-        around = ls;
+        enclosing = ls;
         cell = place_in l n;
         parts = refl;
         ends = cell_path_stays l ls (place_in l n) lt;
@@ -256,7 +259,7 @@ module _ (rows : List Row) (scopes : List ScopeEntry) (f : Facts rows scopes) wh
       ends = record {
         within = l ∷ c.ends.within;
         link = c.ends.link;
-        around = c.ends.around;
+        enclosing = c.ends.enclosing;
         cell = c.ends.cell;
         parts = ap (λ xs. l ∷ xs) c.ends.parts;
         ends = cell_path_goes l (m ∷ ls) (place_in l n) q (place_in m n) far entry ∙ c.ends.ends;
@@ -268,11 +271,11 @@ module _ (rows : List Row) (scopes : List ScopeEntry) (f : Facts rows scopes) wh
       further = let x = t.below in let y = c.further in omega (arith, x, y);
     }
 
-    -- a cell of a link is not needed there from outside
-    never : (l : Link) → (resolve rows (number l) n).kind ≡ scope.Cell → needs rows (number l) n ≡ true → ⊥
-    never l c w = never_both (needs rows (number l) n) w (f.stands.apart (number l) n c)
+    -- a cell of a link is not free there
+    never : (l : Link) → (resolve rows (link_number l) n).kind ≡ scope.Cell → needs rows (link_number l) n ≡ true → ⊥
+    never l c w = never_both (needs rows (link_number l) n) w (f.stands.apart (link_number l) n c)
 
-    cell_path_part : (l : Link) → Linked l → (es : List ℕ) (b : ℕ) → LeadsTo rows n (number l ∷ es) b → CellPathParted (head l.code).cellvars (head l.code).freevars (place_in l n) n
+    cell_path_part : (l : Link) → Linked l → (es : List ℕ) (b : ℕ) → LeadsTo rows n (link_number l ∷ es) b → CellPathParted (head l.code).cellvars (head l.code).freevars (place_in l n) n
     cell_path_part l k es b h = cell_path_parted (head l.code).cellvars (head l.code).freevars (place_in l n) n (cell_path_stands n (names_of l) (lead_named l k es b h))
 
     entry_of : (l m : Link) → Linked l → Linked m → CellPathBetween l m → (q : ℕ) → slice_get (head l.code).freevars q ≡ Some n → slice_get l.closure q ≡ Some (place_in m n)
@@ -282,26 +285,26 @@ module _ (rows : List Row) (scopes : List ScopeEntry) (f : Facts rows scopes) wh
         ∙ ap (option_map (told.head_of m.scope).cell_place) (ap (λ xs. slice_get xs q) (ap (λ (h : Head). h.free) k.head.tells ∙ k.head.frees_are ∙ sym k.named.frees) ∙ g)
         ∙ ap Some (cell_path_placed m j)
 
-    comes : (l : Link) (ls : List Link) → AllLinked l ls → (b : ℕ) → LeadsTo rows n (number l ∷ around rows (number l)) b → CellPathComes b l ls
-    comes l [] a b h = go (cell_path_part l a.0 (around rows (number l)) b h) h
+    comes : (l : Link) (ls : List Link) → AllLinked l ls → (b : ℕ) → LeadsTo rows n (link_number l ∷ outward_scopes rows (link_number l)) b → CellPathComes b l ls
+    comes l [] a b h = go (cell_path_part l a.0 (outward_scopes rows (link_number l)) b h) h
       where
-        go : CellPathParted (head l.code).cellvars (head l.code).freevars (place_in l n) n → LeadsTo rows n (number l ∷ around rows (number l)) b → CellPathComes b l []
+        go : CellPathParted (head l.code).cellvars (head l.code).freevars (place_in l n) n → LeadsTo rows n (link_number l ∷ outward_scopes rows (link_number l)) b → CellPathComes b l []
         go (inl x) (inl y) = ends_here l [] a b y.1 x.0 x.1
         go (inl x) (inr y) = absurd (never l (cells_there l a.0 (one_there n (head l.code).cellvars (place_in l n) x.1)) y.0)
         go (inr x) (inl y) = absurd (never l y.0 (frees_there l a.0 (one_there n (head l.code).freevars x.0 x.2)))
-        go (inr x) (inr y) = absurd (subst (λ k. LeadsTo rows n (around rows k) b) a.1 y.1)
-    comes l (m ∷ ls) a b h = go (cell_path_part l a.0 (around rows (number l)) b h) h (comes m ls a.2 b)
+        go (inr x) (inr y) = absurd (subst (λ k. LeadsTo rows n (outward_scopes rows k) b) a.1 y.1)
+    comes l (m ∷ ls) a b h = go (cell_path_part l a.0 (outward_scopes rows (link_number l)) b h) h (comes m ls a.2 b)
       where
-        go : CellPathParted (head l.code).cellvars (head l.code).freevars (place_in l n) n → LeadsTo rows n (number l ∷ around rows (number l)) b
-            → (LeadsTo rows n (number m ∷ around rows (number m)) b → CellPathComes b m ls) → CellPathComes b l (m ∷ ls)
+        go : CellPathParted (head l.code).cellvars (head l.code).freevars (place_in l n) n → LeadsTo rows n (link_number l ∷ outward_scopes rows (link_number l)) b
+            → (LeadsTo rows n (link_number m ∷ outward_scopes rows (link_number m)) b → CellPathComes b m ls) → CellPathComes b l (m ∷ ls)
         go (inl x) (inl y) rest = ends_here l (m ∷ ls) a b y.1 x.0 x.1
         go (inl x) (inr y) rest = absurd (never l (cells_there l a.0 (one_there n (head l.code).cellvars (place_in l n) x.1)) y.0)
         go (inr x) (inl y) rest = absurd (never l y.0 (frees_there l a.0 (one_there n (head l.code).freevars x.0 x.2)))
         go (inr x) (inr y) rest =
             cell_path_goes_on l m ls a.1 b x.0 x.1 (entry_of l m a.0 (first_linked m ls a.2) a.1 x.0 x.2)
-            (rest (subst (λ es. LeadsTo rows n es b) (outward (parents rows) (number l) (number m) a.1.parent a.1.below) y.1))
+            (rest (subst (λ es. LeadsTo rows n es b) (outward (parents rows) (link_number l) (link_number m) a.1.parent a.1.below) y.1))
 
-    -- a use of the name in the innermost code comes to the binder
+    -- a use of the name in the innermost code reaches the binder
     pub record UseComes (l : Link) (ls : List Link) (p : ℕ) : Type 0 where
       pub binder : ℕ
       pub resolves : binder_of rows l n ≡ Some binder
@@ -320,14 +323,18 @@ module _ (rows : List Row) (scopes : List ScopeEntry) (f : Facts rows scopes) wh
         celled : OfCell (access_kind c u.usage u.fixed n)
         celled = subst (λ (h : Head). OfCell (h.kind u.usage u.fixed n)) k.head.tells u.celled
 
-        w : Says (symbols_in scopes (number l)) n
-        w = says (symbols_in scopes (number l)) n (subst (λ ts. OfOuter (cell_path_scope_in (find (λ s. same_name n s.name) ts))) (λ j. symbols_in (k.head.scopes_are j) (k.head.here_is j)) (outer_access c u.usage u.fixed n celled))
+        w : CellPathSays (symbols_in scopes (link_number l)) n
+        w = says (symbols_in scopes (link_number l)) n
+            (subst (λ ts. OfOuter (cell_path_scope_in (find (λ s. same_name n s.name) ts)))
+            (λ j. symbols_in (k.head.scopes_are j) (k.head.here_is j)) (outer_access c u.usage u.fixed n celled))
 
         place : p ≡ place_in l n
-        place = u.placed ∙ ap (λ (h : Head). h.place u.usage u.fixed n) k.head.tells ∙ placed_cell (access_kind c u.usage u.fixed n) (cell_place c n) celled ∙ sym (ap (λ (h : Head). h.cell_place n) k.head.tells) ∙ cell_path_placed l k
+        place = u.placed ∙ ap (λ (h : Head). h.place u.usage u.fixed n) k.head.tells
+            ∙ placed_cell (access_kind c u.usage u.fixed n) (cell_place c n) celled ∙ sym (ap (λ (h : Head). h.cell_place n) k.head.tells)
+            ∙ cell_path_placed l k
 
-        kind : (resolve rows (number l) n).kind ≡ w.symbol.scope
-        kind = ap (λ x. (resolve rows (number l) x).kind) w.named ∙ sym ((cell_path_follows l k).kinds w.place w.symbol w.there)
+        kind : (resolve rows (link_number l) n).kind ≡ w.symbol.scope
+        kind = ap (λ x. (resolve rows (link_number l) x).kind) w.named ∙ sym ((cell_path_follows l k).kinds w.place w.symbol w.there)
 
         by : (z : SymbolScope) → w.symbol.scope ≡ z → OfOuter z → UseComes l ls p
         by scope.Unknown e h = absurd h
@@ -335,17 +342,18 @@ module _ (rows : List Row) (scopes : List ScopeEntry) (f : Facts rows scopes) wh
         by scope.GlobalExplicit e h = absurd h
         by scope.GlobalImplicit e h = absurd h
         by scope.Cell e h = record {
-          binder = number l;
-          resolves = ap (λ z. cell_scope z (number l) (binder_in rows (number l) n)) (kind ∙ e);
+          binder = link_number l;
+          resolves = ap (λ z. cell_scope z (link_number l) (binder_in rows (link_number l) n)) (kind ∙ e);
           place_is = place;
-          comes = comes l ls a (number l) (inl (kind ∙ e, refl));
+          comes = comes l ls a (link_number l) (inl (kind ∙ e, refl));
         }
         by scope.Free e h =
-            let need : needs rows (number l) n ≡ true =
-            ap (needs rows (number l)) w.named ∙ sym ((cell_path_follows l k).outside w.place w.symbol w.there) ∙ left_or (is_free_kind w.symbol.scope) (intersects w.symbol.flags.0 0x100) (ap is_free_kind e) in
-            let v = f.stands.lead (number l) n need in record {
+            let need : needs rows (link_number l) n ≡ true =
+            ap (needs rows (link_number l)) w.named ∙ sym ((cell_path_follows l k).outside w.place w.symbol w.there)
+            ∙ left_or (is_free_kind w.symbol.scope) (intersects w.symbol.flags.0 0x100) (ap is_free_kind e) in
+            let v = f.stands.lead (link_number l) n need in record {
               binder = v.0;
-              resolves = ap (λ z. cell_scope z (number l) (binder_in rows (number l) n)) (kind ∙ e) ∙ v.1;
+              resolves = ap (λ z. cell_scope z (link_number l) (binder_in rows (link_number l) n)) (kind ∙ e) ∙ v.1;
               place_is = place;
               comes = comes l ls a v.0 (inr (need, v.2));
             }

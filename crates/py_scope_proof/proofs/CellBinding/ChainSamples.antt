@@ -22,7 +22,7 @@ use Rattle.py_name_uses.specs.Steps.{Outcome, Done, Refused}
 use Rattle.py_scan.specs.Scan.{scan_program}
 use Rattle.py_control.specs.Agree.{fully, meaning_by}
 use Rattle.py_control.specs.Form.{Scope}
-use Rattle.py_emission_parts.specs.Context.{inside, with_path, within_class}
+use Rattle.py_emission_parts.specs.Context.{inside, with_path, nested_in_class}
 use Rattle.py_meaning.specs.Meaning.{body}
 use Rattle.py_scope_proof.specs.Chains.{IsChain, Link, Uses, cell_of, event_at, made_in, outermost}
 use Rattle.py_scope_proof.specs.Captures.{Captures, binder_of}
@@ -94,8 +94,8 @@ lambda_scopes =
 abbrev lambda_code : Object
 lambda_code = chain_sample_coded (codes "<lambda>") 1 (chain_sample_unit op.LoadDeref 0 ∷ chain_sample_unit op.ReturnValue 0 ∷ []) [] [] [] (codes "x" ∷ []) (const.none ∷ [])
 
-abbrev around_lambda : Object
-around_lambda =
+abbrev enclosing_lambda : Object
+enclosing_lambda =
     chain_sample_coded (codes "f") 3 (chain_sample_unit op.LoadClosure 0 ∷ chain_sample_unit op.BuildTuple 1 ∷ chain_sample_unit op.LoadConst 1 ∷ chain_sample_unit op.LoadConst 2 ∷ chain_sample_unit op.MakeFunction 1 ∷ chain_sample_unit op.ReturnValue 0 ∷ []) [] (codes "x" ∷ []) (codes "x" ∷ []) [] (const.none ∷ const.code lambda_code ∷ const.str (codes "<lambda>") ∷ [])
 
 abbrev module_of : Object → Object
@@ -106,15 +106,15 @@ abbrev lambda_whole : Scope
 lambda_whole = body lambda_scopes lambda_tree mode.Exec 0
 
 abbrev first_link : Link
-first_link = outermost (module_of around_lambda) lambda_whole
+first_link = outermost (module_of enclosing_lambda) lambda_whole
 
 abbrev function_link : Link
-function_link = record { code = around_lambda; scope = scope_made lambda_whole [] 0; closure = []; answers = []; event = 0 }
+function_link = record { code = enclosing_lambda; scope = scope_made lambda_whole [] 0; closure = []; answers = []; event = 0 }
 
 abbrev lambda_link : Link
 lambda_link = record { code = lambda_code; scope = scope_made (scope_made lambda_whole [] 0) [] 0; closure = 0 ∷ []; answers = []; event = 0 }
 
-lambda_chain : IsChain (module_of around_lambda) lambda_whole (lambda_link ∷ function_link ∷ first_link ∷ [])
+lambda_chain : IsChain (module_of enclosing_lambda) lambda_whole (lambda_link ∷ function_link ∷ first_link ∷ [])
 unfolding inside with_path
 lambda_chain = (record { code = refl; closure = refl; scope = refl }, (record { code = refl; closure = refl; scope = refl }, refl))
 
@@ -168,14 +168,14 @@ class_code a b =
     (codes "__name__" ∷ codes "__module__" ∷ codes "__qualname__" ∷ codes "__doc__" ∷ codes "y" ∷ codes "g" ∷ codes "__classcell__" ∷ []) [] (codes "__class__" ∷ []) (codes "y" ∷ [])
     (const.str (codes "f.<locals>.A") ∷ const.none ∷ const.integer (pos 1) ∷ const.code method_code ∷ const.str (codes "f.<locals>.A.g") ∷ [])
 
-abbrev around_class : (first second : ℕ) → Object
-around_class a b =
+abbrev enclosing_class : (first second : ℕ) → Object
+enclosing_class a b =
     chain_sample_coded (codes "f") 4 (chain_sample_unit op.LoadBuildClass 0 ∷ chain_sample_unit op.LoadClosure 0 ∷ chain_sample_unit op.BuildTuple 1 ∷ chain_sample_unit op.LoadConst 1 ∷ chain_sample_unit op.LoadConst 2 ∷ chain_sample_unit op.MakeFunction 1 ∷ chain_sample_unit op.LoadConst 2 ∷ chain_sample_unit op.CallFunctionPositional 2 ∷ chain_sample_unit op.StoreFast 1 ∷ chain_sample_unit op.ReturnConst 0 ∷ []) [] (codes "y" ∷ codes "A" ∷ []) (codes "y" ∷ []) [] (const.none ∷ const.code (class_code a b) ∷ const.str (codes "A") ∷ [])
 
 abbrev class_whole : Scope
 class_whole = body class_scopes class_tree mode.Exec 0
 
--- the answers by which each function is come to
+-- the answers by which each function is reached
 abbrev to_class : List Answer
 to_class = Gives 1 ∷ []
 
@@ -183,7 +183,7 @@ abbrev to_method : List Answer
 to_method = Gives 1 ∷ Gives 0 ∷ Gives 0 ∷ Gives 0 ∷ Gives 0 ∷ []
 
 abbrev outer_link : (first second : ℕ) → Link
-outer_link a b = record { code = around_class a b; scope = scope_made class_whole [] 0; closure = []; answers = []; event = 0 }
+outer_link a b = record { code = enclosing_class a b; scope = scope_made class_whole [] 0; closure = []; answers = []; event = 0 }
 
 abbrev class_link : (first second : ℕ) → Link
 class_link a b = record { code = class_code a b; scope = scope_made (scope_made class_whole [] 0) to_class 1; closure = 0 ∷ []; answers = to_class; event = 1 }
@@ -192,17 +192,17 @@ abbrev method_link : (first second : ℕ) → Link
 method_link a b = record { code = method_code; scope = scope_made (scope_made (scope_made class_whole [] 0) to_class 1) to_method 5; closure = a ∷ b ∷ []; answers = to_method; event = 5 }
 
 abbrev class_links : (first second : ℕ) → List Link
-class_links a b = class_link a b ∷ outer_link a b ∷ outermost (module_of (around_class a b)) class_whole ∷ []
+class_links a b = class_link a b ∷ outer_link a b ∷ outermost (module_of (enclosing_class a b)) class_whole ∷ []
 
-class_chain : IsChain (module_of (around_class 0 1)) class_whole (method_link 0 1 ∷ class_links 0 1)
-unfolding inside with_path within_class
+class_chain : IsChain (module_of (enclosing_class 0 1)) class_whole (method_link 0 1 ∷ class_links 0 1)
+unfolding inside with_path nested_in_class
 class_chain = (record { code = refl; closure = refl; scope = refl }, (record { code = refl; closure = refl; scope = refl }, (record { code = refl; closure = refl; scope = refl }, refl)))
 
 method_uses : Uses method_code (codes "y") 1
 method_uses = record { answers = Gives 1 ∷ Gives 1 ∷ []; event = 2; there = refl }
 
 -- y is the cell of f, past the class's own y
-class_ends : cell_of (method_link 0 1 ∷ class_links 0 1) 1 ≡ Some (outer_link 0 1 ∷ outermost (module_of (around_class 0 1)) class_whole ∷ [], 0)
+class_ends : cell_of (method_link 0 1 ∷ class_links 0 1) 1 ≡ Some (outer_link 0 1 ∷ outermost (module_of (enclosing_class 0 1)) class_whole ∷ [], 0)
 class_ends = refl
 
 abbrev cells_of_first : List Link → List Name
@@ -210,30 +210,30 @@ cells_of_first [] = []
 cells_of_first (x ∷ xs) = (head x.code).cellvars
 
 class_binder : binder_of (rows_of (scan_program class_stmts)) (method_link 0 1) (codes "y") ≡ Some 1
-unfolding inside with_path within_class
+unfolding inside with_path nested_in_class
 class_binder = refl
 
--- a body by which y comes to the class's cell for `__class__` is no such code, whatever the scopes are
+-- a body by which y reaches the class's cell for `__class__` is no such code, whatever the scopes are
 refuted : (rows : List Row) (o : Object) (s : Scope) (l : Link) (ls : List Link) (k : Link) (ks : List Link) → IsChain o s (l ∷ ls) → Uses l.code (codes "y") 1 → cell_of (l ∷ ls) 1 ≡ Some (k ∷ ks, 0) → slice_get (head k.code).cellvars 0 ≡ Some (codes "__class__") → Captures rows o s → ⊥
 refuted rows o s l ls k ks chain uses ends named h =
     let e = (h.binders l ls chain (codes "y") 1 uses).ends in
-    let q : (e.link ∷ e.around, e.cell) ≡ (k ∷ ks, 0) = event_some_is (sym e.ends ∙ ends) in
+    let q : (e.link ∷ e.enclosing, e.cell) ≡ (k ∷ ks, 0) = event_some_is (sym e.ends ∙ ends) in
     let n : codes "y" ≡ codes "__class__" = event_some_is (sym e.named ∙ (λ j. slice_get (cells_of_first (q j).0) (q j).1) ∙ named) in
     let z : 1 ≡ 9 = ap (length {A = ℕ}) n in
     omega (arith, z)
 
 -- the place without the number of cells, which is place 0 for each
-pass_chain : IsChain (module_of (around_class 0 0)) class_whole (method_link 0 0 ∷ class_links 0 0)
-unfolding inside with_path within_class
+pass_chain : IsChain (module_of (enclosing_class 0 0)) class_whole (method_link 0 0 ∷ class_links 0 0)
+unfolding inside with_path nested_in_class
 pass_chain = (record { code = refl; closure = refl; scope = refl }, (record { code = refl; closure = refl; scope = refl }, (record { code = refl; closure = refl; scope = refl }, refl)))
 
-pass_refuted : (rows : List Row) → Captures rows (module_of (around_class 0 0)) class_whole → ⊥
-pass_refuted rows h = refuted rows (module_of (around_class 0 0)) class_whole (method_link 0 0) (class_links 0 0) (class_link 0 0) _ pass_chain method_uses refl refl h
+pass_refuted : (rows : List Row) → Captures rows (module_of (enclosing_class 0 0)) class_whole → ⊥
+pass_refuted rows h = refuted rows (module_of (enclosing_class 0 0)) class_whole (method_link 0 0) (class_links 0 0) (class_link 0 0) _ pass_chain method_uses refl refl h
 
 -- the cells in reverse
-reverse_chain : IsChain (module_of (around_class 1 0)) class_whole (method_link 1 0 ∷ class_links 1 0)
-unfolding inside with_path within_class
+reverse_chain : IsChain (module_of (enclosing_class 1 0)) class_whole (method_link 1 0 ∷ class_links 1 0)
+unfolding inside with_path nested_in_class
 reverse_chain = (record { code = refl; closure = refl; scope = refl }, (record { code = refl; closure = refl; scope = refl }, (record { code = refl; closure = refl; scope = refl }, refl)))
 
-reverse_refuted : (rows : List Row) → Captures rows (module_of (around_class 1 0)) class_whole → ⊥
-reverse_refuted rows h = refuted rows (module_of (around_class 1 0)) class_whole (method_link 1 0) (class_links 1 0) (class_link 1 0) _ reverse_chain method_uses refl refl h
+reverse_refuted : (rows : List Row) → Captures rows (module_of (enclosing_class 1 0)) class_whole → ⊥
+reverse_refuted rows h = refuted rows (module_of (enclosing_class 1 0)) class_whole (method_link 1 0) (class_links 1 0) (class_link 1 0) _ reverse_chain method_uses refl refl h

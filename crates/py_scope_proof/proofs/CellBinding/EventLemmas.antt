@@ -2,9 +2,23 @@
 use Rattle.py_bytecode.specs.Objects as const
 use Rattle.std.proofs.Common.{ℕ, zero, suc, List, [], ◌∷◌, ◌++◌, length, Bool, true, false, Option, Some, None}
 use Rattle.std.specs.Prelude.{nat_eq, if◌then◌else◌}
-use Rattle.py_bytecode.specs.Values.{Operation, raise_again, match_exception, enter_with, exit_with, Value, Constant, Given, Child, Cell, Answer, Gives, Truth, End, Raised, Usage, Load, Store, Delete, Event, Operates, Makes, StoresCells, AsksTruth, AsksNext, World, Got, Fine, Raises, Stops, then_get, ask_of, ask, ask_for, fits, fits_truth, fits_next, given_values, gives_of, for_one, for_two, for_none, one_of, two_of, none_of, truth_of, next_of, on_some, Leave, Breaks, Continues, Returns, Throws, Ended, Normal, Leaves, Halts, on_ended, then_do, use_it, effect, choose, meets}
+use Rattle.py_bytecode.specs.Values.{Operation, raise_again, match_exception, enter_with, exit_with, Value, Constant, Given, Child, Cell}
+use Rattle.py_bytecode.specs.Values.{Answer, Gives, Truth, End, Raised, Usage, Load, Store, Delete, Event, Operates, Makes, StoresCells}
+use Rattle.py_bytecode.specs.Values.{AsksTruth, AsksNext, World, Got, Fine, Raises, Stops, then_get, ask_of, ask, ask_for, fits, fits_truth}
+use Rattle.py_bytecode.specs.Values.{fits_next, given_values, gives_of, for_one, for_two, for_none, one_of, two_of, none_of, truth_of}
+use Rattle.py_bytecode.specs.Values.{next_of, on_some, Leave, Breaks, Continues, Returns, Throws, Ended, Normal, Leaves, Halts, on_ended}
+use Rattle.py_bytecode.specs.Values.{then_do, use_it, effect, choose, meets}
 use Rattle.py_bytecode.specs.Machine.{start}
-use Rattle.py_control.specs.Form.{VForm, VConst, VLoad, VOp, VMake, VShort, VChain, VChoice, VKeep, VSwap, VAt, VForms, VNone, VMore, VMethod, Shorts, OneShort, MoreShort, Links, LastLink, MoreLink, TForm, TTruth, TNot, TAll, Tests, OneTest, MoreTest, Target, GStore, GPut, GUnder, GUnpack, GDrop, Targets, NoTarget, MoreTarget, SForm, SSkip, SThen, SDo, SInto, SRemove, SIf, SIfElse, SWhile, SFor, SBreak, SContinue, SReturn, SClassEnd, SReraise, SAugment, SAugmentTwo, STry, STryFinal, SFinally, SWith, SGather, SGenerate, SAt, Handlers, HNone, HAny, HTyped, Clauses, CLast, CEach, Filters, NoFilter, MoreFilter, Scope, Fixed, Interp, targets, decide, stop_test, link, keep_value, after_turn, turns, assign_then, rounds, clause_turn, circles, in_hand, handle, try_run, typed_run, finally_run, exit_run, exit_leave, class_end, reraise_end, access, run_value, run_values, run_shorts, run_links, run_test, run_tests, run_target, run_targets, run_filters, run_clauses, append_run, drop_run, run, run_handlers, ended_so, left_so}
+use Rattle.py_control.specs.Form.{VForm, VConst, VLoad, VOp, VMake, VShort, VChain, VChoice, VKeep, VSwap, VAt, VForms, VNone, VMore}
+use Rattle.py_control.specs.Form.{VMethod, Shorts, OneShort, MoreShort, Links, LastLink, MoreLink, TForm, TTruth, TNot, TAll, Tests}
+use Rattle.py_control.specs.Form.{OneTest, MoreTest, Target, GStore, GPut, GUnder, GUnpack, GDrop, Targets, NoTarget, MoreTarget, SForm}
+use Rattle.py_control.specs.Form.{SSkip, SThen, SDo, SInto, SRemove, SIf, SIfElse, SWhile, SFor, SBreak, SContinue, SReturn, SClassEnd}
+use Rattle.py_control.specs.Form.{SReraise, SAugment, SAugmentTwo, STry, STryFinal, SFinally, SWith, SGather, SGenerate, SAt, Handlers}
+use Rattle.py_control.specs.Form.{HNone, HAny, HTyped, Clauses, CLast, CEach, Filters, NoFilter, MoreFilter, Scope, Fixed, Interp, targets}
+use Rattle.py_control.specs.Form.{decide, stop_test, link, keep_value, after_turn, turns, assign_then, rounds, clause_turn, circles}
+use Rattle.py_control.specs.Form.{in_hand, handle, try_run, typed_run, finally_run, exit_run, exit_leave, class_end, reraise_end, access}
+use Rattle.py_control.specs.Form.{run_value, run_values, run_shorts, run_links, run_test, run_tests, run_target, run_targets, run_filters}
+use Rattle.py_control.specs.Form.{run_clauses, append_run, drop_run, run, run_handlers, ended_so, left_so}
 use Rattle.py_control.specs.Agree.{AllOf}
 
 -- what is so of each event that may be listed
@@ -161,7 +175,8 @@ module _ {K : Type 0} (P : Event K → Type 0) where
 
     link_so : (o : Operation) (l x : Value K) (rest : World K → Got K (Value K)) → EventKeeps rest → EventKeeps (link o l x rest)
     link_so o l x rest hr w s =
-        then_so (for_one (Operates o (l ∷ x ∷ [])) w) _ (op_one o (l ∷ x ∷ []) w s) (λ r w1 s1. then_so (truth_of r w1) _ (truth_so r w1 s1) (λ t w2 s2. meets_so false t (Fine r w2) (rest w2) s2 (hr w2 s2)))
+        then_so (for_one (Operates o (l ∷ x ∷ [])) w) _ (op_one o (l ∷ x ∷ []) w s)
+        (λ r w1 s1. then_so (truth_of r w1) _ (truth_so r w1 s1) (λ t w2 s2. meets_so false t (Fine r w2) (rest w2) s2 (hr w2 s2)))
 
     kept_so : (how : Option Operation) → KeepsOn (keep_value how)
     kept_so None v w s = s
@@ -213,7 +228,9 @@ module _ {K : Type 0} (P : Event K → Type 0) where
 
     typed_so : (f : World K → Got K (Value K)) (b o : Value K → World K → Ended K) → EventKeeps f → StaysOn b → StaysOn o → StaysOn (typed_run f b o)
     typed_so f b o hf hb ho e w s =
-        use_so (f w) _ (hf w s) (λ v w1 s1. use_so (for_one (Operates match_exception (e ∷ v ∷ [])) w1) _ (op_one match_exception (e ∷ v ∷ []) w1 s1) (λ m w2 s2. use_so (truth_of m w2) _ (truth_so m w2 s2) (λ c w3 s3. pick_so c (b e w3) (o e w3) (hb e w3 s3) (ho e w3 s3))))
+        use_so (f w) _ (hf w s) (λ v w1 s1. use_so (for_one (Operates match_exception (e ∷ v ∷ [])) w1)
+        _ (op_one match_exception (e ∷ v ∷ []) w1 s1)
+        (λ m w2 s2. use_so (truth_of m w2) _ (truth_so m w2 s2) (λ c w3 s3. pick_so c (b e w3) (o e w3) (hb e w3 s3) (ho e w3 s3))))
 
     finally_so : (a : World K → Ended K) (b : Option (Value K) → World K → Ended K) → Stays a → ((slot : Option (Value K)) → Stays (b slot)) → (slot : Option (Value K)) → Stays (finally_run a b slot)
     finally_so a b ha hb slot w s = on_so (a w) _ _ (ha w s) (hb slot) (λ why w1 s1. do_so (b (in_hand why slot) w1) _ (hb (in_hand why slot) w1 s1) (λ w2 s2. s2))
@@ -240,20 +257,29 @@ module _ {K : Type 0} (P : Event K → Type 0) where
       value_so (VConst n) w s = s
       value_so (VLoad x n) w s = for_one_so (access i Load x n []) w (h.accesses Load x n []) s
       value_so (VOp o fs) w s = then_so (run_values i fs w) _ (values_so fs w s) (λ vs w1 s1. op_one o vs w1 s1)
-      value_so (VMake flags a t n b) w s = then_so (run_values i a w) _ (values_so a w s) (λ us w1 s1. then_so (run_values i b w1) _ (values_so b w1 s1) (λ vs w2 s2. for_one_so _ w2 (h.makes flags us vs t n) s2))
+      value_so (VMake flags a t n b) w s = then_so (run_values i a w) _ (values_so a w s)
+          (λ us w1 s1. then_so (run_values i b w1) _ (values_so b w1 s1) (λ vs w2 s2. for_one_so _ w2 (h.makes flags us vs t n) s2))
       value_so (VShort d ss) w s = shorts_so ss d w s
-      value_so (VChain f o g ls) w s = then_so (run_value i f w) _ (value_so f w s) (λ l w1 s1. then_so (run_value i g w1) _ (value_so g w1 s1) (λ x w2 s2. link_so o l x (run_links i ls x) (links_so ls x) w2 s2))
+      value_so (VChain f o g ls) w s = then_so (run_value i f w) _ (value_so f w s)
+          (λ l w1 s1. then_so (run_value i g w1) _ (value_so g w1 s1) (λ x w2 s2. link_so o l x (run_links i ls x) (links_so ls x) w2 s2))
       value_so (VChoice t a b) w s = then_so (run_test i t w) _ (test_so t w s) (λ c w1 s1. choose_so c (run_value i a w1) (run_value i b w1) (value_so a w1 s1) (value_so b w1 s1))
-      value_so (VKeep f how t) w s = then_so (run_value i f w) _ (value_so f w s) (λ v w1 s1. then_so (keep_value how v w1) _ (kept_so how v w1 s1) (λ u w2 s2. then_so (run_target i t u w2) _ (target_so t u w2 s2) (λ d w3 s3. s3)))
+      value_so (VKeep f how t) w s = then_so (run_value i f w) _ (value_so f w s)
+          (λ v w1 s1. then_so (keep_value how v w1) _ (kept_so how v w1 s1)
+          (λ u w2 s2. then_so (run_target i t u w2) _ (target_so t u w2 s2) (λ d w3 s3. s3)))
       value_so (VSwap o a b fs) w s =
-          then_so (run_value i a w) _ (value_so a w s) (λ u w1 s1. then_so (run_value i b w1) _ (value_so b w1 s1) (λ v w2 s2. then_so (run_values i fs w2) _ (values_so fs w2 s2) (λ vs w3 s3. op_one o (v ∷ u ∷ vs) w3 s3)))
+          then_so (run_value i a w) _ (value_so a w s)
+          (λ u w1 s1. then_so (run_value i b w1) _ (value_so b w1 s1)
+          (λ v w2 s2. then_so (run_values i fs w2) _ (values_so fs w2 s2) (λ vs w3 s3. op_one o (v ∷ u ∷ vs) w3 s3)))
       value_so (VAt p f) w s = value_so f w s
 
       values_so : (fs : VForms) → EventKeeps (run_values i fs)
       values_so VNone w s = s
       values_so (VMore f fs) w s = then_so (run_value i f w) _ (value_so f w s) (λ v w1 s1. then_so (run_values i fs w1) _ (values_so fs w1 s1) (λ vs w2 s2. s2))
       values_so (VMethod o f fs) w s =
-          then_so (run_value i f w) _ (value_so f w s) (λ v w1 s1. then_so (ask_for (Operates o (v ∷ [])) (Some 3) w1) _ (ask_for_so (Operates o (v ∷ [])) (Some 3) w1 (h.operates o (v ∷ [])) s1) (λ us w2 s2. then_so (run_values i fs w2) _ (values_so fs w2 s2) (λ vs w3 s3. s3)))
+          then_so (run_value i f w) _ (value_so f w s)
+          (λ v w1 s1. then_so (ask_for (Operates o (v ∷ [])) (Some 3) w1)
+          _ (ask_for_so (Operates o (v ∷ [])) (Some 3) w1 (h.operates o (v ∷ [])) s1)
+          (λ us w2 s2. then_so (run_values i fs w2) _ (values_so fs w2 s2) (λ vs w3 s3. s3)))
 
       shorts_so : (ss : Shorts) (d : Bool) → EventKeeps (run_shorts i ss d)
       shorts_so (OneShort f) d w s = value_so f w s
@@ -276,7 +302,8 @@ module _ {K : Type 0} (P : Event K → Type 0) where
       target_so (GStore x n) v w s = for_none_so (access i Store x n (v ∷ [])) false w (h.accesses Store x n (v ∷ [])) s
       target_so (GPut o fs) v w s = then_so (run_values i fs w) _ (values_so fs w s) (λ vs w1 s1. op_none o false (v ∷ vs) w1 s1)
       target_so (GUnder o f) v w s = then_so (run_value i f w) _ (value_so f w s) (λ x w1 s1. op_none o false (x ∷ v ∷ []) w1 s1)
-      target_so (GUnpack o ts) v w s = then_so (ask_for (Operates o (v ∷ [])) (Some (targets ts)) w) _ (ask_for_so (Operates o (v ∷ [])) (Some (targets ts)) w (h.operates o (v ∷ [])) s) (λ vs w1 s1. targets_so ts vs w1 s1)
+      target_so (GUnpack o ts) v w s = then_so (ask_for (Operates o (v ∷ [])) (Some (targets ts)) w)
+          _ (ask_for_so (Operates o (v ∷ [])) (Some (targets ts)) w (h.operates o (v ∷ [])) s) (λ vs w1 s1. targets_so ts vs w1 s1)
       target_so GDrop v w s = s
 
       targets_so : (ts : Targets) (vs : List (Value K)) → EventKeeps (run_targets i ts vs)
@@ -291,7 +318,9 @@ module _ {K : Type 0} (P : Event K → Type 0) where
     clauses_so : (cs : Clauses) (m : World K → Got K (Unit {0})) → EventKeeps m → EventKeeps (run_clauses i cs m)
     clauses_so CLast m hm w s = hm w s
     clauses_so (CEach f t bs cs) m hm w s =
-        then_so (run_value i f w) _ (value_so f w s) (λ it w1 s1. circles_so (suc (length w1.answers)) it (clause_turn (run_target i t) (run_filters i bs) (run_clauses i cs m)) (turn_so (run_target i t) (run_filters i bs) (run_clauses i cs m) (target_so t) (filters_so bs) (clauses_so cs m hm)) w1 s1)
+        then_so (run_value i f w) _ (value_so f w s)
+        (λ it w1 s1. circles_so (suc (length w1.answers)) it (clause_turn (run_target i t) (run_filters i bs) (run_clauses i cs m))
+        (turn_so (run_target i t) (run_filters i bs) (run_clauses i cs m) (target_so t) (filters_so bs) (clauses_so cs m hm)) w1 s1)
 
     mutual
       form_so : (f : SForm) (slot : Option (Value K)) → Stays (run i f slot)
@@ -304,24 +333,47 @@ module _ {K : Type 0} (P : Event K → Type 0) where
       form_so (SIfElse t a b) slot w s = use_so (run_test i t w) _ (test_so t w s) (λ c w1 s1. pick_so c (run i a slot w1) (run i b slot w1) (form_so a slot w1 s1) (form_so b slot w1 s1))
       form_so (SWhile t a b) slot w s = turns_so (suc (length w.answers)) (run_test i t) (run i a slot) (run i b slot) (test_so t) (form_so a slot) (form_so b slot) w s
       form_so (SFor f t a b) slot w s =
-          use_so (run_value i f w) _ (value_so f w s) (λ it w1 s1. rounds_so (suc (length w1.answers)) it (assign_then (run_target i t) (run i a slot)) (run i b slot) (assigned_so (run_target i t) (run i a slot) (target_so t) (form_so a slot)) (form_so b slot) w1 s1)
+          use_so (run_value i f w) _ (value_so f w s)
+          (λ it w1 s1. rounds_so (suc (length w1.answers)) it (assign_then (run_target i t) (run i a slot)) (run i b slot)
+          (assigned_so (run_target i t) (run i a slot) (target_so t) (form_so a slot)) (form_so b slot) w1 s1)
       form_so SBreak slot w s = s
       form_so SContinue slot w s = s
       form_so (SReturn f) slot w s = use_so (run_value i f w) _ (value_so f w s) (λ v w1 s1. s1)
       form_so SClassEnd slot w s = class_so i.class_cells w s
       form_so SReraise slot w s = reraised_so slot w s
       form_so (SAugment f get g op put) slot w s =
-          effect_so _ (then_so (run_value i f w) _ (value_so f w s) (λ x w1 s1. then_so (for_one (Operates get (x ∷ [])) w1) _ (op_one get (x ∷ []) w1 s1) (λ now w2 s2. then_so (run_value i g w2) _ (value_so g w2 s2) (λ y w3 s3. then_so (for_one (Operates op (now ∷ y ∷ [])) w3) _ (op_one op (now ∷ y ∷ []) w3 s3) (λ r w4 s4. op_none put false (r ∷ x ∷ []) w4 s4)))))
+          effect_so _ (then_so (run_value i f w) _ (value_so f w s)
+          (λ x w1 s1. then_so (for_one (Operates get (x ∷ [])) w1) _ (op_one get (x ∷ []) w1 s1)
+          (λ now w2 s2. then_so (run_value i g w2) _ (value_so g w2 s2)
+          (λ y w3 s3. then_so (for_one (Operates op (now ∷ y ∷ [])) w3) _ (op_one op (now ∷ y ∷ []) w3 s3)
+          (λ r w4 s4. op_none put false (r ∷ x ∷ []) w4 s4)))))
       form_so (SAugmentTwo f e get g op put) slot w s =
-          effect_so _ (then_so (run_value i f w) _ (value_so f w s) (λ a w0 s0. then_so (run_value i e w0) _ (value_so e w0 s0) (λ b w1 s1. then_so (for_one (Operates get (a ∷ b ∷ [])) w1) _ (op_one get (a ∷ b ∷ []) w1 s1) (λ now w2 s2. then_so (run_value i g w2) _ (value_so g w2 s2) (λ y w3 s3. then_so (for_one (Operates op (now ∷ y ∷ [])) w3) _ (op_one op (now ∷ y ∷ []) w3 s3) (λ r w4 s4. op_none put false (r ∷ a ∷ b ∷ []) w4 s4))))))
+          effect_so _ (then_so (run_value i f w) _ (value_so f w s)
+          (λ a w0 s0. then_so (run_value i e w0) _ (value_so e w0 s0)
+          (λ b w1 s1. then_so (for_one (Operates get (a ∷ b ∷ [])) w1) _ (op_one get (a ∷ b ∷ []) w1 s1)
+          (λ now w2 s2. then_so (run_value i g w2) _ (value_so g w2 s2)
+          (λ y w3 s3. then_so (for_one (Operates op (now ∷ y ∷ [])) w3) _ (op_one op (now ∷ y ∷ []) w3 s3)
+          (λ r w4 s4. op_none put false (r ∷ a ∷ b ∷ []) w4 s4))))))
       form_so (STry a hs b) slot w s = try_so (run i a slot) (run_handlers i hs) (run i b slot) (form_so a slot) (handlers_so hs) (form_so b slot) w s
       form_so (STryFinal a hs b e) slot w s =
-          finally_so (try_run (run i a slot) (run_handlers i hs) (run i b slot)) (run i e) (try_so (run i a slot) (run_handlers i hs) (run i b slot) (form_so a slot) (handlers_so hs) (form_so b slot)) (form_so e) slot w s
+          finally_so (try_run (run i a slot) (run_handlers i hs) (run i b slot)) (run i e)
+          (try_so (run i a slot) (run_handlers i hs) (run i b slot) (form_so a slot) (handlers_so hs) (form_so b slot))
+          (form_so e) slot w s
       form_so (SFinally a e) slot w s = finally_so (run i a slot) (run i e) (form_so a slot) (form_so e) slot w s
       form_so (SWith f t a) slot w s =
-          use_so (run_value i f w) _ (value_so f w s) (λ v w1 s1. use_so (for_two (Operates enter_with (v ∷ [])) w1) _ (for_two_so (Operates enter_with (v ∷ [])) w1 (h.operates enter_with (v ∷ [])) s1) (λ xu w2 s2. on_so (assign_then (run_target i t) (run i a slot) xu.1 w2) _ _ (assigned_so (run_target i t) (run i a slot) (target_so t) (form_so a slot) xu.1 w2 s2) (λ w3 s3. exit_so xu.0 (Constant const.none) (λ t w4. Normal w4) (λ t w4 s4. s4) w3 s3) (λ why w3 s3. exit_leave_so xu.0 why w3 s3)))
+          use_so (run_value i f w) _ (value_so f w s)
+          (λ v w1 s1. use_so (for_two (Operates enter_with (v ∷ [])) w1)
+          _ (for_two_so (Operates enter_with (v ∷ [])) w1 (h.operates enter_with (v ∷ [])) s1)
+          (λ xu w2 s2. on_so (assign_then (run_target i t) (run i a slot) xu.1 w2)
+          _ _ (assigned_so (run_target i t) (run i a slot) (target_so t) (form_so a slot) xu.1 w2 s2)
+          (λ w3 s3. exit_so xu.0 (Constant const.none) (λ t w4. Normal w4) (λ t w4 s4. s4) w3 s3)
+          (λ why w3 s3. exit_leave_so xu.0 why w3 s3)))
       form_so (SGather o cs p fs) slot w s =
-          use_so (for_one (Operates o []) w) _ (op_one o [] w s) (λ x w1 s1. use_so (run_clauses i cs (append_run i p fs x) w1) _ (clauses_so cs (append_run i p fs x) (λ w2 s2. then_so (run_values i fs w2) _ (values_so fs w2 s2) (λ vs w3 s3. op_none p false (x ∷ vs) w3 s3)) w1 s1) (λ d w2 s2. s2))
+          use_so (for_one (Operates o []) w) _ (op_one o [] w s)
+          (λ x w1 s1. use_so (run_clauses i cs (append_run i p fs x) w1)
+          _ (clauses_so cs (append_run i p fs x)
+          (λ w2 s2. then_so (run_values i fs w2) _ (values_so fs w2 s2) (λ vs w3 s3. op_none p false (x ∷ vs) w3 s3)) w1 s1)
+          (λ d w2 s2. s2))
       form_so (SGenerate cs f) slot w s = effect_so _ (clauses_so cs (drop_run i f) (λ w1 s1. then_so (run_value i f w1) _ (value_so f w1 s1) (λ v w2 s2. s2)) w s)
       form_so (SAt p f) slot w s = form_so f slot w s
 
@@ -329,7 +381,8 @@ module _ {K : Type 0} (P : Event K → Type 0) where
       handlers_so HNone e w s = s
       handlers_so (HAny t b hs) e w s = assigned_so (run_target i t) (run i b (Some e)) (target_so t) (form_so b (Some e)) e w s
       handlers_so (HTyped f t b hs) e w s =
-          typed_so (run_value i f) (λ x w1. assign_then (run_target i t) (run i b (Some e)) x w1) (run_handlers i hs) (value_so f) (λ x w1 s1. assigned_so (run_target i t) (run i b (Some e)) (target_so t) (form_so b (Some e)) x w1 s1) (handlers_so hs) e w s
+          typed_so (run_value i f) (λ x w1. assign_then (run_target i t) (run i b (Some e)) x w1) (run_handlers i hs) (value_so f)
+          (λ x w1 s1. assigned_so (run_target i t) (run i b (Some e)) (target_so t) (form_so b (Some e)) x w1 s1) (handlers_so hs) e w s
 
     left_well : (r : Leave K) (w : World K) → So w → AllOf P (left_so r w).events
     left_well Breaks w s = s

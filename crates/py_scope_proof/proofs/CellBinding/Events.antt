@@ -4,7 +4,8 @@ use Rattle.std.specs.Prelude.{option_map, slice_get}
 use Rattle.std.proofs.lemmas.Option.{slice_get-map}
 use Rattle.py_bytecode.specs.Objects as const
 use Rattle.py_bytecode.specs.Objects.{Const, Object}
-use Rattle.py_bytecode.specs.Values.{Value, Constant, Given, Child, Usage, Kind, Unsaid, Fast, ByName, Global, Deref, ClassDeref, Event, Operates, Makes, Accesses, StoresCells, AsksTruth, AsksNext, Answer, Ran, choose}
+use Rattle.py_bytecode.specs.Values.{Value, Constant, Given, Child, Usage, Kind, Unsaid, Fast, ByName, Global, Deref, ClassDeref, Event}
+use Rattle.py_bytecode.specs.Values.{Operates, Makes, Accesses, StoresCells, AsksTruth, AsksNext, Answer, Ran, choose}
 use Rattle.py_bytecode.specs.Units.{machine}
 use Rattle.py_control.specs.Form.{Scope, Fixed, Interp}
 use Rattle.py_control.specs.Looped.{Looped}
@@ -88,7 +89,7 @@ last_but_one (x ∷ []) v name = refl
 last_but_one (x ∷ y ∷ []) v name = refl
 last_but_one (x ∷ y ∷ z ∷ xs) v name = last_but_one (y ∷ z ∷ xs) v name
 
--- how an interpretation tells an event
+-- how an interpretation reports an event
 abbrev pub Told : Interp Scope → Event Scope → Type 0
 Told i (Operates o vs) = Unit {0}
 Told i (Makes flags vs cs) = (t : Scope) × (made_of vs ≡ Some (i.child t)) × (cs ≡ i.closure t)
@@ -168,7 +169,9 @@ module _ (N : Object → Scope → Type 0) (W : Scope → Type 0) (n : ℕ) wher
 
   both_of : (o : Object) (s : Scope) → IsMadeSo N (suc n) o s → AllOf W (kids (form_of s)) → (answers : List Answer) → Both Inner o s answers
   both_of o s m w answers =
-      let same : each_to (λ p. p.1) (children m.2) ≡ kids (form_of s) = sym (children_over (λ p. p.1) m.2) ∙ ap children m.4 ∙ kid_children_are (exactly (λ t. t) s) (form_of s) ∙ each_itself (kids (form_of s)) in
+      let same : each_to (λ p. p.1) (children m.2) ≡ kids (form_of s) =
+      sym (children_over (λ p. p.1) m.2) ∙ ap children m.4 ∙ kid_children_are (exactly (λ t. t) s) (form_of s)
+      ∙ each_itself (kids (form_of s)) in
       event_both Inner o s m.2 m.1 m.3 m.4 (paired (λ p. IsMadeSo N n p.0 p.1) W (children m.2) m.5 (subst (AllOf W) (sym same) w)) answers
 
   -- what is made of a code in a run of the enclosing code is made from the scope of the same event, which stands in the enclosing scope; and it is made
@@ -182,10 +185,15 @@ module _ (N : Object → Scope → Type 0) (W : Scope → Type 0) (n : ℕ) wher
       ap (λ r. event_at r inner.event) b.as_code ∙ shown_at (code_in Inner outer.scope) exact refl b.run inner.event in
       let scope_event : event_at (meaning_by (exactly (λ t. t)) outer.scope inner.answers) inner.event ≡ option_map (event_shown (event_scope_in Inner outer.scope) exact) e =
       ap (λ r. event_at r inner.event) b.as_scope ∙ shown_at (event_scope_in Inner outer.scope) exact refl b.run inner.event in
-      let full_event : event_at (meaning_by fully outer.scope inner.answers) inner.event ≡ option_map (event_shown (λ t. t) whole) (option_map (event_shown (event_scope_in Inner outer.scope) exact) e) =
-      ap (λ r. event_at r inner.event) (meaning_is whole fully (exactly (λ t. t)) full_carries outer.scope inner.answers) ∙ shown_at (λ t. t) whole refl (meaning_by (exactly (λ t. t)) outer.scope inner.answers) inner.event ∙ ap (option_map (event_shown (λ t. t) whole)) scope_event in
+      let full_event : event_at (meaning_by fully outer.scope inner.answers) inner.event
+      ≡ option_map (event_shown (λ t. t) whole) (option_map (event_shown (event_scope_in Inner outer.scope) exact) e) =
+      ap (λ r. event_at r inner.event) (meaning_is whole fully (exactly (λ t. t)) full_carries outer.scope inner.answers)
+      ∙ shown_at (λ t. t) whole refl (meaning_by (exactly (λ t. t)) outer.scope inner.answers) inner.event
+      ∙ ap (option_map (event_shown (λ t. t) whole)) scope_event in
       let scope_made : made_in (option_map (event_shown (event_scope_in Inner outer.scope) exact) e) ≡ Some inner.scope =
-      let x = mapped (λ t. t) (made_in (option_map (event_shown (event_scope_in Inner outer.scope) exact) e)) inner.scope (sym (made_shown (λ t. t) whole (option_map (event_shown (event_scope_in Inner outer.scope) exact) e)) ∙ ap made_in (sym full_event) ∙ made.scope) in
+      let x = mapped (λ t. t) (made_in (option_map (event_shown (event_scope_in Inner outer.scope) exact) e)) inner.scope
+      (sym (made_shown (λ t. t) whole (option_map (event_shown (event_scope_in Inner outer.scope) exact) e))
+      ∙ ap made_in (sym full_event) ∙ made.scope) in
       x.1 ∙ ap Some x.2 in
       let known = known_of Inner outer.scope inner.code inner.scope (made_in e)
       (sym (made_shown (code_in Inner outer.scope) exact e) ∙ ap made_in (sym code_event) ∙ made.code)
@@ -206,7 +214,7 @@ OfCell Global = ⊥
 OfCell Deref = Unit {0}
 OfCell ClassDeref = Unit {0}
 
--- how a scope tells the use of a cell
+-- how a scope gives the use of a cell
 pub record Using (s : Scope) (name : List ℕ) (place : ℕ) : Type 0 where
   pub usage : Usage
   pub fixed : Fixed
@@ -251,7 +259,7 @@ all_free : {A : Type 0} (xs : List A) → AllOf (λ x. Unit {0}) xs
 all_free [] = tt
 all_free (x ∷ xs) = (tt, all_free xs)
 
--- a use of a cell is told by the scope from which the code object is made
+-- a use of a cell is given by the scope from which the code object is made
 pub use_told : (N : Object → Scope → Type 0) (o : Object) (s : Scope) → IsMadeSo N 1 o s → (name : List ℕ) (place : ℕ) → Uses o name place → Using s name place
 use_told N o s m name place u =
     let W : Scope → Type 0 = λ t. Unit {0} in

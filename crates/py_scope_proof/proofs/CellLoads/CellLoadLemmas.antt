@@ -14,11 +14,11 @@ use Rattle.py_meaning.specs.Meaning.{body}
 use Rattle.py_meaning.specs.Scanned.{scopes_of}
 use Rattle.py_scope_proof.specs.Entered.{ScansTo}
 use Rattle.py_scope_proof.specs.Own.{OwnUpTo, number_of}
-use Rattle.py_scope_proof.specs.StmtOwners.{owners_of}
+use Rattle.py_scope_proof.specs.StmtScopeNodes.{scope_nodes_of}
 use Rattle.py_scope_proof.proofs.NodeScopes.EachOwn.{each_is_its_own}
 use Rattle.py_scope_proof.proofs.NodeScopes.Facts.{Facts, facts}
 use Rattle.py_scope_proof.proofs.NodeScopes.NodeScopeLemmas.{Standing, own_standing}
-use Rattle.py_scope_proof.proofs.NodeScopes.OwnerTables.{scan_done}
+use Rattle.py_scope_proof.proofs.NodeScopes.ScopeNodeTables.{scan_done}
 use Rattle.py_scope_proof.proofs.NodeScopes.Wanted.{wanted_needed}
 use Rattle.py_emission_proof.specs.Loads.{AreNumbered, LoadsUpTo, loads}
 use Rattle.py_emission_proof.proofs.Additions.Codes.{LoadsFew}
@@ -37,7 +37,8 @@ module _ (rows : List Row) (scopes : List ScopeEntry) (f : Facts rows scopes) (o
   names_within : (k : ℕ) → Standing rows outer k → length (frees_among (symbols_in scopes k)) ≤ length (names_for (top rows f.stands.numbered outer) k 0 rows)
   names_within k at =
       let follow = f.follows k at.there in
-      needed_within rows f.stands.numbered outer k at.above at.around (frees_among (symbols_in scopes k)) (those_distinct frees_here (symbols_in scopes k) follow.apart) (λ n h. wanted_needed rows k (symbols_in scopes k) follow n h)
+      needed_within rows f.stands.numbered outer k at.above at.enclosing (frees_among (symbols_in scopes k))
+      (those_distinct frees_here (symbols_in scopes k) follow.apart) (λ n h. wanted_needed rows k (symbols_in scopes k) follow n h)
 
   within_total : (ss : List Scope) → CellLoadAllStand ss → loads scopes ss ≤ total (λ k. length (names_for (top rows f.stands.numbered outer) k 0 rows)) ss
   within_total [] h = omega arith
@@ -54,7 +55,7 @@ module _ (rows : List Row) (scopes : List ScopeEntry) (f : Facts rows scopes) (o
 
 module _ (t : tree.Mod) (m : Mode) (level : ℕ) (h : faults t m level ≡ []) (s : State) (e : ScansTo t s) where
   abbrev OwnIn : (here n : ℕ) → Scope → Type 0
-  OwnIn here n x = OwnUpTo (scopes_of t) (owners_of t m) here n x
+  OwnIn here n x = OwnUpTo (scopes_of t) (scope_nodes_of t m) here n x
 
   -- a scope whose own scopes are their nodes' loads few cells, and so do those
   cell_load_down : (n here : ℕ) (x : Scope) → AllOf (OwnIn here n) (kids (form_of x)) → LoadsUpTo (scopes_of t) (3 * size_of t) n x
@@ -76,7 +77,10 @@ codes_load_few t m level n h =
 -- more may be loaded
 loads_more : (entries : List ScopeEntry) (a b n : ℕ) → a ≤ b → (s : Scope) → LoadsUpTo entries a n s → LoadsUpTo entries b n s
 loads_more entries a b zero le s h = tt
-loads_more entries a b (suc n) le s h = ((λ apart. let x = h.0 apart in omega (arith, x, le)), all_so (LoadsUpTo entries a n) (LoadsUpTo entries b n) (λ y k. loads_more entries a b n le y k) (kids (form_of s)) h.1)
+loads_more entries a b (suc n) le s h = (
+  (λ apart. let x = h.0 apart in omega (arith, x, le)),
+  all_so (LoadsUpTo entries a n) (LoadsUpTo entries b n) (λ y k. loads_more entries a b n le y k) (kids (form_of s)) h.1,
+)
 
 -- in a tree of such a size
 pub tree_loads_few : (t : tree.Mod) (m : Mode) (level : ℕ) → faults t m level ≡ [] → size_of t < 2 ^ 22 → LoadsFew (scopes_of t) (body (scopes_of t) t m level)

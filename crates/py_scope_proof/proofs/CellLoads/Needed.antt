@@ -1,4 +1,4 @@
--- A name that a scope needs from outside is used in it or in a scope nested in it.
+-- A free name of a scope is used in it or in a scope nested in it.
 use Rattle.std.proofs.Common.{◌≡◌, refl, sym, ap, ◌∙◌, ℕ, zero, suc, ◌<◌, ◌≤◌, Bool, true, false, ◌||◌, ◌&&◌, List, [], ◌∷◌, nat_eq, if◌then◌else◌, slice_get, Option, Some, None, ◌⊎◌, inl, inr, arith}
 use Rattle.std.specs.Prelude.{is_some}
 use Rattle.std.specs.List.{list_any}
@@ -10,7 +10,7 @@ use Rattle.py_scope.specs.Lifts.{is_comprehension, outward_from, walruses, walru
 use Rattle.py_scope.specs.Names.{Name, lookup, same_name}
 use Rattle.py_scope.specs.Entries.{entry_at, entry_of}
 use Rattle.py_scope.specs.Outward.{IsNumbered, parent_of, parents}
-use Rattle.py_scope.specs.Resolve.{among, around, goes_through, is_free_in, is_free_past, is_used, kind_at, needs, scopes, stores, way}
+use Rattle.py_scope.specs.Resolve.{among, outward_scopes, goes_through, is_free_in, is_free_past, is_used, kind_at, needs, scopes, stores, way}
 use Rattle.py_scope.proofs.Chains.{equal_numbers, outward, tells_same}
 use Rattle.py_scope.proofs.Truth.{any_scope, truth_both, truth_either, left_or, truth_right_or}
 use Rattle.py_scope_proof.specs.CellLoads.{NeededIsUsed}
@@ -40,21 +40,21 @@ module _ (rows : List Row) (numbered : IsNumbered rows) where
       by (Some r) e = numbered k above (slice_get_within rows k r e)
 
   -- the way outward goes through what the way from a scope on it goes through
-  needed_further : (m q d c : ℕ) → q ≤ m → among d (outward_from rows q) ≡ true → among c (around rows d) ≡ true → among c (outward_from rows q) ≡ true
+  needed_further : (m q d c : ℕ) → q ≤ m → among d (outward_from rows q) ≡ true → among c (outward_scopes rows d) ≡ true → among c (outward_from rows q) ≡ true
   needed_further m zero d c l h g = by (truth_either (nat_eq d 0) _ h)
     where
       by : (nat_eq d 0 ≡ true) ⊎ (false ≡ true) → among c (outward_from rows 0) ≡ true
-      by (inl e) = let z : false ≡ true = ap (λ x. among c (around rows x)) (sym (equal_numbers d 0 e)) ∙ g in absurd cc
+      by (inl e) = let z : false ≡ true = ap (λ x. among c (outward_scopes rows x)) (sym (equal_numbers d 0 e)) ∙ g in absurd cc
       by (inr e) = absurd cc
   needed_further zero (suc q) d c l h g = absurd (omega arith)
   needed_further (suc m) (suc q) d c l h g =
       let below : parents rows (suc q) < suc q = parents_below (suc q) (omega arith) in
-      let goes_out : around rows (suc q) ≡ outward_from rows (parents rows (suc q)) = outward (parents rows) (suc q) (parents rows (suc q)) refl below in
+      let goes_out : outward_scopes rows (suc q) ≡ outward_from rows (parents rows (suc q)) = outward (parents rows) (suc q) (parents rows (suc q)) refl below in
       by (truth_either (nat_eq d (suc q)) _ h) (λ e. ap (among c) goes_out ∙ needed_further m (parents rows (suc q)) d c (omega (arith, l, below)) (ap (among d) (sym goes_out) ∙ e) g)
     where
-      by : (nat_eq d (suc q) ≡ true) ⊎ (among d (around rows (suc q)) ≡ true) → (among d (around rows (suc q)) ≡ true → among c (around rows (suc q)) ≡ true)
+      by : (nat_eq d (suc q) ≡ true) ⊎ (among d (outward_scopes rows (suc q)) ≡ true) → (among d (outward_scopes rows (suc q)) ≡ true → among c (outward_scopes rows (suc q)) ≡ true)
           → among c (outward_from rows (suc q)) ≡ true
-      by (inl e) out = truth_right_or (nat_eq c (suc q)) _ (ap (λ x. among c (around rows x)) (sym (equal_numbers d (suc q) e)) ∙ g)
+      by (inl e) out = truth_right_or (nat_eq c (suc q)) _ (ap (λ x. among c (outward_scopes rows x)) (sym (equal_numbers d (suc q) e)) ∙ g)
       by (inr e) out = truth_right_or (nat_eq c (suc q)) _ (out e)
 
   -- the scopes through which a name is lifted are on the way outward
@@ -98,7 +98,7 @@ module _ (rows : List Row) (numbered : IsNumbered rows) where
           let d = any_scope (is_free_past rows k n) rows g in
           let z = truth_both (is_free_in rows d.0 n) _ d.2 in
           let w = free_there d.0 n z.0 in
-          record { place = w.place; within = needed_further w.place w.place d.0 k (omega arith) w.within (truth_both (among k (around rows d.0)) _ z.1).0; used = w.used }
+          record { place = w.place; within = needed_further w.place w.place d.0 k (omega arith) w.within (truth_both (among k (outward_scopes rows d.0)) _ z.1).0; used = w.used }
 
 pub needed_is_used : NeededIsUsed
 needed_is_used rows numbered k n h = let w = needed_there rows numbered k n h in (w.place, w.within, w.used)

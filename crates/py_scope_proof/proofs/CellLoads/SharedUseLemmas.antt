@@ -1,5 +1,6 @@
 -- Scopes that stand directly in one scope share the uses of names: each use is within one of them, so they need no more names together than there are uses.
-use Rattle.std.proofs.Common.{◌≡◌, ◌≢◌, refl, sym, ap, ◌∙◌, subst, ℕ, zero, suc, ◌+◌, ◌<◌, ◌≤◌, Bool, true, false, ◌||◌, ◌&&◌, List, [], ◌∷◌, ◌++◌, length, nat_eq, if◌then◌else◌, slice_get, Option, Some, None, ◌⊎◌, inl, inr, arith, length-append}
+use Rattle.std.proofs.Common.{◌≡◌, ◌≢◌, refl, sym, ap, ◌∙◌, subst, ℕ, zero, suc, ◌+◌, ◌<◌, ◌≤◌, Bool, true, false, ◌||◌, ◌&&◌, List, []}
+use Rattle.std.proofs.Common.{◌∷◌, ◌++◌, length, nat_eq, if◌then◌else◌, slice_get, Option, Some, None, ◌⊎◌, inl, inr, arith, length-append}
 use Rattle.std.specs.Prelude.{cond, find, is_some, nat_lt}
 use Rattle.std.specs.List.{list_any}
 use Rattle.std.specs.Map.{keys_of}
@@ -10,7 +11,7 @@ use Rattle.py_scope.specs.Lifts.{outward_from}
 use Rattle.py_scope.specs.Names.{Name, lookup, same_name}
 use Rattle.py_scope.specs.Entries.{entry_of}
 use Rattle.py_scope.specs.Outward.{IsNumbered, parents}
-use Rattle.py_scope.specs.Resolve.{among, around, needs, stands_in}
+use Rattle.py_scope.specs.Resolve.{among, outward_scopes, needs, stands_in}
 use Rattle.py_scope.proofs.Chains.{equal_numbers, outward, tells_apart, tells_same}
 use Rattle.py_scope.proofs.NameLemmas.{equal_names, names_same}
 use Rattle.py_scope.proofs.Outside.{chain_below}
@@ -70,7 +71,7 @@ abbrev pub is_this : ℕ → Option ℕ → Bool
 is_this k None = false
 is_this k (Some t) = nat_eq t k
 
--- the names that are used in those of the scopes, counted on from a number, for which this one is told
+-- the names that are used in those of the scopes, counted on from a number, for which this one is reported
 abbrev pub names_for : (ℕ → Option ℕ) → (k next : ℕ) → List Row → List Name
 names_for top k j [] = []
 names_for top k j (r ∷ rs) = if is_this k (top j) then keys_of r.entries ++ names_for top k (suc j) rs else names_for top k (suc j) rs
@@ -112,7 +113,7 @@ module _ (top : ℕ → Option ℕ) where
       by true g = back_has x (keys_of u.entries) (names_for top k (suc j) rows) g
       by false g = g
 
-  -- what is told for each number at most, for numbers of their own
+  -- what is reported for each number at most, for numbers of their own
   abbrev for_one : Option ℕ → ℕ → ℕ → ℕ
   for_one o a k = if is_this k o then a else 0
 
@@ -183,13 +184,13 @@ module _ (rows : List Row) (numbered : IsNumbered rows) (outer : ℕ) where
       positive k e = grind (arith, common_steps)
 
   here_first : (q k : ℕ) → 0 < k → parents rows k ≡ outer → nat_eq k q ≡ true → top q ≡ Some k
-  here_first q k above is e = ap top (sym (equal_numbers k q e)) ∙ ap (λ b. cond b (Some k) (find (λ x. stands_in rows x outer) (around rows k))) (shared_use_stands k above is)
+  here_first q k above is e = ap top (sym (equal_numbers k q e)) ∙ ap (λ b. cond b (Some k) (find (λ x. stands_in rows x outer) (outward_scopes rows k))) (shared_use_stands k above is)
 
   -- what is further out is no greater
   no_greater : (q k : ℕ) → among k (outward_from rows q) ≡ true → k ≤ q
   no_greater q k h = by (truth_either (nat_eq k q) _ h)
     where
-      by : (nat_eq k q ≡ true) ⊎ (among k (around rows q) ≡ true) → k ≤ q
+      by : (nat_eq k q ≡ true) ⊎ (among k (outward_scopes rows q) ≡ true) → k ≤ q
       by (inl e) = let z = equal_numbers k q e in omega (arith, z)
       by (inr e) = let z = chain_below (parents rows) q (parents rows q) k e in omega (arith, z)
 
@@ -204,15 +205,15 @@ module _ (rows : List Row) (numbered : IsNumbered rows) (outer : ℕ) where
   only_one (suc m) (suc q) k l h above is =
       let below : parents rows (suc q) < suc q = parents_below rows numbered (suc q) (omega arith) in
       let before : parents rows k < k = parents_below rows numbered k above in
-      let goes_out : around rows (suc q) ≡ outward_from rows (parents rows (suc q)) = outward (parents rows) (suc q) (parents rows (suc q)) refl below in
+      let goes_out : outward_scopes rows (suc q) ≡ outward_from rows (parents rows (suc q)) = outward (parents rows) (suc q) (parents rows (suc q)) refl below in
       by (truth_either (nat_eq k (suc q)) _ h) (λ g.
       let there : among k (outward_from rows (parents rows (suc q))) ≡ true = ap (among k) (sym goes_out) ∙ g in
       let reaches = no_greater (parents rows (suc q)) k there in
       let not_here : nat_eq (parents rows (suc q)) outer ≡ false = tells_apart (parents rows (suc q)) outer (λ e. omega (arith, reaches, before, e, is)) in
-      ap (λ b. cond b (Some (suc q)) (find (λ e. stands_in rows e outer) (around rows (suc q)))) (ap (λ b. nat_lt 0 (suc q) && b) not_here ∙ truth_and_false (nat_lt 0 (suc q)))
+      ap (λ b. cond b (Some (suc q)) (find (λ e. stands_in rows e outer) (outward_scopes rows (suc q)))) (ap (λ b. nat_lt 0 (suc q) && b) not_here ∙ truth_and_false (nat_lt 0 (suc q)))
       ∙ ap (find (λ e. stands_in rows e outer)) goes_out ∙ only_one m (parents rows (suc q)) k (omega (arith, l, below)) there above is)
     where
-      by : (nat_eq k (suc q) ≡ true) ⊎ (among k (around rows (suc q)) ≡ true) → (among k (around rows (suc q)) ≡ true → top (suc q) ≡ Some k) → top (suc q) ≡ Some k
+      by : (nat_eq k (suc q) ≡ true) ⊎ (among k (outward_scopes rows (suc q)) ≡ true) → (among k (outward_scopes rows (suc q)) ≡ true → top (suc q) ≡ Some k) → top (suc q) ≡ Some k
       by (inl e) out = here_first (suc q) k above is e
       by (inr g) out = out g
 
@@ -228,7 +229,8 @@ module _ (rows : List Row) (numbered : IsNumbered rows) (outer : ℕ) where
           at w None e g = absurd cc
           at w (Some r) e g =
               names_have top k 0 rows w.place r n e
-              (ap (λ q. is_this k (top q)) (let z : 0 + w.place ≡ w.place = omega arith in z) ∙ ap (is_this k) (only_one w.place w.place k (omega arith) w.within above is) ∙ tells_same k) (key_there n r.entries g)
+              (ap (λ q. is_this k (top q)) (let z : 0 + w.place ≡ w.place = omega arith in z)
+              ∙ ap (is_this k) (only_one w.place w.place k (omega arith) w.within above is) ∙ tells_same k) (key_there n r.entries g)
 
           by : UsedWithin rows numbered k n → SharedUseHas n (names_for top k 0 rows)
           by w = at w (slice_get rows w.place) refl w.used

@@ -7,10 +7,11 @@ use Rattle.py_scope.specs.declared.rows.Entry.{Entry}
 use Rattle.py_scope.specs.declared.rows.Row.{Row}
 use Rattle.py_scope.specs.declared.table_type.SymbolTableType.{SymbolTableType}
 use Rattle.py_scope.specs.Lifts.{or_absent}
-use Rattle.py_scope.specs.Names.{Name, lookup, put, same_name}
+use Rattle.py_scope.specs.Names.{Name, lookup, put_value, same_name}
 use Rattle.py_scope.specs.Roles.{with_role}
 use Rattle.py_scope.specs.Scanned.{changed_at, entered_row, refused_here, role_in, used_in, with_use}
-use Rattle.py_name_uses.specs.Steps.{State, Outcome, Done, Refused, Step, ◌▸◌, enter, go_on, in_class, inside, leave, noted_use, nothing, refuse, refuse_if, set_class, unless_postponed, unless_refused, use_name, when, written_name}
+use Rattle.py_name_uses.specs.Steps.{State, Outcome, Done, Refused, Step, ◌▸◌, enter, go_on, in_class, inside, leave, noted_use, nothing}
+use Rattle.py_name_uses.specs.Steps.{refuse, refuse_if, set_class, unless_postponed, unless_refused, use_name, when, written_name}
 use Rattle.py_scope_proof.specs.CellLoads.{use_count}
 
 -- what is used after the outcome is no more than this
@@ -65,11 +66,11 @@ asked_ends true r at s = tt
 asked_ends false r at s = same_ends s 0
 
 -- a name has one entry in a scope
-put_longer : (es : List (Name × Entry)) (n : Name) (e : Entry) → length (put es n e) ≤ suc (length es)
+put_longer : (es : List (Name × Entry)) (n : Name) (e : Entry) → length (put_value es n e) ≤ suc (length es)
 put_longer [] n e = omega arith
 put_longer (x ∷ es) n e = by (same_name n x.0) (put_longer es n e)
   where
-    by : (b : Bool) → length (put es n e) ≤ suc (length es) → length (if b then (x.0, e) ∷ es else x ∷ put es n e) ≤ suc (suc (length es))
+    by : (b : Bool) → length (put_value es n e) ≤ suc (length es) → length (if b then (x.0, e) ∷ es else x ∷ put_value es n e) ≤ suc (suc (length es))
     by true h = omega arith
     by false h = omega (arith, h)
 
@@ -82,7 +83,8 @@ changed_longer n r (suc i) (x ∷ rows) = let h = changed_longer n r i rows in o
 pub noted_uses : (r : Role) (n : Name) (at : SourceLocation) → Uses (noted_use r n at) 1
 noted_uses r n at = record { ends = λ s. go s (refused_here s.scopes n r) }
   where
-    go : (s : State) (o : Option Refusal) → EndsUsing (use_count s.scopes.rows + 1) (go_on (unless_refused o at s) (λ t. Done (record { scopes = with_use t.scopes n r; class = t.class; postponed = t.postponed })))
+    go : (s : State) (o : Option Refusal) → EndsUsing (use_count s.scopes.rows + 1)
+        (go_on (unless_refused o at s) (λ t. Done (record { scopes = with_use t.scopes n r; class = t.class; postponed = t.postponed })))
     go s None = changed_longer n r s.scopes.current s.scopes.rows
     go s (Some x) = tt
 

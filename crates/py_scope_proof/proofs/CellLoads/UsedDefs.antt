@@ -1,4 +1,4 @@
--- So does the scan of type parameters, of functions, of classes, and of the parts of other statements, over what their bodies come to.
+-- So does the scan of type parameters, of functions, of classes, and of the parts of other statements, over what their bodies reach.
 use Rattle.std.proofs.Common.{ℕ, ◌+◌, ◌*◌, ◌≤◌, Bool, true, false, List, [], ◌∷◌, ◌++◌, arith}
 use Rattle.std.specs.Prelude.{not}
 use Rattle.py_base.specs.declared.location.SourceLocation.{SourceLocation}
@@ -10,7 +10,8 @@ use Rattle.py_scope.specs.Names.{Name}
 use Rattle.py_name_uses.specs.declared.usage.Usage.TheVariants.{Load, Store}
 use Rattle.py_name_uses.specs.Steps.{Step, ◌▸◌, use_name, when}
 use Rattle.py_name_uses.specs.Parts.{check_type_params, in_type_params, is_generic, type_name}
-use Rattle.py_scan.specs.Scan.{scan_class, scan_class_parts, scan_class_scope, scan_defaults, scan_exprs, scan_function, scan_function_scope, scan_handed_function, scan_items, scan_type_param, scan_type_params}
+use Rattle.py_scan.specs.Scan.{scan_class, scan_class_parts, scan_class_scope, scan_defaults, scan_exprs, scan_function}
+use Rattle.py_scan.specs.Scan.{scan_function_scope, scan_handed_function, scan_items, scan_type_param, scan_type_params}
 use Rattle.py_scope_proof.proofs.CellLoads.Used.{Uses, at_most, in_class_uses, inside_uses, nothing_uses, postponed_uses, then_uses, use_uses, when_uses}
 use Rattle.py_scope_proof.proofs.CellLoads.UsedExprs.{annotations_use, defaults_use, expr_uses, exprs_use, keywords_use, opt_uses}
 use Rattle.py_scope_proof.proofs.CellLoads.UsedNames.{check_new_uses, check_params_use, first_names_use, generic_uses, handed_uses}
@@ -41,14 +42,24 @@ never_uses f = record { ends = λ s. omega arith }
 -- defaults stand before the scope of the function, or after that of its type parameters
 by_generic : (b : Bool) {body : Step} {n m : ℕ} (at : SourceLocation) (name : Name) (a : tree.Arguments) (decorators : tree.Exprs) (returns : tree.OptExpr) (ps : tree.TypeParams)
     → Uses body n → n + 3 * head_size a decorators returns ps ≤ m
-    → Uses (check_type_params ps ▸ scan_exprs Load decorators ▸ when (not b) (scan_defaults a) ▸ in_type_params b name at (scan_handed_function b at name a body returns ps) ▸ when b (scan_defaults a) ▸ use_name role.Assigned name at) m
+    → Uses (check_type_params ps ▸ scan_exprs Load decorators ▸ when (not b) (scan_defaults a)
+    ▸ in_type_params b name at (scan_handed_function b at name a body returns ps) ▸ when b (scan_defaults a)
+    ▸ use_name role.Assigned name at) m
 by_generic true at name a decorators returns ps h le =
     let shared = params_shared a in
-    at_most (then_uses (check_params_use ps) (then_uses (exprs_use Load decorators) (then_uses (never_uses (scan_defaults a)) (then_uses (generic_uses true name at (handed_function_uses true at name a returns ps h)) (then_uses (when_uses true (defaults_use a)) (use_uses role.Assigned name at))))))
+    at_most (then_uses (check_params_use ps)
+    (then_uses (exprs_use Load decorators)
+    (then_uses (never_uses (scan_defaults a))
+    (then_uses (generic_uses true name at (handed_function_uses true at name a returns ps h))
+    (then_uses (when_uses true (defaults_use a)) (use_uses role.Assigned name at))))))
     (omega (arith, shared, le))
 by_generic false at name a decorators returns ps h le =
     let shared = params_shared a in
-    at_most (then_uses (check_params_use ps) (then_uses (exprs_use Load decorators) (then_uses (when_uses true (defaults_use a)) (then_uses (generic_uses false name at (handed_function_uses false at name a returns ps h)) (then_uses (never_uses (scan_defaults a)) (use_uses role.Assigned name at))))))
+    at_most (then_uses (check_params_use ps)
+    (then_uses (exprs_use Load decorators)
+    (then_uses (when_uses true (defaults_use a))
+    (then_uses (generic_uses false name at (handed_function_uses false at name a returns ps h))
+    (then_uses (never_uses (scan_defaults a)) (use_uses role.Assigned name at))))))
     (omega (arith, shared, le))
 
 pub function_uses : {body : Step} {n m : ℕ} (at : SourceLocation) (name : Name) (a : tree.Arguments) (decorators : tree.Exprs) (returns : tree.OptExpr) (ps : tree.TypeParams)
@@ -67,7 +78,10 @@ pub class_uses : {body : Step} {n m : ℕ} (at : SourceLocation) (name : Name) (
     → Uses body n → n + 3 * class_head_size bases keywords decorators ps ≤ m
     → Uses (scan_class at name bases keywords body decorators ps) m
 class_uses at name bases keywords decorators ps h le =
-    at_most (then_uses (check_params_use ps) (then_uses (exprs_use Load decorators) (then_uses (generic_uses (is_generic ps) name at (class_parts_use at name bases keywords ps h)) (use_uses role.Assigned name at)))) (omega (arith, le))
+    at_most (then_uses (check_params_use ps)
+    (then_uses (exprs_use Load decorators)
+    (then_uses (generic_uses (is_generic ps) name at (class_parts_use at name bases keywords ps h)) (use_uses role.Assigned name at))))
+    (omega (arith, le))
 
 pub items_use : (ws : tree.WithItems) → Uses (scan_items ws) (3 * with_items_size ws)
 items_use tree.no_items = nothing_uses

@@ -1,4 +1,4 @@
--- The scan of an expression comes to no more than three uses for each unit of its size: by recursion on the tree, an arm a kind.
+-- The scan of an expression reaches no more than three uses for each unit of its size: by recursion on the tree, an arm a kind.
 use Rattle.std.proofs.Common.{ℕ, ◌+◌, ◌*◌, ◌≤◌, List, [], ◌∷◌, arith}
 use Rattle.std.specs.Prelude.{codes}
 use Rattle.py_base.specs.declared.location.SourceLocation.{SourceLocation}
@@ -11,10 +11,12 @@ use Rattle.py_name_uses.specs.declared.usage.Usage.{Usage}
 use Rattle.py_name_uses.specs.declared.usage.Usage.TheVariants.{Load, Iterable, Target, Walrus}
 use Rattle.py_name_uses.specs.Steps.{Step}
 use Rattle.py_name_uses.specs.Parts.{passed_on, plain_name}
-use Rattle.py_scan.specs.Scan.{all_steps, comprehension, key_steps, pairwise, scan_annotation, scan_annotations, scan_annotations_in, scan_clauses, scan_defaults, scan_defaults_in, scan_expr, scan_exprs, scan_inner_clauses, scan_keywords, scan_opt, scan_opt_annotation, scan_outermost}
+use Rattle.py_scan.specs.Scan.{all_steps, comprehension, key_steps, pairwise, scan_annotation, scan_annotations, scan_annotations_in}
+use Rattle.py_scan.specs.Scan.{scan_clauses, scan_defaults, scan_defaults_in, scan_expr, scan_exprs, scan_inner_clauses, scan_keywords}
+use Rattle.py_scan.specs.Scan.{scan_opt, scan_opt_annotation, scan_outermost}
 use Rattle.py_scope_proof.proofs.CellLoads.Used.{Uses, at_most, inside_uses, nothing_uses, postponed_uses, then_uses, use_uses}
 use Rattle.py_scope_proof.proofs.CellLoads.UsedNames.{check_holder_uses, check_iterable_uses, check_yield_uses, use_as_uses, walrus_uses}
-use Rattle.py_scope_proof.proofs.CellLoads.UsedParams.{all_defaults, all_notes, behind_in, clauses_shared, defaults_in, first_in, note_in, notes_in, opt_note_in, parameters_use, params_shared}
+use Rattle.py_scope_proof.proofs.CellLoads.UsedParams.{all_defaults, all_notes, after_in, clauses_shared, defaults_in, first_in, note_in, notes_in, opt_note_in, parameters_use, params_shared}
 
 -- steps that add so many uses together at most
 abbrev pub AllUse : List Step → ℕ → Type 0
@@ -40,20 +42,35 @@ mutual
   expr_uses u (tree.BoolOp at o values) = at_most (exprs_use u values) (omega arith)
   expr_uses u (tree.NamedExpr at target value) =
       let some = expr_some target in
-      at_most (then_uses (check_iterable_uses u (expr_location target)) (then_uses (check_holder_uses at) (then_uses (expr_uses Load value) (walrus_uses (plain_name target) at (omega (arith, some)) (expr_uses Walrus target))))) (omega arith)
+      at_most (then_uses (check_iterable_uses u (expr_location target))
+      (then_uses (check_holder_uses at)
+      (then_uses (expr_uses Load value) (walrus_uses (plain_name target) at (omega (arith, some)) (expr_uses Walrus target)))))
+      (omega arith)
   expr_uses u (tree.BinOp at left o right) = at_most (then_uses (expr_uses u left) (expr_uses u right)) (omega arith)
   expr_uses u (tree.UnaryOp at o operand) = at_most (expr_uses u operand) (omega arith)
   expr_uses u (tree.Lambda at params body) =
       let shared = params_shared params in
-      at_most (then_uses (defaults_use params) (then_uses (inside_uses scope.Function (codes "lambda") at (then_uses (parameters_use params) (expr_uses (passed_on u) body))) (annotations_use params))) (omega (arith, shared))
+      at_most (then_uses (defaults_use params)
+      (then_uses (inside_uses scope.Function (codes "lambda") at (then_uses (parameters_use params) (expr_uses (passed_on u) body)))
+      (annotations_use params))) (omega (arith, shared))
   expr_uses u (tree.IfExp at test body orelse) = at_most (then_uses (expr_uses Load test) (then_uses (expr_uses Load body) (expr_uses Load orelse))) (omega arith)
-  expr_uses u (tree.Dict at keys values) = at_most (pairwise_uses (key_steps u keys) (all_steps u values) (3 * keys_size keys) (3 * exprs_size values) (keys_use u keys) (all_use u values)) (omega arith)
+  expr_uses u (tree.Dict at keys values) = at_most
+      (pairwise_uses (key_steps u keys) (all_steps u values) (3 * keys_size keys) (3 * exprs_size values) (keys_use u keys)
+      (all_use u values)) (omega arith)
   expr_uses u (tree.Set at elts) = at_most (exprs_use u elts) (omega arith)
-  expr_uses u (tree.ListComp at elt clauses) = let shared = clauses_shared clauses in at_most (comprehension_uses at clauses (clauses_use clauses) (expr_uses Load elt) (outermost_uses clauses)) (omega (arith, shared))
-  expr_uses u (tree.SetComp at elt clauses) = let shared = clauses_shared clauses in at_most (comprehension_uses at clauses (clauses_use clauses) (expr_uses Load elt) (outermost_uses clauses)) (omega (arith, shared))
+  expr_uses u (tree.ListComp at elt clauses) = let shared =
+      clauses_shared clauses in at_most (comprehension_uses at clauses (clauses_use clauses) (expr_uses Load elt) (outermost_uses clauses))
+      (omega (arith, shared))
+  expr_uses u (tree.SetComp at elt clauses) = let shared =
+      clauses_shared clauses in at_most (comprehension_uses at clauses (clauses_use clauses) (expr_uses Load elt) (outermost_uses clauses))
+      (omega (arith, shared))
   expr_uses u (tree.DictComp at key value clauses) =
-      let shared = clauses_shared clauses in at_most (comprehension_uses at clauses (clauses_use clauses) (then_uses (expr_uses Load key) (expr_uses Load value)) (outermost_uses clauses)) (omega (arith, shared))
-  expr_uses u (tree.GeneratorExp at elt clauses) = let shared = clauses_shared clauses in at_most (comprehension_uses at clauses (clauses_use clauses) (expr_uses Load elt) (outermost_uses clauses)) (omega (arith, shared))
+      let shared = clauses_shared clauses in at_most
+      (comprehension_uses at clauses (clauses_use clauses) (then_uses (expr_uses Load key) (expr_uses Load value))
+      (outermost_uses clauses)) (omega (arith, shared))
+  expr_uses u (tree.GeneratorExp at elt clauses) = let shared =
+      clauses_shared clauses in at_most (comprehension_uses at clauses (clauses_use clauses) (expr_uses Load elt) (outermost_uses clauses))
+      (omega (arith, shared))
   expr_uses u (tree.Await at value) = at_most (expr_uses u value) (omega arith)
   expr_uses u (tree.Yield at value) = at_most (then_uses (check_yield_uses at) (opt_uses u value)) (omega arith)
   expr_uses u (tree.YieldFrom at value) = at_most (then_uses (check_yield_uses at) (expr_uses u value)) (omega arith)
@@ -95,13 +112,15 @@ mutual
   outermost_uses tree.no_generators = nothing_uses
   outermost_uses (tree.more_generators target iter ifs is_async gs) = expr_uses Iterable iter
 
-  clauses_use : (gs : tree.Generators) → Uses (scan_clauses gs) (3 * behind_in gs)
+  clauses_use : (gs : tree.Generators) → Uses (scan_clauses gs) (3 * after_in gs)
   clauses_use tree.no_generators = nothing_uses
   clauses_use (tree.more_generators target iter ifs is_async gs) = at_most (then_uses (expr_uses Target target) (then_uses (exprs_use Load ifs) (inner_clauses_use gs))) (omega arith)
 
   inner_clauses_use : (gs : tree.Generators) → Uses (scan_inner_clauses gs) (3 * generators_size gs)
   inner_clauses_use tree.no_generators = nothing_uses
-  inner_clauses_use (tree.more_generators target iter ifs is_async gs) = at_most (then_uses (expr_uses Iterable iter) (then_uses (expr_uses Target target) (then_uses (exprs_use Load ifs) (inner_clauses_use gs)))) (omega arith)
+  inner_clauses_use (tree.more_generators target iter ifs is_async gs) =
+      at_most (then_uses (expr_uses Iterable iter)
+      (then_uses (expr_uses Target target) (then_uses (exprs_use Load ifs) (inner_clauses_use gs)))) (omega arith)
 
   defaults_in_use : (xs : tree.Args) → Uses (scan_defaults_in xs) (3 * defaults_in xs)
   defaults_in_use tree.no_args = nothing_uses
@@ -123,4 +142,6 @@ mutual
 
   pub annotations_use : (a : tree.Arguments) → Uses (scan_annotations a) (3 * all_notes a)
   annotations_use (tree.arguments posonly args vararg kwonly kwarg) =
-      at_most (postponed_uses (then_uses (annotations_in_use posonly) (then_uses (annotations_in_use args) (then_uses (annotations_in_use kwonly) (then_uses (opt_annotation_uses vararg) (opt_annotation_uses kwarg)))))) (omega arith)
+      at_most (postponed_uses (then_uses (annotations_in_use posonly)
+      (then_uses (annotations_in_use args)
+      (then_uses (annotations_in_use kwonly) (then_uses (opt_annotation_uses vararg) (opt_annotation_uses kwarg)))))) (omega arith)

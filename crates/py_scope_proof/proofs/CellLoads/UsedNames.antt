@@ -14,7 +14,9 @@ use Rattle.py_scope.specs.Scanned.{holder_here, is_function, kind_here}
 use Rattle.py_name_uses.specs.declared.usage.Usage.{Usage}
 use Rattle.py_name_uses.specs.declared.usage.Usage.TheVariants.{Load, Iterable, Store, Delete, Target, Walrus}
 use Rattle.py_name_uses.specs.Steps.{State, Done, Step, check_holder, check_iterable, check_yield, is_type_params, postpone, super_cell, use_as, use_name, written_name}
-use Rattle.py_name_uses.specs.Parts.{annotated_target, bound_name, check_future, check_new, check_type_params, generic_name, has_default, in_type_params, is_among, is_future, names_annotations, use_aliases, use_each, use_first_names, use_handed_defaults, use_opt_name, walrus_target}
+use Rattle.py_name_uses.specs.Parts.{annotated_target, bound_name, check_future, check_new, check_type_params, generic_name, has_default}
+use Rattle.py_name_uses.specs.Parts.{in_type_params, is_among, is_future, names_annotations, use_aliases, use_each, use_first_names}
+use Rattle.py_name_uses.specs.Parts.{use_handed_defaults, use_opt_name, walrus_target}
 use Rattle.py_scope_proof.specs.CellLoads.{use_count}
 use Rattle.py_scope_proof.proofs.CellLoads.Used.{EndsUsing, Uses, asked_ends, at_most, enter_uses, leave_uses, nothing_uses, refuse_uses, then_uses, use_uses, when_uses}
 
@@ -77,7 +79,9 @@ paths_many [] = omega arith
 paths_many (a ∷ more) = let e = paths_many more in omega (arith, e)
 
 pub first_names_use : (at : SourceLocation) → Uses (use_first_names at) 4
-first_names_use at = at_most (then_uses (use_uses role.Assigned (codes "__module__") at) (then_uses (use_uses role.Assigned (codes "__qualname__") at) (then_uses (use_uses role.Assigned (codes "__doc__") at) (use_uses role.Assigned class_cell at)))) (omega arith)
+first_names_use at = at_most (then_uses (use_uses role.Assigned (codes "__module__") at)
+    (then_uses (use_uses role.Assigned (codes "__qualname__") at)
+    (then_uses (use_uses role.Assigned (codes "__doc__") at) (use_uses role.Assigned class_cell at)))) (omega arith)
 
 pub opt_name_uses : (o : Option Name) (at : SourceLocation) → Uses (use_opt_name o at) (opt_name_size o)
 opt_name_uses None at = nothing_uses
@@ -95,7 +99,8 @@ generic_uses b name at h = at_most (then_uses (when_uses b (enter_uses scope.Typ
 
 pub handed_uses : (a : tree.Arguments) (at : SourceLocation) → Uses (use_handed_defaults a at) 2
 handed_uses (tree.arguments posonly args vararg kwonly kwarg) at =
-    at_most (then_uses (when_uses (has_default posonly || has_default args) (use_uses role.Parameter (codes ".defaults") at)) (when_uses (has_default kwonly) (use_uses role.Parameter (codes ".kwdefaults") at))) (omega arith)
+    at_most (then_uses (when_uses (has_default posonly || has_default args) (use_uses role.Parameter (codes ".defaults") at))
+    (when_uses (has_default kwonly) (use_uses role.Parameter (codes ".kwdefaults") at))) (omega arith)
 
 postpone_uses : Uses postpone 0
 postpone_uses = record { ends = λ s. omega arith }

@@ -66,11 +66,11 @@ abbrev pub first_in : tree.Generators → ℕ
 first_in tree.no_generators = 0
 first_in (tree.more_generators target iter ifs is_async gs) = expr_size iter
 
-abbrev pub behind_in : tree.Generators → ℕ
-behind_in tree.no_generators = 0
-behind_in (tree.more_generators target iter ifs is_async gs) = expr_size target + exprs_size ifs + generators_size gs
+abbrev pub after_in : tree.Generators → ℕ
+after_in tree.no_generators = 0
+after_in (tree.more_generators target iter ifs is_async gs) = expr_size target + exprs_size ifs + generators_size gs
 
-pub clauses_shared : (gs : tree.Generators) → first_in gs + behind_in gs ≤ generators_size gs
+pub clauses_shared : (gs : tree.Generators) → first_in gs + after_in gs ≤ generators_size gs
 clauses_shared tree.no_generators = omega arith
 clauses_shared (tree.more_generators target iter ifs is_async gs) = omega arith
 
@@ -88,4 +88,6 @@ parameters_in_use (tree.more_args a default more) = then_uses (parameter_uses a)
 
 pub parameters_use : (a : tree.Arguments) → Uses (use_parameters a) (count_params a)
 parameters_use (tree.arguments posonly args vararg kwonly kwarg) =
-    at_most (then_uses (parameters_in_use posonly) (then_uses (parameters_in_use args) (then_uses (parameters_in_use kwonly) (then_uses (opt_parameter_uses vararg) (opt_parameter_uses kwarg))))) (omega arith)
+    at_most (then_uses (parameters_in_use posonly)
+    (then_uses (parameters_in_use args)
+    (then_uses (parameters_in_use kwonly) (then_uses (opt_parameter_uses vararg) (opt_parameter_uses kwarg))))) (omega arith)

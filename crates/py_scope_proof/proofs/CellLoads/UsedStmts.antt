@@ -23,11 +23,15 @@ mutual
   stmt_uses (tree.Delete at targets) = at_most (exprs_use Delete targets) (omega arith)
   stmt_uses (tree.Assign at targets value) = at_most (then_uses (expr_uses Load value) (exprs_use Store targets)) (omega arith)
   stmt_uses (tree.TypeAlias at name generic value) =
-      at_most (then_uses (check_params_use generic) (then_uses (generic_uses (is_generic generic) (alias_name (plain_name name)) at (then_uses (params_use [] generic) (expr_uses Load value))) (expr_uses Store name))) (omega arith)
+      at_most (then_uses (check_params_use generic)
+      (then_uses (generic_uses (is_generic generic) (alias_name (plain_name name)) at
+      (then_uses (params_use [] generic) (expr_uses Load value))) (expr_uses Store name))) (omega arith)
   stmt_uses (tree.AugAssign at target o value) = at_most (then_uses (expr_uses Store target) (expr_uses Load value)) (omega arith)
   stmt_uses (tree.AnnAssign at target annotation value simple) =
       let some = expr_some target in
-      at_most (then_uses (opt_uses Load value) (then_uses (annotated_uses simple (plain_name target) at (omega (arith, some)) (expr_uses Store target)) (postponed_uses (expr_uses Load annotation)))) (omega arith)
+      at_most (then_uses (opt_uses Load value)
+      (then_uses (annotated_uses simple (plain_name target) at (omega (arith, some)) (expr_uses Store target))
+      (postponed_uses (expr_uses Load annotation)))) (omega arith)
   stmt_uses (tree.For at target iter body orelse) = at_most (then_uses (expr_uses Load iter) (then_uses (expr_uses Store target) (then_uses (stmts_use body) (stmts_use orelse)))) (omega arith)
   stmt_uses (tree.AsyncFor at target iter body orelse) = at_most (then_uses (expr_uses Load iter) (then_uses (expr_uses Store target) (then_uses (stmts_use body) (stmts_use orelse)))) (omega arith)
   stmt_uses (tree.While at test body orelse) = at_most (then_uses (expr_uses Load test) (then_uses (stmts_use body) (stmts_use orelse))) (omega arith)
@@ -37,7 +41,9 @@ mutual
   stmt_uses (tree.Match at subject branches) = at_most (refuse_uses refusal.Match (expr_location subject)) (omega arith)
   stmt_uses (tree.Raise at exc cause) = at_most (then_uses (opt_uses Load exc) (opt_uses Load cause)) (omega arith)
   stmt_uses (tree.Try at body excepts orelse finalbody) = at_most (then_uses (stmts_use body) (then_uses (handlers_use at excepts) (then_uses (stmts_use orelse) (stmts_use finalbody)))) (omega arith)
-  stmt_uses (tree.TryStar at body excepts orelse finalbody) = at_most (then_uses (stmts_use body) (then_uses (handlers_use at excepts) (then_uses (stmts_use orelse) (stmts_use finalbody)))) (omega arith)
+  stmt_uses (tree.TryStar at body excepts orelse finalbody) =
+      at_most (then_uses (stmts_use body) (then_uses (handlers_use at excepts) (then_uses (stmts_use orelse) (stmts_use finalbody))))
+      (omega arith)
   stmt_uses (tree.Assert at test msg) = at_most (then_uses (expr_uses Load test) (opt_uses Load msg)) (omega arith)
   stmt_uses (tree.Import at names) = let many = paths_many names in at_most (aliases_uses names at) (omega (arith, many))
   stmt_uses (tree.ImportFrom at path names level) = let many = aliases_many names in at_most (then_uses (future_uses path names) (aliases_uses names at)) (omega (arith, many))

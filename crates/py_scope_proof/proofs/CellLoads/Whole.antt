@@ -1,4 +1,4 @@
--- The scan of a whole tree comes to few uses.
+-- The scan of a whole tree reaches few uses.
 use Rattle.std.proofs.Common.{◌≡◌, ◌+◌, ◌*◌, ◌≤◌, subst, arith}
 use Rattle.py_tree.specs.Tree as tree
 use Rattle.py_limits.specs.Size.{expr_size, stmts_size}
@@ -12,12 +12,14 @@ use Rattle.py_scope_proof.proofs.CellLoads.UsedStmts.{stmts_use}
 
 program_uses : (body : tree.Stmts) (s : State) → scan_program body ≡ Done s → use_count s.scopes.rows ≤ 3 * (stmts_size body + 1)
 program_uses body s e =
-    let h : use_count s.scopes.rows ≤ use_count begun_state.scopes.rows + 3 * stmts_size body = subst (EndsUsing (use_count begun_state.scopes.rows + 3 * stmts_size body)) e ((stmts_use body).ends begun_state) in
+    let h : use_count s.scopes.rows ≤ use_count begun_state.scopes.rows + 3 * stmts_size body =
+    subst (EndsUsing (use_count begun_state.scopes.rows + 3 * stmts_size body)) e ((stmts_use body).ends begun_state) in
     omega (arith, h)
 
 value_uses : (value : tree.Expr) (s : State) → scan_value value ≡ Done s → use_count s.scopes.rows ≤ 3 * (expr_size value + 1)
 value_uses value s e =
-    let h : use_count s.scopes.rows ≤ use_count begun_state.scopes.rows + 3 * expr_size value = subst (EndsUsing (use_count begun_state.scopes.rows + 3 * expr_size value)) e ((expr_uses Load value).ends begun_state) in
+    let h : use_count s.scopes.rows ≤ use_count begun_state.scopes.rows + 3 * expr_size value =
+    subst (EndsUsing (use_count begun_state.scopes.rows + 3 * expr_size value)) e ((expr_uses Load value).ends begun_state) in
     omega (arith, h)
 
 pub uses_are_few : UsesAreFew

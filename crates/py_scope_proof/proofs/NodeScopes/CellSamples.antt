@@ -16,7 +16,7 @@ use Rattle.py_emission_parts.specs.Context.{cells_among, frees_among, symbols_in
 use Rattle.py_symbol_tables.specs.Tables.{table_of}
 use Rattle.py_meaning.specs.Faults.{faults}
 use Rattle.py_meaning.specs.Scanned.{scopes_of}
-use Rattle.py_scope_proof.specs.StmtOwners.{owners_in_stmts}
+use Rattle.py_scope_proof.specs.StmtScopeNodes.{scope_nodes_in_stmts}
 use Rattle.py_scope_proof.specs.Cells.{at_hand, wanted_at}
 use Rattle.py_scope_proof.proofs.NodeScopes.ListedTables.{listed_table_numbered, symbols_there}
 
@@ -71,7 +71,7 @@ abbrev symbols : List (List Symbol)
 symbols = all_symbols cell_sample_rows 0 cell_sample_rows
 
 cell_sample_listed : (k : ℕ) → symbols_in (scopes_of cell_sample_file) k ≡ listed_table_numbered symbols k
-cell_sample_listed = symbols_there cell_sample_rows symbols (owners_in_stmts false stmts) refl refl (table_of (scan_program stmts)) refl
+cell_sample_listed = symbols_there cell_sample_rows symbols (scope_nodes_in_stmts false stmts) refl refl (table_of (scan_program stmts)) refl
 
 wanted_is : (k : ℕ) → wanted_at (scopes_of cell_sample_file) k ≡ frees_among (listed_table_numbered symbols k)
 wanted_is k = ap frees_among (cell_sample_listed k)

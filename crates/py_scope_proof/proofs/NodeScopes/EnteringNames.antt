@@ -13,10 +13,14 @@ use Rattle.py_scope.specs.Scanned.{is_function, kind_here}
 use Rattle.py_name_uses.specs.declared.usage.Usage.{Usage}
 use Rattle.py_name_uses.specs.declared.usage.Usage.TheVariants.{Load, Iterable, Store, Delete, Target, Walrus}
 use Rattle.py_name_uses.specs.Steps.{State, Done, Step, check_holder, check_iterable, check_yield, enter, leave, super_cell, use_as, use_name, written_name}
-use Rattle.py_name_uses.specs.Parts.{bound_name, check_new, check_type_params, generic_name, in_type_params, is_among, role_of_parameter, use_aliases, use_each, use_first_names, use_handed_defaults, use_opt_name, use_opt_parameter, use_parameter, use_parameters, use_parameters_in}
-use Rattle.py_scope_proof.specs.Owners.{Owner, Grove, Bare, Grown}
-use Rattle.py_scope_proof.specs.Entered.{told_at, told_owner}
-use Rattle.py_scope_proof.proofs.NodeScopes.ScanEntryLemmas.{EndsEntering, Enters, inside_enters, last_leads, nothing_enters, refuse_if_ends, refuse_leads, skipped_enters, then_leads, use_ends, use_enters, when_enters}
+use Rattle.py_name_uses.specs.Parts.{bound_name, check_new, check_type_params, generic_name, in_type_params, is_among, role_of_parameter}
+use Rattle.py_name_uses.specs.Parts.{use_aliases, use_each, use_first_names, use_handed_defaults, use_opt_name, use_opt_parameter}
+use Rattle.py_name_uses.specs.Parts.{use_parameter, use_parameters, use_parameters_in}
+use Rattle.py_scope_proof.specs.ScopeNodes.{ScopeNode, ScopeForest, Bare, Grown}
+use Rattle.py_scope_proof.specs.Entered.{report_at, report_of_scope_node}
+use Rattle.py_scope_proof.proofs.NodeScopes.ScanEntryLemmas.{EndsEntering, Enters, inside_enters, last_leads, nothing_enters}
+use Rattle.py_scope_proof.proofs.NodeScopes.ScanEntryLemmas.{refuse_if_ends, refuse_leads, skipped_enters, then_leads, use_ends, use_enters}
+use Rattle.py_scope_proof.proofs.NodeScopes.ScanEntryLemmas.{when_enters}
 
 pub check_iterable_enters : {p : Bool} (u : Usage) (at : SourceLocation) → Enters p Bare (check_iterable u at)
 check_iterable_enters Iterable at = refuse_leads refusal.IteratedAndAssigned at
@@ -93,10 +97,10 @@ handed_defaults_enter (tree.arguments posonly args vararg kwonly kwarg) at =
     then_leads (when_enters _ (use_enters role.Parameter (codes ".defaults") at)) (when_enters _ (use_enters role.Parameter (codes ".kwdefaults") at))
 
 -- a node without type parameters has no scope around it
-pub plain_enters : {p : Bool} {os : Grove} {f : Step} (n : Name) (at : SourceLocation) → Enters p os f → Enters p os (in_type_params false n at f)
+pub plain_enters : {p : Bool} {os : ScopeForest} {f : Step} (n : Name) (at : SourceLocation) → Enters p os f → Enters p os (in_type_params false n at f)
 plain_enters n at a = then_leads (skipped_enters (enter scope.TypeParams (generic_name n) at)) (last_leads a (skipped_enters leave))
 
 -- with them it has
-pub generic_enters : {p : Bool} {os : Grove} {f : Step} (o : Owner) (n : Name) (at : SourceLocation)
-    → told_owner o ≡ told_at scope.TypeParams (generic_name n) at → Enters p os f → Enters p (Grown o os Bare) (in_type_params true n at f)
+pub generic_enters : {p : Bool} {os : ScopeForest} {f : Step} (o : ScopeNode) (n : Name) (at : SourceLocation)
+    → report_of_scope_node o ≡ report_at scope.TypeParams (generic_name n) at → Enters p os f → Enters p (Grown o os Bare) (in_type_params true n at f)
 generic_enters o n at e a = record { ends = λ s h. (inside_enters o scope.TypeParams (generic_name n) at e a).ends s h }

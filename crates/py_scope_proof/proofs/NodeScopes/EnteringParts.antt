@@ -13,8 +13,8 @@ use Rattle.py_name_uses.specs.declared.usage.Usage.{Usage}
 use Rattle.py_name_uses.specs.Steps.{Step}
 use Rattle.py_name_uses.specs.Parts.{annotated_target, plain_name, walrus_target}
 use Rattle.py_scan.specs.Scan.{all_steps, comprehension, key_steps, pairwise}
-use Rattle.py_scope_proof.specs.Owners.{Owner, Grove, Grown, ◌&◌, by_turns, owners_in}
-use Rattle.py_scope_proof.specs.Entered.{told_at, told_owner}
+use Rattle.py_scope_proof.specs.ScopeNodes.{ScopeNode, ScopeForest, Grown, ◌&◌, by_turns, scope_nodes_in}
+use Rattle.py_scope_proof.specs.Entered.{report_at, report_of_scope_node}
 use Rattle.py_scope_proof.proofs.NodeScopes.ScanEntryLemmas.{Enters, inside_enters, nothing_enters, then_leads, use_enters}
 
 -- no wrong shape in two parts
@@ -31,19 +31,20 @@ entering_part_not_false true e = refl
 entering_part_not_false false e = absurd cc
 
 -- a comprehension: its clauses, its element, and then its first iterable
-pub comprehension_enters : {p : Bool} {cs es fs : Grove} {clauses element outermost : Step} (o : Owner) (at : SourceLocation) → told_owner o ≡ told_at scope.Comprehension (codes "genexpr") at
+pub comprehension_enters : {p : Bool} {cs es fs : ScopeForest} {clauses element outermost : Step} (o : ScopeNode) (at : SourceLocation)
+    → report_of_scope_node o ≡ report_at scope.Comprehension (codes "genexpr") at
     → Enters p cs clauses → Enters p es element → Enters p fs outermost → Enters p (Grown o (cs & es) fs) (comprehension at clauses element outermost)
 comprehension_enters o at e a b c = then_leads (inside_enters o scope.Comprehension (codes "genexpr") at e (then_leads (use_enters role.Parameter (codes ".0") at) (then_leads a b))) c
 
 -- each step enters the scopes of the nodes at its place
-abbrev pub AllEnter : (p : Bool) → List Grove → List Step → Type 0
+abbrev pub AllEnter : (p : Bool) → List ScopeForest → List Step → Type 0
 AllEnter p [] [] = Unit {0}
 AllEnter p [] (f ∷ fs) = ⊥
 AllEnter p (os ∷ oss) [] = ⊥
 AllEnter p (os ∷ oss) (f ∷ fs) = Enters p os f × AllEnter p oss fs
 
 -- as many keys as values, by turns
-pub pairwise_enters : {p : Bool} (oss : List Grove) (fs : List Step) (pss : List Grove) (gs : List Step) → length fs ≡ length gs → AllEnter p oss fs → AllEnter p pss gs
+pub pairwise_enters : {p : Bool} (oss : List ScopeForest) (fs : List Step) (pss : List ScopeForest) (gs : List Step) → length fs ≡ length gs → AllEnter p oss fs → AllEnter p pss gs
     → Enters p (by_turns oss pss) (pairwise fs gs)
 pairwise_enters [] [] [] [] n a b = nothing_enters
 pairwise_enters [] [] [] (g ∷ gs) n a b = absurd b
@@ -67,16 +68,19 @@ as_many_keys u (tree.more_opts o os) = let h = as_many_keys u os in omega (arith
 pub entering_part_as_many : (u : Usage) (keys : tree.OptExprs) (others : tree.Exprs) → when (not (nat_eq (opt_count keys) (count others))) UnevenLists ≡ []
     → length (key_steps u keys) ≡ length (all_steps u others)
 entering_part_as_many u keys others h =
-    as_many_keys u keys ∙ eqb-true (opt_count keys) (count others) (entering_part_not_false (nat_eq (opt_count keys) (count others)) (entering_part_unless (not (nat_eq (opt_count keys) (count others))) UnevenLists h)) ∙ sym (entering_part_as_many_values u others)
+    as_many_keys u keys ∙ eqb-true (opt_count keys) (count others)
+    (entering_part_not_false (nat_eq (opt_count keys) (count others))
+    (entering_part_unless (not (nat_eq (opt_count keys) (count others))) UnevenLists h)) ∙ sym (entering_part_as_many_values u others)
 
 -- a name that a walrus stores has no scope
-pub walrus_enters : {p : Bool} {f : Step} (target : tree.Expr) (at : SourceLocation) → Enters p (owners_in p target) f → Enters p (owners_in p target) (walrus_target (plain_name target) at f)
+pub walrus_enters : {p : Bool} {f : Step} (target : tree.Expr) (at : SourceLocation) → Enters p (scope_nodes_in p target) f
+    → Enters p (scope_nodes_in p target) (walrus_target (plain_name target) at f)
 walrus_enters (tree.Name place n) at a = use_enters role.Walrus n at
 walrus_enters _ at a = a
 
 -- nor has one that is annotated
-pub annotated_enters : {p : Bool} {f : Step} (simple : Bool) (target : tree.Expr) (at : SourceLocation) → Enters p (owners_in p target) f
-    → Enters p (owners_in p target) (annotated_target simple (plain_name target) at f)
+pub annotated_enters : {p : Bool} {f : Step} (simple : Bool) (target : tree.Expr) (at : SourceLocation) → Enters p (scope_nodes_in p target) f
+    → Enters p (scope_nodes_in p target) (annotated_target simple (plain_name target) at f)
 annotated_enters true (tree.Name place n) at a = use_enters role.AnnotationAssigned n at
 annotated_enters false (tree.Name place n) at a = a
 annotated_enters _ _ at a = a

@@ -19,12 +19,12 @@ use Rattle.py_emission_parts.specs.Context.{symbols_in}
 use Rattle.py_meaning.specs.Faults.{faults}
 use Rattle.py_meaning.specs.Scanned.{entries_of, fault_as, scan_faults, scopes_of}
 use Rattle.py_scope_proof.specs.Cells.{ScopesStand, TablesFollow}
-use Rattle.py_scope_proof.specs.Entered.{ScansTo, kind_in_table, kind_of_owner}
-use Rattle.py_scope_proof.specs.Owners.{Grove}
-use Rattle.py_scope_proof.specs.StmtOwners.{owners_of}
+use Rattle.py_scope_proof.specs.Entered.{ScansTo, kind_in_table, kind_of_scope_node}
+use Rattle.py_scope_proof.specs.ScopeNodes.{ScopeForest}
+use Rattle.py_scope_proof.specs.StmtScopeNodes.{scope_nodes_of}
 use Rattle.py_scope_proof.proofs.NodeScopes.EnteringPrograms.{parts_none, scan_came}
-use Rattle.py_scope_proof.proofs.NodeScopes.ListedTables.{listed_table_numbered, or_none, symbols_there}
-use Rattle.py_scope_proof.proofs.NodeScopes.OwnerTables.{none_mapped, table_has_owners}
+use Rattle.py_scope_proof.proofs.NodeScopes.ListedTables.{listed_table_numbered, list_or_none, symbols_there}
+use Rattle.py_scope_proof.proofs.NodeScopes.ScopeNodeTables.{none_mapped, table_has_scope_nodes}
 
 -- the scopes are in order, and nothing in them is refused
 record Clean (s : State) : Type 0 where
@@ -44,18 +44,18 @@ pub scopes_stand : ScopesStand
 scopes_stand t m level s h e = let c = clean t s (parts_none t m level h).1 e in entered_scope_stands s.scopes c.orderly c.fine
 
 -- a tree has its own scope at least
-pub some_owner : (t : tree.Mod) (m : Mode) → 0 < length (owners_of t m)
-some_owner (tree.Module stmts) m = omega arith
-some_owner (tree.Interactive stmts) m = omega arith
-some_owner (tree.Expression value) m = omega arith
-some_owner other m = omega arith
+pub some_scope_node : (t : tree.Mod) (m : Mode) → 0 < length (scope_nodes_of t m)
+some_scope_node (tree.Module stmts) m = omega arith
+some_scope_node (tree.Interactive stmts) m = omega arith
+some_scope_node (tree.Expression value) m = omega arith
+some_scope_node other m = omega arith
 
 some_entry : (t : tree.Mod) (m : Mode) (level : ℕ) → faults t m level ≡ [] → 0 < length (scopes_of t)
 some_entry t m level h =
-    let a = ap length (table_has_owners t m level h) in
+    let a = ap length (table_has_scope_nodes t m level h) in
     let b = length-map (scopes_of t) kind_in_table in
-    let c = length-map (owners_of t m) kind_of_owner in
-    let d = some_owner t m in
+    let c = length-map (scope_nodes_of t m) kind_of_scope_node in
+    let d = some_scope_node t m in
     omega (arith, a, b, c, d)
 
 -- the scopes to which the names of a tree resolve are those of the table of its scan
@@ -89,7 +89,7 @@ get_some (x ∷ xs) (suc k) l = get_some xs k (omega arith)
 follow_there : (rows : List Row) (table : SymbolTable) (follows : TableFollows rows table) (k : ℕ) → k < length rows → SymbolsFollow rows k (listed_table_numbered follows.symbols k)
 follow_there rows table follows k l =
     let w = get_some follows.symbols k (let h = follows.whole in omega (arith, h, l)) in
-    subst (SymbolsFollow rows k) (sym (ap or_none w.1)) (follows.each k w.0 w.1)
+    subst (SymbolsFollow rows k) (sym (ap list_or_none w.1)) (follows.each k w.0 w.1)
 
 pub facts : (t : tree.Mod) (m : Mode) (level : ℕ) (s : State) → faults t m level ≡ [] → ScansTo t s → Facts s.scopes.rows (scopes_of t)
 facts t m level s h e =

@@ -10,7 +10,8 @@ use Rattle.py_meaning.specs.StmtEnds.{Setting, function_start, param_ends, rest_
 use Rattle.py_emission.specs.Predicates.{but_doc, itemless, none}
 use Rattle.py_emission.specs.Imports.{from_future}
 use Rattle.py_meaning.specs.ExprFaults.{Fault, debug_faults, default_faults, expr_faults, exprs_faults, faults_to, fault_at, parameter_faults, when}
-use Rattle.py_meaning.specs.Faults.{base_faults, class_faults, def_faults, handlers_faults, items_faults, match_faults, names_faults, notes_faults, params_faults, placement_faults, rest_faults, stmt_faults, stmts_faults, within_params}
+use Rattle.py_meaning.specs.Faults.{base_faults, class_faults, def_faults, handlers_faults, items_faults, match_faults, names_faults}
+use Rattle.py_meaning.specs.Faults.{notes_faults, params_faults, placement_faults, rest_faults, stmt_faults, stmts_faults, in_type_params}
 use Rattle.py_base.specs.declared.errors.CodegenErrorType.TheVariants as error
 use Rattle.py_emission_parts.specs.Refused.{no_assignment}
 use Rattle.py_scope_proof.proofs.NodeScopes.EnteringParts.{entering_part_both_none}
@@ -58,7 +59,7 @@ class_none : (in_function : Bool) (p q : SourceLocation) (bases : tree.Exprs) (k
     → class_faults in_function p q bases keywords generic body ≡ [] → body ≡ []
 class_none b p q bases keywords generic body h =
     let x = entering_part_both_none (params_faults p generic) _ h in
-    (entering_part_both_none body (base_faults (within_params b generic) q bases keywords) x.1).0
+    (entering_part_both_none body (base_faults (in_type_params b generic) q bases keywords) x.1).0
 
 placement_none : (future : Bool) (p : SourceLocation) (names : List Alias) → placement_faults future p names ≡ [] → future ≡ false
 placement_none true p names h = absurd cc
@@ -81,7 +82,8 @@ mutual
       let own = rest_faults d body in
       let q = rest_end d (function_start p params generic) body in
       let x = entering_part_both_none (exprs_faults c.in_function decorators) _ h in
-      let y = entering_part_both_none (def_faults c.postponed c.in_function p q params returns generic own) (debug_faults no_assignment (stmt_end c (tree.FunctionDef at name params body decorators returns generic)) name) x.1 in
+      let y = entering_part_both_none (def_faults c.postponed c.in_function p q params returns generic own)
+      (debug_faults no_assignment (stmt_end c (tree.FunctionDef at name params body decorators returns generic)) name) x.1 in
       rest_plain d body (function_none c.postponed c.in_function p q params returns generic own y.0)
   stmt_plain c b (tree.AsyncFunctionDef at name params body decorators returns generic) h = absurd cc
   stmt_plain c b (tree.ClassDef at name bases keywords body decorators generic) h =
@@ -90,7 +92,8 @@ mutual
       let own = rest_faults d body in
       let q = rest_end d (last_of p (param_ends generic)) body in
       let x = entering_part_both_none (exprs_faults c.in_function decorators) _ h in
-      let y = entering_part_both_none (class_faults c.in_function p q bases keywords generic own) (debug_faults no_assignment (stmt_end c (tree.ClassDef at name bases keywords body decorators generic)) name) x.1 in
+      let y = entering_part_both_none (class_faults c.in_function p q bases keywords generic own)
+      (debug_faults no_assignment (stmt_end c (tree.ClassDef at name bases keywords body decorators generic)) name) x.1 in
       rest_plain d body (class_none c.in_function p q bases keywords generic own y.0)
   stmt_plain c b (tree.For at target iter body orelse) h =
       let x = entering_part_both_none (expr_faults c.in_function iter ++ (faults_to c.in_function (expr_end iter) target).alone ++ stmts_faults c true body) (stmts_faults c b orelse) h in
@@ -113,7 +116,9 @@ mutual
       let z = entering_part_both_none (stmts_faults c b body) (handlers_faults c b excepts) y.0 in
       (stmts_plain c b body z.0, handlers_plain c b excepts z.1, stmts_plain c b orelse y.1, stmts_plain c b finalbody x.1)
   stmt_plain c b (tree.TryStar at body excepts orelse finalbody) h = absurd cc
-  stmt_plain c b (tree.ImportFrom at path names level) h = placement_none (from_future path) at names (entering_part_both_none (placement_faults (from_future path) at names) (names_faults c.in_function at names) h).0
+  stmt_plain c b (tree.ImportFrom at path names level) h =
+      placement_none (from_future path) at names
+      (entering_part_both_none (placement_faults (from_future path) at names) (names_faults c.in_function at names) h).0
   stmt_plain c b _ h = tt
 
   pub stmts_plain : (c : Setting) (b : Bool) (ss : tree.Stmts) → stmts_faults c b ss ≡ [] → ArePlain ss

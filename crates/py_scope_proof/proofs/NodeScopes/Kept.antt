@@ -4,7 +4,7 @@ use Rattle.std.specs.Prelude.{if◌then◌else◌}
 use Rattle.py_bytecode.specs.declared.instruction.Instruction.{Instruction}
 use Rattle.py_control.specs.Agree.{AllOf, kids_g, kids_t, kids_v, kids_vs}
 use Rattle.py_control.specs.Form.{Scope, TForm, Target, VForm, VForms}
-use Rattle.py_emission_parts.specs.Elements.{Callee, Element, Function, Method, Single, Spread, bare, behind, front, run_tuple, groups}
+use Rattle.py_emission_parts.specs.Elements.{Callee, Element, Function, Method, Single, Spread, bare, later_elements, front, run_tuple, groups}
 use Rattle.py_emission_parts.specs.TableParts.{ExprForms, TargetForms, built_form, elements, ordinary, parts_of, plain_target, some_built, tested_form, values}
 
 -- it is known of each of these scopes
@@ -47,10 +47,10 @@ module _ {B A : Type 0} (S : B → Type 0) (R : A → Type 0) where
   all_front (Single x ∷ es) h = (h.0, all_front es h.1)
   all_front (Spread x ∷ es) h = tt
 
-  pub kept_all_behind : (es : List (Element B A)) → AllOf (OfElement S R) es → AllOf (OfElement S R) (behind es)
-  kept_all_behind [] h = tt
-  kept_all_behind (Single x ∷ es) h = kept_all_behind es h.1
-  kept_all_behind (Spread x ∷ es) h = h
+  pub kept_all_after : (es : List (Element B A)) → AllOf (OfElement S R) es → AllOf (OfElement S R) (later_elements es)
+  kept_all_after [] h = tt
+  kept_all_after (Single x ∷ es) h = kept_all_after es h.1
+  kept_all_after (Spread x ∷ es) h = h
 
   module _ (tuple : List B → A) (made : (xs : List B) → AllOf S xs → R (tuple xs)) where
     all_grouped : (xs : List B) → AllOf S xs → AllOf R (run_tuple tuple xs)

@@ -14,9 +14,15 @@ use Rattle.py_bytecode.specs.Objects.{Const}
 use Rattle.py_bytecode.specs.Values.{Operation, operation, Bare}
 use Rattle.py_control.specs.Agree.{AllOf, kids_gs, kids_ls, kids_ss, kids_t, kids_ts, kids_vs}
 use Rattle.py_control.specs.Form.{Scope, TForm, Target, Tests, VAt, VConst, VForm, VForms, VMore, VNone, VOp, VShort}
-use Rattle.py_emission_parts.specs.Elements.{Callee, Element, Function, Method, Single, Spread, bare, behind, front, groups, pairs, sides, has_starred}
-use Rattle.py_emission_parts.specs.TableParts.{ExprForms, Keywords, bool_forms, built_form, call_by, call_form, compare_form, deciding_truth, dict_form, display, joined_form, joined_map, links_of, map_of, map_of_pairs, name_values, names_in, no_operand, packed_forms, part_test, positional_form, shorts_of, slice_form, targets_of, tests_of, unary_forms, unary_operation, unary_test, unpacked_form, unpacked_to, updated_map, value_or, values_in, whole_test}
-use Rattle.py_scope_proof.proofs.NodeScopes.Kept.{InCallee, InForms, InNamed, InPair, InTarget, InValue, Kept, OfElement, OfOption, all_bare, kept_all_behind, all_both, all_front, all_groups, kept_both, in_built, in_either, in_ordinary, in_parts, in_tested, kept_none}
+use Rattle.py_emission_parts.specs.Elements.{Callee, Element, Function, Method, Single, Spread, bare, later_elements, front, groups, pairs, sides, has_starred}
+use Rattle.py_emission_parts.specs.TableParts.{ExprForms, Keywords, bool_forms, built_form, call_by, call_form, compare_form}
+use Rattle.py_emission_parts.specs.TableParts.{deciding_truth, dict_form, display, joined_form, joined_map, links_of, map_of, map_of_pairs}
+use Rattle.py_emission_parts.specs.TableParts.{name_values, names_in, no_operand, packed_forms, part_test, positional_form, shorts_of}
+use Rattle.py_emission_parts.specs.TableParts.{slice_form, targets_of, tests_of, unary_forms, unary_operation, unary_test, unpacked_form}
+use Rattle.py_emission_parts.specs.TableParts.{unpacked_to, updated_map, value_or, values_in, whole_test}
+use Rattle.py_scope_proof.proofs.NodeScopes.Kept.{InCallee, InForms, InNamed, InPair, InTarget, InValue, Kept, OfElement, OfOption}
+use Rattle.py_scope_proof.proofs.NodeScopes.Kept.{all_bare, kept_all_after, all_both, all_front, all_groups, kept_both, in_built, in_either}
+use Rattle.py_scope_proof.proofs.NodeScopes.Kept.{in_ordinary, in_parts, in_tested, kept_none}
 
 module _ (P : Scope → Type 0) where
   -- displays
@@ -51,14 +57,17 @@ module _ (P : Scope → Type 0) where
 
   in_packed : (es : List (Element VForm VForm)) (ks : Keywords) → AllOf (OfElement (InValue P) (InValue P)) es → AllOf (OfElement (InNamed P) (InValue P)) ks → Kept P (kids_vs (packed_forms es ks))
   in_packed es ks h k =
-      kept_both (in_either P (has_starred es) (unpacked_form op.BuildTupleUnpack es) (built_form op.BuildTuple (bare es)) (in_unpacked op.BuildTupleUnpack es h) (in_parts P (bare es) (all_bare (InValue P) es h)))
+      kept_both (in_either P (has_starred es) (unpacked_form op.BuildTupleUnpack es) (built_form op.BuildTuple (bare es))
+      (in_unpacked op.BuildTupleUnpack es h) (in_parts P (bare es) (all_bare (InValue P) es h)))
       (in_joined_map (groups map_of [] ks) (all_groups (InNamed P) (InValue P) map_of in_map [] ks tt k))
 
   in_placed : (c : Callee VForm) (fs : List VForm) (ks : Keywords) → InCallee P c → AllOf (InValue P) fs → AllOf (OfElement (InNamed P) (InValue P)) ks → InValue P (positional_form c fs ks)
   in_placed c fs [] h g k = in_call_by c _ _ _ h (in_parts P fs g)
   in_placed c fs (x ∷ ks) h g k =
       let names = VConst (const.tuple (names_in (x ∷ ks))) ∷ [] in
-      in_call_by c _ _ _ h (in_parts P (fs ++ (values_in (x ∷ ks) ++ names)) (all_both (InValue P) fs (values_in (x ∷ ks) ++ names) g (all_both (InValue P) (values_in (x ∷ ks)) names (in_keyword_values (x ∷ ks) k) (kept_none, tt))))
+      in_call_by c _ _ _ h (in_parts P (fs ++ (values_in (x ∷ ks) ++ names))
+      (all_both (InValue P) fs (values_in (x ∷ ks) ++ names) g
+      (all_both (InValue P) (values_in (x ∷ ks)) names (in_keyword_values (x ∷ ks) k) (kept_none, tt))))
 
   pub in_call : (c : Callee VForm) (es : List (Element VForm VForm)) (ks : Keywords) → InCallee P c → AllOf (OfElement (InValue P) (InValue P)) es
       → AllOf (OfElement (InNamed P) (InValue P)) ks → InValue P (call_form c es ks)
@@ -78,8 +87,8 @@ module _ (P : Scope → Type 0) where
 
   in_dict_elements : (es : List (Element (VForm × VForm) VForm)) → AllOf (OfElement (InPair P) (InValue P)) es → InValue P (dict_form es)
   in_dict_elements es h =
-      in_updated (map_of_pairs (front es)) (groups map_of_pairs [] (behind es)) (in_pair_map (front es) (all_front (InPair P) (InValue P) es h))
-      (all_groups (InPair P) (InValue P) map_of_pairs in_pair_map [] (behind es) tt (kept_all_behind (InPair P) (InValue P) es h))
+      in_updated (map_of_pairs (front es)) (groups map_of_pairs [] (later_elements es)) (in_pair_map (front es) (all_front (InPair P) (InValue P) es h))
+      (all_groups (InPair P) (InValue P) map_of_pairs in_pair_map [] (later_elements es) tt (kept_all_after (InPair P) (InValue P) es h))
 
   in_pairs : (ks : List (Option VForm)) (vs : List VForm) → AllOf (OfOption (InValue P)) ks → AllOf (InValue P) vs → AllOf (OfElement (InPair P) (InValue P)) (pairs ks vs)
   in_pairs [] vs h k = tt
@@ -122,7 +131,8 @@ module _ (P : Scope → Type 0) where
 
   pub in_bool : (at : SourceLocation) (o : BoolOp) (fs : List ExprForms) → AllOf (InForms P) fs → InForms P (bool_forms at o fs)
   in_bool at o [] h = in_tested P (VAt at no_operand) kept_none
-  in_bool at o (f ∷ fs) h = in_ordinary P (VAt at (VShort (deciding_truth o) (shorts_of f fs))) (whole_test o (tests_of o f fs)) (in_shorts f fs h.0 h.1) (in_whole_test o (tests_of o f fs) (in_tests o f fs h.0 h.1))
+  in_bool at o (f ∷ fs) h = in_ordinary P (VAt at (VShort (deciding_truth o) (shorts_of f fs))) (whole_test o (tests_of o f fs))
+      (in_shorts f fs h.0 h.1) (in_whole_test o (tests_of o f fs) (in_tests o f fs h.0 h.1))
 
   -- unary operators
   in_unary_test : (at : SourceLocation) (o : UnaryOp) (f : ExprForms) → InForms P f → Kept P (kids_t (unary_test at o f))

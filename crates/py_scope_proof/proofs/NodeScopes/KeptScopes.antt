@@ -4,7 +4,7 @@ use Rattle.std.specs.Prelude.{if◌then◌else◌}
 use Rattle.py_bytecode.specs.declared.instruction.Instruction.TheVariants as op
 use Rattle.py_control.specs.Agree.{AllOf, kids, kids_vs}
 use Rattle.py_control.specs.Form.{SForm, Scope, VForm, VForms, VMake, VNone}
-use Rattle.py_emission_parts.specs.Within.{behind_name, handed_parts, some_flag}
+use Rattle.py_emission_parts.specs.NestedScopes.{after_name, handed_parts, some_flag}
 use Rattle.py_emission_parts.specs.Elements.{Element, Single, Spread, has_starred}
 use Rattle.py_emission_parts.specs.TableParts.{built_form, map_of, some_built}
 use Rattle.py_meaning.specs.TableScopes.{Defaults, called_at_once, class_form, decorated_form, default_parts, documented_form, function_form, setup_form}
@@ -19,7 +19,8 @@ module _ (P : Scope → Type 0) where
 
   pub in_default_parts : (d : Defaults) (rest : VForms) → InDefaults d → Kept P (kids_vs rest) → Kept P (kids_vs (default_parts d rest))
   in_default_parts d rest h k =
-      in_some P (InValue P) (built_form op.BuildTuple) (in_built P op.BuildTuple) d.positional (some_built map_of d.keyword rest) h.positional (in_some P (InNamed P) map_of (in_map P) d.keyword rest h.keyword k)
+      in_some P (InValue P) (built_form op.BuildTuple) (in_built P op.BuildTuple) d.positional
+      (some_built map_of d.keyword rest) h.positional (in_some P (InNamed P) map_of (in_map P) d.keyword rest h.keyword k)
 
   pub in_called : (name : List ℕ) (s : Scope) (f : VForm) → P s → InValue P f → InValue P (called_at_once name s f)
   in_called name s f h k = kept_both (kept_one h) (kept_both (kept_both k kept_none) kept_none)
@@ -50,10 +51,10 @@ module _ (P : Scope → Type 0) where
   in_handed (x ∷ xs) rest h = kept_both kept_none (in_handed xs rest h)
 
   -- the function and the name of a class stand before its bases
-  pub in_behind_name : (tuple : List VForm → VForm) (f x : VForm) (es : List (Element VForm VForm))
+  pub in_after_name : (tuple : List VForm → VForm) (f x : VForm) (es : List (Element VForm VForm))
       → ((fs : List VForm) → AllOf (InValue P) fs → InValue P (tuple fs)) → InValue P f → InValue P x → AllOf (OfElement (InValue P) (InValue P)) es
-      → AllOf (OfElement (InValue P) (InValue P)) (behind_name tuple f x es)
-  in_behind_name tuple f x es made h k l = go (has_starred es)
+      → AllOf (OfElement (InValue P) (InValue P)) (after_name tuple f x es)
+  in_after_name tuple f x es made h k l = go (has_starred es)
     where
       go : (b : Bool) → AllOf (OfElement (InValue P) (InValue P)) (if b then Spread (tuple (f ∷ x ∷ [])) ∷ es else Single f ∷ Single x ∷ es)
       go true = (made (f ∷ x ∷ []) (h, (k, tt)), l)

@@ -1,5 +1,6 @@
 -- The table of scopes that were entered as a scope forest lists them by their numbers, with the kind and the symbols of each.
-use Rattle.std.proofs.Common.{◌≡◌, refl, sym, ap, ◌∙◌, subst, ℕ, zero, suc, ◌+◌, Bool, true, false, List, [], ◌∷◌, ◌++◌, length, map, nat_eq, if◌then◌else◌, slice_get, option_map, Option, Some, None, arith}
+use Rattle.std.proofs.Common.{◌≡◌, refl, sym, ap, ◌∙◌, subst, ℕ, zero, suc, ◌+◌, Bool, true, false, List, [], ◌∷◌, ◌++◌, length, map}
+use Rattle.std.proofs.Common.{nat_eq, if◌then◌else◌, slice_get, option_map, Option, Some, None, arith}
 use Rattle.std.proofs.lemmas.List.{map-append, length-map}
 use Rattle.std.proofs.lemmas.Option.{slice_get-map}
 use Rattle.py_scope.specs.declared.flat.ScopeEntry.{ScopeEntry}
@@ -15,11 +16,11 @@ use Rattle.py_scope.specs.Flat.{all_flat, flat_step, flat_table}
 use Rattle.py_scope.specs.Tables.{children_of, tables_from}
 use Rattle.py_emission_parts.specs.Context.{symbols_in}
 use Rattle.py_meaning.specs.Scanned.{entries_of}
-use Rattle.py_scope_proof.specs.Owners.{Grove, size}
-use Rattle.py_scope_proof.specs.StmtOwners.{in_whole}
-use Rattle.py_scope_proof.specs.Entered.{told_node, told_row}
-use Rattle.py_scope_proof.proofs.NodeScopes.Groves.{arounds, parent_in, parents_grown}
-use Rattle.py_scope_proof.proofs.NodeScopes.ScopeListLemmas.{gathered, labels, labels_shifted, spans, whole_spans}
+use Rattle.py_scope_proof.specs.ScopeNodes.{ScopeForest, size}
+use Rattle.py_scope_proof.specs.StmtScopeNodes.{in_whole}
+use Rattle.py_scope_proof.specs.Entered.{report_of_node, report_of_row}
+use Rattle.py_scope_proof.proofs.NodeScopes.ScopeForests.{enclosing_numbers, parent_in, parents_grown}
+use Rattle.py_scope_proof.proofs.NodeScopes.ScopeListLemmas.{gathered_lists, labels, labels_shifted, spans, whole_spans}
 use Rattle.py_scope_proof.proofs.NodeScopes.ScopeForestLemmas.{length_placed}
 
 abbrev ListedTableFlat : Type 0
@@ -66,21 +67,22 @@ module _ {A : Type 0} (keep : SymbolTableType → List Symbol → A) where
   kept_of_all ts k = map kept_in (all_flat (map {B = ListedTableFlat} flat_table ts) k)
 
   -- that of the tables in scope j
-  listed_table_children_are : (j : ℕ) (rs : List Row) (ts : List SymbolTable) (xss : List (List A)) → AllAre ts xss → (k : ℕ) → kept_of_all (children_of j rs ts) k ≡ gathered j (map parent_in rs) xss
+  listed_table_children_are : (j : ℕ) (rs : List Row) (ts : List SymbolTable) (xss : List (List A)) → AllAre ts xss → (k : ℕ)
+      → kept_of_all (children_of j rs ts) k ≡ gathered_lists j (map parent_in rs) xss
   listed_table_children_are j [] ts xss a k = refl
   listed_table_children_are j (r ∷ rs) [] [] a k = refl
   listed_table_children_are j (r ∷ rs) [] (xs ∷ xss) a k = absurd a
   listed_table_children_are j (r ∷ rs) (t ∷ ts) [] a k = absurd a
   listed_table_children_are j (r ∷ rs) (t ∷ ts) (xs ∷ xss) a k = go (nat_eq r.parent j) (listed_table_children_are j rs ts xss a.1)
     where
-      go : (b : Bool) → ((m : ℕ) → kept_of_all (children_of j rs ts) m ≡ gathered j (map parent_in rs) xss)
-          → kept_of_all (if b then t ∷ children_of j rs ts else children_of j rs ts) k ≡ (if b then xs ++ gathered j (map parent_in rs) xss else gathered j (map parent_in rs) xss)
+      go : (b : Bool) → ((m : ℕ) → kept_of_all (children_of j rs ts) m ≡ gathered_lists j (map parent_in rs) xss)
+          → kept_of_all (if b then t ∷ children_of j rs ts else children_of j rs ts) k ≡ (if b then xs ++ gathered_lists j (map parent_in rs) xss else gathered_lists j (map parent_in rs) xss)
       go true rest =
           map-append kept_in (flat_table t k) (all_flat (map {B = ListedTableFlat} flat_table (children_of j rs ts)) (k + length (flat_table t k)))
           ∙ (λ i. a.0 k i ++ rest (k + length (flat_table t k)) i)
       go false rest = rest k
 
-  -- the tables of these scopes, where f tells what is kept of each
+  -- the tables of these scopes, where f says what is kept of each
   listed_table_tables_are : (f : ℕ → A) (n : ℕ) (rs : List Row) (ss : List (List Symbol)) → length ss ≡ length rs → kept_rows rs ss ≡ labels f n (length rs)
       → AllAre (tables_from n rs ss) (spans f n (map parent_in rs))
   listed_table_tables_are f n [] ss l h = tt
@@ -98,11 +100,12 @@ module _ {A : Type 0} (keep : SymbolTableType → List Symbol → A) where
   listed_table_first_is (t ∷ ts) xs xss a = a.0 0
 
   -- the table of a whole tree with a scope forest in it
-  pub table_listed : (rows : List Row) (symbols : List (List Symbol)) (g : Grove) → map told_row rows ≡ map told_node (in_whole g) → length symbols ≡ length rows
+  pub table_listed : (rows : List Row) (symbols : List (List Symbol)) (g : ScopeForest) → map report_of_row rows ≡ map report_of_node (in_whole g) → length symbols ≡ length rows
       → map kept_in (entries_of (slice_get (tables_from 0 rows symbols) 0)) ≡ kept_rows rows symbols
   table_listed rows symbols g e l =
-      listed_table_first_is (tables_from 0 rows symbols) (labels f 0 (suc (size g))) (spans f 1 (arounds 0 1 g))
-      (subst (AllAre (tables_from 0 rows symbols)) (ap (spans f 0) (parents_grown rows g e) ∙ whole_spans f g 0) (listed_table_tables_are f 0 rows symbols l (sym (labels_all other kept) ∙ ap (labels f 0) same)))
+      listed_table_first_is (tables_from 0 rows symbols) (labels f 0 (suc (size g))) (spans f 1 (enclosing_numbers 0 1 g))
+      (subst (AllAre (tables_from 0 rows symbols)) (ap (spans f 0) (parents_grown rows g e) ∙ whole_spans f g 0)
+      (listed_table_tables_are f 0 rows symbols l (sym (labels_all other kept) ∙ ap (labels f 0) same)))
       ∙ ap (labels f 0) (sym (same ∙ whole))
       ∙ labels_all other kept
     where
@@ -119,7 +122,7 @@ module _ {A : Type 0} (keep : SymbolTableType → List Symbol → A) where
       same = length_kept rows symbols l
 
       whole : length rows ≡ suc (size g)
-      whole = sym (length-map rows told_row) ∙ ap length e ∙ length-map (in_whole g) told_node ∙ ap suc (length_placed 0 1 g)
+      whole = sym (length-map rows report_of_row) ∙ ap length e ∙ length-map (in_whole g) report_of_node ∙ ap suc (length_placed 0 1 g)
 
 -- the kinds of such scopes
 abbrev pub kind_alone : SymbolTableType → List Symbol → SymbolTableType
@@ -141,21 +144,23 @@ symbols_kept (r ∷ rs) [] l = absurd (omega (arith, l))
 symbols_kept (r ∷ rs) (s ∷ ss) l = ap (λ sss. s ∷ sss) (symbols_kept rs ss (omega (arith, l)))
 
 -- none where there is no list
-abbrev pub or_none : {A : Type 0} → Option (List A) → List A
-or_none None = []
-or_none (Some xs) = xs
+abbrev pub list_or_none : {A : Type 0} → Option (List A) → List A
+list_or_none None = []
+list_or_none (Some xs) = xs
 
 -- the list with this number
 abbrev pub listed_table_numbered : {A : Type 0} → List (List A) → ℕ → List A
-listed_table_numbered xss k = or_none (slice_get xss k)
+listed_table_numbered xss k = list_or_none (slice_get xss k)
 
 -- the scope at a place has the symbols there
-pub symbols_there : (rows : List Row) (symbols : List (List Symbol)) (g : Grove) → map told_row rows ≡ map told_node (in_whole g) → length symbols ≡ length rows
+pub symbols_there : (rows : List Row) (symbols : List (List Symbol)) (g : ScopeForest) → map report_of_row rows ≡ map report_of_node (in_whole g) → length symbols ≡ length rows
     → (o : Option SymbolTable) → slice_get (tables_from 0 rows symbols) 0 ≡ o → (k : ℕ) → symbols_in (entries_of o) k ≡ listed_table_numbered symbols k
 symbols_there rows symbols g e l o h k =
     of (slice_get (entries_of o) k)
-    ∙ ap or_none (sym (slice_get-map (kept_in symbols_alone) (entries_of o) k) ∙ ap (λ xs. slice_get xs k) (ap (λ x. map (kept_in symbols_alone) (entries_of x)) (sym h) ∙ table_listed symbols_alone rows symbols g e l ∙ symbols_kept rows symbols l))
+    ∙ ap list_or_none (sym (slice_get-map (kept_in symbols_alone) (entries_of o) k)
+    ∙ ap (λ xs. slice_get xs k) (ap (λ x. map (kept_in symbols_alone) (entries_of x)) (sym h)
+    ∙ table_listed symbols_alone rows symbols g e l ∙ symbols_kept rows symbols l))
   where
-    of : (x : Option ScopeEntry) → elim (option_map (λ (y : ScopeEntry). y.symbols) x) [ None ↦ [] | Some ss ↦ ss ] ≡ or_none (option_map (kept_in symbols_alone) x)
+    of : (x : Option ScopeEntry) → elim (option_map (λ (y : ScopeEntry). y.symbols) x) [ None ↦ [] | Some ss ↦ ss ] ≡ list_or_none (option_map (kept_in symbols_alone) x)
     of None = refl
     of (Some y) = refl

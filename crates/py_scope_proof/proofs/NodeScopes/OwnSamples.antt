@@ -10,8 +10,8 @@ use Rattle.py_emission_parts.specs.Context.{inside, with_path}
 use Rattle.py_control.specs.Agree.{form_of, kids}
 use Rattle.py_control.specs.Form.{SForm, SReturn, SSkip, Scope, VAt, VConst}
 use Rattle.py_meaning.specs.Meaning.{body}
-use Rattle.py_scope_proof.specs.Owners.{Owner, Whole, Value, Own, Hidden, Placed}
-use Rattle.py_scope_proof.specs.StmtOwners.{owners_of}
+use Rattle.py_scope_proof.specs.ScopeNodes.{ScopeNode, Whole, Value, Own, TypeParamScope, Placed}
+use Rattle.py_scope_proof.specs.StmtScopeNodes.{scope_nodes_of}
 use Rattle.py_scope_proof.specs.Own.{IsOwn, IsScopeOf, number_of}
 
 abbrev own_sample_at : ℕ → SourceLocation
@@ -36,11 +36,11 @@ unfolding inside
 dict_numbers = refl
 
 -- a node in the scope with this number
-abbrev in_scope : ℕ → Owner → Placed
-in_scope n o = record { owner = o; around = n }
+abbrev in_scope : ℕ → ScopeNode → Placed
+in_scope n o = record { scope_node = o; enclosing = n }
 
-dict_owners : owners_of own_sample_dict mode.Eval ≡ in_scope 0 Whole ∷ in_scope 0 (Value (lambda 1 true)) ∷ in_scope 0 (Value (lambda 2 true)) ∷ in_scope 0 (Value (lambda 3 true)) ∷ in_scope 0 (Value (lambda 4 true)) ∷ []
-dict_owners = refl
+dict_scope_nodes : scope_nodes_of own_sample_dict mode.Eval ≡ in_scope 0 Whole ∷ in_scope 0 (Value (lambda 1 true)) ∷ in_scope 0 (Value (lambda 2 true)) ∷ in_scope 0 (Value (lambda 3 true)) ∷ in_scope 0 (Value (lambda 4 true)) ∷ []
+dict_scope_nodes = refl
 
 -- def f[T: (lambda: True)](a=(lambda: True)): return (lambda: True), a part a line
 abbrev own_sample_function : tree.Stmt
@@ -50,21 +50,21 @@ own_sample_function = tree.FunctionDef (own_sample_at 1) (codes "f") (tree.argum
 abbrev own_sample_generic : tree.Mod
 own_sample_generic = tree.Module (tree.more_stmts own_sample_function tree.no_stmts)
 
-abbrev own_sample_within : List Scope → List Scope
-own_sample_within [] = []
-own_sample_within (s ∷ ss) = kids (form_of s)
+abbrev own_sample_nested : List Scope → List Scope
+own_sample_nested [] = []
+own_sample_nested (s ∷ ss) = kids (form_of s)
 
 -- the type-parameter scope, and the default after it; within it the bound and the function; and in that the lambda that is returned
 generic_numbers : numbers (body [] own_sample_generic mode.Exec 0) ≡ 1 ∷ 5 ∷ []
 unfolding inside with_path
 generic_numbers = refl
 
-hidden_numbers : map number_of (own_sample_within (kids (form_of (body [] own_sample_generic mode.Exec 0)))) ≡ 2 ∷ 3 ∷ []
+type_param_scope_numbers : map number_of (own_sample_nested (kids (form_of (body [] own_sample_generic mode.Exec 0)))) ≡ 2 ∷ 3 ∷ []
 unfolding inside with_path
-hidden_numbers = refl
+type_param_scope_numbers = refl
 
-generic_owners : owners_of own_sample_generic mode.Exec ≡ in_scope 0 Whole ∷ in_scope 0 (Hidden own_sample_function) ∷ in_scope 1 (Value (lambda 2 true)) ∷ in_scope 1 (Own own_sample_function) ∷ in_scope 3 (Value (lambda 4 true)) ∷ in_scope 0 (Value (lambda 3 true)) ∷ []
-generic_owners = refl
+generic_scope_nodes : scope_nodes_of own_sample_generic mode.Exec ≡ in_scope 0 Whole ∷ in_scope 0 (TypeParamScope own_sample_function) ∷ in_scope 1 (Value (lambda 2 true)) ∷ in_scope 1 (Own own_sample_function) ∷ in_scope 3 (Value (lambda 4 true)) ∷ in_scope 0 (Value (lambda 3 true)) ∷ []
+generic_scope_nodes = refl
 
 -- the scope of one lambda is not that of another
 abbrev own_sample_one : tree.Mod
@@ -86,7 +86,7 @@ stands_there e = cc
 
 other_lambda : own_sample_first (kids (form_of (body [] own_sample_one mode.Eval 0))) (λ s. IsOwn [] (in_scope 0 Whole ∷ in_scope 0 (Value (lambda 1 false)) ∷ []) 0 s → ⊥)
 unfolding inside form_in
-other_lambda h = two_forms (ap form_in (subst (λ w. IsScopeOf h.around w _) (sym (ap (λ (x : Placed). x.owner) (stands_there h.stands))) h.is))
+other_lambda h = two_forms (ap form_in (subst (λ w. IsScopeOf h.enclosing w _) (sym (ap (λ (x : Placed). x.scope_node) (stands_there h.stands))) h.is))
 
 -- nor is it the lambda's own where this stands in another scope
 other_scope : ◌≡◌ {A = ℕ} 1 0 → ⊥
@@ -94,4 +94,4 @@ other_scope e = cc
 
 elsewhere : own_sample_first (kids (form_of (body [] own_sample_one mode.Eval 0))) (λ s. IsOwn [] (in_scope 0 Whole ∷ in_scope 1 (Value (lambda 1 true)) ∷ []) 0 s → ⊥)
 unfolding inside
-elsewhere h = other_scope (ap (λ (x : Placed). x.around) (stands_there h.stands))
+elsewhere h = other_scope (ap (λ (x : Placed). x.enclosing) (stands_there h.stands))

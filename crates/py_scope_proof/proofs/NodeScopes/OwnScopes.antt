@@ -5,8 +5,8 @@ use Rattle.py_scope.specs.declared.flat.ScopeEntry.{ScopeEntry}
 use Rattle.py_emission_parts.specs.Context.{Context}
 use Rattle.py_control.specs.Agree.{AllOf, form_of, kids}
 use Rattle.py_control.specs.Form.{Scope}
-use Rattle.py_scope_proof.specs.Owners.{Value, Own, Hidden, Grove, Grown, Placed}
-use Rattle.py_scope_proof.specs.Own.{IsOwn, OwnUpTo, hidden_scope, number_of, own_scope, value_scope}
+use Rattle.py_scope_proof.specs.ScopeNodes.{Value, Own, TypeParamScope, ScopeForest, Grown, Placed}
+use Rattle.py_scope_proof.specs.Own.{IsOwn, OwnUpTo, type_param_scope, number_of, own_scope, value_scope}
 use Rattle.py_scope_proof.proofs.NodeScopes.Kept.{Kept}
 use Rattle.py_scope_proof.proofs.NodeScopes.ScopeForestLemmas.{Lies, head_stands}
 
@@ -15,33 +15,33 @@ pub all_as : {A : Type 0} (S R : A → Type 0) → ((x : A) → S x → R x) →
 all_as S R h [] p = tt
 all_as S R h (x ∷ xs) p = (h x p.0, all_as S R h xs p.1)
 
-module _ (scopes : List ScopeEntry) (owners : List Placed) where
+module _ (scopes : List ScopeEntry) (scope_nodes : List Placed) where
   -- in the scope with this number, down to every level
   abbrev pub OwnDown : (here : ℕ) → Scope → Type 0
-  OwnDown here s = (n : ℕ) → OwnUpTo scopes owners here n s
+  OwnDown here s = (n : ℕ) → OwnUpTo scopes scope_nodes here n s
 
   -- in the scope of this context
   abbrev pub OwnIn : Context → Scope → Type 0
   OwnIn c = OwnDown c.here
 
-  own_down : (here : ℕ) (s : Scope) → IsOwn scopes owners here s → Kept (OwnDown (number_of s)) (kids (form_of s)) → OwnDown here s
+  own_down : (here : ℕ) (s : Scope) → IsOwn scopes scope_nodes here s → Kept (OwnDown (number_of s)) (kids (form_of s)) → OwnDown here s
   own_down here s h k zero = tt
-  own_down here s h k (suc n) = (h, all_as (OwnDown (number_of s)) (OwnUpTo scopes owners (number_of s) n) (λ t f. f n) (kids (form_of s)) k.all)
+  own_down here s h k (suc n) = (h, all_as (OwnDown (number_of s)) (OwnUpTo scopes scope_nodes (number_of s) n) (λ t f. f n) (kids (form_of s)) k.all)
 
   -- of a lambda or a comprehension
-  pub value_own : (c : Context) (e : tree.Expr) (s : Scope) {within behind : Grove} → c.scopes ≡ scopes
-      → Lies owners c.here (number_of s) (Grown (Value e) within behind) → value_scope c (number_of s) e ≡ Some s
+  pub value_own : (c : Context) (e : tree.Expr) (s : Scope) {nested after : ScopeForest} → c.scopes ≡ scopes
+      → Lies scope_nodes c.here (number_of s) (Grown (Value e) nested after) → value_scope c (number_of s) e ≡ Some s
       → Kept (OwnDown (number_of s)) (kids (form_of s)) → OwnIn c s
-  value_own c e s t h i k = own_down c.here s (record { owner = Value e; stands = head_stands h; around = c; told = t; is = i }) k
+  value_own c e s t h i k = own_down c.here s (record { scope_node = Value e; stands = head_stands h; enclosing = c; told = t; is = i }) k
 
   -- of a function or a class
-  pub own_own : (c : Context) (path : List ℕ) (st : tree.Stmt) (s : Scope) {within behind : Grove} → c.scopes ≡ scopes
-      → Lies owners c.here (number_of s) (Grown (Own st) within behind) → own_scope c path (number_of s) st ≡ Some s
+  pub own_own : (c : Context) (path : List ℕ) (st : tree.Stmt) (s : Scope) {nested after : ScopeForest} → c.scopes ≡ scopes
+      → Lies scope_nodes c.here (number_of s) (Grown (Own st) nested after) → own_scope c path (number_of s) st ≡ Some s
       → Kept (OwnDown (number_of s)) (kids (form_of s)) → OwnIn c s
-  own_own c path st s t h i k = own_down c.here s (record { owner = Own st; stands = head_stands h; around = c; told = t; is = (path, i) }) k
+  own_own c path st s t h i k = own_down c.here s (record { scope_node = Own st; stands = head_stands h; enclosing = c; told = t; is = (path, i) }) k
 
   -- of what stands around type parameters
-  pub hidden_own : (c : Context) (st : tree.Stmt) (s : Scope) {within behind : Grove} → c.scopes ≡ scopes
-      → Lies owners c.here (number_of s) (Grown (Hidden st) within behind) → hidden_scope c (number_of s) st ≡ Some s
+  pub type_param_scope_own : (c : Context) (st : tree.Stmt) (s : Scope) {nested after : ScopeForest} → c.scopes ≡ scopes
+      → Lies scope_nodes c.here (number_of s) (Grown (TypeParamScope st) nested after) → type_param_scope c (number_of s) st ≡ Some s
       → Kept (OwnDown (number_of s)) (kids (form_of s)) → OwnIn c s
-  hidden_own c st s t h i k = own_down c.here s (record { owner = Hidden st; stands = head_stands h; around = c; told = t; is = i }) k
+  type_param_scope_own c st s t h i k = own_down c.here s (record { scope_node = TypeParamScope st; stands = head_stands h; enclosing = c; told = t; is = i }) k

@@ -13,7 +13,7 @@ use Rattle.py_scope.specs.Outward.{enclosing_scopes, parents}
 use Rattle.py_scope.specs.Resolve.{binds_in, goes_through, is_free_kind, is_held, is_own, is_used, holds_in, last_declaration, needs, resolve}
 use Rattle.py_scope.specs.Roles.{bound_opt}
 use Rattle.py_scope.specs.Tables.{is_plain}
-use Rattle.py_scope.specs.Laws.{CellsAreNeeded, LeadsTo, NamesLead, SymbolsFollow, has_symbol, is_from_outside}
+use Rattle.py_scope.specs.Laws.{CellsAreNeeded, LeadsTo, NamesLead, SymbolsFollow, has_symbol, is_free_variable}
 use Rattle.py_scope.proofs.Chains.{outward}
 use Rattle.py_scope.proofs.NameLemmas.{equal_names, names_same}
 use Rattle.py_scope.proofs.Truth.{truth_both, truth_either, left_or, truth_right_or}
@@ -27,8 +27,8 @@ record WantedStands (ts : List Symbol) (x : Name) : Type 0 where
   there : slice_get ts place ≡ Some symbol
   named : x ≡ symbol.name
 
-abbrev behind_one : (t : Symbol) (ts : List Symbol) (x : Name) → WantedStands ts x → WantedStands (t ∷ ts) x
-behind_one t ts x w = record { place = suc w.place; symbol = w.symbol; there = w.there; named = w.named }
+abbrev after_one : (t : Symbol) (ts : List Symbol) (x : Name) → WantedStands ts x → WantedStands (t ∷ ts) x
+after_one t ts x w = record { place = suc w.place; symbol = w.symbol; there = w.there; named = w.named }
 
 -- the symbol of a name that is among those that are so
 wanted_found : (p : Symbol → Bool) (x : Name) (ts : List Symbol) → is_one_of x (names_of_those p ts) ≡ true → (w : WantedStands ts x) × (p w.symbol ≡ true)
@@ -36,7 +36,7 @@ wanted_found p x [] h = absurd cc
 wanted_found p x (t ∷ ts) h = go (p t) refl h (wanted_found p x ts)
   where
     later : ((w : WantedStands ts x) × (p w.symbol ≡ true)) → (w : WantedStands (t ∷ ts) x) × (p w.symbol ≡ true)
-    later v = (behind_one t ts x v.0, v.1)
+    later v = (after_one t ts x v.0, v.1)
 
     go : (b : Bool) → p t ≡ b → is_one_of x (if b then t.name ∷ names_of_those p ts else names_of_those p ts) ≡ true
         → (is_one_of x (names_of_those p ts) ≡ true → (w : WantedStands ts x) × (p w.symbol ≡ true)) → (w : WantedStands (t ∷ ts) x) × (p w.symbol ≡ true)
@@ -71,7 +71,7 @@ symbol_found x (t ∷ ts) h = go (truth_either (same_name x t.name) (has_symbol 
   where
     go : (same_name x t.name ≡ true) ⊎ (has_symbol ts x ≡ true) → (has_symbol ts x ≡ true → WantedStands ts x) → WantedStands (t ∷ ts) x
     go (inl q) rest = record { place = 0; symbol = t; there = refl; named = equal_names x t.name q }
-    go (inr q) rest = behind_one t ts x (rest q)
+    go (inr q) rest = after_one t ts x (rest q)
 
 wanted_in_front : (x : Name) (xs ys : List Name) → is_one_of x xs ≡ true → is_one_of x (xs ++ ys) ≡ true
 wanted_in_front x [] ys h = absurd cc
@@ -94,23 +94,23 @@ free_kinds GlobalImplicit = refl
 free_kinds Free = refl
 free_kinds Cell = refl
 
-from_outside : (t : Symbol) → frees_here t ≡ is_from_outside t
-from_outside t = ap (λ b. b || intersects t.flags.0 0x100) (free_kinds t.scope)
+free_variable : (t : Symbol) → frees_here t ≡ is_free_variable t
+free_variable t = ap (λ b. b || intersects t.flags.0 0x100) (free_kinds t.scope)
 
 module _ (rows : List Row) (k : ℕ) (ts : List Symbol) (follows : SymbolsFollow rows k ts) (x : Name) where
-  -- what is among the names that the scope has from outside, the scope needs
+  -- what is among the free names of the scope, the scope needs
   pub wanted_needed : is_one_of x (frees_among ts) ≡ true → needs rows k x ≡ true
   wanted_needed h =
       let w = wanted_found frees_here x ts h in
-      ap (needs rows k) w.0.named ∙ sym (follows.outside w.0.place w.0.symbol w.0.there) ∙ sym (from_outside w.0.symbol) ∙ w.1
+      ap (needs rows k) w.0.named ∙ sym (follows.outside w.0.place w.0.symbol w.0.there) ∙ sym (free_variable w.0.symbol) ∙ w.1
 
   -- what the scope needs is among them
   pub needed_wanted : needs rows k x ≡ true → is_one_of x (frees_among ts) ≡ true
   needed_wanted h =
       let w = symbol_found x ts (follows.names x ∙ truth_right_or (is_used rows k x) _ (truth_right_or (is_held rows k x) (needs rows k x) h)) in
-      wanted_listed frees_here x ts w.place w.symbol w.there w.named (from_outside w.symbol ∙ follows.outside w.place w.symbol w.there ∙ ap (needs rows k) (sym w.named) ∙ h)
+      wanted_listed frees_here x ts w.place w.symbol w.there w.named (free_variable w.symbol ∙ follows.outside w.place w.symbol w.there ∙ ap (needs rows k) (sym w.named) ∙ h)
 
-  -- a use of the name, or a walrus within, binds it
+  -- a use of the name, or a nested walrus, binds it
   bound_known : binds_in rows k x ≡ true → is_used rows k x || (is_held rows k x || needs rows k x) ≡ true
   bound_known h = by (truth_either (bound_opt (entry_at rows k x)) _ h)
     where
@@ -143,9 +143,9 @@ listed_cell rows k ts follows x h =
     ap (λ n. (resolve rows k n).kind) w.0.named ∙ sym (follows.kinds w.0.place w.0.symbol w.0.there) ∙ wanted_cell_is w.0.symbol.scope w.1
 
 -- the enclosing scope has what a scope needs
-pub around_has : (rows : List Row) → CellsAreNeeded rows → NamesLead rows → (k : ℕ) → parents rows k < k → (ts us : List Symbol) → SymbolsFollow rows k ts → SymbolsFollow rows (parents rows k) us
+pub enclosing_has : (rows : List Row) → CellsAreNeeded rows → NamesLead rows → (k : ℕ) → parents rows k < k → (ts us : List Symbol) → SymbolsFollow rows k ts → SymbolsFollow rows (parents rows k) us
     → (x : Name) → is_one_of x (frees_among ts) ≡ true → is_one_of x (cells_among us ++ frees_among us) ≡ true
-around_has rows cells lead k below ts us inner outer x h =
+enclosing_has rows cells lead k below ts us inner outer x h =
     let w = lead k x (wanted_needed rows k ts inner x h) in
     go (subst (λ es. LeadsTo rows x es w.0) (outward (parents rows) k (parents rows k) refl below) w.2)
   where

@@ -51,8 +51,11 @@ stored_there rows q n h = by (slice_get rows q) refl h
 module _ (s : Scanned) (old : IsScanned s) where
   pub allowed_use : first_refused s.rows (order_of s) ≡ None → AreAllowed s.rows
   allowed_use h = record {
-    walruses = λ q n a. none_of_names (refused_walrus s.rows q) (walruses_of (slice_get s.rows q)) (none_of_scopes (refused_walruses s.rows) (order_of s) (none_first _ _ h) q (old.complete q (stored_there s.rows q n a))) n a;
-    names = λ k n a. none_of_names (refused_name s.rows k) (names_of (slice_get s.rows k)) (none_of_scopes (refused_names s.rows) (order_of s) (none_second _ _ h) k (old.complete k (allowed_used_there s.rows k n a))) n (used_is s.rows k n ∙ a);
+    walruses = λ q n a. none_of_names (refused_walrus s.rows q) (walruses_of (slice_get s.rows q))
+        (none_of_scopes (refused_walruses s.rows) (order_of s) (none_first _ _ h) q (old.complete q (stored_there s.rows q n a))) n a;
+    names = λ k n a. none_of_names (refused_name s.rows k) (names_of (slice_get s.rows k))
+        (none_of_scopes (refused_names s.rows) (order_of s) (none_second _ _ h) k (old.complete k (allowed_used_there s.rows k n a))) n
+        (used_is s.rows k n ∙ a);
   }
 
   pub none_refused : AreAllowed s.rows → first_refused s.rows (order_of s) ≡ None

@@ -16,7 +16,7 @@ use Rattle.py_scope.specs.Scanned.{Scanned, order_of}
 use Rattle.py_scope.specs.InOrder.{IsScanned}
 use Rattle.py_scope.specs.Resolved.{after_lifts}
 use Rattle.py_scope.specs.Resolve as uses
-use Rattle.py_scope.specs.Resolve.{around, kind_at, look_in, stops_in}
+use Rattle.py_scope.specs.Resolve.{outward_scopes, kind_at, look_in, stops_in}
 use Rattle.py_scope.proofs.ByLifts.{goes_through, is_held, holds_in, binds_in}
 use Rattle.py_scope.proofs.Gains.{takes, takes_or, takes_plain, or_swap, gained_lifted}
 use Rattle.py_scope.proofs.LiftKeeps as lifting
@@ -32,7 +32,7 @@ bound_stays h (Some e) = refl
 
 bound_gains : (o : Option Entry) → bound_opt (Some (holding_entry (or_absent o))) ≡ bound_opt o || takes (holds_opt o)
 bound_gains None = refl
-bound_gains (Some e) = ap (λ b. b || intersects e.roles.0 0x096) (takes_or e.holds e.assigned_within) ∙ or_swap e.assigned_within (takes e.holds) (intersects e.roles.0 0x096)
+bound_gains (Some e) = ap (λ b. b || intersects e.roles.0 0x096) (takes_or e.holds e.assigned_in_comprehension) ∙ or_swap e.assigned_in_comprehension (takes e.holds) (intersects e.roles.0 0x096)
 
 module _ (s : Scanned) (old : IsScanned s) where
   abbrev lifted_order : List ℕ
@@ -52,22 +52,33 @@ module _ (s : Scanned) (old : IsScanned s) where
       none false h = refl
 
       by : (o : Option Row) → slice_get s.rows k ≡ o
-          → holds_opt (entry_of n (option_map (lifted_all s.rows (lifts s.rows lifted_order) k) o)) ≡ if goes_through s.rows lifted_order k n then lifted_holds (stages s.rows n) (outward_from s.rows k) else holds_opt (entry_of n o)
-      by None e = none (goes_through s.rows lifted_order k n) (λ h. let c : Module ≡ Comprehension = sym (ap (λ o. (stage_of n o).kind) e) ∙ sound.through_kind s.rows lifted_base (lifts s.rows lifted_order) lifted_is_lifted old.numbered (λ j m. (old.fresh j).fresh m) (λ j m. (old.fresh j).uncaptured m) old.first (begins_well s.rows (λ j h. (old.fresh j).walruses h) lifted_order) k n h in cc)
+          → holds_opt (entry_of n (option_map (lifted_all s.rows (lifts s.rows lifted_order) k) o))
+          ≡ if goes_through s.rows lifted_order k n then lifted_holds (stages s.rows n) (outward_from s.rows k) else holds_opt
+          (entry_of n o)
+      by None e = none (goes_through s.rows lifted_order k n)
+          (λ h. let c : Module ≡ Comprehension = sym (ap (λ o. (stage_of n o).kind) e)
+          ∙ sound.through_kind s.rows lifted_base (lifts s.rows lifted_order) lifted_is_lifted old.numbered (λ j m. (old.fresh j).fresh m)
+          (λ j m. (old.fresh j).uncaptured m) old.first (begins_well s.rows (λ j h. (old.fresh j).walruses h) lifted_order) k n h in cc)
       by (Some u) e = holds_lifted s.rows (lifts s.rows lifted_order) k n u
 
   binds_are : (k : ℕ) (n : Name) → bound_opt (entry_at lifted_base k n) ≡ binds_in s.rows lifted_order k n
-  binds_are k n = ap (λ o. bound_opt (entry_of n o)) (lifted_is_lifted k) ∙ by (slice_get s.rows k) refl ∙ ap (λ b. bound_opt (entry_at s.rows k n) || (is_held s.rows lifted_order k n && b)) (takes_plain (holds_opt (entry_at s.rows k n)) ((old.fresh k).fresh n))
+  binds_are k n = ap (λ o. bound_opt (entry_of n o)) (lifted_is_lifted k) ∙ by (slice_get s.rows k) refl
+      ∙ ap (λ b. bound_opt (entry_at s.rows k n) || (is_held s.rows lifted_order k n && b))
+      (takes_plain (holds_opt (entry_at s.rows k n)) ((old.fresh k).fresh n))
     where
       none : (z : Bool) → (z ≡ true → ⊥) → false ≡ (z && true)
       none true h = absurd (h refl)
       none false h = refl
 
       by : (o : Option Row) → slice_get s.rows k ≡ o
-          → bound_opt (entry_of n (option_map (lifted_all s.rows (lifts s.rows lifted_order) k) o)) ≡ bound_opt (entry_at s.rows k n) || (is_held s.rows lifted_order k n && takes (holds_opt (entry_at s.rows k n)))
+          → bound_opt (entry_of n (option_map (lifted_all s.rows (lifts s.rows lifted_order) k) o))
+          ≡ bound_opt (entry_at s.rows k n) || (is_held s.rows lifted_order k n && takes (holds_opt (entry_at s.rows k n)))
       by None e = none (is_held s.rows lifted_order k n) (λ h. let w = witness (hits_holder s.rows k n) (lifts s.rows lifted_order) h in let z = lifts_capture_both (same_name n w.it.1) _ w.passes in
-          let c : Module ≡ Function = sym (ap (λ o. (stage_of w.it.1 o).kind) e) ∙ holder_kind (stages s.rows w.it.1) (parents s.rows) k (outward_from s.rows w.it.0) (sound.is_held _ z.1) in cc) ∙ ap (λ o. bound_opt (entry_of n o) || (is_held s.rows lifted_order k n && takes (holds_opt (entry_of n o)))) (sym e)
-      by (Some u) e = gained_lifted bound_opt bound_stays bound_gains s.rows k n (lifts s.rows lifted_order) u ∙ ap (λ o. bound_opt (entry_of n o) || (is_held s.rows lifted_order k n && takes (holds_opt (entry_of n o)))) (sym e)
+          let c : Module ≡ Function = sym (ap (λ o. (stage_of w.it.1 o).kind) e)
+          ∙ holder_kind (stages s.rows w.it.1) (parents s.rows) k (outward_from s.rows w.it.0) (sound.is_held _ z.1) in cc)
+          ∙ ap (λ o. bound_opt (entry_of n o) || (is_held s.rows lifted_order k n && takes (holds_opt (entry_of n o)))) (sym e)
+      by (Some u) e = gained_lifted bound_opt bound_stays bound_gains s.rows k n (lifts s.rows lifted_order) u
+          ∙ ap (λ o. bound_opt (entry_of n o) || (is_held s.rows lifted_order k n && takes (holds_opt (entry_of n o)))) (sym e)
 
   pub lifted_held_is : (k : ℕ) (n : Name) → holds_opt (entry_at lifted_base k n) ≡ uses.holds_in s.rows k n
   lifted_held_is k n = holds_are k n ∙ holds_same s.rows old.first lifted_order old.complete k n

@@ -30,15 +30,15 @@ use Rattle.py_scope.proofs.NameOrderLemmas.{keys_put}
 use Rattle.py_scope.proofs.PassLemmas.{once_lifted}
 use Rattle.py_scope.proofs.Strata.{stage_kind}
 use Rattle.py_scope.proofs.Truth.{left_or, truth_right_or}
-use Rattle.py_scope_proof.specs.Refused.{is_hidden, is_nonlocal, refused_name, refused_names}
+use Rattle.py_scope_proof.specs.Refused.{is_type_param_scope, is_nonlocal, refused_name, refused_names}
 use Rattle.py_scope_proof.proofs.RefusedNames.Firsts.{all_names_none, first_joined, first_keyed, first_same, two_left}
 use Rattle.py_scope_proof.proofs.RefusedNames.Lifted.{lifted_base, bound_is, lifted_held_is, lifted_is_lifted, kind_is, lifted_look_is, parents_are}
 
 -- names that are last, after those that were there; there are none where the scope is one of type parameters
-record Gains (hidden : Bool) (old new : List Name) : Type 0 where
+record Gains (type_param_node : Bool) (old new : List Name) : Type 0 where
   more : List Name
   new_is : new ≡ old ++ more
-  none : hidden ≡ true → more ≡ []
+  none : type_param_node ≡ true → more ≡ []
 
 gains_none : (b : Bool) (ns : List Name) → Gains b ns ns
 gains_none b ns = record { more = []; new_is = sym (append-nil ns); none = λ e. refl }
@@ -58,11 +58,11 @@ gains_name ns n = by (list_any (same_name n) ns)
     by false = record { more = n ∷ []; new_is = refl; none = λ e. absurd cc }
 
 module _ (rows : List Row) (t : ℕ) where
-  abbrev hidden : Bool
-  hidden = is_type_params (kind_at rows t)
+  abbrev type_param_node : Bool
+  type_param_node = is_type_params (kind_at rows t)
 
   -- a scope of type parameters is touched by no lift
-  name_untouched : (n : Name) (es : List ℕ) → hidden ≡ true → lift_of (stages rows n) t es ≡ Stays
+  name_untouched : (n : Name) (es : List ℕ) → type_param_node ≡ true → lift_of (stages rows n) t es ≡ Stays
   name_untouched n es h = by (lift_of (stages rows n) t es) refl
     where
       not_there : (k : SymbolTableType) → kind_at rows t ≡ k → is_type_params k ≡ false → ⊥
@@ -80,11 +80,13 @@ module _ (rows : List Row) (t : ℕ) where
   name_one Holder k n u true h = let e = h refl in cc
   name_one Holder k n u false h = subst (Gains false (keys_of u.entries)) (sym (keys_put u.entries n _)) (gains_name (keys_of u.entries) n)
 
-  lifted_gains : (pairs : List (ℕ × Name)) (u : Row) → Gains hidden (keys_of u.entries) (keys_of (lifted_all rows pairs t u).entries)
-  lifted_gains [] u = gains_none hidden (keys_of u.entries)
+  lifted_gains : (pairs : List (ℕ × Name)) (u : Row) → Gains type_param_node (keys_of u.entries) (keys_of (lifted_all rows pairs t u).entries)
+  lifted_gains [] u = gains_none type_param_node (keys_of u.entries)
   lifted_gains (q ∷ qs) u =
-      gains_then hidden (keys_of u.entries) (keys_of (lift_effect rows q t u).entries) (keys_of (lifted_all rows qs t (lift_effect rows q t u)).entries)
-      (name_one (lift_of (stages rows q.1) t (outward_from rows q.0)) (lifted_holds (stages rows q.1) (outward_from rows q.0)) q.1 u hidden (λ e. name_untouched q.1 (outward_from rows q.0) e))
+      gains_then type_param_node (keys_of u.entries) (keys_of (lift_effect rows q t u).entries) (keys_of (lifted_all rows qs t (lift_effect rows q t u)).entries)
+      (name_one (lift_of (stages rows q.1) t (outward_from rows q.0))
+      (lifted_holds (stages rows q.1) (outward_from rows q.0)) q.1 u type_param_node
+      (λ e. name_untouched q.1 (outward_from rows q.0) e))
       (lifted_gains qs (lift_effect rows q t u))
 
 -- where no name stands twice, a pair is what is looked up
@@ -115,9 +117,9 @@ not_listed n (e ∷ es) h = by (same_name n e.0) h (not_listed n es)
     by false h ih = ih h
 
 -- of distinct names, one of those after is none of those before
-behind_apart : (old more : List Name) (n : Name) → AreDistinct (old ++ more) → list_any (same_name n) more ≡ true → list_any (same_name n) old ≡ false
-behind_apart [] more n d h = refl
-behind_apart (x ∷ old) more n d h = by (same_name n x) refl (behind_apart old more n d.1 h)
+after_apart : (old more : List Name) (n : Name) → AreDistinct (old ++ more) → list_any (same_name n) more ≡ true → list_any (same_name n) old ≡ false
+after_apart [] more n d h = refl
+after_apart (x ∷ old) more n d h = by (same_name n x) refl (after_apart old more n d.1 h)
   where
     later : (old : List Name) → list_any (same_name n) (old ++ more) ≡ true
     later [] = h
@@ -140,7 +142,9 @@ lifted_local Passed = refl
 -- what no use names is not refused
 unused_allowed : (rows : List Row) (k : ℕ) (n : Name) → entry_at rows k n ≡ None → is_type_params (kind_at rows k) ≡ false → refused_name rows k n ≡ None
 unused_allowed rows k n e f =
-    (λ j. first_of_two (if (f j && is_class (kind_at rows (parents rows k))) && ((not (binds_in rows k n) && binds_in rows (parents rows k) n) && not (same_name n class_cell)) then Some (ClassName n) else None) (if held (goes_through rows k n) j && not (is_free (look_in rows k n)) then unfound k n else None))
+    (λ j. first_of_two (if (f j && is_class (kind_at rows (parents rows k))) &&
+    ((not (binds_in rows k n) && binds_in rows (parents rows k) n) && not (same_name n class_cell)) then Some (ClassName n) else None)
+    (if held (goes_through rows k n) j && not (is_free (look_in rows k n)) then unfound k n else None))
   where
     through_local : (h : ℕ) (b : Bool) → is_nonlocal (if b then as_in (holds_opt (entry_at rows h n)) else LiftedModule) ≡ false
     through_local h true = lifted_local (holds_opt (entry_at rows h n))
@@ -177,10 +181,17 @@ module _ (s : Scanned) (old : IsScanned s) where
   hides_is kind (Some r) n e = refl
 
   entry_is : (k : ℕ) (p : Name × Entry) → entry_at name_new k p.0 ≡ Some p.1 → wrong_entry name_new k p ≡ refused_name s.rows k p.0
-  entry_is k p e = λ j. first_of_two (class_is j) ((nonlocal_is k p.0 (look_from name_new k p.0) p.1.holds ∙ (λ i. if is_nonlocal ((ap holds_opt (sym e) ∙ lifted_held_is s old k p.0) i) && not (is_free (lifted_look_is s old k p.0 i)) then unfound k p.0 else None)) j)
+  entry_is k p e = λ j. first_of_two (class_is j)
+      ((nonlocal_is k p.0 (look_from name_new k p.0) p.1.holds
+      ∙ (λ i. if is_nonlocal ((ap holds_opt (sym e) ∙ lifted_held_is s old k p.0) i) && not (is_free (lifted_look_is s old k p.0 i))
+      then unfound k p.0 else None)) j)
     where
-      class_is : wrong_class_name name_new k p.0 p.1 ≡ if is_hidden s.rows k p.0 then Some (ClassName p.0) else None
-      class_is = ap (λ b. if b then Some (ClassName p.0) else None) (hides_is (kind_of (slice_get name_new k)) (slice_get name_new (parents name_new k)) p.0 p.1 ∙ (λ j. (is_type_params (kind_is s old k j) && is_class (kind_is s old (parents_are s old j k) j)) && ((not ((ap bound_opt (sym e) ∙ bound_is s old k p.0) j) && bound_is s old (parents_are s old j k) p.0 j) && not (same_name p.0 class_cell))))
+      class_is : wrong_class_name name_new k p.0 p.1 ≡ if is_type_param_scope s.rows k p.0 then Some (ClassName p.0) else None
+      class_is = ap (λ b. if b then Some (ClassName p.0) else None)
+          (hides_is (kind_of (slice_get name_new k)) (slice_get name_new (parents name_new k)) p.0 p.1
+          ∙ (λ j. (is_type_params (kind_is s old k j) && is_class (kind_is s old (parents_are s old j k) j)) &&
+          ((not ((ap bound_opt (sym e) ∙ bound_is s old k p.0) j) && bound_is s old (parents_are s old j k) p.0 j) &&
+          not (same_name p.0 class_cell))))
 
   name_once : (k : ℕ) → AreDistinct (names_of (slice_get name_new k))
   name_once = once_lifted s.rows name_new (lifts s.rows (order_of s)) (λ t. (old.fresh t).once) (lifted_is_lifted s old)
@@ -196,7 +207,8 @@ module _ (s : Scanned) (old : IsScanned s) where
       by : (o : Option Row) → slice_get s.rows k ≡ o → first_by (wrong_entry name_new k) (entries_of (slice_get name_new k)) ≡ first_by (refused_name s.rows k) (names_of o)
       by None e = ap (λ o. first_by (wrong_entry name_new k) (entries_of o)) (lifted_is_lifted s old k ∙ ap (option_map (lifted_all s.rows (lifts s.rows (order_of s)) k)) e)
       by (Some u) e =
-          let there : slice_get name_new k ≡ Some (lifted_all s.rows (lifts s.rows (order_of s)) k u) = lifted_is_lifted s old k ∙ ap (option_map (lifted_all s.rows (lifts s.rows (order_of s)) k)) e in
+          let there : slice_get name_new k ≡ Some (lifted_all s.rows (lifts s.rows (order_of s)) k u) =
+          lifted_is_lifted s old k ∙ ap (option_map (lifted_all s.rows (lifts s.rows (order_of s)) k)) e in
           let es = (lifted_all s.rows (lifts s.rows (order_of s)) k u).entries in
           let d : AreDistinct (keys_of es) = subst (λ o. AreDistinct (names_of o)) there (name_once k) in
           let g = lifted_gains s.rows k (lifts s.rows (order_of s)) u in
@@ -204,7 +216,10 @@ module _ (s : Scanned) (old : IsScanned s) where
           ∙ first_keyed (wrong_entry name_new k) (refused_name s.rows k) es (λ p before after q. entry_is k p (ap (entry_of p.0) there ∙ looked_up es p before after d q))
           ∙ ap (first_by (refused_name s.rows k)) g.new_is
           ∙ first_joined (refused_name s.rows k) (keys_of u.entries) g.more
-          ∙ ap (first_of_two (first_by (refused_name s.rows k) (keys_of u.entries))) (rest (is_type_params (kind_at s.rows k)) refl g.more g.none (λ n a. ap (entry_of n) e ∙ not_listed n u.entries (behind_apart (keys_of u.entries) g.more n (subst AreDistinct g.new_is d) a)))
+          ∙ ap (first_of_two (first_by (refused_name s.rows k) (keys_of u.entries)))
+          (rest (is_type_params (kind_at s.rows k)) refl g.more g.none
+          (λ n a. ap (entry_of n) e ∙ not_listed n u.entries
+          (after_apart (keys_of u.entries) g.more n (subst AreDistinct g.new_is d) a)))
           ∙ two_left (first_by (refused_name s.rows k) (keys_of u.entries))
 
   pub name_names_are : (xs : List ℕ) → first_wrong name_new xs ≡ first_by (refused_names s.rows) xs

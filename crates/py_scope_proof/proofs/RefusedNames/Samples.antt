@@ -104,14 +104,14 @@ in_params_refused = (refl, refl)
 -- class A:
 --     T = int
 --     def f[U: T](self): pass
-abbrev hidden : List Call
-hidden = Enters Class (codes "A") ∷ Uses Assigned (codes "T") ∷ Enters TypeParams (codes "f") ∷ Uses Assigned (codes "U") ∷ Uses Used (codes "T") ∷ Enters Function (codes "f") ∷ Uses Parameter (codes "self") ∷ Leaves ∷ Leaves ∷ Uses Assigned (codes "f") ∷ Leaves ∷ Uses Assigned (codes "A") ∷ []
+abbrev type_param_node : List Call
+type_param_node = Enters Class (codes "A") ∷ Uses Assigned (codes "T") ∷ Enters TypeParams (codes "f") ∷ Uses Assigned (codes "U") ∷ Uses Used (codes "T") ∷ Enters Function (codes "f") ∷ Uses Parameter (codes "self") ∷ Leaves ∷ Leaves ∷ Uses Assigned (codes "f") ∷ Leaves ∷ Uses Assigned (codes "A") ∷ []
 
-hidden_name : name_in hidden 2 (codes "T") ≡ Some (ClassName (codes "T"))
-hidden_name = refl
+type_param_scope_name : name_in type_param_node 2 (codes "T") ≡ Some (ClassName (codes "T"))
+type_param_scope_name = refl
 
-hidden_refused : BothRefuse hidden (Some (ClassName (codes "T")))
-hidden_refused = (refl, refl)
+type_param_scope_refused : BothRefuse type_param_node (Some (ClassName (codes "T")))
+type_param_scope_refused = (refl, refl)
 
 -- a walrus is refused before a name of a scope that is left earlier
 walruses_first : BothRefuse (Enters Function (codes "f") ∷ Uses Nonlocal (codes "y") ∷ Leaves ∷ rebinding) (Some (RebindsIterated (codes "x")))

@@ -11,7 +11,8 @@ use Rattle.py_scope.specs.Kinds.{kind_as}
 use Rattle.py_scope.specs.Lifts.{first_of_two, holds_opt, outward_from}
 use Rattle.py_scope.specs.Names.{Name}
 use Rattle.py_scope.specs.Entries.{entry_at}
-use Rattle.py_scope.specs.Resolve.{binder_in, binds_in, cell_scope, last_declaration, goes_through, holder, holds_in, is_free_kind, is_used, lifted_to, kind_at, look_in, needs, open_kind, own_kind, resolve}
+use Rattle.py_scope.specs.Resolve.{binder_in, binds_in, cell_scope, last_declaration, goes_through, holder, holds_in, is_free_kind, is_used}
+use Rattle.py_scope.specs.Resolve.{lifted_to, kind_at, look_in, needs, open_kind, own_kind, resolve}
 use Rattle.py_scope.specs.Resolved.{first_fault}
 use Rattle.py_scope.specs.Scanned.{Scanned, order_of}
 use Rattle.py_scope.specs.Tables.{is_plain}
@@ -70,7 +71,10 @@ module _ (rows : List Row) (k : ℕ) (n : Name) (h : declares_nonlocal rows k n 
       by : (b : Bool) → goes_through rows k n ≡ b → (o : Option Entry) → entry_at rows k n ≡ o → is_some o || b ≡ true
       by true e o f = truth_right_or (is_some o) true refl
       by false e (Some x) f = refl
-      by false e None f = let q : Plain ≡ DeclaredNonlocal = sym (ap holds_opt f) ∙ sym (ap (λ b. if b then lifted_to rows (holder rows (outward_from rows k)) n else last_declaration rows k n) e) ∙ scan_holds in cc
+      by false e None f = let q : Plain ≡ DeclaredNonlocal =
+          sym (ap holds_opt f)
+          ∙ sym (ap (λ b. if b then lifted_to rows (holder rows (outward_from rows k)) n else last_declaration rows k n) e)
+          ∙ scan_holds in cc
 
   pub needed : needs rows k n ≡ true
   needed = left_or _ _ (and_both (is_used rows k n) _ scan_used (ap is_free_kind open_free))

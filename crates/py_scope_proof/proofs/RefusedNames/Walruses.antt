@@ -12,7 +12,7 @@ use Rattle.py_scope.specs.Marks.{from_scope}
 use Rattle.py_scope.specs.Names.{Name}
 use Rattle.py_scope.specs.Entries.{entry_at, entry_of}
 use Rattle.py_scope.specs.Outward.{enclosing_scopes, parents}
-use Rattle.py_scope.specs.Resolve.{around, holder, kind_at, way}
+use Rattle.py_scope.specs.Resolve.{outward_scopes, holder, kind_at, way}
 use Rattle.py_scope.proofs.LiftKeeps.{first_append}
 use Rattle.py_scope.proofs.Strata.{stage_kind}
 use Rattle.py_scope_proof.specs.Refused.{iterates, misplaced_walrus, refused_walrus, refused_walruses}
@@ -31,12 +31,16 @@ module _ (rows : List Row) (first : kind_at rows 0 ≡ Module) (n : Name) where
   walruse_along (e ∷ es) = (λ j. refused_by n (stage_kind n (slice_get rows e) j) (stage_iterated n (slice_get rows e) j) (refusal n (stages rows n) es)) ∙ by (kind_at rows e) refl (walruse_along es)
     where
       iterated : (b : Bool) → refusal n (stages rows n) es ≡ by_way es
-          → (if b then Some (RebindsIterated n) else refusal n (stages rows n) es) ≡ if b || list_any (iterates rows n) (way rows es) then Some (RebindsIterated n) else misplaced_walrus (kind_at rows (holder rows es))
+          → (if b then Some (RebindsIterated n) else refusal n (stages rows n) es)
+          ≡ if b || list_any (iterates rows n) (way rows es) then Some (RebindsIterated n) else misplaced_walrus
+          (kind_at rows (holder rows es))
       iterated true ih = refl
       iterated false ih = ih
 
       by : (x : SymbolTableType) → kind_at rows e ≡ x → refusal n (stages rows n) es ≡ by_way es
-          → refused_by n x (iterated_opt (entry_at rows e n)) (refusal n (stages rows n) es) ≡ if list_any (iterates rows n) (if is_comprehension x then e ∷ way rows es else []) then Some (RebindsIterated n) else misplaced_walrus (kind_at rows (if is_comprehension x then holder rows es else e))
+          → refused_by n x (iterated_opt (entry_at rows e n)) (refusal n (stages rows n) es)
+          ≡ if list_any (iterates rows n) (if is_comprehension x then e ∷ way rows es else []) then Some
+          (RebindsIterated n) else misplaced_walrus (kind_at rows (if is_comprehension x then holder rows es else e))
       by Module q ih = sym (ap misplaced_walrus q)
       by Class q ih = sym (ap misplaced_walrus q)
       by Function q ih = sym (ap misplaced_walrus q)
@@ -44,7 +48,7 @@ module _ (rows : List Row) (first : kind_at rows 0 ≡ Module) (n : Name) where
       by Comprehension q ih = iterated (iterates rows n e) ih
 
   pub walrus_is : (q : ℕ) → refusal n (stages rows n) (enclosing_scopes (parents rows) q) ≡ refused_walrus rows q n
-  walrus_is q = walruse_along (around rows q)
+  walrus_is q = walruse_along (outward_scopes rows q)
 
 module _ (rows : List Row) (first : kind_at rows 0 ≡ Module) where
   walruse_names_are : (q : ℕ) (ns : List Name) → first_refusal rows (from_scope q ns) ≡ first_by (refused_walrus rows q) ns

@@ -1,7 +1,7 @@
-mod Around
+mod EnclosingLoops
 mod Classes
 mod Defining
-mod Hidden
+mod TypeParamScope
 mod Iterating
 mod Managing
 mod Trying
@@ -23,10 +23,12 @@ use Rattle.py_stmt.proofs.LocationLemmas.{entering}
 use Rattle.py_stmt_parts.proofs.Steps.{step_none_is}
 use Rattle.py_expr_parts.proofs.Steps.{step_stays}
 use Rattle.py_expr_scopes.proofs.OpenBlocks.{open_block_apart, begin_opens, block_opens, jump_opens, opens}
-use Rattle.py_stmt.proofs.+code.Answers.Around.{each_around, last_around, unguarded_around, while_around}
+use Rattle.py_stmt.proofs.+code.Answers.EnclosingLoops.{each_enclosing_loop, last_enclosing_loop, unguarded_enclosing_loop, while_enclosing_loop}
 use Rattle.py_stmt.proofs.+code.Answers.Classes as class
-use Rattle.py_stmt.proofs.+code.Answers.Defining.{decorated_refused, defaults_refused, inner_goes, inner_refused, made_goes, made_refused, plain_goes, rest_done, rest_goes_on, rest_refused, defining_scope_inner, defining_scope_left, defining_scope_refused, scope_unlooped, some_goes, value_refused}
-use Rattle.py_stmt.proofs.+code.Answers.Hidden as hidden
+use Rattle.py_stmt.proofs.+code.Answers.Defining.{decorated_refused, defaults_refused, inner_goes, inner_refused, made_goes, made_refused}
+use Rattle.py_stmt.proofs.+code.Answers.Defining.{plain_goes, rest_done, rest_goes_on, rest_refused, defining_scope_inner}
+use Rattle.py_stmt.proofs.+code.Answers.Defining.{defining_scope_left, defining_scope_refused, scope_unlooped, some_goes, value_refused}
+use Rattle.py_stmt.proofs.+code.Answers.TypeParamScope as in_type_param_scope
 use Rattle.py_stmt.proofs.+code.Answers.Iterating.{end_begins, end_refused, for_goes, other_begins, turn_begins, turn_refused}
 use Rattle.py_stmt.proofs.+code.Answers.Managing.{left_open, no_body, no_items, some_body, some_items}
 use Rattle.py_stmt.proofs.+code.Answers.Trying.{catch_begins, else_begins, forgetting_begins, handler_refused, handlers_go_on, last_begins, last_goes, last_refused, next_begins, try_goes}
@@ -106,10 +108,10 @@ pub loops::compile_loop_body-returns : goal.loops::compile_loop_body-returns
 unfolding in_loop rest
 loops::compile_loop_body-returns t c = record {
   goes =
-      let behind : Action = λ r. Done (with_loops (state c.args.em.now).around.loops r) in
-      ap (λ (s : State). on_done (run (emission_of_stmts (stmts stmt_tree c.args.body.now)) s) behind) (sym c.set_loops-around.ensures.state)
-      ∙ went _ behind _ c.in_ok-compile_statements.ensures.goes
-      ∙ ap (λ (x : Option (BlockIdx × BlockIdx)). Done (with_loops (loop_blocks x) (state c.compile_statements.new.em))) (sym c.set_loops-around.ensures.old)
+      let after : Action = λ r. Done (with_loops (state c.args.em.now).node_context.loops r) in
+      ap (λ (s : State). on_done (run (emission_of_stmts (stmts stmt_tree c.args.body.now)) s) after) (sym c.set_loops-enclosing.ensures.state)
+      ∙ went _ after _ c.in_ok-compile_statements.ensures.goes
+      ∙ ap (λ (x : Option (BlockIdx × BlockIdx)). Done (with_loops (loop_blocks x) (state c.compile_statements.new.em))) (sym c.set_loops-enclosing.ensures.old)
       ∙ ap Done (sym c.set_loops.ensures.state);
   same = search rules;
 }
@@ -119,7 +121,8 @@ statements::compile_statement-returns t c = record {
   goes =
       let x = stmt_tree c.args.statement.now in
       let s = state c.args.em.now in
-      goes_as _ _ _ _ (entering x s ∙ ap (λ at. run (emission_of_stmt x) (with_location at s)) (sym c.location.ensures) ∙ ap (run (emission_of_stmt x)) (sym c.set_location.ensures.state)) c.compile_entered.ensures.goes;
+      goes_as _ _ _ _ (entering x s ∙ ap (λ at. run (emission_of_stmt x) (with_location at s)) (sym c.location.ensures)
+      ∙ ap (run (emission_of_stmt x)) (sym c.set_location.ensures.state)) c.compile_entered.ensures.goes;
   same = search rules;
 }
 
@@ -187,16 +190,16 @@ pub tries::compile_last-returns-2 : goal.tries::compile_last-returns-2
 tries::compile_last-returns-2 = last_goes
 
 pub loops::compile_for-end_each-requires : goal.loops::compile_for-end_each-requires
-loops::compile_for-end_each-requires = each_around
+loops::compile_for-end_each-requires = each_enclosing_loop
 
 pub loops::compile_while-compile_statements-requires : goal.loops::compile_while-compile_statements-requires
-loops::compile_while-compile_statements-requires = while_around
+loops::compile_while-compile_statements-requires = while_enclosing_loop
 
 pub tries::compile_parts-compile_unguarded-requires : goal.tries::compile_parts-compile_unguarded-requires
-tries::compile_parts-compile_unguarded-requires = unguarded_around
+tries::compile_parts-compile_unguarded-requires = unguarded_enclosing_loop
 
 pub tries::compile_parts-compile_last-requires : goal.tries::compile_parts-compile_last-requires
-tries::compile_parts-compile_last-requires = last_around
+tries::compile_parts-compile_last-requires = last_enclosing_loop
 
 pub functions::compile_function_scope-returns : goal.functions::compile_function_scope-returns
 functions::compile_function_scope-returns = defining_scope_left
@@ -237,26 +240,26 @@ functions::compile_function-returns-in-len1-up = some_goes
 pub functions::compile_function_def-returns-in_err-compile_decorated : goal.functions::compile_function_def-returns-in_err-compile_decorated
 functions::compile_function_def-returns-in_err-compile_decorated = decorated_refused
 
-pub functions::compile_hidden_scope-returns : goal.functions::compile_hidden_scope-returns
-functions::compile_hidden_scope-returns = hidden.hidden_scope_left
+pub functions::compile_type_param_scope-returns : goal.functions::compile_type_param_scope-returns
+functions::compile_type_param_scope-returns = in_type_param_scope.type_param_scope_left
 
-pub functions::compile_hidden_scope-leave_scope-requires : goal.functions::compile_hidden_scope-leave_scope-requires
-functions::compile_hidden_scope-leave_scope-requires = hidden.hidden_scope_inner
+pub functions::compile_type_param_scope-leave_scope-requires : goal.functions::compile_type_param_scope-leave_scope-requires
+functions::compile_type_param_scope-leave_scope-requires = in_type_param_scope.type_param_scope_inner
 
-pub functions::compile_hidden_scope-returns-in_err-return_value : goal.functions::compile_hidden_scope-returns-in_err-return_value
-functions::compile_hidden_scope-returns-in_err-return_value = hidden.hidden_scope_refused
+pub functions::compile_type_param_scope-returns-in_err-return_value : goal.functions::compile_type_param_scope-returns-in_err-return_value
+functions::compile_type_param_scope-returns-in_err-return_value = in_type_param_scope.type_param_scope_refused
 
-pub functions::make_around-returns : goal.functions::make_around-returns
-functions::make_around-returns = hidden.around_goes
+pub functions::make_in_type_params-returns : goal.functions::make_in_type_params-returns
+functions::make_in_type_params-returns = in_type_param_scope.enclosing_goes
 
-pub functions::make_around-returns-in_err-code : goal.functions::make_around-returns-in_err-code
-functions::make_around-returns-in_err-code = hidden.around_refused
+pub functions::make_in_type_params-returns-in_err-code : goal.functions::make_in_type_params-returns-in_err-code
+functions::make_in_type_params-returns-in_err-code = in_type_param_scope.enclosing_refused
 
 pub functions::compile_generic-returns : goal.functions::compile_generic-returns
-functions::compile_generic-returns = hidden.generic_goes
+functions::compile_generic-returns = in_type_param_scope.generic_goes
 
-pub functions::compile_generic-returns-in_err-make_around : goal.functions::compile_generic-returns-in_err-make_around
-functions::compile_generic-returns-in_err-make_around = hidden.generic_refused
+pub functions::compile_generic-returns-in_err-make_in_type_params : goal.functions::compile_generic-returns-in_err-make_in_type_params
+functions::compile_generic-returns-in_err-make_in_type_params = in_type_param_scope.generic_refused
 
 pub functions::compile_rest-loop-i-preserved : goal.functions::compile_rest-loop-i-preserved
 functions::compile_rest-loop-i-preserved = rest_goes_on
@@ -297,17 +300,17 @@ classes::compile_placed-returns-in-len1-up = class.some_goes
 pub classes::compile_class_def-returns-in_err-compile_decorated : goal.classes::compile_class_def-returns-in_err-compile_decorated
 classes::compile_class_def-returns-in_err-compile_decorated = class.decorated_refused
 
-pub classes::compile_hidden_scope-returns : goal.classes::compile_hidden_scope-returns
-classes::compile_hidden_scope-returns = hidden.class_left
+pub classes::compile_type_param_scope-returns : goal.classes::compile_type_param_scope-returns
+classes::compile_type_param_scope-returns = in_type_param_scope.class_left
 
-pub classes::compile_hidden_scope-leave_scope-requires : goal.classes::compile_hidden_scope-leave_scope-requires
-classes::compile_hidden_scope-leave_scope-requires = hidden.class_inner
+pub classes::compile_type_param_scope-leave_scope-requires : goal.classes::compile_type_param_scope-leave_scope-requires
+classes::compile_type_param_scope-leave_scope-requires = in_type_param_scope.class_inner
 
-pub classes::compile_hidden_scope-returns-in_err-return_built : goal.classes::compile_hidden_scope-returns-in_err-return_built
-classes::compile_hidden_scope-returns-in_err-return_built = hidden.class_refused
+pub classes::compile_type_param_scope-returns-in_err-return_built : goal.classes::compile_type_param_scope-returns-in_err-return_built
+classes::compile_type_param_scope-returns-in_err-return_built = in_type_param_scope.class_refused
 
-pub classes::make_around-returns : goal.classes::make_around-returns
-classes::make_around-returns = hidden.class_around_goes
+pub classes::make_in_type_params-returns : goal.classes::make_in_type_params-returns
+classes::make_in_type_params-returns = in_type_param_scope.class_enclosing_goes
 
-pub classes::make_around-returns-in_err-code : goal.classes::make_around-returns-in_err-code
-classes::make_around-returns-in_err-code = hidden.class_around_refused
+pub classes::make_in_type_params-returns-in_err-code : goal.classes::make_in_type_params-returns-in_err-code
+classes::make_in_type_params-returns-in_err-code = in_type_param_scope.class_enclosing_refused

@@ -6,10 +6,16 @@ use Rattle.py_emit.specs.States.{rest, state}
 use Rattle.py_stmt.proofs.+code.Given as goal
 
 abbrev pub invariant-statements::compile_statements-loop-statement : goal.invariant-statements::compile_statements-loop-statement
-invariant-statements::compile_statements-loop-statement l = (rest l.em ≡ rest l.initial.em) × (run (emission_of_stmts (stmts stmt_tree l.body)) (state l.initial.em) ≡ run (emission_of_stmts (stmts stmt_tree (drop l.statement-index l.body))) (state l.em))
+invariant-statements::compile_statements-loop-statement l =
+    (rest l.em ≡ rest l.initial.em)
+    × (run (emission_of_stmts (stmts stmt_tree l.body)) (state l.initial.em)
+    ≡ run (emission_of_stmts (stmts stmt_tree (drop l.statement-index l.body))) (state l.em))
 
 abbrev pub invariant-tries::compile_handlers-loop-handler : goal.invariant-tries::compile_handlers-loop-handler
-invariant-tries::compile_handlers-loop-handler l = (rest l.em ≡ rest l.initial.em) × (run (emission_of_handlers (handlers stmt_tree l.handlers) l.last l.end.0) (state l.initial.em) ≡ run (emission_of_handlers (handlers stmt_tree (drop l.handler-index l.handlers)) l.last l.end.0) (state l.em))
+invariant-tries::compile_handlers-loop-handler l =
+    (rest l.em ≡ rest l.initial.em)
+    × (run (emission_of_handlers (handlers stmt_tree l.handlers) l.last l.end.0) (state l.initial.em)
+    ≡ run (emission_of_handlers (handlers stmt_tree (drop l.handler-index l.handlers)) l.last l.end.0) (state l.em))
 
 abbrev pub decreases-statements::compile_statement : goal.decreases-statements::compile_statement
 decreases-statements::compile_statement l = 16 * goal.size-statements::compile_statement l + 1
@@ -84,7 +90,9 @@ abbrev pub decreases-tries::compile_try : goal.decreases-tries::compile_try
 decreases-tries::compile_try l = 16 * goal.size-tries::compile_try l + 9
 
 abbrev pub invariant-functions::compile_rest-loop-i : goal.invariant-functions::compile_rest-loop-i
-invariant-functions::compile_rest-loop-i l = (rest l.em ≡ rest l.initial.em) × (run (emission_of_stmts (stmts stmt_tree (drop l.from l.body))) (state l.initial.em) ≡ run (emission_of_stmts (stmts stmt_tree (drop l.i l.body))) (state l.em))
+invariant-functions::compile_rest-loop-i l = (rest l.em ≡ rest l.initial.em)
+    × (run (emission_of_stmts (stmts stmt_tree (drop l.from l.body))) (state l.initial.em)
+    ≡ run (emission_of_stmts (stmts stmt_tree (drop l.i l.body))) (state l.em))
 
 abbrev pub decreases-functions::compile_rest : goal.decreases-functions::compile_rest
 decreases-functions::compile_rest l = 16 * goal.size-functions::compile_rest l + 2
@@ -107,17 +115,17 @@ decreases-functions::compile_value l = 16 * goal.size-functions::compile_value l
 abbrev pub decreases-functions::compile_plain : goal.decreases-functions::compile_plain
 decreases-functions::compile_plain l = 16 * goal.size-functions::compile_plain l + 8
 
-abbrev pub decreases-functions::compile_within : goal.decreases-functions::compile_within
-decreases-functions::compile_within l = 16 * goal.size-functions::compile_within l + 8
+abbrev pub decreases-functions::compile_nested : goal.decreases-functions::compile_nested
+decreases-functions::compile_nested l = 16 * goal.size-functions::compile_nested l + 8
 
 abbrev pub decreases-functions::return_value : goal.decreases-functions::return_value
 decreases-functions::return_value l = 16 * goal.size-functions::return_value l + 9
 
-abbrev pub decreases-functions::compile_hidden_scope : goal.decreases-functions::compile_hidden_scope
-decreases-functions::compile_hidden_scope l = 16 * goal.size-functions::compile_hidden_scope l + 10
+abbrev pub decreases-functions::compile_type_param_scope : goal.decreases-functions::compile_type_param_scope
+decreases-functions::compile_type_param_scope l = 16 * goal.size-functions::compile_type_param_scope l + 10
 
-abbrev pub decreases-functions::make_around : goal.decreases-functions::make_around
-decreases-functions::make_around l = 16 * goal.size-functions::make_around l + 11
+abbrev pub decreases-functions::make_in_type_params : goal.decreases-functions::make_in_type_params
+decreases-functions::make_in_type_params l = 16 * goal.size-functions::make_in_type_params l + 11
 
 abbrev pub decreases-functions::compile_generic : goal.decreases-functions::compile_generic
 decreases-functions::compile_generic l = 16 * goal.size-functions::compile_generic l + 12
@@ -149,11 +157,11 @@ decreases-classes::compile_built l = 16 * goal.size-classes::compile_built l + 7
 abbrev pub decreases-classes::return_built : goal.decreases-classes::return_built
 decreases-classes::return_built l = 16 * goal.size-classes::return_built l + 8
 
-abbrev pub decreases-classes::compile_hidden_scope : goal.decreases-classes::compile_hidden_scope
-decreases-classes::compile_hidden_scope l = 16 * goal.size-classes::compile_hidden_scope l + 9
+abbrev pub decreases-classes::compile_type_param_scope : goal.decreases-classes::compile_type_param_scope
+decreases-classes::compile_type_param_scope l = 16 * goal.size-classes::compile_type_param_scope l + 9
 
-abbrev pub decreases-classes::make_around : goal.decreases-classes::make_around
-decreases-classes::make_around l = 16 * goal.size-classes::make_around l + 10
+abbrev pub decreases-classes::make_in_type_params : goal.decreases-classes::make_in_type_params
+decreases-classes::make_in_type_params l = 16 * goal.size-classes::make_in_type_params l + 10
 
 abbrev pub decreases-classes::compile_generic : goal.decreases-classes::compile_generic
 decreases-classes::compile_generic l = 16 * goal.size-classes::compile_generic l + 11

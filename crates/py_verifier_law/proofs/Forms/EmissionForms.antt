@@ -20,16 +20,22 @@ use Rattle.py_scope.specs.declared.kinds.SymbolScope.TheVariants as scope
 use Rattle.py_scope.specs.declared.table_type.SymbolTableType.{SymbolTableType}
 use Rattle.py_emission_parts.specs.Accesses.{access_by, name_access, emission_of_deleted, emission_of_name, emission_of_stored}
 use Rattle.py_emission_parts.specs.Children.{load_cell}
-use Rattle.py_emission_parts.specs.Running.{Action, ◌▹◌, begin, begins, on_done, put, retold_in, run}
+use Rattle.py_emission_parts.specs.Running.{Action, ◌▹◌, begin, begins, on_done, put_instruction, rewritten_in, run}
 use Rattle.py_emission_parts.specs.Context.{Context, access_kind, cell_place, deref_kind, is_class, is_function, kind_by, mangled_by, scope_of}
-use Rattle.py_emission_parts.specs.Emitting.{Put, State, Outcome, Done, TooWide, Refused, Emission, LoopBlocks, Retold, ◌▸◌, add_constant, add_varname, by_context, by_level, by_loops, emit, emit_constant, emit_count, emit_mangled, emit_name, emit_varname, generator_mark, in_loop, jump, keep, move, one_block, pass_over, place_in, postponed_part, refuse, three_blocks, two_blocks, with_step, with_block, with_name, with_varname, with_constant, with_location, with_loops, with_postponed}
+use Rattle.py_emission_parts.specs.Emitting.{Put, State, Outcome, Done, TooWide, Refused, Emission, LoopBlocks, Rewritten, ◌▸◌}
+use Rattle.py_emission_parts.specs.Emitting.{add_constant, add_varname, by_context, by_level, by_loops, emit, emit_constant, emit_count}
+use Rattle.py_emission_parts.specs.Emitting.{emit_mangled, emit_name, emit_varname, generator_mark, in_loop, jump, keep, move, one_block}
+use Rattle.py_emission_parts.specs.Emitting.{pass_over, place_in, postponed_part, refuse, three_blocks, two_blocks, with_step, with_block}
+use Rattle.py_emission_parts.specs.Emitting.{with_name, with_varname, with_constant, with_location, with_loops, with_postponed}
 use Rattle.py_emission_parts.specs.EmissionParts.{emission_of_comparison, emission_of_link, only_in_function, pass_scopes, unless_debug}
 use Rattle.py_emission_parts.specs.Refused.{no_assignment, no_deletion}
 use Rattle.py_emission_parts.specs.TableParts.{debug_constant, is_debug}
 use Rattle.py_emission_parts.proofs.EmissionLawLemmas.{EmissionLawHolds}
 use Rattle.py_well_formed.specs.Conditions.{is_quick, is_yield, makes_function}
 use Rattle.py_verifier_law.proofs.Forms.StepGroups.{StepFits, is_plain, plain_fits}
-use Rattle.py_verifier_law.proofs.Forms.FormedStates.{ConstMeets, Formed, begun_formed, blocked_formed, constant_formed, generator_formed, located_formed, looped_formed, named_formed, numbered_formed, postponed_formed, room_of, step_formed, varnamed_formed}
+use Rattle.py_verifier_law.proofs.Forms.FormedStates.{ConstMeets, Formed, begun_formed, blocked_formed, constant_formed, generator_formed}
+use Rattle.py_verifier_law.proofs.Forms.FormedStates.{located_formed, looped_formed, named_formed, numbered_formed, postponed_formed}
+use Rattle.py_verifier_law.proofs.Forms.FormedStates.{room_of, step_formed, varnamed_formed}
 
 -- where an emission stands: the kind of its scope, the innermost class, and whether the scope is known to be a generator
 pub record Frame : Type 0 where
@@ -37,7 +43,7 @@ pub record Frame : Type 0 where
   pub class : Option (List ℕ)
   pub generates : Bool
 
--- what a state comes to
+-- what a state reaches
 pub record FormedAfter (c : Context) (s t : State) : Type 0 where
   pub formed : Formed c t
   pub generator : s.generator ≡ true → t.generator ≡ true
@@ -52,7 +58,7 @@ pub record StandsIn (k : Frame) (c : Context) (s : State) : Type 0 where
   pub generates : k.generates ≡ true → s.generator ≡ true
   pub formed : Formed c s
 
--- from each such state it comes to one that is formed so
+-- from each such state it reaches one that is formed so
 pub record Forms (k : Frame) (a : Emission) : Type 0 where
   pub forms : (c : Context) (s : State) → StandsIn k c s → DoneFormed c s (run a s)
 
@@ -78,12 +84,12 @@ if_formed : (c : Context) (s : State) (b : Bool) (o : Outcome) → DoneFormed c 
 if_formed c s true o h = h
 if_formed c s false o h = tt
 
-put_formed : (c : Context) (s t : State) (i : Instruction) (n : ℕ) → (s.generator ≡ true → t.generator ≡ true) → Formed c t → StepFits (room_of c t) i → DoneFormed c s (put i n t)
-unfolding put with_step
+put_formed : (c : Context) (s t : State) (i : Instruction) (n : ℕ) → (s.generator ≡ true → t.generator ≡ true) → Formed c t → StepFits (room_of c t) i → DoneFormed c s (put_instruction i n t)
+unfolding put_instruction with_step
 put_formed c s t i n g f h =
     if_formed c s (nat_lt n (2 ^ 32)) (Done (with_step (Put i n None t.location) t)) (record { formed = step_formed c t i n None t.location f h; generator = g })
 
-told_formed : (c : Context) (s : State) (o : Outcome) → DoneFormed c s o → DoneFormed c s (retold_in o)
+told_formed : (c : Context) (s : State) (o : Outcome) → DoneFormed c s o → DoneFormed c s (rewritten_in o)
 told_formed c s (Done t) h = h
 told_formed c s TooWide h = tt
 told_formed c s (Refused e at) h = tt
@@ -115,7 +121,7 @@ jump_forms i b e = record { forms = λ c s h. record { formed = step_formed c s 
 
 pub count_forms : {k : Frame} (i : Instruction) (n : ℕ) → is_plain i ≡ true → Forms k (emit_count i n)
 unfolding emit_count
-count_forms i n e = record { forms = λ c s h. if_formed c s (nat_lt n (2 ^ 30)) (put i n s) (put_formed c s s i n (λ g. g) h.formed (plain_fits (room_of c s) i e)) }
+count_forms i n e = record { forms = λ c s h. if_formed c s (nat_lt n (2 ^ 30)) (put_instruction i n s) (put_formed c s s i n (λ g. g) h.formed (plain_fits (room_of c s) i e)) }
 
 pub name_forms : {k : Frame} (i : Instruction) (x : List ℕ) → is_plain i ≡ true → Forms k (emit_name i x)
 unfolding emit_name with_name
@@ -145,7 +151,7 @@ yield_forms i n g q m w = record {
 
 pub mangled_forms : {k : Frame} (i : Instruction) (x : List ℕ) → is_plain i ≡ true → Forms k (emit_mangled i x)
 unfolding emit_mangled
-mangled_forms i x e = record { forms = λ c s h. (name_forms i (mangled_by s.around.context x) e).forms c s h }
+mangled_forms i x e = record { forms = λ c s h. (name_forms i (mangled_by s.node_context.context x) e).forms c s h }
 
 -- a constant; a code meets the conditions
 pub constant_forms : {k : Frame} (i : Instruction) (d : Const) → is_plain i ≡ true → ConstMeets d → Forms k (emit_constant i d)
@@ -161,7 +167,7 @@ none_forms i e = constant_forms i const.none e tt
 
 pub form_varname_added : {k : Frame} (x : List ℕ) → Forms k (add_varname x)
 unfolding add_varname with_varname
-form_varname_added x = record { forms = λ c s h. record { formed = varnamed_formed c s (mangled_by s.around.context x) h.formed; generator = λ g. g } }
+form_varname_added x = record { forms = λ c s h. record { formed = varnamed_formed c s (mangled_by s.node_context.context x) h.formed; generator = λ g. g } }
 
 pub none_added : {k : Frame} → Forms k (add_constant const.none)
 unfolding add_constant with_constant
@@ -253,25 +259,25 @@ three_form {k = k} {f = f} {g = g} {h = i} {i = j} x y z w = record {
 -- what goes on with the context, with the level or with the loops
 pub context_forms : {k : Frame} {a : Context → Emission} → ((c : Context) → c.typ ≡ k.typ → Forms k (a c)) → Forms k (by_context a)
 unfolding by_context
-context_forms x = record { forms = λ c s h. (x s.around.context (h.formed.around.typ ∙ h.typ)).forms c s h }
+context_forms x = record { forms = λ c s h. (x s.node_context.context (h.formed.node_context.typ ∙ h.typ)).forms c s h }
 
 pub level_forms : {k : Frame} {a : ℕ → Emission} → ((l : ℕ) → Forms k (a l)) → Forms k (by_level a)
 unfolding by_level
-level_forms x = record { forms = λ c s h. (x s.around.context.level).forms c s h }
+level_forms x = record { forms = λ c s h. (x s.node_context.context.level).forms c s h }
 
 pub loops_form : {k : Frame} {a : Option LoopBlocks → Emission} → ((o : Option LoopBlocks) → Forms k (a o)) → Forms k (by_loops a)
 unfolding by_loops
-loops_form x = record { forms = λ c s h. (x s.around.loops).forms c s h }
+loops_form x = record { forms = λ c s h. (x s.node_context.loops).forms c s h }
 
 pub loop_forms : {k : Frame} {a : Emission} (x : LoopBlocks) → Forms k a → Forms k (in_loop x a)
 unfolding in_loop with_loops
 loop_forms {k = k} {a = a} x y = record {
   forms = λ c s h.
       let b = with_loops (Some x) s in
-      formed_from c s b (on_done (run a b) (λ t. Done (with_loops s.around.loops t))) (λ e. e)
-      (formed_then c b (run a b) (λ t. Done (with_loops s.around.loops t))
+      formed_from c s b (on_done (run a b) (λ t. Done (with_loops s.node_context.loops t))) (λ e. e)
+      (formed_then c b (run a b) (λ t. Done (with_loops s.node_context.loops t))
       (y.forms c b (record { typ = h.typ; class = h.class; generates = h.generates; formed = looped_formed c s (Some x) h.formed }))
-      (λ t f. record { formed = looped_formed c t s.around.loops f.formed; generator = λ g. g }));
+      (λ t f. record { formed = looped_formed c t s.node_context.loops f.formed; generator = λ g. g }));
 }
 
 pub postponing_forms : {k : Frame} {a : Emission} → Forms k a → Forms k (postponed_part a)
@@ -279,18 +285,18 @@ unfolding postponed_part with_postponed
 postponing_forms {k = k} {a = a} y = record {
   forms = λ c s h.
       let b = with_postponed true s in
-      formed_from c s b (on_done (run a b) (λ t. Done (with_postponed s.around.context.postponed t))) (λ e. e)
-      (formed_then c b (run a b) (λ t. Done (with_postponed s.around.context.postponed t))
+      formed_from c s b (on_done (run a b) (λ t. Done (with_postponed s.node_context.context.postponed t))) (λ e. e)
+      (formed_then c b (run a b) (λ t. Done (with_postponed s.node_context.context.postponed t))
       (y.forms c b (record { typ = h.typ; class = h.class; generates = h.generates; formed = postponed_formed c s true h.formed }))
-      (λ t f. record { formed = postponed_formed c t s.around.context.postponed f.formed; generator = λ g. g }));
+      (λ t f. record { formed = postponed_formed c t s.node_context.context.postponed f.formed; generator = λ g. g }));
 }
 
-pub retold_forms : {k : Frame} {a : Emission} → Forms k a → Forms k (Retold a)
+pub retold_forms : {k : Frame} {a : Emission} → Forms k a → Forms k (Rewritten a)
 retold_forms {a = a} y = record { forms = λ c s h. told_formed c s (run a s) (y.forms c s h) }
 
 pub scopes_form : {k : Frame} (count : (postponed : Bool) → ℕ) → Forms k (pass_scopes count)
 unfolding pass_over by_context
-scopes_form count = record { forms = λ c s h. record { formed = numbered_formed c s (s.next + count s.around.context.postponed) h.formed; generator = λ g. g } }
+scopes_form count = record { forms = λ c s h. record { formed = numbered_formed c s (s.next + count s.node_context.context.postponed) h.formed; generator = λ g. g } }
 
 pub in_function_forms : {k : Frame} {v : Emission} (e : CodegenErrorType) → Forms k v → Forms k (only_in_function e v)
 in_function_forms e x = context_forms (λ c t. if_forms (is_function c.typ) x (refuse_forms e))

@@ -3,9 +3,11 @@ use Rattle.std.proofs.Common.{refl, ℕ, List, Bool, true, false, Option, Some, 
 use Rattle.py_base.specs.declared.location.SourceLocation.{SourceLocation}
 use Rattle.py_bytecode.specs.declared.instruction.Instruction.TheVariants as op
 use Rattle.py_bytecode.specs.Values.{Store, Delete}
-use Rattle.py_emission.specs.ControlEmissions.{assertion_of, before_last, caught_name, finally_do, for_each, forgotten, handler, managed_body, named_body, to_last, try_body, typed_match}
+use Rattle.py_emission.specs.ControlEmissions.{assertion_of, before_last, caught_name, finally_do, for_each, handler_name_removal, handler, managed_body, named_body, to_last, try_body, typed_match}
 use Rattle.py_emission_parts.specs.Emitting.{Emission}
-use Rattle.py_verifier_law.proofs.Forms.EmissionForms.{Forms, Frame, accessed_forms, count_forms, emit_forms, jump_forms, keep_forms, loop_forms, move_forms, name_forms, none_forms, one_forms, stored_forms, then_forms, three_form}
+use Rattle.py_verifier_law.proofs.Forms.EmissionForms.{Forms, Frame, accessed_forms, count_forms, emit_forms, jump_forms, keep_forms}
+use Rattle.py_verifier_law.proofs.Forms.EmissionForms.{loop_forms, move_forms, name_forms, none_forms, one_forms, stored_forms, then_forms}
+use Rattle.py_verifier_law.proofs.Forms.EmissionForms.{three_form}
 use Rattle.py_verifier_law.proofs.Forms.FormTests.{TestForms}
 
 pub for_forms : {k : Frame} {iter store body orelse : Emission} → Forms k iter → Forms k store → Forms k body → Forms k orelse → Forms k (for_each iter store body orelse)
@@ -53,7 +55,7 @@ pub typed_forms : {k : Frame} {type : Emission} (name : Option (List ℕ)) (next
 typed_forms name next x = then_forms (emit_forms op.Duplicate 0 refl)
     (then_forms x (then_forms (emit_forms op.TestOperation 4 refl) (then_forms (jump_forms op.JumpIfFalse next refl) (caught_forms name))))
 
-forgotten_forms : {k : Frame} (name : List ℕ) → Forms k (forgotten name)
+forgotten_forms : {k : Frame} (name : List ℕ) → Forms k (handler_name_removal name)
 forgotten_forms name = then_forms (none_forms op.LoadConst refl) (then_forms (accessed_forms Store name) (accessed_forms Delete name))
 
 pub named_body_forms : {k : Frame} {body : Emission} (name : Option (List ℕ)) → Forms k body → Forms k (named_body name body)

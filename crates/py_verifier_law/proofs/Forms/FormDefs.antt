@@ -4,7 +4,8 @@ use Rattle.std.specs.Prelude.{if◌then◌else◌}
 use Rattle.py_tree.specs.Tree as tree
 use Rattle.py_tree.specs.PythonName.{python_name}
 use Rattle.py_shapes.specs.Parameters.{has_repeat}
-use Rattle.py_shapes.specs.Valid.{arg_shapes, args_shapes, arguments_shapes, expr_shapes, exprs_shapes, keywords_shapes, name_shapes, opt_arg_shapes, opt_expr_shapes, parameters_shapes, type_param_shapes, type_params_shapes}
+use Rattle.py_shapes.specs.Valid.{arg_shapes, args_shapes, arguments_shapes, expr_shapes, exprs_shapes, keywords_shapes, name_shapes}
+use Rattle.py_shapes.specs.Valid.{opt_arg_shapes, opt_expr_shapes, parameters_shapes, type_param_shapes, type_params_shapes}
 use Rattle.py_scope.specs.declared.table_type.SymbolTableType.TheVariants as kind
 use Rattle.py_bytecode.specs.declared.instruction.Instruction.TheVariants as op
 use Rattle.py_bytecode.specs.Cells.{parameter_count}
@@ -13,21 +14,30 @@ use Rattle.py_emission.specs.Emission.{all_emissions, default_emissions, emissio
 use Rattle.py_emission.specs.Parameters.{function_shape, parameters}
 use Rattle.py_emission.specs.Texts.{after_doc, doc_of}
 use Rattle.py_base.specs.declared.errors.CodegenErrorType.TheVariants as error
-use Rattle.py_emission.specs.EmissionDefs.{alias_value, arg_note, arg_notes, class_call, class_function, class_scope, emission_of_alias, emission_of_built, emission_of_class, emission_of_def, emission_of_end, emission_of_function, emission_of_generic_class, emission_of_generic_def, emission_of_note, emission_of_param, emission_of_params, emission_of_setup, emission_of_text, ends_in_return, function_value, notes, opt_arg_note, opt_note, param_emissions}
+use Rattle.py_emission.specs.EmissionDefs.{alias_value, arg_note, arg_notes, class_call, class_function, class_scope, emission_of_alias}
+use Rattle.py_emission.specs.EmissionDefs.{emission_of_built, emission_of_class, emission_of_def, emission_of_end, emission_of_function}
+use Rattle.py_emission.specs.EmissionDefs.{emission_of_generic_class, emission_of_generic_def, emission_of_note, emission_of_param}
+use Rattle.py_emission.specs.EmissionDefs.{emission_of_params, emission_of_setup, emission_of_text, ends_in_return, function_value, notes}
+use Rattle.py_emission.specs.EmissionDefs.{opt_arg_note, opt_note, param_emissions}
 use Rattle.py_emission.specs.Predicates.{any_annotates}
 use Rattle.py_annotation_text.specs.Annotation.{annotation}
 use Rattle.py_emission_parts.specs.Children.{DefaultEmissions, flags_of_defaults}
-use Rattle.py_emission_parts.specs.Within.{behind_name, class_path, class_within, doc_const, function_inside, passed_defaults, hidden_inside, hidden_name}
+use Rattle.py_emission_parts.specs.NestedScopes.{after_name, class_path, nested_class, doc_const, function_inside, passed_defaults, type_param_scope_inside, type_param_scope_name}
 use Rattle.py_emission_parts.specs.Classes.{cell_returned, class_names, class_shape}
 use Rattle.py_emission_parts.specs.Context.{class_cells, is_function}
 use Rattle.py_emission_parts.specs.Elements.{Element, Function, Single, Spread, has_starred}
 use Rattle.py_emission_parts.specs.Emitting.{Emission, ◌▸◌, emit, emit_constant}
 use Rattle.py_emission_parts.specs.EmissionParts.{counted_build, elements}
 use Rattle.py_emission_parts.specs.Sealed.{flags_of}
-use Rattle.py_emission_parts.specs.TypeParameters.{hidden, hidden_shape, kept_as, load_handed, no_defaults}
-use Rattle.py_verifier_law.proofs.Forms.EmissionForms.{Forms, Frame, cell_forms, context_forms, count_forms, emit_forms, if_forms, keep_forms, level_forms, name_forms, none_forms, refuse_forms, stored_forms, text_forms, then_forms, varname_forms}
+use Rattle.py_emission_parts.specs.TypeParameters.{in_type_param_scope, type_param_scope_shape, kept_as, load_handed, no_defaults}
+use Rattle.py_verifier_law.proofs.Forms.EmissionForms.{Forms, Frame, cell_forms, context_forms, count_forms, emit_forms, if_forms}
+use Rattle.py_verifier_law.proofs.Forms.EmissionForms.{keep_forms, level_forms, name_forms, none_forms, refuse_forms, stored_forms}
+use Rattle.py_verifier_law.proofs.Forms.EmissionForms.{text_forms, then_forms, varname_forms}
 use Rattle.py_verifier_law.proofs.Forms.FormParts.{ElementForms, Every, built_forms, call_forms, elements_form, join_every}
-use Rattle.py_verifier_law.proofs.Forms.FormScopes.{DefaultsForm, class_class, class_fits, class_typ, default_flags_even, defaults_form, documented_forms, function_class, function_fits, function_made_forms, function_typ, hidden_class, hidden_fits, hidden_typ, inner_frame, noted_forms, scope_forms}
+use Rattle.py_verifier_law.proofs.Forms.FormScopes.{DefaultsForm, class_class, class_fits, class_typ, default_flags_even, defaults_form}
+use Rattle.py_verifier_law.proofs.Forms.FormScopes.{documented_forms, function_class, function_fits, function_made_forms, function_typ}
+use Rattle.py_verifier_law.proofs.Forms.FormScopes.{type_param_scope_class, type_param_scope_fits, type_param_scope_typ, inner_frame}
+use Rattle.py_verifier_law.proofs.Forms.FormScopes.{noted_forms, scope_forms}
 use Rattle.py_verifier_law.proofs.Forms.FormExprs.{defaults_formed, expr_forms, exprs_form, keywords_form, unsupported_forms}
 use Rattle.py_verifier_law.proofs.Forms.FunctionForms.{made_forms}
 use Rattle.py_verifier_law.proofs.Forms.LocalNameLemmas.{function_takes, handed_few}
@@ -114,9 +124,9 @@ module _ (k : Frame) where
   params_form : (ts : tree.TypeParams) → type_params_shapes k.class ts ≡ [] → Forms k (emission_of_params ts)
   params_form ts h = built_forms k op.BuildTuple refl (param_emissions ts) (all_params_form ts h)
 
-hidden_count : (g : Bool) (count : ℕ) → parameter_count (flags_of g 0x21) count 0 ≡ count
-hidden_count true count = omega arith
-hidden_count false count = omega arith
+type_param_scope_count : (g : Bool) (count : ℕ) → parameter_count (flags_of g 0x21) count 0 ≡ count
+type_param_scope_count true count = omega arith
+type_param_scope_count false count = omega arith
 
 handed_form : (k : Frame) (names : List (List ℕ)) → k.typ ≡ kind.TypeParams → Forms k (load_handed names)
 handed_form k [] e = keep_forms
@@ -130,11 +140,11 @@ passed_differ (x ∷ xs) (y ∷ ys) = refl
 
 -- what it is handed is loaded first
 handed_takes : (class : Option (List ℕ)) (name : List ℕ) (names : List (List ℕ)) (rest : Emission) → has_repeat names ≡ false
-    → Takes class (hidden_shape (length names) name) ((load_handed names ▸ rest) ▸ emit op.ReturnValue 0)
-handed_takes class name names rest differ s t c e = let l = handed_few names rest s t differ e in let n = hidden_count t.generator (length names) in omega (arith, l, n)
+    → Takes class (type_param_scope_shape (length names) name) ((load_handed names ▸ rest) ▸ emit op.ReturnValue 0)
+handed_takes class name names rest differ s t c e = let l = handed_few names rest s t differ e in let n = type_param_scope_count t.generator (length names) in omega (arith, l, n)
 
-nothing_takes : (class : Option (List ℕ)) (name : List ℕ) (body : Emission) → Takes class (hidden_shape 0 name) body
-nothing_takes class name body s t c e = let n = hidden_count t.generator 0 in omega (arith, n)
+nothing_takes : (class : Option (List ℕ)) (name : List ℕ) (body : Emission) → Takes class (type_param_scope_shape 0 name) body
+nothing_takes class name body s t c e = let n = type_param_scope_count t.generator 0 in omega (arith, n)
 
 class_count : (g : Bool) → parameter_count (flags_of g 0) 0 0 ≡ 0
 class_count true = refl
@@ -145,15 +155,17 @@ class_takes class name body s t c e = let n = class_count t.generator in omega (
 
 module _ (k : Frame) where
   -- a type-parameter scope
-  hidden_forms : {value : Emission} (name : List ℕ) (d : DefaultEmissions) → DefaultsForm k d
-      → Takes k.class (hidden_shape (length (passed_defaults d.positional d.keyword)) name) (value ▸ emit op.ReturnValue 0) → Forms (inner_frame kind.TypeParams k) value
-      → Forms k (hidden name d value)
-  hidden_forms name d x takes y =
+  type_param_scope_forms : {value : Emission} (name : List ℕ) (d : DefaultEmissions) → DefaultsForm k d
+      → Takes k.class (type_param_scope_shape (length (passed_defaults d.positional d.keyword)) name) (value ▸ emit op.ReturnValue 0) → Forms (inner_frame kind.TypeParams k) value
+      → Forms k (in_type_param_scope name d value)
+  type_param_scope_forms name d x takes y =
       let count = length (passed_defaults d.positional d.keyword) in
       let i = inner_frame kind.TypeParams k in
       then_forms
-      (child_forms i hidden_inside (hidden_shape count name) refl hidden_typ (λ c n e. hidden_class c n k.class e) (hidden_fits count name) takes (then_forms y (emit_forms op.ReturnValue 0 refl))
-      (λ o meets. made_forms 0 (hidden_name name) o refl meets))
+      (child_forms i type_param_scope_inside (type_param_scope_shape count name) refl type_param_scope_typ
+      (λ c n e. type_param_scope_class c n k.class e) (type_param_scope_fits count name) takes
+      (then_forms y (emit_forms op.ReturnValue 0 refl))
+      (λ o meets. made_forms 0 (type_param_scope_name name) o refl meets))
       (then_forms (defaults_form k d x) (count_forms op.CallFunctionPositional count refl))
 
   form_def_none_handed : DefaultsForm k no_defaults
@@ -172,7 +184,7 @@ module _ (k : Frame) where
       let i = inner_frame kind.TypeParams k in
       let names = passed_defaults d.positional d.keyword in
       let rest : Emission = emission_of_params generic ▸ function_value (0x10 + flags_of_defaults d) name params stmts returns body in
-      hidden_forms name d (defaults_formed k params h) (handed_takes k.class name names rest (passed_differ d.positional d.keyword))
+      type_param_scope_forms name d (defaults_formed k params h) (handed_takes k.class name names rest (passed_differ d.positional d.keyword))
       (then_forms (handed_form i names refl) (then_forms (params_form i generic f) (function_value_forms i (0x10 + flags_of_defaults d) name params stmts returns (generic_flags_even d) h g x)))
 
   -- with or without them
@@ -211,14 +223,14 @@ module _ (k : Frame) where
 class_function_forms : {body : Emission} (k : Frame) (path : List ℕ) (flags : ℕ) (name : List ℕ) (stmts : tree.Stmts) → flags % 2 ≡ 0 → Forms (class_frame name) body
     → Forms k (class_function path flags name stmts body)
 class_function_forms {body = body} k path flags name stmts even x =
-    child_forms (class_frame name) (class_within path name) (class_shape name) refl (class_typ path name) (λ c n e. class_class path name c n) (class_fits name)
+    child_forms (class_frame name) (nested_class path name) (class_shape name) refl (class_typ path name) (λ c n e. class_class path name c n) (class_fits name)
     (class_takes (Some name) name (class_scope stmts body))
     (class_scope_forms (class_frame name) stmts x) (λ o meets. made_forms flags name o even meets)
 
 module _ (k : Frame) where
-  form_def_behind_forms : (f x : Emission) (es : List (Element Emission Emission)) → Forms k f → Forms k x → Every (ElementForms k) es
-      → Every (ElementForms k) (behind_name (counted_build op.BuildTuple) f x es)
-  form_def_behind_forms f x es y z w = go (has_starred es)
+  form_def_after_forms : (f x : Emission) (es : List (Element Emission Emission)) → Forms k f → Forms k x → Every (ElementForms k) es
+      → Every (ElementForms k) (after_name (counted_build op.BuildTuple) f x es)
+  form_def_after_forms f x es y z w = go (has_starred es)
     where
       go : (b : Bool) → Every (ElementForms k) (if b then Spread (counted_build op.BuildTuple (f ∷ x ∷ [])) ∷ es else Single f ∷ Single x ∷ es)
       go true = (built_forms k op.BuildTuple refl (f ∷ x ∷ []) (y, (z, tt)), w)
@@ -229,9 +241,9 @@ module _ (k : Frame) where
   class_call_forms {function = function} name bases keywords h g x =
       let places = elements_form k (all_emissions bases) (exprs_form k bases h) in
       let text : Emission = emit_constant op.LoadConst (const.str name) in
-      call_forms k (Function (emit op.LoadBuildClass 0)) (behind_name (counted_build op.BuildTuple) function text (elements (all_emissions bases))) (keyword_emissions keywords)
+      call_forms k (Function (emit op.LoadBuildClass 0)) (after_name (counted_build op.BuildTuple) function text (elements (all_emissions bases))) (keyword_emissions keywords)
       (emit_forms op.LoadBuildClass 0 refl)
-      (form_def_behind_forms function text (elements (all_emissions bases)) x (text_forms op.LoadConst name refl) places) (keywords_form k keywords g)
+      (form_def_after_forms function text (elements (all_emissions bases)) x (text_forms op.LoadConst name refl) places) (keywords_form k keywords g)
 
   class_forms : {body : Emission} (name : List ℕ) (bases : tree.Exprs) (keywords : tree.Keywords) (stmts : tree.Stmts)
       → exprs_shapes k.class bases ≡ [] → keywords_shapes k.class keywords ≡ [] → Forms (class_frame name) body → Forms k (emission_of_class name bases keywords stmts body)
@@ -247,7 +259,7 @@ generic_class_forms {body = body} k name bases keywords stmts generic h g f x =
     let i = inner_frame kind.TypeParams k in
     context_forms (λ c t.
     let function : Emission = emission_of_params generic ▸ class_function (class_path c name) 0x10 name stmts body in
-    hidden_forms k name no_defaults (form_def_none_handed k) (nothing_takes k.class name (class_call name function bases keywords ▸ emit op.ReturnValue 0))
+    type_param_scope_forms k name no_defaults (form_def_none_handed k) (nothing_takes k.class name (class_call name function bases keywords ▸ emit op.ReturnValue 0))
     (class_call_forms i name bases keywords h g (then_forms (params_form i generic f) (class_function_forms i (class_path c name) 0x10 name stmts refl x))))
 
 pub built_class_forms : {body : Emission} (k : Frame) (name : List ℕ) (bases : tree.Exprs) (named : tree.Keywords) (stmts : tree.Stmts) (generic : tree.TypeParams)
@@ -264,7 +276,7 @@ alias_value_forms k name tree.no_type_params e f h =
 alias_value_forms k name (tree.more_type_params t ts) e f h =
     let i = inner_frame kind.TypeParams k in
     let value : Emission = emission_of_params (tree.more_type_params t ts) ▸ emission e ▸ emit op.Rotate2 0 ▸ emit_constant op.LoadConst (const.str name) ▸ emit op.TypeAlias 0 in
-    hidden_forms k name no_defaults (form_def_none_handed k) (nothing_takes k.class name (value ▸ emit op.ReturnValue 0))
+    type_param_scope_forms k name no_defaults (form_def_none_handed k) (nothing_takes k.class name (value ▸ emit op.ReturnValue 0))
     (then_forms (params_form i (tree.more_type_params t ts) f)
     (then_forms (expr_forms i e h).value (then_forms (emit_forms op.Rotate2 0 refl) (then_forms (text_forms op.LoadConst name refl) (emit_forms op.TypeAlias 0 refl)))))
 

@@ -5,14 +5,18 @@ use Rattle.py_base.specs.Literal as literal
 use Rattle.py_base.specs.declared.location.SourceLocation.{SourceLocation}
 use Rattle.py_tree.specs.Tree as tree
 use Rattle.py_tree.specs.PythonName.{python_name}
-use Rattle.py_shapes.specs.Valid.{when, args_shapes, arguments_shapes, arg_shapes, count, expr_shapes, exprs_shapes, generators_shapes, has_generator, keywords_shapes, name_shapes, opt_arg_shapes, opt_count, opt_expr_shapes, opt_exprs_shapes, opt_name_shapes, parameters_shapes}
+use Rattle.py_shapes.specs.Valid.{when, args_shapes, arguments_shapes, arg_shapes, count, expr_shapes, exprs_shapes, generators_shapes}
+use Rattle.py_shapes.specs.Valid.{has_generator, keywords_shapes, name_shapes, opt_arg_shapes, opt_count, opt_expr_shapes, opt_exprs_shapes}
+use Rattle.py_shapes.specs.Valid.{opt_name_shapes, parameters_shapes}
 use Rattle.py_base.specs.declared.shapes.Malformed.TheVariants.{NoGenerator, NoOperand, UnevenLists}
 use Rattle.py_scope.specs.declared.table_type.SymbolTableType.TheVariants as kind
 use Rattle.py_bytecode.specs.declared.instruction.Instruction.TheVariants as op
 use Rattle.py_bytecode.specs.Objects as const
 use Rattle.py_bytecode.specs.Values.{Load}
 use Rattle.py_emission.specs.Awaits.{awaits, some_async}
-use Rattle.py_emission.specs.Emission.{all_emissions, all_stores, clause_emissions, default_emissions, emission, emission_of_delete, emission_of_deletes, emissions, joined_return, keyword_emissions, keyword_only_emissions, name_return, opt_emission, opt_emissions, positional_emissions, stores, unsupported_node}
+use Rattle.py_emission.specs.Emission.{all_emissions, all_stores, clause_emissions, default_emissions, emission, emission_of_delete}
+use Rattle.py_emission.specs.Emission.{emission_of_deletes, emissions, joined_return, keyword_emissions, keyword_only_emissions}
+use Rattle.py_emission.specs.Emission.{name_return, opt_emission, opt_emissions, positional_emissions, stores, unsupported_node}
 use Rattle.py_emission.specs.Predicates.{deletion_name}
 use Rattle.py_emission.specs.Texts.{texts_of}
 use Rattle.py_base.specs.declared.errors.CodegenErrorType.TheVariants as error
@@ -21,9 +25,15 @@ use Rattle.py_emission_parts.specs.Comprehensions.{as_element, collection_scope,
 use Rattle.py_emission_parts.specs.EmissionParts.{elements, values}
 use Rattle.py_emission_parts.specs.Refused.{lone_star, no_assignment, no_deletion}
 use Rattle.py_emission_parts.specs.TableParts.{binary_case, constant_of, conversion_case, is_debug}
-use Rattle.py_verifier_law.proofs.Forms.EmissionForms.{Forms, Frame, accessed_forms, at_forms, constant_forms, debug_forms, deleted_forms, emit_forms, in_function_forms, marked_forms, yield_forms, if_forms, keep_forms, load_forms, mangled_forms, none_forms, refuse_forms, stored_forms, text_forms, then_forms, unless_debug_forms}
-use Rattle.py_verifier_law.proofs.Forms.FormParts.{ElementForms, Every, KeywordForms, NamedForms, FormsWell, SomeForms, StoresForm, built_forms, call_forms, dict_forms, display_forms, elements_form, join_every, joined_forms, plain_forms, slice_forms, unpack_forms, value_or_forms, values_form}
-use Rattle.py_verifier_law.proofs.Forms.FormScopes.{ClauseForms, DefaultsForm, comprehension_forms, element_forms, gathered_enters_name, gathered_forms, generated_enters_name, generated_forms, inner_frame, lambda_forms}
+use Rattle.py_verifier_law.proofs.Forms.EmissionForms.{Forms, Frame, accessed_forms, at_forms, constant_forms, debug_forms, deleted_forms}
+use Rattle.py_verifier_law.proofs.Forms.EmissionForms.{emit_forms, in_function_forms, marked_forms, yield_forms, if_forms, keep_forms}
+use Rattle.py_verifier_law.proofs.Forms.EmissionForms.{load_forms, mangled_forms, none_forms, refuse_forms, stored_forms, text_forms}
+use Rattle.py_verifier_law.proofs.Forms.EmissionForms.{then_forms, unless_debug_forms}
+use Rattle.py_verifier_law.proofs.Forms.FormParts.{ElementForms, Every, KeywordForms, NamedForms, FormsWell, SomeForms, StoresForm}
+use Rattle.py_verifier_law.proofs.Forms.FormParts.{built_forms, call_forms, dict_forms, display_forms, elements_form, join_every}
+use Rattle.py_verifier_law.proofs.Forms.FormParts.{joined_forms, plain_forms, slice_forms, unpack_forms, value_or_forms, values_form}
+use Rattle.py_verifier_law.proofs.Forms.FormScopes.{ClauseForms, DefaultsForm, comprehension_forms, element_forms, gathered_enters_name}
+use Rattle.py_verifier_law.proofs.Forms.FormScopes.{gathered_forms, generated_enters_name, generated_forms, inner_frame, lambda_forms}
 use Rattle.py_verifier_law.proofs.Forms.FormedStates.{ConstMeets}
 use Rattle.py_verifier_law.proofs.Forms.ShapeLemmas.{four_none, parameters_differ, six_none, three_none, two_none}
 use Rattle.py_verifier_law.proofs.Forms.FormTests.{bool_forms, form_test_by_return, choice_forms, compare_forms, truth_forms, unary_forms, form_test_value_returned, whole_forms}

@@ -6,13 +6,15 @@ use Rattle.py_bytecode.specs.Objects as const
 use Rattle.py_bytecode.specs.Objects.{Const}
 use Rattle.py_base.specs.declared.errors.CodegenErrorType.TheVariants as error
 use Rattle.py_emission.specs.EmissionFutures.{check_features, emission_of_future, after_future_import}
-use Rattle.py_emission.specs.EmissionImports.{emission_of_alias, emission_of_attributes, emission_of_from, emission_of_import, emission_of_imported, emission_of_module, emission_of_names, emission_of_star, import_step}
+use Rattle.py_emission.specs.EmissionImports.{emission_of_alias, emission_of_attributes, emission_of_from, emission_of_import}
+use Rattle.py_emission.specs.EmissionImports.{emission_of_imported, emission_of_module, emission_of_names, emission_of_star, import_step}
 use Rattle.py_emission.specs.EmissionStmts.{emission_of_import_from}
 use Rattle.py_emission.specs.Futures.{Future, is_feature, postpones}
 use Rattle.py_emission.specs.Imports.{asked_tuple, asked_all, from_future, further_segments, import_name, taken_name, takes_all}
 use Rattle.py_emission_parts.specs.Context.{is_function}
 use Rattle.py_emission_parts.specs.Emitting.{Emission, ◌▸◌}
-use Rattle.py_verifier_law.proofs.Forms.EmissionForms.{Forms, Frame, at_forms, constant_forms, context_forms, emit_forms, if_forms, keep_forms, mangled_forms, postponing_forms, refuse_forms, stored_forms, then_forms}
+use Rattle.py_verifier_law.proofs.Forms.EmissionForms.{Forms, Frame, at_forms, constant_forms, context_forms, emit_forms, if_forms}
+use Rattle.py_verifier_law.proofs.Forms.EmissionForms.{keep_forms, mangled_forms, postponing_forms, refuse_forms, stored_forms, then_forms}
 use Rattle.py_verifier_law.proofs.Forms.FormedStates.{ConstMeets}
 
 step_forms : {k : Frame} (path : Option (List ℕ)) → Forms k (import_step path)

@@ -11,8 +11,10 @@ use Rattle.py_scope.specs.declared.table_type.SymbolTableType.TheVariants as kin
 use Rattle.py_bytecode.specs.declared.instruction.Instruction.TheVariants as op
 use Rattle.py_bytecode.specs.Cells.{parameter_count}
 use Rattle.py_emission.specs.Texts.{after_doc, doc_of, first_text, unless_text}
-use Rattle.py_emission.specs.EmissionFutures.{emission_behind, emission_of_future, after_future_import}
-use Rattle.py_emission.specs.EmissionMods.{emission_of_block, emission_of_doc, emission_of_interactive, emission_of_mod, emission_of_printed, emission_of_program, emission_of_prompt, emission_of_single, emission_of_value, emission_outcome, stored_and_returned}
+use Rattle.py_emission.specs.EmissionFutures.{emission_after, emission_of_future, after_future_import}
+use Rattle.py_emission.specs.EmissionMods.{emission_of_block, emission_of_doc, emission_of_interactive, emission_of_mod}
+use Rattle.py_emission.specs.EmissionMods.{emission_of_printed, emission_of_program, emission_of_prompt, emission_of_single}
+use Rattle.py_emission.specs.EmissionMods.{emission_of_value, emission_outcome, stored_and_returned}
 use Rattle.py_emission.specs.EmissionStmts.{emission_of_stmts}
 use Rattle.py_emission.specs.Futures.{Future, future_of}
 use Rattle.py_emission.specs.Predicates.{any_annotates, none}
@@ -51,19 +53,19 @@ doc_forms (Some text) = then_forms (text_forms op.LoadConst text refl) (name_for
 abbrev StmtsForm : (tree.Stmts → Emission) → Type 0
 StmtsForm a = (ss : tree.Stmts) → stmts_shapes None ss ≡ [] → Forms outer_frame (a ss)
 
-form_mod_behind_forms : (a : tree.Stmts → Emission) → StmtsForm a → StmtsForm (emission_behind a)
-form_mod_behind_forms a x tree.no_stmts h = x tree.no_stmts h
-form_mod_behind_forms a x (tree.more_stmts s ss) h = go (future_of s) (x (tree.more_stmts s ss) h) (form_mod_behind_forms a x ss (two_none (stmt_shapes None s) (stmts_shapes None ss) h).1)
+form_mod_after_forms : (a : tree.Stmts → Emission) → StmtsForm a → StmtsForm (emission_after a)
+form_mod_after_forms a x tree.no_stmts h = x tree.no_stmts h
+form_mod_after_forms a x (tree.more_stmts s ss) h = go (future_of s) (x (tree.more_stmts s ss) h) (form_mod_after_forms a x ss (two_none (stmt_shapes None s) (stmts_shapes None ss) h).1)
   where
-    go : (o : Option Future) → Forms outer_frame (a (tree.more_stmts s ss)) → Forms outer_frame (emission_behind a ss)
-        → Forms outer_frame (elim o [ None ↦ a (tree.more_stmts s ss) | Some f ↦ emission_of_future f ▸ after_future_import f (emission_behind a ss) ])
+    go : (o : Option Future) → Forms outer_frame (a (tree.more_stmts s ss)) → Forms outer_frame (emission_after a ss)
+        → Forms outer_frame (elim o [ None ↦ a (tree.more_stmts s ss) | Some f ↦ emission_of_future f ▸ after_future_import f (emission_after a ss) ])
     go None y z = y
     go (Some f) y z = future_forms f z
 
 program_forms : (ss : tree.Stmts) → stmts_shapes None ss ≡ [] → Forms outer_frame (emission_of_program ss)
 program_forms ss h =
     then_forms (level_forms (λ l. doc_forms (doc_of l ss))) (then_forms (setup_forms outer_frame (any_annotates (after_doc ss)))
-    (then_forms (form_mod_behind_forms emission_of_stmts (stmts_form outer_frame) (after_doc ss) (left_shapes (first_text ss) ss h)) (none_forms op.ReturnConst refl)))
+    (then_forms (form_mod_after_forms emission_of_stmts (stmts_form outer_frame) (after_doc ss) (left_shapes (first_text ss) ss h)) (none_forms op.ReturnConst refl)))
 
 -- what is entered at a prompt
 printed_forms : {value rest : Emission} (last : Bool) → Forms outer_frame value → Forms outer_frame rest → Forms outer_frame (emission_of_printed last value rest)
@@ -110,7 +112,7 @@ block_forms (tree.more_stmts s (tree.more_stmts t ts)) h =
 
 interactive_forms : (m : Mode) → StmtsForm (emission_of_interactive m)
 interactive_forms mode.Single ss h = prompt_forms ss h
-interactive_forms other ss h = form_mod_behind_forms emission_of_block block_forms ss h
+interactive_forms other ss h = form_mod_after_forms emission_of_block block_forms ss h
 
 mod_forms : (t : tree.Mod) (m : Mode) → shapes t m ≡ [] → Forms outer_frame (emission_of_mod t m)
 mod_forms (tree.Module body) m h = program_forms body h

@@ -8,12 +8,18 @@ use Rattle.py_bytecode.specs.declared.instruction.Instruction.TheVariants as op
 use Rattle.py_bytecode.specs.Objects as const
 use Rattle.py_bytecode.specs.Objects.{Const}
 use Rattle.py_base.specs.declared.errors.CodegenErrorType.TheVariants as error
-use Rattle.py_emission_parts.specs.Elements.{Element, Single, Spread, Callee, Function, Method, after_star, bare, before_star, behind, front, run_tuple, groups, pairs, sides, has_starred, stars}
+use Rattle.py_emission_parts.specs.Elements.{Element, Single, Spread, Callee, Function, Method, after_star, bare, before_star}
+use Rattle.py_emission_parts.specs.Elements.{later_elements, front, run_tuple, groups, pairs, sides, has_starred, stars}
 use Rattle.py_emission_parts.specs.Emitting.{Emission}
-use Rattle.py_emission_parts.specs.EmissionParts.{Emissions, Keywords, Stores, counted_build, call_by, keyword_checks, dict_value, display, elements, emission_of_call, emission_of_dict, in_turn, joined_map, joined_value, map_of, map_of_pairs, name_values, names_in, packed_arguments, packed_tuple, positional_call, plain_store, slice_step, slice_value, unpack, unpack_emission, unpack_starred, updates, value_or, values, values_in}
+use Rattle.py_emission_parts.specs.EmissionParts.{Emissions, Keywords, Stores, counted_build, call_by, keyword_checks, dict_value, display}
+use Rattle.py_emission_parts.specs.EmissionParts.{elements, emission_of_call, emission_of_dict, in_turn, joined_map, joined_value, map_of}
+use Rattle.py_emission_parts.specs.EmissionParts.{map_of_pairs, name_values, names_in, packed_arguments, packed_tuple, positional_call}
+use Rattle.py_emission_parts.specs.EmissionParts.{plain_store, slice_step, slice_value, unpack, unpack_emission, unpack_starred, updates}
+use Rattle.py_emission_parts.specs.EmissionParts.{value_or, values, values_in}
 use Rattle.py_emission_parts.specs.Refused.{few_aside, no_assignment}
 use Rattle.py_emission_parts.specs.TableParts.{any}
-use Rattle.py_verifier_law.proofs.Forms.EmissionForms.{Forms, Frame, at_forms, constant_forms, count_forms, emit_forms, if_forms, keep_forms, mangled_forms, refuse_forms, text_forms, then_forms, unless_debug_forms}
+use Rattle.py_verifier_law.proofs.Forms.EmissionForms.{Forms, Frame, at_forms, constant_forms, count_forms, emit_forms, if_forms}
+use Rattle.py_verifier_law.proofs.Forms.EmissionForms.{keep_forms, mangled_forms, refuse_forms, text_forms, then_forms, unless_debug_forms}
 use Rattle.py_verifier_law.proofs.Forms.FormedStates.{ConstMeets}
 use Rattle.py_verifier_law.proofs.Forms.StepGroups.{is_plain}
 
@@ -178,10 +184,10 @@ module _ (k : Frame) where
   front_forms (Single p ∷ es) x = (x.0, front_forms es x.1)
   front_forms (Spread v ∷ es) x = tt
 
-  form_part_behind_forms : (es : List (Element (Emission × Emission) Emission)) → Every (OneForms (PairForms k) k) es → Every (OneForms (PairForms k) k) (behind es)
-  form_part_behind_forms [] x = tt
-  form_part_behind_forms (Single p ∷ es) x = form_part_behind_forms es x.1
-  form_part_behind_forms (Spread v ∷ es) x = x
+  form_part_after_forms : (es : List (Element (Emission × Emission) Emission)) → Every (OneForms (PairForms k) k) es → Every (OneForms (PairForms k) k) (later_elements es)
+  form_part_after_forms [] x = tt
+  form_part_after_forms (Single p ∷ es) x = form_part_after_forms es x.1
+  form_part_after_forms (Spread v ∷ es) x = x
 
   pairs_form : (ks : List (Option Emission)) (vs : List Emission) → Every (SomeForms k) ks → Every (Forms k) vs → Every (OneForms (PairForms k) k) (pairs ks vs)
   pairs_form [] vs x y = tt
@@ -192,7 +198,7 @@ module _ (k : Frame) where
   dict_value_forms : (es : List (Element (Emission × Emission) Emission)) → Every (OneForms (PairForms k) k) es → Forms k (dict_value es)
   dict_value_forms es x =
       then_forms (pairs_map_forms (front es) (front_forms es x))
-      (updates_form (groups map_of_pairs [] (behind es)) (groups_form (PairForms k) map_of_pairs pairs_map_forms [] (behind es) tt (form_part_behind_forms es x)))
+      (updates_form (groups map_of_pairs [] (later_elements es)) (groups_form (PairForms k) map_of_pairs pairs_map_forms [] (later_elements es) tt (form_part_after_forms es x)))
 
   pub dict_forms : (ks : List (Option Emission)) (vs : List Emission) → Every (SomeForms k) ks → Every (Forms k) vs → Forms k (emission_of_dict ks vs)
   dict_forms ks vs x y = if_forms (nat_eq (length ks) (length vs)) (dict_value_forms (pairs ks vs) (pairs_form ks vs x y)) (refuse_forms (error.MalformedTree shape.UnevenLists))

@@ -14,18 +14,22 @@ use Rattle.py_shapes.specs.Parameters.{has_repeat, parameter_names}
 use Rattle.py_emission.specs.Emission.{lambda_value}
 use Rattle.py_emission.specs.Parameters.{arg_names, function_shape, opt_arg_names, parameters}
 use Rattle.py_base.specs.declared.errors.CodegenErrorType.TheVariants as error
-use Rattle.py_emission_parts.specs.Children.{DefaultEmissions, decorated_value, decorations, docstring_store, emission_of_defaults, enter_parameters, flags_of_defaults, function_made, function_scope, named_annotation, some_emitted}
+use Rattle.py_emission_parts.specs.Children.{DefaultEmissions, decorated_value, decorations, docstring_store, emission_of_defaults}
+use Rattle.py_emission_parts.specs.Children.{enter_parameters, flags_of_defaults, function_made, function_scope, named_annotation}
+use Rattle.py_emission_parts.specs.Children.{some_emitted}
 use Rattle.py_emission_parts.specs.Classes.{class_shape}
-use Rattle.py_emission_parts.specs.TypeParameters.{hidden_shape}
+use Rattle.py_emission_parts.specs.TypeParameters.{type_param_scope_shape}
 use Rattle.py_emission_parts.specs.Sealed.{flags_of}
 use Rattle.py_bytecode.specs.Cells.{parameter_count}
 use Rattle.py_emission_parts.proofs.GrowthLemmas.{of_done}
 use Rattle.py_well_formed.specs.Tables.{has_flag}
 use Rattle.py_verifier_law.proofs.Forms.GroupLineLemmas.{le_is}
 use Rattle.py_emission_parts.specs.Everywhere.{Everywhere}
-use Rattle.py_emission_parts.specs.Within.{class_within, comprehension_inside, function_inside, Shape, hidden_inside, lambda_inside, some_flag}
-use Rattle.py_emission_parts.specs.Comprehensions.{ClauseEmissions, as_element, called_at_once, clause, clauses, comprehension, comprehension_shape, conditions, further_clauses, collection_scope, generator_body, handed_iterator}
-use Rattle.py_emission_parts.specs.Context.{Context, inside, is_function, mangled_by, qualified_under, with_path, within_class}
+use Rattle.py_emission_parts.specs.NestedScopes.{nested_class, comprehension_inside, function_inside, Shape, type_param_scope_inside, lambda_inside, some_flag}
+use Rattle.py_emission_parts.specs.Comprehensions.{ClauseEmissions, as_element, called_at_once, clause, clauses, comprehension}
+use Rattle.py_emission_parts.specs.Comprehensions.{comprehension_shape, conditions, further_clauses, collection_scope, generator_body}
+use Rattle.py_emission_parts.specs.Comprehensions.{handed_iterator}
+use Rattle.py_emission_parts.specs.Context.{Context, inside, is_function, mangled_by, qualified_under, with_path, nested_in_class}
 use Rattle.py_emission_parts.specs.Emitting.{Emission, State, Done, ◌▸◌, emit, emit_constant, generator_mark, jump, keep, two_blocks, with_block, with_step}
 use Rattle.py_emission_parts.specs.EmissionParts.{Emissions, counted_build, map_of}
 use Rattle.py_emission_parts.specs.Refused.{no_assignment}
@@ -33,7 +37,10 @@ use Rattle.py_emission_parts.specs.Running.{◌▹◌, begin, begins, run}
 use Rattle.py_verifier_law.proofs.Forms.StepGroups.{is_plain}
 use Rattle.py_verifier_law.proofs.Forms.FormedObjectLemmas.{ShapeFits}
 use Rattle.py_verifier_law.proofs.Forms.FormedStates.{MeetsConditions}
-use Rattle.py_verifier_law.proofs.Forms.EmissionForms.{Forms, Frame, context_forms, count_forms, emit_forms, form_varname_added, if_forms, jump_forms, keep_forms, marked_forms, name_forms, none_added, none_forms, refuse_forms, retold_forms, scopes_form, text_forms, then_forms, two_form, unless_debug_forms, varname_forms, yield_forms}
+use Rattle.py_verifier_law.proofs.Forms.EmissionForms.{Forms, Frame, context_forms, count_forms, emit_forms, form_varname_added, if_forms}
+use Rattle.py_verifier_law.proofs.Forms.EmissionForms.{jump_forms, keep_forms, marked_forms, name_forms, none_added, none_forms}
+use Rattle.py_verifier_law.proofs.Forms.EmissionForms.{refuse_forms, retold_forms, scopes_form, text_forms, then_forms, two_form}
+use Rattle.py_verifier_law.proofs.Forms.EmissionForms.{unless_debug_forms, varname_forms, yield_forms}
 use Rattle.py_verifier_law.proofs.Forms.FormParts.{Every, NamedForms, FormsWell, built_forms, map_forms, turn_forms}
 use Rattle.py_verifier_law.proofs.Forms.FunctionForms.{made_forms}
 use Rattle.py_verifier_law.proofs.Forms.LocalNameLemmas.{EntersName, both_done, first_enters_name, function_takes, longer_names, second_enters_name, varname_enters_name}
@@ -43,7 +50,7 @@ use Rattle.py_verifier_law.proofs.Forms.ScopeForms.{Takes, child_forms}
 abbrev pub inner_frame : SymbolTableType → Frame → Frame
 inner_frame typ k = record { typ = typ; class = k.class; generates = false }
 
--- ---- what stands around scopes within
+-- ---- the context scopes within
 
 pub lambda_typ : (c : Context) (n : ℕ) → (lambda_inside c n).typ ≡ kind.Function
 unfolding inside
@@ -69,20 +76,20 @@ pub comprehension_class : (c : Context) (n : ℕ) (class : Option (List ℕ)) �
 unfolding inside
 comprehension_class c n class e = e
 
-pub hidden_typ : (c : Context) (n : ℕ) → (hidden_inside c n).typ ≡ kind.TypeParams
+pub type_param_scope_typ : (c : Context) (n : ℕ) → (type_param_scope_inside c n).typ ≡ kind.TypeParams
 unfolding inside
-hidden_typ c n = refl
+type_param_scope_typ c n = refl
 
-pub hidden_class : (c : Context) (n : ℕ) (class : Option (List ℕ)) → c.class ≡ class → (hidden_inside c n).class ≡ class
+pub type_param_scope_class : (c : Context) (n : ℕ) (class : Option (List ℕ)) → c.class ≡ class → (type_param_scope_inside c n).class ≡ class
 unfolding inside
-hidden_class c n class e = e
+type_param_scope_class c n class e = e
 
-pub class_typ : (path name : List ℕ) (c : Context) (n : ℕ) → (class_within path name c n).typ ≡ kind.Class
-unfolding inside with_path within_class
+pub class_typ : (path name : List ℕ) (c : Context) (n : ℕ) → (nested_class path name c n).typ ≡ kind.Class
+unfolding inside with_path nested_in_class
 class_typ path name c n = refl
 
-pub class_class : (path name : List ℕ) (c : Context) (n : ℕ) → (class_within path name c n).class ≡ Some name
-unfolding inside with_path within_class
+pub class_class : (path name : List ℕ) (c : Context) (n : ℕ) → (nested_class path name c n).class ≡ Some name
+unfolding inside with_path nested_in_class
 class_class path name c n = refl
 
 -- ---- what the codes of scopes say
@@ -132,8 +139,8 @@ quick_fits typ h p e = record {
 pub comprehension_fits : (name : List ℕ) → ShapeFits kind.Comprehension (comprehension_shape name)
 comprehension_fits name = quick_fits kind.Comprehension (comprehension_shape name) refl refl
 
-pub hidden_fits : (count : ℕ) (name : List ℕ) → ShapeFits kind.TypeParams (hidden_shape count name)
-hidden_fits count name = quick_fits kind.TypeParams (hidden_shape count name) (le_is count count (omega arith)) refl
+pub type_param_scope_fits : (count : ℕ) (name : List ℕ) → ShapeFits kind.TypeParams (type_param_scope_shape count name)
+type_param_scope_fits count name = quick_fits kind.TypeParams (type_param_scope_shape count name) (le_is count count (omega arith)) refl
 
 pub class_fits : (name : List ℕ) → ShapeFits kind.Class (class_shape name)
 class_fits name = record { positional = refl; quick = λ g e. absurd cc; yields = refl }
@@ -230,17 +237,17 @@ module _ (k : Frame) where
   conditions_form [] start x = keep_forms
   conditions_form (e ∷ es) start x = then_forms (x.0.test false start) (conditions_form es start x.1)
 
-  clause_forms : {iterator within : Emission} (c : ClauseEmissions) → Forms k iterator → ClauseForms k c → Forms k within → Forms k (clause iterator c within)
+  clause_forms : {iterator nested : Emission} (c : ClauseEmissions) → Forms k iterator → ClauseForms k c → Forms k nested → Forms k (clause iterator c nested)
   clause_forms c x y z =
       two_form (λ start end. x)
       (λ start end. then_forms (jump_forms op.ForIter end refl)
       (then_forms y.target (then_forms (conditions_form c.conditions start y.conditions) (then_forms z (jump_forms op.Jump start refl))))) (λ start end. keep_forms)
 
-  further_form : {within : Emission} (cs : List ClauseEmissions) → Every (ClauseForms k) cs → Forms k within → Forms k (further_clauses cs within)
+  further_form : {nested : Emission} (cs : List ClauseEmissions) → Every (ClauseForms k) cs → Forms k nested → Forms k (further_clauses cs nested)
   further_form [] x y = y
   further_form (c ∷ cs) x y = clause_forms c (then_forms x.0.iterable (emit_forms op.GetIter 0 refl)) x.0 (further_form cs x.1 y)
 
-  clauses_form : {within : Emission} (cs : List ClauseEmissions) → is_function k.typ ≡ true → Every (ClauseForms k) cs → Forms k within → Forms k (clauses cs within)
+  clauses_form : {nested : Emission} (cs : List ClauseEmissions) → is_function k.typ ≡ true → Every (ClauseForms k) cs → Forms k nested → Forms k (clauses cs nested)
   clauses_form [] f x y = y
   clauses_form (c ∷ cs) f x y = clause_forms c (varname_forms op.LoadFast (codes ".0") f refl refl refl) x.0 (further_form cs x.1 y)
 
@@ -254,30 +261,30 @@ module _ (k : Frame) where
       then_forms (clauses_form cs f x (then_forms y (marked_forms (then_forms (yield_forms op.YieldValue 0 refl refl refl refl) (emit_forms op.Pop 0 refl))))) (none_forms op.ReturnConst refl)
 
 -- the iterator that is handed in is loaded first
-clause_enters_name : (c : ClauseEmissions) (iterator within : Emission) → EntersName iterator → EntersName (clause iterator c within)
+clause_enters_name : (c : ClauseEmissions) (iterator nested : Emission) → EntersName iterator → EntersName (clause iterator c nested)
 unfolding two_blocks with_block with_step
-clause_enters_name c iterator within h s t e =
+clause_enters_name c iterator nested h s t e =
     let n = s.blocks in
     let m = suc n in
-    let inner : Emission = jump op.ForIter m ▸ c.target ▸ conditions c.conditions n ▸ within ▸ jump op.Jump n in
+    let inner : Emission = jump op.ForIter m ▸ c.target ▸ conditions c.conditions n ▸ nested ▸ jump op.Jump n in
     let p = both_done (run iterator (with_block (with_block s))) (begin n ▹ run inner ▹ begin m ▹ run keep) t e in
     let q = both_done (run inner (begins n p.0)) (begin m ▹ run keep) t p.2 in
     let l = h (with_block (with_block s)) p.0 p.1 in
     let l2 = longer_names inner (begins n p.0) q.0 q.1 l in
     of_done (λ (u : State). 1 ≤ length u.varnames) (Done (begins m q.0)) t q.2 l2
 
-clauses_enter_name : (c : ClauseEmissions) (cs : List ClauseEmissions) (within : Emission) → EntersName (clauses (c ∷ cs) within)
-clauses_enter_name c cs within = clause_enters_name c handed_iterator (further_clauses cs within) (varname_enters_name op.LoadFast (codes ".0"))
+clauses_enter_name : (c : ClauseEmissions) (cs : List ClauseEmissions) (nested : Emission) → EntersName (clauses (c ∷ cs) nested)
+clauses_enter_name c cs nested = clause_enters_name c handed_iterator (further_clauses cs nested) (varname_enters_name op.LoadFast (codes ".0"))
 
 pub gathered_enters_name : (build append : Instruction) (c : ClauseEmissions) (cs : List ClauseEmissions) (element : Emission) → EntersName (collection_scope build append (c ∷ cs) element)
 gathered_enters_name build append c cs element =
-    let within : Emission = element ▸ emit append (length (c ∷ cs)) in
-    second_enters_name (emit build 0) (clauses (c ∷ cs) within ▸ emit op.ReturnValue 0) (first_enters_name (clauses (c ∷ cs) within) (emit op.ReturnValue 0) (clauses_enter_name c cs within))
+    let nested : Emission = element ▸ emit append (length (c ∷ cs)) in
+    second_enters_name (emit build 0) (clauses (c ∷ cs) nested ▸ emit op.ReturnValue 0) (first_enters_name (clauses (c ∷ cs) nested) (emit op.ReturnValue 0) (clauses_enter_name c cs nested))
 
 pub generated_enters_name : (c : ClauseEmissions) (cs : List ClauseEmissions) (element : Emission) → EntersName (generator_body (c ∷ cs) element)
 generated_enters_name c cs element =
-    let within : Emission = element ▸ generator_mark ▸ emit op.YieldValue 0 ▸ emit op.Pop 0 in
-    first_enters_name (clauses (c ∷ cs) within) (emit_constant op.ReturnConst const.none) (clauses_enter_name c cs within)
+    let nested : Emission = element ▸ generator_mark ▸ emit op.YieldValue 0 ▸ emit op.Pop 0 in
+    first_enters_name (clauses (c ∷ cs) nested) (emit_constant op.ReturnConst const.none) (clauses_enter_name c cs nested)
 
 one_parameter : (g : Bool) → parameter_count (flags_of g 0x21) 1 0 ≡ 1
 one_parameter true = refl

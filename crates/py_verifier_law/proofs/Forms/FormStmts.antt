@@ -7,7 +7,9 @@ use Rattle.py_base.specs.declared.shapes.Malformed.TheVariants as shape
 use Rattle.py_tree.specs.Tree as tree
 use Rattle.py_tree.specs.PythonName.{python_name}
 use Rattle.py_shapes.specs.Parameters.{is_given}
-use Rattle.py_shapes.specs.Valid.{when, arguments_shapes, count, expr_shapes, exprs_shapes, handler_own_shapes, handlers_shapes, keywords_shapes, name_shapes, opt_expr_shapes, stmt_shapes, stmts_shapes, type_params_shapes, with_items_shapes}
+use Rattle.py_shapes.specs.Valid.{when, arguments_shapes, count, expr_shapes, exprs_shapes, handler_own_shapes, handlers_shapes}
+use Rattle.py_shapes.specs.Valid.{keywords_shapes, name_shapes, opt_expr_shapes, stmt_shapes, stmts_shapes, type_params_shapes}
+use Rattle.py_shapes.specs.Valid.{with_items_shapes}
 use Rattle.py_base.specs.declared.shapes.Malformed.TheVariants.{CauseAlone, NoTarget}
 use Rattle.py_scope.specs.declared.table_type.SymbolTableType.TheVariants as kind
 use Rattle.py_bytecode.specs.declared.instruction.Instruction.{Instruction}
@@ -18,7 +20,11 @@ use Rattle.py_emission.specs.Texts.{after_doc, stmt_text}
 use Rattle.py_base.specs.declared.errors.CodegenErrorType.{CodegenErrorType}
 use Rattle.py_base.specs.declared.errors.CodegenErrorType.TheVariants as error
 use Rattle.py_emission.specs.EmissionDefs.{emission_of_built, emission_of_end, emission_of_function}
-use Rattle.py_emission.specs.EmissionStmts.{emission_of_annotated, emission_of_annotation, emission_of_assert, emission_of_assign, emission_of_augment, emission_of_declared, emission_of_handlers, emission_of_item, emission_of_items, emission_of_last, emission_of_message, emission_of_operand, emission_of_raise, emission_of_rest, emission_of_returned, emission_of_stmt, emission_of_stmts, leave_loop}
+use Rattle.py_emission.specs.EmissionStmts.{emission_of_annotated, emission_of_annotation, emission_of_assert, emission_of_assign}
+use Rattle.py_emission.specs.EmissionStmts.{emission_of_augment, emission_of_declared, emission_of_handlers, emission_of_item}
+use Rattle.py_emission.specs.EmissionStmts.{emission_of_items, emission_of_last, emission_of_message, emission_of_operand}
+use Rattle.py_emission.specs.EmissionStmts.{emission_of_raise, emission_of_rest, emission_of_returned, emission_of_stmt, emission_of_stmts}
+use Rattle.py_emission.specs.EmissionStmts.{leave_loop}
 use Rattle.py_emission.specs.Predicates.{but_doc, itemless, message_count, none}
 use Rattle.py_emission_parts.specs.Children.{decorated_value}
 use Rattle.py_emission_parts.specs.Context.{is_function, mangled_by}
@@ -26,7 +32,10 @@ use Rattle.py_emission_parts.specs.Emitting.{Emission, LoopBlocks, ◌▸◌}
 use Rattle.py_emission_parts.specs.EmissionParts.{values}
 use Rattle.py_emission_parts.specs.Refused.{no_assignment}
 use Rattle.py_emission_parts.specs.TableParts.{binary_case}
-use Rattle.py_verifier_law.proofs.Forms.EmissionForms.{Forms, Frame, three_form, at_forms, context_forms, emit_forms, if_forms, in_function_forms, jump_forms, keep_forms, level_forms, load_forms, loop_forms, loops_form, mangled_forms, move_forms, name_forms, none_forms, refuse_forms, scopes_form, stored_forms, text_forms, then_forms, unless_debug_forms}
+use Rattle.py_verifier_law.proofs.Forms.EmissionForms.{Forms, Frame, three_form, at_forms, context_forms, emit_forms, if_forms}
+use Rattle.py_verifier_law.proofs.Forms.EmissionForms.{in_function_forms, jump_forms, keep_forms, level_forms, load_forms, loop_forms}
+use Rattle.py_verifier_law.proofs.Forms.EmissionForms.{loops_form, mangled_forms, move_forms, name_forms, none_forms, refuse_forms}
+use Rattle.py_verifier_law.proofs.Forms.EmissionForms.{scopes_form, stored_forms, text_forms, then_forms, unless_debug_forms}
 use Rattle.py_verifier_law.proofs.Forms.FormParts.{values_form}
 use Rattle.py_verifier_law.proofs.Forms.FormTests.{choice_forms, only_forms}
 use Rattle.py_verifier_law.proofs.Forms.FormScopes.{decorated_forms, inner_frame}
@@ -111,9 +120,9 @@ module _ (k : Frame) where
   assert_forms t msg level h g =
       if_forms (nat_eq level 0) (asserted_forms (message_count msg) (expr_forms k t h).test (message_forms msg g)) (scopes_form (λ postponed. scopes_in postponed t + scopes_in_opt postponed msg))
 
-  last_part_forms : {last : Emission} (ss : tree.Stmts) → Forms k last → Forms k (emission_of_last ss last)
-  last_part_forms tree.no_stmts x = keep_forms
-  last_part_forms (tree.more_stmts s ss) x = then_forms x (emit_forms op.EndFinally 0 refl)
+  finally_block_forms : {last : Emission} (ss : tree.Stmts) → Forms k last → Forms k (emission_of_last ss last)
+  finally_block_forms tree.no_stmts x = keep_forms
+  finally_block_forms (tree.more_stmts s ss) x = then_forms x (emit_forms op.EndFinally 0 refl)
 
   but_doc_forms : {v w : Emission} (text : Option (List ℕ)) → Forms k v → Forms k w → Forms k (but_doc text v w)
   but_doc_forms None x y = y
@@ -183,7 +192,7 @@ mutual
   stmt_forms k (tree.Try at body excepts orelse finalbody) h =
       let q = four_none (stmts_shapes k.class body) (handlers_shapes k.class excepts) (stmts_shapes k.class orelse) (stmts_shapes k.class finalbody) h in
       let last = not (none finalbody) in
-      at_forms at (try_forms last (stmts_form k body q.0) (λ end. handlers_form k excepts last end q.1) (stmts_form k orelse q.2) (last_part_forms k finalbody (stmts_form k finalbody q.3)))
+      at_forms at (try_forms last (stmts_form k body q.0) (λ end. handlers_form k excepts last end q.1) (stmts_form k orelse q.2) (finally_block_forms k finalbody (stmts_form k finalbody q.3)))
   stmt_forms k (tree.Assert at t msg) h =
       let q = two_none (expr_shapes k.class t) (opt_expr_shapes k.class msg) h in
       at_forms at (level_forms (λ l. assert_forms k t msg l q.0 q.1))

@@ -11,9 +11,13 @@ use Rattle.py_bytecode.specs.declared.instruction.Instruction.TheVariants as op
 use Rattle.py_bytecode.specs.Values.{flip}
 use Rattle.py_base.specs.declared.errors.CodegenErrorType.TheVariants as error
 use Rattle.py_emission_parts.specs.Emitting.{Emission, ◌▸◌, emit, move}
-use Rattle.py_emission_parts.specs.EmissionParts.{Emissions, bool_emissions, bool_test, bool_value, chain, choice, comparisons, emission_of_compare, first_comparison, keeping_jump, links, only, ordinary, past_tests, shorts, some_test, some_values, tested_value, testing_jump, tests, truth_of, unary_emissions, unary_value, values}
+use Rattle.py_emission_parts.specs.EmissionParts.{Emissions, bool_emissions, bool_test, bool_value, chain, choice, comparisons}
+use Rattle.py_emission_parts.specs.EmissionParts.{emission_of_compare, first_comparison, keeping_jump, links, only, ordinary, past_tests}
+use Rattle.py_emission_parts.specs.EmissionParts.{shorts, some_test, some_values, tested_value, testing_jump, tests, truth_of}
+use Rattle.py_emission_parts.specs.EmissionParts.{unary_emissions, unary_value, values}
 use Rattle.py_emission_parts.specs.TableParts.{deciding_truth, unary_case}
-use Rattle.py_verifier_law.proofs.Forms.EmissionForms.{Forms, Frame, at_forms, comparison_forms, emit_forms, if_forms, jump_forms, keep_forms, link_forms, one_forms, refuse_forms, then_forms, two_form}
+use Rattle.py_verifier_law.proofs.Forms.EmissionForms.{Forms, Frame, at_forms, comparison_forms, emit_forms, if_forms, jump_forms}
+use Rattle.py_verifier_law.proofs.Forms.EmissionForms.{keep_forms, link_forms, one_forms, refuse_forms, then_forms, two_form}
 use Rattle.py_verifier_law.proofs.Forms.FormParts.{Every, FormsWell, turn_forms, values_form}
 use Rattle.py_verifier_law.proofs.Forms.StepGroups.{is_plain}
 

@@ -21,7 +21,7 @@ use Rattle.py_emission_parts.specs.Everywhere.{Everywhere, UpTo}
 use Rattle.py_emission_parts.specs.Listed.{items_in, starts_in, steps_at}
 use Rattle.py_emission_parts.specs.Running.{code_head}
 use Rattle.py_emission_parts.specs.Sealed.{Head, assembled_object, assembled_steps, flags_of, head_with}
-use Rattle.py_emission_parts.specs.Within.{Shape}
+use Rattle.py_emission_parts.specs.NestedScopes.{Shape}
 use Rattle.py_emission_parts.proofs.ConstantLawLemmas.{All}
 use Rattle.py_well_formed.specs.Conditions.{line_fault}
 use Rattle.py_well_formed.specs.Lines.{lines_of}
@@ -118,11 +118,11 @@ generator_flag false flags h e = absurd cc
 
 module _ (level : ℕ) (c : Context) (h : Shape) (at : SourceLocation) (t : State) (shape : ShapeFits c.typ h) (formed : Formed c t)
     (few : parameter_count (flags_of t.generator h.flags) h.arg_count h.kwonlyarg_count ≤ length t.varnames) where
-  abbrev around : Head
-  around = code_head c h at
+  abbrev node_context : Head
+  node_context = code_head c h at
 
   abbrev top : const.Head
-  top = head_with around t (assembled_steps t.blocks (steps_at level t.steps))
+  top = head_with node_context t (assembled_steps t.blocks (steps_at level t.steps))
 
   units_met : (xs : List Step) → xs ≡ steps_at level t.steps
       → (let starts = starts_in t.blocks xs in let ws = least_widths (needs_of starts (items_in xs)) in let ls = lines_of (written_units (operand_in starts ws) (items_in xs) ws) in
@@ -132,7 +132,7 @@ module _ (level : ℕ) (c : Context) (h : Shape) (at : SourceLocation) (t : Stat
       lines_none top t.constants (room_of c t) (starts_in t.blocks xs) xs cut.groups (e ∙ ap (steps_at level) formed.are ∙ cut.are) cut.fit
       (λ q. shape.quick t.generator q) (λ g. generator_flag t.generator h.flags shape.yields g) (length-append c.cells c.frees) refl
 
-  own_meets : MeetsConditions (assembled_object level around t)
+  own_meets : MeetsConditions (assembled_object level node_context t)
   unfolding assembled_object
   own_meets =
       let n = parameter_count (flags_of t.generator h.flags) h.arg_count h.kwonlyarg_count in

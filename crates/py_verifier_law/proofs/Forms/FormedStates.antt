@@ -10,7 +10,7 @@ use Rattle.py_bytecode.specs.Objects.{Const, Object, constants, head}
 use Rattle.py_emission_parts.specs.Context.{Context, is_function}
 use Rattle.py_emission_parts.specs.Emitting.{Put, Begin, State, LoopBlocks, initial_state, with_step, with_block, with_name, with_varname, with_constant, with_location, with_loops, with_postponed}
 use Rattle.py_emission_parts.specs.Everywhere.{Everywhere}
-use Rattle.py_emission_parts.specs.Running.{begins, behind_child}
+use Rattle.py_emission_parts.specs.Running.{begins, after_child}
 use Rattle.py_emission_parts.proofs.ConstantLawLemmas.{All}
 use Rattle.py_emission_parts.proofs.TableGrowthLemmas.{Extends}
 use Rattle.py_well_formed.specs.Conditions.{unit_fault}
@@ -45,7 +45,7 @@ pub record Formed (c : Context) (s : State) : Type 0 where
   pub groups : List Group
   pub are : s.steps ≡ steps_of groups
   pub fit : GroupsFit (room_of c s) groups
-  pub around : SameScope c s.around.context
+  pub node_context : SameScope c s.node_context.context
   pub codes : All ConstMeets s.constants
 
 -- ---- each step keeps to it
@@ -55,7 +55,7 @@ group_formed c s g f h = record {
   groups = f.groups ++ g ∷ [];
   are = one_more_group s.steps f.groups g f.are;
   fit = one_more_fits (room_of c s) f.groups g f.fit h;
-  around = f.around;
+  node_context = f.node_context;
   codes = f.codes;
 }
 
@@ -70,26 +70,26 @@ begun_formed c s b f = group_formed c s (Alone (Begin b)) f tt
 
 pub named_formed : (c : Context) (s : State) (x : List ℕ) → Formed c s → Formed c (with_name x s)
 unfolding with_name
-named_formed c s x f = record { groups = f.groups; are = f.are; fit = f.fit; around = f.around; codes = f.codes }
+named_formed c s x f = record { groups = f.groups; are = f.are; fit = f.fit; node_context = f.node_context; codes = f.codes }
 
 pub varnamed_formed : (c : Context) (s : State) (x : List ℕ) → Formed c s → Formed c (with_varname x s)
 unfolding with_varname
-varnamed_formed c s x f = record { groups = f.groups; are = f.are; fit = f.fit; around = f.around; codes = f.codes }
+varnamed_formed c s x f = record { groups = f.groups; are = f.are; fit = f.fit; node_context = f.node_context; codes = f.codes }
 
 pub located_formed : (c : Context) (s : State) (at : SourceLocation) → Formed c s → Formed c (with_location at s)
 unfolding with_location
-located_formed c s at f = record { groups = f.groups; are = f.are; fit = f.fit; around = f.around; codes = f.codes }
+located_formed c s at f = record { groups = f.groups; are = f.are; fit = f.fit; node_context = f.node_context; codes = f.codes }
 
 pub blocked_formed : (c : Context) (s : State) → Formed c s → Formed c (with_block s)
 unfolding with_block
-blocked_formed c s f = record { groups = f.groups; are = f.are; fit = f.fit; around = f.around; codes = f.codes }
+blocked_formed c s f = record { groups = f.groups; are = f.are; fit = f.fit; node_context = f.node_context; codes = f.codes }
 
 pub numbered_formed : (c : Context) (s : State) (n : ℕ) → Formed c s → Formed c (record s { next = n })
-numbered_formed c s n f = record { groups = f.groups; are = f.are; fit = f.fit; around = f.around; codes = f.codes }
+numbered_formed c s n f = record { groups = f.groups; are = f.are; fit = f.fit; node_context = f.node_context; codes = f.codes }
 
 pub looped_formed : (c : Context) (s : State) (x : Option LoopBlocks) → Formed c s → Formed c (with_loops x s)
 unfolding with_loops
-looped_formed c s x f = record { groups = f.groups; are = f.are; fit = f.fit; around = f.around; codes = f.codes }
+looped_formed c s x f = record { groups = f.groups; are = f.are; fit = f.fit; node_context = f.node_context; codes = f.codes }
 
 pub postponed_formed : (c : Context) (s : State) (p : Bool) → Formed c s → Formed c (with_postponed p s)
 unfolding with_postponed
@@ -97,7 +97,7 @@ postponed_formed c s p f = record {
   groups = f.groups;
   are = f.are;
   fit = f.fit;
-  around = record { typ = f.around.typ; class = f.around.class; cells = f.around.cells; frees = f.around.frees };
+  node_context = record { typ = f.node_context.typ; class = f.node_context.class; cells = f.node_context.cells; frees = f.node_context.frees };
   codes = f.codes;
 }
 
@@ -105,10 +105,10 @@ pub generator_formed : (c : Context) (s : State) → Formed c s → Formed c (re
 generator_formed c s f =
     let wider : Wider (room_of c s)
     (room_of c (record s { generator = true })) = record { quick = λ e. e; generator = λ e. refl; cells = refl; constants = record { more = []; is = sym (append-nil s.constants) } } in
-    record { groups = f.groups; are = f.are; fit = groups_wider (room_of c s) (room_of c (record s { generator = true })) f.groups wider f.fit; around = f.around; codes = f.codes }
+    record { groups = f.groups; are = f.are; fit = groups_wider (room_of c s) (room_of c (record s { generator = true })) f.groups wider f.fit; node_context = f.node_context; codes = f.codes }
 
-pub behind_child_formed : (c : Context) (s t : State) → Formed c s → Formed c (behind_child s t)
-behind_child_formed c s t f = record { groups = f.groups; are = f.are; fit = f.fit; around = f.around; codes = f.codes }
+pub after_child_formed : (c : Context) (s t : State) → Formed c s → Formed c (after_child s t)
+after_child_formed c s t f = record { groups = f.groups; are = f.are; fit = f.fit; node_context = f.node_context; codes = f.codes }
 
 one_more_meets : (cs : List Const) (d : Const) → All ConstMeets cs → ConstMeets d → All ConstMeets (cs ++ d ∷ [])
 one_more_meets [] d h l = (l, tt)
@@ -135,10 +135,10 @@ constant_formed c s d f h =
       groups = f.groups;
       are = f.are;
       fit = groups_wider (room_of c s) (room_of c t) f.groups wider f.fit;
-      around = f.around;
+      node_context = f.node_context;
       codes = entered_meets (list_any (const_eq d) s.constants) s.constants d f.codes h;
     }
 
 -- before anything is emitted of a scope
 pub initial_formed : (c : Context) (at : SourceLocation) (n : ℕ) → Formed c (initial_state c at n)
-initial_formed c at n = record { groups = []; are = refl; fit = tt; around = record { typ = refl; class = refl; cells = refl; frees = refl }; codes = tt }
+initial_formed c at n = record { groups = []; are = refl; fit = tt; node_context = record { typ = refl; class = refl; cells = refl; frees = refl }; codes = tt }

@@ -16,9 +16,9 @@ use Rattle.py_emission_parts.specs.Children.{cell_loads, closure, free_names, lo
 use Rattle.py_emission_parts.specs.Context.{Context, cell_place}
 use Rattle.py_emission_parts.specs.EmissionParts.{in_turn}
 use Rattle.py_emission_parts.specs.Emitting.{Step, Put, State, Outcome, Done, TooWide, Refused, by_context, emit, emit_constant, emit_count, place_in, refuse, with_step, with_constant}
-use Rattle.py_emission_parts.specs.Running.{Action, on_done, put, run}
+use Rattle.py_emission_parts.specs.Running.{Action, on_done, put_instruction, run}
 use Rattle.py_emission_parts.specs.Everywhere.{Everywhere}
-use Rattle.py_emission_parts.specs.Within.{some_flag}
+use Rattle.py_emission_parts.specs.NestedScopes.{some_flag}
 use Rattle.py_emission_parts.proofs.EmissionLawLemmas.{EmissionLawHolds}
 use Rattle.py_verifier_law.proofs.Forms.StepGroups.{AllBelow, Makes, closure_flag, closure_steps, get_extended, load_steps, making_steps}
 use Rattle.py_verifier_law.proofs.Forms.FormedStates.{Formed, MeetsConditions, SameScope, constant_extends, constant_formed, group_formed}
@@ -33,8 +33,8 @@ holds_then P Q (Refused e at) b h k = tt
 abbrev IsPut : Instruction → ℕ → State → State → Type 0
 IsPut i n s t = (t ≡ with_step (Put i n None s.location) s) × (n < 2 ^ 32)
 
-put_is : (i : Instruction) (n : ℕ) (s : State) → EmissionLawHolds (IsPut i n s) (put i n s)
-unfolding put
+put_is : (i : Instruction) (n : ℕ) (s : State) → EmissionLawHolds (IsPut i n s) (put_instruction i n s)
+unfolding put_instruction
 put_is i n s = by (nat_lt n (2 ^ 32)) refl
   where
     by : (b : Bool) → nat_lt n (2 ^ 32) ≡ b → EmissionLawHolds (IsPut i n s) (if b then Done (with_step (Put i n None s.location) s) else TooWide)
@@ -45,7 +45,7 @@ count_is : (i : Instruction) (n : ℕ) (s : State) → EmissionLawHolds (IsPut i
 unfolding emit_count
 count_is i n s = by (nat_lt n (2 ^ 30))
   where
-    by : (b : Bool) → EmissionLawHolds (IsPut i n s) (if b then put i n s else TooWide)
+    by : (b : Bool) → EmissionLawHolds (IsPut i n s) (if b then put_instruction i n s else TooWide)
     by true = put_is i n s
     by false = tt
 
@@ -65,29 +65,29 @@ record CellLoaded (c : Context) (s t : State) : Type 0 where
   small : place < 2 ^ 32
   is : t ≡ with_step (Put op.LoadClosure place None s.location) s
 
-cell_loaded : (c : Context) (x : List ℕ) (s : State) → SameScope c s.around.context → EmissionLawHolds (CellLoaded c s) (run (load_cell x) s)
+cell_loaded : (c : Context) (x : List ℕ) (s : State) → SameScope c s.node_context.context → EmissionLawHolds (CellLoaded c s) (run (load_cell x) s)
 unfolding load_cell by_context emit refuse
-cell_loaded c x s same = by (list_any (text_eq x) (s.around.context.cells ++ s.around.context.frees)) refl
+cell_loaded c x s same = by (list_any (text_eq x) (s.node_context.context.cells ++ s.node_context.context.frees)) refl
   where
-    here : list_any (text_eq x) (s.around.context.cells ++ s.around.context.frees) ≡ true → cell_place s.around.context x < length (c.cells ++ c.frees)
+    here : list_any (text_eq x) (s.node_context.context.cells ++ s.node_context.context.frees) ≡ true → cell_place s.node_context.context x < length (c.cells ++ c.frees)
     here e =
-        let cells : List (List ℕ) = s.around.context.cells ++ s.around.context.frees in
-        let is : cells ≡ c.cells ++ c.frees = ap (λ (ys : List (List ℕ)). ys ++ s.around.context.frees) same.cells ∙ ap (λ (ys : List (List ℕ)). c.cells ++ ys) same.frees in
-        subst (λ (ys : List (List ℕ)). cell_place s.around.context x < length ys) is (place_below (text_eq x) cells e)
+        let cells : List (List ℕ) = s.node_context.context.cells ++ s.node_context.context.frees in
+        let is : cells ≡ c.cells ++ c.frees = ap (λ (ys : List (List ℕ)). ys ++ s.node_context.context.frees) same.cells ∙ ap (λ (ys : List (List ℕ)). c.cells ++ ys) same.frees in
+        subst (λ (ys : List (List ℕ)). cell_place s.node_context.context x < length ys) is (place_below (text_eq x) cells e)
 
-    found : EmissionLawHolds (IsPut op.LoadClosure (cell_place s.around.context x) s) (put op.LoadClosure (cell_place s.around.context x) s)
-        → list_any (text_eq x) (s.around.context.cells ++ s.around.context.frees) ≡ true
-        → EmissionLawHolds (CellLoaded c s) (put op.LoadClosure (cell_place s.around.context x) s)
-    found h e = go (put op.LoadClosure (cell_place s.around.context x) s) h
+    found : EmissionLawHolds (IsPut op.LoadClosure (cell_place s.node_context.context x) s) (put_instruction op.LoadClosure (cell_place s.node_context.context x) s)
+        → list_any (text_eq x) (s.node_context.context.cells ++ s.node_context.context.frees) ≡ true
+        → EmissionLawHolds (CellLoaded c s) (put_instruction op.LoadClosure (cell_place s.node_context.context x) s)
+    found h e = go (put_instruction op.LoadClosure (cell_place s.node_context.context x) s) h
       where
-        go : (o : Outcome) → EmissionLawHolds (IsPut op.LoadClosure (cell_place s.around.context x) s) o → EmissionLawHolds (CellLoaded c s) o
-        go (Done t) h = record { place = cell_place s.around.context x; inside = here e; small = h.1; is = h.0 }
+        go : (o : Outcome) → EmissionLawHolds (IsPut op.LoadClosure (cell_place s.node_context.context x) s) o → EmissionLawHolds (CellLoaded c s) o
+        go (Done t) h = record { place = cell_place s.node_context.context x; inside = here e; small = h.1; is = h.0 }
         go TooWide h = tt
         go (Refused f at) h = tt
 
-    by : (b : Bool) → list_any (text_eq x) (s.around.context.cells ++ s.around.context.frees) ≡ b
-        → EmissionLawHolds (CellLoaded c s) (run (if b then emit op.LoadClosure (cell_place s.around.context x) else refuse error.MissingCell) s)
-    by true e = found (put_is op.LoadClosure (cell_place s.around.context x) s) e
+    by : (b : Bool) → list_any (text_eq x) (s.node_context.context.cells ++ s.node_context.context.frees) ≡ b
+        → EmissionLawHolds (CellLoaded c s) (run (if b then emit op.LoadClosure (cell_place s.node_context.context x) else refuse error.MissingCell) s)
+    by true e = found (put_is op.LoadClosure (cell_place s.node_context.context x) s) e
     by false e = tt
 
 -- the cells of these names are loaded
@@ -98,7 +98,7 @@ record CellsLoaded (c : Context) (s : State) (xs : List (List ℕ)) (t : State) 
   small : AllBelow (2 ^ 32) places
   is : t ≡ record s { steps = s.steps ++ load_steps places s.location }
 
-cells_loaded : (c : Context) (xs : List (List ℕ)) (s : State) → SameScope c s.around.context → EmissionLawHolds (CellsLoaded c s xs) (run (in_turn (cell_loads xs)) s)
+cells_loaded : (c : Context) (xs : List (List ℕ)) (s : State) → SameScope c s.node_context.context → EmissionLawHolds (CellsLoaded c s xs) (run (in_turn (cell_loads xs)) s)
 unfolding with_step
 cells_loaded c [] s same = record { places = []; count = refl; inside = tt; small = tt; is = ap (λ (ys : List Step). record s { steps = ys }) (sym (append-nil s.steps)) }
 cells_loaded c (x ∷ xs) s same =
@@ -155,7 +155,7 @@ closed_by c s x xs (n ∷ ns) e i m f = record {
 abbrev load_count : List (List ℕ) → ℕ
 load_count xs = length (cell_loads xs)
 
-closure_loaded : (c : Context) (xs : List (List ℕ)) (s : State) → SameScope c s.around.context → EmissionLawHolds (ClosureLoaded c s xs) (run (closure xs) s)
+closure_loaded : (c : Context) (xs : List (List ℕ)) (s : State) → SameScope c s.node_context.context → EmissionLawHolds (ClosureLoaded c s xs) (run (closure xs) s)
 unfolding with_step
 closure_loaded c [] s same =
     record { places = []; count = refl; inside = tt; small = tt; few = omega arith; is = ap (λ (ys : List Step). record s { steps = ys }) (sym (append-nil s.steps)) }
@@ -247,7 +247,7 @@ module _ (c : Context) (s : State) (flags : ℕ) (name : List ℕ) (o : Object) 
   made_after =
       holds_then (ClosureLoaded c s (free_names o)) (FormedAfter c s) (run (closure (free_names o)) s)
       (λ t. on_done (run (emit_constant op.LoadConst (const.code o)) t) (λ u. on_done (run (emit_constant op.LoadConst (const.str name)) u) (run (emit op.MakeFunction made_flags))))
-      (closure_loaded c (free_names o) s formed.around)
+      (closure_loaded c (free_names o) s formed.node_context)
       (λ t h. holds_then (IsLoaded (const.code o) t) (FormedAfter c s) (run (emit_constant op.LoadConst (const.code o)) t)
       (λ u. on_done (run (emit_constant op.LoadConst (const.str name)) u) (run (emit op.MakeFunction made_flags))) (loaded_is (const.code o) t)
       (λ u k. holds_then (IsLoaded (const.str name) u) (FormedAfter c s) (run (emit_constant op.LoadConst (const.str name)) u) (run (emit op.MakeFunction made_flags)) (loaded_is (const.str name) u)

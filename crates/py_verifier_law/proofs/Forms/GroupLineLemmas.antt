@@ -18,7 +18,9 @@ use Rattle.py_emission_parts.specs.Listed.{items_in, number_of}
 use Rattle.py_well_formed.specs.declared.lines.Line.{Line}
 use Rattle.py_well_formed.specs.declared.fault.FormFaultKind.{FormFaultKind}
 use Rattle.py_well_formed.specs.declared.fault.FormFaultKind.TheVariants as fault
-use Rattle.py_well_formed.specs.Conditions.{Condition, at_unit, builds, closure_conditions, condition, first_of, first_unmet, free_count, function_conditions, has_closure, is_quick, is_text, is_yield, line_conditions, line_fault, loaded_const, loads_cell, loads_cells, makes_function}
+use Rattle.py_well_formed.specs.Conditions.{Condition, at_unit, builds, closure_conditions, condition, first_of, first_unmet, free_count}
+use Rattle.py_well_formed.specs.Conditions.{function_conditions, has_closure, is_quick, is_text, is_yield, line_conditions, line_fault}
+use Rattle.py_well_formed.specs.Conditions.{loaded_const, loads_cell, loads_cells, makes_function}
 use Rattle.py_well_formed.specs.Lines.{before}
 use Rattle.py_well_formed.specs.Tables.{has_flag}
 use Rattle.py_verifier_law.proofs.Forms.ShownLineLemmas.{ShowAll, shown}
@@ -65,7 +67,7 @@ le_is a b h = grind (arith, nat_tests)
 lt_is : (a b : ℕ) → a < b → nat_lt a b ≡ true
 lt_is a b h = grind (arith, nat_tests)
 
--- so many lines behind the front, counted back
+-- so many lines after the front, counted back
 before_at : (all front back : List Line) (i b j : ℕ) → all ≡ front ++ back → i ≡ length front + j + b → before all i b ≡ slice_get back j
 before_at all front back i b j e f =
     chosen_true (nat_le b i) (slice_get all (i - b)) None (le_is b i (omega (arith, f)))

@@ -20,11 +20,11 @@ use Rattle.py_emission_parts.specs.Children.{enter_parameters, function_scope}
 use Rattle.py_emission_parts.specs.Emitting.{State, Outcome, Done, TooWide, Refused, Emission, ◌▸◌, add_constant, add_varname, emit, emit_varname, place_in, refuse, with_step, with_varname, Put}
 use Rattle.py_emission_parts.specs.EmissionParts.{unless_debug}
 use Rattle.py_emission_parts.specs.Refused.{no_assignment}
-use Rattle.py_emission_parts.specs.Running.{Action, on_done, put, run}
+use Rattle.py_emission_parts.specs.Running.{Action, on_done, put_instruction, run}
 use Rattle.py_emission_parts.specs.Sealed.{flags_of}
 use Rattle.py_emission_parts.specs.TableParts.{is_debug}
 use Rattle.py_emission_parts.specs.TypeParameters.{load_handed}
-use Rattle.py_emission_parts.specs.Within.{some_flag}
+use Rattle.py_emission_parts.specs.NestedScopes.{some_flag}
 use Rattle.py_emission_parts.proofs.EmissionLawLemmas.{EmissionLawHolds}
 use Rattle.py_emission_parts.proofs.GrowthLemmas.{of_done}
 use Rattle.py_emission_parts.proofs.TableGrowthLemmas.{Extends, all_lengthen}
@@ -146,22 +146,22 @@ mangled_names : Option (List ℕ) → List (List ℕ) → List (List ℕ)
 mangled_names class [] = []
 mangled_names class (x ∷ xs) = mangled_in class x ∷ mangled_names class xs
 
-one_entered : (class : Option (List ℕ)) (x : List ℕ) (s m : State) → s.around.context.class ≡ class → run (unless_debug no_assignment x (add_varname x)) s ≡ Done m
-    → Stands m.varnames (mangled_in class x) × (m.around.context.class ≡ class)
+one_entered : (class : Option (List ℕ)) (x : List ℕ) (s m : State) → s.node_context.context.class ≡ class → run (unless_debug no_assignment x (add_varname x)) s ≡ Done m
+    → Stands m.varnames (mangled_in class x) × (m.node_context.context.class ≡ class)
 unfolding add_varname with_varname refuse
 one_entered class x s m c e = by (is_debug x) e
   where
-    entered : (t : State) → t ≡ with_varname (mangled_in s.around.context.class x) s → Stands t.varnames (mangled_in class x) × (t.around.context.class ≡ class)
+    entered : (t : State) → t ≡ with_varname (mangled_in s.node_context.context.class x) s → Stands t.varnames (mangled_in class x) × (t.node_context.context.class ≡ class)
     entered t f =
-        subst (λ (u : State). Stands u.varnames (mangled_in class x) × (u.around.context.class ≡ class)) (sym f)
+        subst (λ (u : State). Stands u.varnames (mangled_in class x) × (u.node_context.context.class ≡ class)) (sym f)
         (subst (λ (k : Option (List ℕ)). Stands (insert_if_new text_eq s.varnames (mangled_in k x)) (mangled_in class x)) (sym c) (entered_name_stands s.varnames (mangled_in class x)), c)
 
-    by : (b : Bool) → run (if b then refuse (error.SyntaxError no_assignment) else add_varname x) s ≡ Done m → Stands m.varnames (mangled_in class x) × (m.around.context.class ≡ class)
+    by : (b : Bool) → run (if b then refuse (error.SyntaxError no_assignment) else add_varname x) s ≡ Done m → Stands m.varnames (mangled_in class x) × (m.node_context.context.class ≡ class)
     by true f = absurd cc
-    by false f = of_done (λ t. Stands t.varnames (mangled_in class x) × (t.around.context.class ≡ class)) (Done (with_varname (mangled_in s.around.context.class x) s)) m f
-        (entered (with_varname (mangled_in s.around.context.class x) s) refl)
+    by false f = of_done (λ t. Stands t.varnames (mangled_in class x) × (t.node_context.context.class ≡ class)) (Done (with_varname (mangled_in s.node_context.context.class x) s)) m f
+        (entered (with_varname (mangled_in s.node_context.context.class x) s) refl)
 
-all_entered : (class : Option (List ℕ)) (xs : List (List ℕ)) (s t : State) → s.around.context.class ≡ class → run (enter_parameters xs) s ≡ Done t → AllStand t.varnames (mangled_names class xs)
+all_entered : (class : Option (List ℕ)) (xs : List (List ℕ)) (s t : State) → s.node_context.context.class ≡ class → run (enter_parameters xs) s ≡ Done t → AllStand t.varnames (mangled_names class xs)
 unfolding mangled_names
 all_entered class [] s t c e = tt
 all_entered class (x ∷ xs) s t c e =
@@ -256,10 +256,10 @@ function_takes class params name body differ s t c e =
 -- ---- names that are loaded by their place
 
 varname_loaded : (i : Instruction) (x : List ℕ) (s t : State) → run (emit_varname i x) s ≡ Done t → Stands t.varnames x
-unfolding emit_varname put with_varname with_step
+unfolding emit_varname put_instruction with_varname with_step
 varname_loaded i x s t e =
     let n = place_in text_eq s.varnames x in
-    of_done (λ u. Stands u.varnames x) (put i n (with_varname x s)) t e (by n (nat_lt n (2 ^ 32)))
+    of_done (λ u. Stands u.varnames x) (put_instruction i n (with_varname x s)) t e (by n (nat_lt n (2 ^ 32)))
   where
     by : (n : ℕ) (b : Bool) → EmissionLawHolds (λ v. Stands v.varnames x) (if b then Done (with_step (Put i n None s.location) (with_varname x s)) else TooWide)
     by n true = entered_name_stands s.varnames x

@@ -15,7 +15,8 @@ pub returns-in-Some : goal.returns-in-Some
 returns-in-Some c =
     let t = mod_tree c.args.ast.now in
     let e = c.refused in
-    refused_whole e.result c.in-Some.error t c.args.source_path c.args.mode c.args.opts.optimize e.ensures.error e.ensures.location e.ensures.path (subst (λ r. IsChecked r t c.args.mode) c.in-Some.is c.tree_fault.ensures)
+    refused_whole e.result c.in-Some.error t c.args.source_path c.args.mode c.args.opts.optimize e.ensures.error e.ensures.location
+    e.ensures.path (subst (λ r. IsChecked r t c.args.mode) c.in-Some.is c.tree_fault.ensures)
 
 -- the tree is whole, where it is this one
 whole_as : (a b : Mod) (r : Option CodegenErrorType) (m : Mode) → a ≡ b → r ≡ None → IsChecked r (mod_tree a) m → IsWhole (mod_tree b) m
@@ -37,4 +38,7 @@ compile_valid-requires-in-Expression c =
     subst (λ (y : Expr). IsWhole (tree.Expression (expr_tree y)) c.args.mode) (sym c.deref.ensures) w
 
 pub returns-in-FunctionType : goal.returns-in-FunctionType
-returns-in-FunctionType c = absurd (no_function_type c.in-FunctionType.field-0 c.args.mode (whole_as c.args.ast.now (program.FunctionType c.in-FunctionType.field-0) c.tree_fault.result c.args.mode c.in-FunctionType.is c.in-None.is c.tree_fault.ensures))
+returns-in-FunctionType c = absurd
+    (no_function_type c.in-FunctionType.field-0 c.args.mode
+    (whole_as c.args.ast.now (program.FunctionType c.in-FunctionType.field-0) c.tree_fault.result c.args.mode c.in-FunctionType.is
+    c.in-None.is c.tree_fault.ensures))

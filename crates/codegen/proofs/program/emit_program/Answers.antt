@@ -2,7 +2,7 @@ use Rattle.std.proofs.Common.{rules, ◌≡◌, Err, ap, drop, sym, ◌∙◌, a
 use Rattle.py_tree.specs.View.{stmt_tree, stmts}
 use Rattle.py_emit.specs.States.{state}
 use Rattle.py_emit.proofs.Joined.{first_refuses, goes_as, went}
-use Rattle.codegen.proofs.Files.{behind_doc, returning}
+use Rattle.codegen.proofs.Files.{statements_after_doc, statements_returning}
 use Rattle.py_emission_parts.specs.Running.{run}
 use Rattle.codegen.proofs.program.emit_program.Goals as goal
 
@@ -11,9 +11,9 @@ returns c = record {
   goes =
       let after = stmts stmt_tree (drop c.in_ok-from.from c.args.body.now) in
       goes_as _ _ _ _
-      (behind_doc (stmts stmt_tree c.args.body.now) after c.find_ann.result _ _ c.in_ok-from.ensures.emits.goes c.in_ok-from.ensures.from c.find_ann.ensures
-      ∙ went _ (run (returning after)) _ c.in_ok-emit_setup.ensures.goes
-      ∙ ap (λ xs. run (returning (stmts stmt_tree xs)) (state c.emit_setup.new.em)) (sym c.statements_from-statements.ensures))
+      (statements_after_doc (stmts stmt_tree c.args.body.now) after c.find_ann.result _ _ c.in_ok-from.ensures.emits.goes c.in_ok-from.ensures.from c.find_ann.ensures
+      ∙ went _ (run (statements_returning after)) _ c.in_ok-emit_setup.ensures.goes
+      ∙ ap (λ xs. run (statements_returning (stmts stmt_tree xs)) (state c.emit_setup.new.em)) (sym c.statements_from-statements.ensures))
       c.emit_rest.ensures.goes;
   same = search rules;
 }
@@ -22,6 +22,8 @@ pub returns-in_err-emit_setup : goal.returns-in_err-emit_setup
 returns-in_err-emit_setup c = record {
   goes =
       let r : c.from_residual-in_err-emit_setup.result ≡ Err c.in_err-emit_setup.field-0.0 = grind arith in
-      first_refuses _ _ _ _ _ _ r (behind_doc (stmts stmt_tree c.args.body.now) (stmts stmt_tree (drop c.in_ok-from.from c.args.body.now)) c.find_ann.result _ _ c.in_ok-from.ensures.emits.goes c.in_ok-from.ensures.from c.find_ann.ensures) c.in_err-emit_setup.ensures.goes;
+      first_refuses _ _ _ _ _ _ r (statements_after_doc (stmts stmt_tree c.args.body.now)
+      (stmts stmt_tree (drop c.in_ok-from.from c.args.body.now)) c.find_ann.result _ _ c.in_ok-from.ensures.emits.goes
+      c.in_ok-from.ensures.from c.find_ann.ensures) c.in_err-emit_setup.ensures.goes;
   same = search rules;
 }

@@ -16,14 +16,20 @@ returns-then-is_none c =
 pub returns-then-is_none-2 : goal.returns-then-is_none-2
 returns-then-is_none-2 c =
     let t = tree.Expression (expr_tree c.args.expr.now) in
-    too_large_checked t mode.Eval (first_below c.depth_of_expr.result 1024 (nesting t) c.if-is_none.ensures c.depth_of_expr.ensures) (at_least c.size_of_expr.result 4194304 (size_of t) c.if-is_none-2.ensures c.size_of_expr.ensures)
+    too_large_checked t mode.Eval (first_below c.depth_of_expr.result 1024 (nesting t) c.if-is_none.ensures c.depth_of_expr.ensures)
+    (at_least c.size_of_expr.result 4194304 (size_of t) c.if-is_none-2.ensures c.size_of_expr.ensures)
 
 pub returns-in-Some : goal.returns-in-Some
 returns-in-Some c =
     let t = tree.Expression (expr_tree c.args.expr.now) in
-    malformed_checked t mode.Eval c.in-Some.shape (first_below c.depth_of_expr.result 1024 (nesting t) c.if-is_none.ensures c.depth_of_expr.ensures) (first_below c.size_of_expr.result 4194304 (size_of t) c.if-is_none-2.ensures c.size_of_expr.ensures) (sym c.valid_expr.ensures ∙ c.in-Some.is)
+    malformed_checked t mode.Eval c.in-Some.shape
+    (first_below c.depth_of_expr.result 1024 (nesting t) c.if-is_none.ensures c.depth_of_expr.ensures)
+    (first_below c.size_of_expr.result 4194304 (size_of t) c.if-is_none-2.ensures c.size_of_expr.ensures)
+    (sym c.valid_expr.ensures ∙ c.in-Some.is)
 
 pub returns-in-None : goal.returns-in-None
 returns-in-None c =
     let t = tree.Expression (expr_tree c.args.expr.now) in
-    whole_checked t mode.Eval (first_below c.depth_of_expr.result 1024 (nesting t) c.if-is_none.ensures c.depth_of_expr.ensures) (first_below c.size_of_expr.result 4194304 (size_of t) c.if-is_none-2.ensures c.size_of_expr.ensures) (sym c.valid_expr.ensures ∙ c.in-None.is)
+    whole_checked t mode.Eval (first_below c.depth_of_expr.result 1024 (nesting t) c.if-is_none.ensures c.depth_of_expr.ensures)
+    (first_below c.size_of_expr.result 4194304 (size_of t) c.if-is_none-2.ensures c.size_of_expr.ensures)
+    (sym c.valid_expr.ensures ∙ c.in-None.is)

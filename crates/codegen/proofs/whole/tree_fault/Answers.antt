@@ -14,14 +14,20 @@ returns-then-is_none c =
 pub returns-then-is_none-2 : goal.returns-then-is_none-2
 returns-then-is_none-2 c =
     let t = mod_tree c.args.ast.now in
-    too_large_checked t c.args.mode (first_below c.depth_of_tree.result 1024 (nesting t) c.if-is_none.ensures c.depth_of_tree.ensures) (at_least c.size_of_tree.result 4194304 (size_of t) c.if-is_none-2.ensures c.size_of_tree.ensures)
+    too_large_checked t c.args.mode (first_below c.depth_of_tree.result 1024 (nesting t) c.if-is_none.ensures c.depth_of_tree.ensures)
+    (at_least c.size_of_tree.result 4194304 (size_of t) c.if-is_none-2.ensures c.size_of_tree.ensures)
 
 pub returns-in-Some : goal.returns-in-Some
 returns-in-Some c =
     let t = mod_tree c.args.ast.now in
-    malformed_checked t c.args.mode c.in-Some.shape (first_below c.depth_of_tree.result 1024 (nesting t) c.if-is_none.ensures c.depth_of_tree.ensures) (first_below c.size_of_tree.result 4194304 (size_of t) c.if-is_none-2.ensures c.size_of_tree.ensures) (sym c.valid.ensures ∙ c.in-Some.is)
+    malformed_checked t c.args.mode c.in-Some.shape
+    (first_below c.depth_of_tree.result 1024 (nesting t) c.if-is_none.ensures c.depth_of_tree.ensures)
+    (first_below c.size_of_tree.result 4194304 (size_of t) c.if-is_none-2.ensures c.size_of_tree.ensures)
+    (sym c.valid.ensures ∙ c.in-Some.is)
 
 pub returns-in-None : goal.returns-in-None
 returns-in-None c =
     let t = mod_tree c.args.ast.now in
-    whole_checked t c.args.mode (first_below c.depth_of_tree.result 1024 (nesting t) c.if-is_none.ensures c.depth_of_tree.ensures) (first_below c.size_of_tree.result 4194304 (size_of t) c.if-is_none-2.ensures c.size_of_tree.ensures) (sym c.valid.ensures ∙ c.in-None.is)
+    whole_checked t c.args.mode (first_below c.depth_of_tree.result 1024 (nesting t) c.if-is_none.ensures c.depth_of_tree.ensures)
+    (first_below c.size_of_tree.result 4194304 (size_of t) c.if-is_none-2.ensures c.size_of_tree.ensures)
+    (sym c.valid.ensures ∙ c.in-None.is)

@@ -6,18 +6,23 @@ use Rattle.py_answers.proofs.answers.are_answers.Goals.{then-room-eq0-via-then-r
 
 pub returns-then-room-eq0 : goal.returns-then-room-eq0
 returns-then-room-eq0 c =
-    let split = cut c.loop-piece.rest.now (Some (c.in-Some.piece, c.in-Some.behind)) c.in-Some.ensures.cases in
+    let split = cut c.loop-piece.rest.now (Some (c.in-Some.piece, c.in-Some.after)) c.in-Some.ensures.cases in
     elim c.then-room-eq0.branch [
-      | then-room-eq0-via-then-room-eq0 w ↦ let z = w.if-room-eq0.true in full c.args.text.now c.loop-piece.rest.now c.in-Some.piece.now c.in-Some.behind.now c.loop-piece.room c.loop-piece.invariant.1 split (omega (arith, z))
-      | then-room-eq0-via-else-room-eq0+then-not-is_answer w ↦ found_no_answer c.args.text.now c.loop-piece.rest.now c.in-Some.piece.now c.in-Some.behind.now c.loop-piece.room c.loop-piece.invariant.1 split (sym w.is_answer.ensures ∙ w.if-not-is_answer.true)
+      | then-room-eq0-via-then-room-eq0 w ↦ let z = w.if-room-eq0.true in full c.args.text.now c.loop-piece.rest.now c.in-Some.piece.now
+          c.in-Some.after.now c.loop-piece.room c.loop-piece.invariant.1 split (omega (arith, z))
+      | then-room-eq0-via-else-room-eq0+then-not-is_answer w ↦ found_no_answer c.args.text.now c.loop-piece.rest.now c.in-Some.piece.now
+          c.in-Some.after.now c.loop-piece.room c.loop-piece.invariant.1 split (sym w.is_answer.ensures ∙ w.if-not-is_answer.true)
     ]
 
 pub loop-piece-preserved : goal.loop-piece-preserved
 loop-piece-preserved c =
-    let split = cut c.loop-piece.rest.now (Some (c.in-Some.piece, c.in-Some.behind)) c.in-Some.ensures.cases in
+    let split = cut c.loop-piece.rest.now (Some (c.in-Some.piece, c.in-Some.after)) c.in-Some.ensures.cases in
     let some = c.loop-piece.invariant.1.some in
-    let not = c.if-room-eq0.false in
-    (search rules, go_on c.args.text.now c.loop-piece.rest.now c.in-Some.piece.now c.in-Some.behind.now c.loop-piece.room c.loop-piece.invariant.1 split (omega (arith, some, not)) (sym c.is_answer.ensures ∙ c.if-not-is_answer.false))
+    let not = c.if-room-eq0.false in (
+      search rules,
+      go_on c.args.text.now c.loop-piece.rest.now c.in-Some.piece.now c.in-Some.after.now c.loop-piece.room
+          c.loop-piece.invariant.1 split (omega (arith, some, not)) (sym c.is_answer.ensures ∙ c.if-not-is_answer.false),
+    )
 
 pub returns-then-room-gt1 : goal.returns-then-room-gt1
 returns-then-room-gt1 c =

@@ -13,4 +13,6 @@ returns-in-Dict c =
     let call = c.compile_comprehension-in-Dict in
     subst (λ (p : ComprehensionParts). Emits {A = Unit {0}} call.result (emission_of_parts p) c.args.em.now call.new.em)
     (sym parts.is)
-    (subst (λ clauses. Emits {A = Unit {0}} call.result (comprehension_of (generators expr_tree clauses) (element.Dict parts.key parts.value)) c.args.em.now call.new.em) c.as_slice-in-Dict.ensures call.ensures)
+    (subst (λ clauses. Emits {A = Unit {0}} call.result
+    (comprehension_of (generators expr_tree clauses) (element.Dict parts.key parts.value)) c.args.em.now call.new.em)
+    c.as_slice-in-Dict.ensures call.ensures)

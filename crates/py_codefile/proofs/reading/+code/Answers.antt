@@ -10,17 +10,22 @@ use Rattle.py_codefile.proofs.reading.+code.Goals as goal
 pub constants-returns-in_err-read_constant : goal.constants-returns-in_err-read_constant
 constants-returns-in_err-read_constant t c =
     let p = err_from_is_err_and c.from_residual.result c.from_residual.ensures.1 in
-    rw (p.1, p.2) (loop_ends (constant_at c.args.room) c.in_err-read_constant.field-0.0 (map constant c.loop.items.items) c.args.count c.loop.counter c.loop.reader (many (constant_at c.args.room) c.args.count c.args.reader.now) c.loop-test.true c.in_err-read_constant.ensures c.loop.invariant)
+    rw (p.1, p.2) (loop_ends (constant_at c.args.room) c.in_err-read_constant.field-0.0
+    (map constant c.loop.items.items) c.args.count c.loop.counter c.loop.reader
+    (many (constant_at c.args.room) c.args.count c.args.reader.now) c.loop-test.true c.in_err-read_constant.ensures c.loop.invariant)
 
 pub constants-loop-preserved : goal.constants-loop-preserved
 constants-loop-preserved t c =
     let x = c.in_ok-read_constant.field-0 in
     let e : map constant c.push.new.self.items ≡ map constant c.loop.items.items ++ constant x ∷ [] = rw c.in_ok-push.ensures.items (map_push _ c.loop.items.items x) in
-    rw e (loop_goes_on (constant_at c.args.room) (map constant c.loop.items.items) c.args.count c.loop.counter c.loop.reader (constant x) c.read_constant.new.reader (many (constant_at c.args.room) c.args.count c.args.reader.now) c.loop-test.true c.in_ok-read_constant.ensures c.loop.invariant)
+    rw e (loop_goes_on (constant_at c.args.room) (map constant c.loop.items.items) c.args.count c.loop.counter c.loop.reader
+    (constant x) c.read_constant.new.reader (many (constant_at c.args.room) c.args.count c.args.reader.now) c.loop-test.true
+    c.in_ok-read_constant.ensures c.loop.invariant)
 
 pub constants-returns : goal.constants-returns
 constants-returns t c =
-    let done = is_done (constant_at c.args.room) (map constant c.loop.items.items) c.args.count c.loop.counter c.loop.reader (many (constant_at c.args.room) c.args.count c.args.reader.now) c.loop-test.false c.loop.invariant in
+    let done = is_done (constant_at c.args.room) (map constant c.loop.items.items) c.args.count c.loop.counter c.loop.reader
+    (many (constant_at c.args.room) c.args.count c.args.reader.now) c.loop-test.false c.loop.invariant in
     rw c.from_vec.ensures done
 
 pub read_constant-returns-in_err-kind : goal.read_constant-returns-in_err-kind

@@ -4,7 +4,7 @@ use Rattle.py_bytecode.specs.Objects.{const_list}
 use Rattle.py_bytecode.specs.View.{constant, constants_of, head_of}
 use Rattle.py_bytecode.proofs.View.{object_is}
 use Rattle.py_codefile.specs.Limits.{const_longest, consts_longest}
-use Rattle.py_codefile.proofs.WritingCode.{WritingCodeFits, all_fit, all_spelled, code_written, writing_code_counted, list_written, writing_code_long, more_long, spelled}
+use Rattle.py_codefile.proofs.WritingCode.{WritingCodeFits, all_fit, all_spelled, code_written, writing_code_counted, list_written, writing_code_long, more_long, constant_bytes}
 use Rattle.py_codefile.proofs.WritingLoop.{writing_loop_begins, writing_loop_goes_on, is_done, writing_loop_next, writing_loop_nothing, stops}
 use Rattle.py_codefile.proofs.writing.+writing.Goals as goal
 
@@ -34,7 +34,9 @@ put_constant_list-returns-in_err-put_constants t c =
 pub put_constant_list-returns : goal.put_constant_list-returns
 put_constant_list-returns t c =
     let xs = c.args.constants.now in
-    list_written (length (const_list (constants_of xs))) (length xs) (constants_of xs) c.args.out.now.items c.put_count.new.out.items c.put_constants.new.out.items (writing_code_counted xs) c.in_ok-put_count.ensures c.in_ok-put_constants.ensures
+    list_written (length (const_list (constants_of xs))) (length xs)
+    (constants_of xs) c.args.out.now.items c.put_count.new.out.items c.put_constants.new.out.items
+    (writing_code_counted xs) c.in_ok-put_count.ensures c.in_ok-put_constants.ensures
 
 pub put_constants-returns-in_err-put_constant : goal.put_constants-returns-in_err-put_constant
 put_constants-returns-in_err-put_constant t c =
@@ -45,15 +47,18 @@ put_constants-returns-in_err-put_constant t c =
     rw (p.1, p.2) (stops c.in_err-put_constant.field-0.0 (const_longest (constant c.item-item.result)) (writing_code_long xs) c.in_err-put_constant.ensures le)
 
 pub put_constants-loop-item-init : goal.put_constants-loop-item-init
-put_constants-loop-item-init t c = writing_loop_begins WritingCodeFits spelled writing_code_long more_long c.args.constants.now c.args.out.now.items
+put_constants-loop-item-init t c = writing_loop_begins WritingCodeFits constant_bytes writing_code_long more_long c.args.constants.now c.args.out.now.items
 
 pub put_constants-loop-item-preserved : goal.put_constants-loop-item-preserved
 put_constants-loop-item-preserved t c =
     let front = writing_loop_next c.args.constants.now c.loop-item.item-index c.item-item.result c.item-item.result c.loop-item-test.true (sym c.item-item.is) in
-    writing_loop_goes_on WritingCodeFits spelled writing_code_long more_long c.args.constants.now c.args.out.now.items c.loop-item.item-index c.item-item.result c.loop-item.out.items c.put_constant.new.out.items front c.in_ok-put_constant.ensures.0 c.in_ok-put_constant.ensures.1 c.loop-item.invariant
+    writing_loop_goes_on WritingCodeFits constant_bytes writing_code_long more_long c.args.constants.now c.args.out.now.items
+    c.loop-item.item-index c.item-item.result c.loop-item.out.items c.put_constant.new.out.items front c.in_ok-put_constant.ensures.0
+    c.in_ok-put_constant.ensures.1 c.loop-item.invariant
 
 pub put_constants-returns : goal.put_constants-returns
 put_constants-returns t c =
     let xs = c.args.constants.now in
-    let done = is_done WritingCodeFits spelled writing_code_long more_long xs c.args.out.now.items c.loop-item.item-index c.loop-item.out.items (writing_loop_nothing xs c.loop-item.item-index c.loop-item-test.false) c.loop-item.invariant in
+    let done = is_done WritingCodeFits constant_bytes writing_code_long more_long xs c.args.out.now.items c.loop-item.item-index
+    c.loop-item.out.items (writing_loop_nothing xs c.loop-item.item-index c.loop-item-test.false) c.loop-item.invariant in
     (all_fit xs done.0, done.1 ∙ ap (λ x. c.args.out.now.items ++ x) (all_spelled xs))

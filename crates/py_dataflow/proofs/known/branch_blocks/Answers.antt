@@ -7,4 +7,5 @@ use Rattle.py_dataflow.proofs.known.branch_blocks.Goals as goal
 
 pub returns-then-i-shape : goal.returns-then-i-shape
 returns-then-i-shape c =
-    take_rest c.args.shape.now (c.loop_index-i.result + 1) ∙ sym (rest_drop c.args.shape.now c.loop_index-i.result) ∙ ap rest_of c.loop_index-i.ensures.at ∙ sym (ap (λ o. branch_base o c.args.shape.now) c.in-Breaks.is)
+    take_rest c.args.shape.now (c.loop_index-i.result + 1) ∙ sym (rest_drop c.args.shape.now c.loop_index-i.result)
+    ∙ ap rest_of c.loop_index-i.ensures.at ∙ sym (ap (λ o. branch_base o c.args.shape.now) c.in-Breaks.is)

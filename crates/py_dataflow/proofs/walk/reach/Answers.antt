@@ -10,7 +10,9 @@ returns-then-to-items-clause-refused c = place_successor_ends_at c.args._starts.
 
 pub returns-in-Ok-clause-steps : goal.returns-in-Ok-clause-steps
 returns-in-Ok-clause-steps c = record {
-  shown = arrives_shown (look_at c.args._starts.now c.args.items.now) (length c.args.items.now) c.args.states.now c.arrive.new.states c.args.to (state_of c.args.arriving) c.in-Ok.ensures.arrives c.requires.shown c.requires.arriving;
+  shown = arrives_shown (look_at c.args._starts.now c.args.items.now)
+      (length c.args.items.now) c.args.states.now c.arrive.new.states c.args.to
+      (state_of c.args.arriving) c.in-Ok.ensures.arrives c.requires.shown c.requires.arriving;
   grows = arrives_grows (look_at c.args._starts.now c.args.items.now) (length c.args.items.now) c.args.states.now c.arrive.new.states c.args.to (state_of c.args.arriving) c.in-Ok.ensures.arrives;
   moves = c.in-Ok.ensures.moves;
 }
@@ -19,7 +21,11 @@ pub returns-in-Ok-clause-elsewhere : goal.returns-in-Ok-clause-elsewhere
 returns-in-Ok-clause-elsewhere c = c.in-Ok.ensures.arrives.others
 
 pub returns-in-Ok-clause-covered : goal.returns-in-Ok-clause-covered
-returns-in-Ok-clause-covered c = arrives_covers (look_at c.args._starts.now c.args.items.now) (length c.args.items.now) c.args.states.now c.arrive.new.states c.args.to (state_of c.args.arriving) c.in-Ok.ensures.arrives
+returns-in-Ok-clause-covered c = arrives_covers (look_at c.args._starts.now c.args.items.now)
+    (length c.args.items.now) c.args.states.now c.arrive.new.states c.args.to (state_of c.args.arriving) c.in-Ok.ensures.arrives
 
 pub returns-in-Err-clause-refused : goal.returns-in-Err-clause-refused
-returns-in-Err-clause-refused c = refused_at (look_at c.args._starts.now c.args.items.now) (length c.args.items.now) c.args.states.now c.args.to (state_of c.args.arriving) c.in-Err.refused c.requires.shown c.requires.arriving c.in-Err.ensures.uneven c.in-Err.ensures.unfit c.in-Err.ensures.others
+returns-in-Err-clause-refused c = refused_at (look_at c.args._starts.now c.args.items.now)
+    (length c.args.items.now) c.args.states.now c.args.to
+    (state_of c.args.arriving) c.in-Err.refused c.requires.shown c.requires.arriving c.in-Err.ensures.uneven c.in-Err.ensures.unfit
+    c.in-Err.ensures.others

@@ -16,8 +16,11 @@ returns-clause-sound c =
     let look = look_at c.args.starts.now c.args.items.now in
     let st = state_at c.spread_all.new.states in
     let z : Covered (state_at c.reach.new.states) 0 (state 0 []) = subst (λ (t : State). Covered (state_at c.reach.new.states) 0 t) c.first_known.ensures c.in_ok-reach.ensures.covered in
-    let cl : Closed look st = place_successor_closed c.args.starts.now c.args.items.now c.spread_all.new.states c.in_ok-spread_all.ensures.shown.0 (c.in_ok-spread_all.ensures.shown.1 0 (state 0 []) z) c.in_ok-spread_all.ensures.settled in
-    let d : IsDepth look 0 c.greatest.result = is_depth look (length c.args.items.now) c.spread_all.new.states c.greatest.result c.in_ok-spread_all.ensures.shown.0 cl c.greatest.ensures.above c.greatest.ensures.attained in
+    let cl : Closed look st = place_successor_closed c.args.starts.now c.args.items.now c.spread_all.new.states
+    c.in_ok-spread_all.ensures.shown.0 (c.in_ok-spread_all.ensures.shown.1 0 (state 0 []) z) c.in_ok-spread_all.ensures.settled in
+    let d : IsDepth look 0 c.greatest.result = is_depth look
+    (length c.args.items.now) c.spread_all.new.states c.greatest.result c.in_ok-spread_all.ensures.shown.0 cl c.greatest.ensures.above
+    c.greatest.ensures.attained in
     depth_sound look st cl c.greatest.result (c.greatest.result + 1) d (omega arith)
 
 pub returns-clause-depth : goal.returns-clause-depth
@@ -25,5 +28,6 @@ returns-clause-depth c =
     let look = look_at c.args.starts.now c.args.items.now in
     let st = state_at c.spread_all.new.states in
     let z : Covered (state_at c.reach.new.states) 0 (state 0 []) = subst (λ (t : State). Covered (state_at c.reach.new.states) 0 t) c.first_known.ensures c.in_ok-reach.ensures.covered in
-    let cl : Closed look st = place_successor_closed c.args.starts.now c.args.items.now c.spread_all.new.states c.in_ok-spread_all.ensures.shown.0 (c.in_ok-spread_all.ensures.shown.1 0 (state 0 []) z) c.in_ok-spread_all.ensures.settled in
+    let cl : Closed look st = place_successor_closed c.args.starts.now c.args.items.now c.spread_all.new.states
+    c.in_ok-spread_all.ensures.shown.0 (c.in_ok-spread_all.ensures.shown.1 0 (state 0 []) z) c.in_ok-spread_all.ensures.settled in
     is_depth look (length c.args.items.now) c.spread_all.new.states c.greatest.result c.in_ok-spread_all.ensures.shown.0 cl c.greatest.ensures.above c.greatest.ensures.attained

@@ -8,7 +8,13 @@ use Rattle.py_decode.proofs.reading.read_units.Goals as goal
 pub loop-at-init : goal.loop-at-init
 loop-at-init c =
     let long : length c.in_ok-reads.reads.items ≡ length c.args.units.now = ap length c.in_ok-reads.ensures ∙ length-replicate (length c.args.units.now) None in
-    record { long = long; within = omega arith; later = sym (nothing_past c.args.units.now (length c.args.units.now) (omega arith)); read = nothing_yet c.args.units.now c.in_ok-reads.reads.items long }
+    record {
+      long = long;
+      within = omega arith;
+      later = sym (nothing_past c.args.units.now (length c.args.units.now) (omega arith));
+      read =
+          nothing_yet c.args.units.now c.in_ok-reads.reads.items long;
+    }
 
 pub loop-at-preserved : goal.loop-at-preserved
 loop-at-preserved c =

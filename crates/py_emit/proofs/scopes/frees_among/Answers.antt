@@ -12,6 +12,8 @@ loop-i-preserved c =
       | in-Some+then-is_free+in_ok-enter w ↦
           w.names-is ∙ w.in_ok-enter.ensures ∙ ap (λ l. insert_if_new text_eq l w.in-Some.symbol.now.name) c.loop-i.invariant
           ∙ cell_names_next frees_here c.args.symbols.now c.loop-i.i w.in-Some.symbol.now (sym w.in-Some.ensures) c.len-i-end.ensures.distinct (sym w.is_free.ensures ∙ w.if-is_free.true)
-      | in-Some+else-is_free w ↦ w.names-is ∙ c.loop-i.invariant ∙ names_kept frees_here c.args.symbols.now c.loop-i.i w.in-Some.symbol.now (sym w.in-Some.ensures) (sym w.is_free.ensures ∙ w.if-is_free.false)
+      | in-Some+else-is_free w ↦ w.names-is ∙ c.loop-i.invariant
+          ∙ names_kept frees_here c.args.symbols.now c.loop-i.i w.in-Some.symbol.now (sym w.in-Some.ensures)
+          (sym w.is_free.ensures ∙ w.if-is_free.false)
       | in_default w ↦ absurd (none_past c.args.symbols.now c.loop-i.i (subst (λ k. c.loop-i.i < k) c.len-i-end.ensures.len c.loop-i-test.true) (sym w.in_default.ensures))
     ]

@@ -44,7 +44,10 @@ plain_goes t c = record {
 pub named_goes : goal.keywords::compile_named_values-returns
 named_goes t c = record {
   goes =
-      goes_as _ _ _ _ (ap (λ (f : Emission). run f (state c.args.em.now)) (some_named (keyword_emissions (keywords expr_tree c.args.keywords.now)) (λ z. not_empty (length c.args.keywords.now) (sym c.is_empty.ensures ∙ c.if-is_empty.false) (sym (many_keywords c.args.keywords.now) ∙ z)))) c.compile_some_named.ensures.goes;
+      goes_as _ _ _ _ (ap (λ (f : Emission). run f (state c.args.em.now))
+      (some_named (keyword_emissions (keywords expr_tree c.args.keywords.now))
+      (λ z. not_empty (length c.args.keywords.now) (sym c.is_empty.ensures ∙ c.if-is_empty.false)
+      (sym (many_keywords c.args.keywords.now) ∙ z)))) c.compile_some_named.ensures.goes;
   same = search rules;
 }
 

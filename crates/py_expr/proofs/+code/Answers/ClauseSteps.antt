@@ -88,7 +88,9 @@ end_is t c = c.in_ok-end.ensures.number ∙ ap (λ (s : State). s.blocks) c.in_o
 pub conditions_go_on : goal.clauses::compile_conditions-loop-condition-preserved
 conditions_go_on t c = (
   c.in_ok-compile_test.ensures.same ∙ c.loop-condition.invariant.0,
-  c.loop-condition.invariant.1 ∙ ap (λ (f : Emission). run f (state c.loop-condition.em)) (conditions_at c.args.start.0 c.args.ifs.now c.loop-condition.condition-index _ c.condition-item.result c.condition-item.is c.loop-condition-test.true) ∙ went _ _ _ c.in_ok-compile_test.ensures.goes,
+  c.loop-condition.invariant.1 ∙ ap (λ (f : Emission). run f (state c.loop-condition.em))
+      (conditions_at c.args.start.0 c.args.ifs.now c.loop-condition.condition-index _ c.condition-item.result c.condition-item.is
+      c.loop-condition-test.true) ∙ went _ _ _ c.in_ok-compile_test.ensures.goes,
 )
 
 pub condition_refused : goal.clauses::compile_conditions-returns-in_err-compile_test
@@ -96,7 +98,9 @@ condition_refused t c = record {
   goes =
       let r : c.from_residual.result ≡ Err c.in_err-compile_test.field-0.0 = grind arith in
       first_refuses _ _ _ _ _ _ r
-      (c.loop-condition.invariant.1 ∙ ap (λ (f : Emission). run f (state c.loop-condition.em)) (conditions_at c.args.start.0 c.args.ifs.now c.loop-condition.condition-index _ c.condition-item.result c.condition-item.is c.loop-condition-test.true))
+      (c.loop-condition.invariant.1 ∙ ap (λ (f : Emission). run f (state c.loop-condition.em))
+      (conditions_at c.args.start.0 c.args.ifs.now c.loop-condition.condition-index _ c.condition-item.result c.condition-item.is
+      c.loop-condition-test.true))
       c.in_err-compile_test.ensures.goes;
   same = search rules;
 }

@@ -11,18 +11,20 @@ use Rattle.py_tree.specs.declared.expressions.Expr.{Expr}
 use Rattle.py_emission_parts.specs.Running.{Action, ◌▹◌, run}
 use Rattle.py_emission_parts.specs.Children.{made_function}
 use Rattle.py_emission_parts.specs.Comprehensions.{as_element, called_at_once, comprehension, comprehension_shape, collection_scope, generator_body}
-use Rattle.py_emission_parts.specs.Refused.{retold}
+use Rattle.py_emission_parts.specs.Refused.{rewritten}
 use Rattle.py_emission_parts.specs.Emitting.{Emission, Refused, ◌▸◌, keep}
 use Rattle.py_emission.specs.Awaits.{awaits, some_async}
 use Rattle.py_emission.specs.Emission.{clause_emissions, emission}
 use Rattle.py_emit.specs.States.{state}
 use Rattle.py_emit.proofs.Joined.{first_refuses, goes_as, refuses_as, went}
-use Rattle.py_emit.proofs.Within.{within_inner}
+use Rattle.py_emit.proofs.NestedScopes.{nested_inner}
 use Rattle.py_emit.specs.declared.context.Naming.TheVariants as naming
 use Rattle.py_expr_scopes.specs.Clauses.{closed_clauses}
 use Rattle.py_expr_scopes.specs.Comprehensions.{added_element, element_of, first_iterable, name_of, scope_of, turn}
 use Rattle.py_expr_scopes.proofs.OpenClauses.{all_stay, many_clauses}
-use Rattle.py_expr_scopes.proofs.ComprehensionScopes.{called_is, comprehension_scope_first_is, no_clause, scope_alike, comprehension_scope_as, some_clause, comprehension_scope_told_done, told_refused, turn_opens}
+use Rattle.py_expr_scopes.proofs.ComprehensionScopes.{called_is, comprehension_scope_first_is, no_clause, scope_alike}
+use Rattle.py_expr_scopes.proofs.ComprehensionScopes.{comprehension_scope_as, some_clause, comprehension_scope_told_done, told_refused}
+use Rattle.py_expr_scopes.proofs.ComprehensionScopes.{turn_opens}
 use Rattle.py_expr_scopes.proofs.Scopes.{left_gives, left_keeps, refused_gives, same_path}
 use Rattle.py_expr_parts.proofs.Steps.{step_stays}
 use Rattle.py_expr_parts.proofs.Turns.{if_not, turn_if_so, path_of, refused_by, refused_shape}
@@ -38,12 +40,19 @@ comprehension_left t c =
     let into = c.in_ok-enter_comprehension.ensures.rest in
     let same = c.in_ok-compile_turns.ensures.same in
     record {
-      goes = left_gives kind.Comprehension naming.AsAround h c.args.em.now entry begins last c.leave_scope.new.self into same v c.leave_scope.result c.in_ok-compile_turns.ensures.goes c.leave_scope.ensures.code c.leave_scope.ensures.state c.leave_scope.ensures.err;
-      same = left_keeps kind.Comprehension naming.AsAround h c.args.em.now entry begins last c.leave_scope.new.self into same c.leave_scope.result c.leave_scope.ensures.rest c.leave_scope.ensures.err;
+      goes = left_gives kind.Comprehension naming.AsEnclosing h c.args.em.now entry begins last c.leave_scope.new.self into same v
+          c.leave_scope.result c.in_ok-compile_turns.ensures.goes c.leave_scope.ensures.code c.leave_scope.ensures.state
+          c.leave_scope.ensures.err;
+      same = left_keeps kind.Comprehension naming.AsEnclosing h c.args.em.now entry begins last c.leave_scope.new.self into same
+          c.leave_scope.result c.leave_scope.ensures.rest c.leave_scope.ensures.err;
     }
 
 pub comprehension_inner : goal.comprehensions::compile_comprehension_scope-leave_scope-requires
-comprehension_inner t c = record { inner = within_inner kind.Comprehension naming.AsAround (comprehension_shape c.args.name) c.args.em.now c.enter_comprehension.new.em c.compile_turns.new.em c.in_ok-enter_comprehension.ensures.rest c.in_ok-compile_turns.ensures.same }
+comprehension_inner t c = record {
+  inner = nested_inner kind.Comprehension naming.AsEnclosing
+      (comprehension_shape c.args.name) c.args.em.now c.enter_comprehension.new.em c.compile_turns.new.em
+      c.in_ok-enter_comprehension.ensures.rest c.in_ok-compile_turns.ensures.same;
+}
 
 pub comprehension_refused : goal.comprehensions::compile_comprehension_scope-returns-in_err-compile_turns
 comprehension_refused t c =
@@ -54,8 +63,10 @@ comprehension_refused t c =
     let x = c.in_err-compile_turns.field-0.0 in
     let r : c.from_residual-in_err-compile_turns.result ≡ Err x = grind arith in
     record {
-      goes = refused_gives kind.Comprehension naming.AsAround h c.args.em.now entry begins v c.from_residual-in_err-compile_turns.result x _ r c.in_err-compile_turns.ensures.goes;
-      same = same_path kind.Comprehension naming.AsAround h c.args.em.now entry begins entry entry c.in_ok-enter_comprehension.ensures.rest refl c.from_residual-in_err-compile_turns.result x _ r c.in_err-compile_turns.ensures.same;
+      goes = refused_gives kind.Comprehension naming.AsEnclosing h c.args.em.now entry begins v c.from_residual-in_err-compile_turns.result x _ r c.in_err-compile_turns.ensures.goes;
+      same = same_path kind.Comprehension naming.AsEnclosing h c.args.em.now entry begins entry entry
+          c.in_ok-enter_comprehension.ensures.rest refl c.from_residual-in_err-compile_turns.result x _ r
+          c.in_err-compile_turns.ensures.same;
     }
 
 pub comprehension_made : goal.comprehensions::make_comprehension-returns
@@ -64,7 +75,9 @@ comprehension_made t c = record {
       let e = c.args.element.now in
       let v = scope_of (clause_emissions (generators expr_tree c.args.generators.now)) e in
       goes_as _ _ _ _
-      (comprehension_scope_as v (made_function 0 (name_of e)) c.in_ok-name.name (name_of e) c.args.em.now c.text.new.self (c.in_ok-name.ensures.data ∙ c.scope_name.ensures) c.in_ok-name.ensures.same ∙ c.in_ok-code.ensures.goes (made_function 0 (name_of e)))
+      (comprehension_scope_as v (made_function 0 (name_of e)) c.in_ok-name.name (name_of e) c.args.em.now c.text.new.self
+      (c.in_ok-name.ensures.data ∙ c.scope_name.ensures) c.in_ok-name.ensures.same
+      ∙ c.in_ok-code.ensures.goes (made_function 0 (name_of e)))
       c.make_named.ensures.goes;
   same = search rules;
 }
@@ -76,7 +89,9 @@ body_refused t c = record {
       let v = scope_of (clause_emissions (generators expr_tree c.args.generators.now)) e in
       let x = c.in_err-code.field-0.0 in
       let r : c.from_residual-in_err-code.result ≡ Err x = grind arith in
-      refuses_as _ x _ _ _ r (comprehension_scope_as v (made_function 0 (name_of e)) c.in_ok-name.name (name_of e) c.args.em.now c.text.new.self (c.in_ok-name.ensures.data ∙ c.scope_name.ensures) c.in_ok-name.ensures.same) (λ n. c.in_err-code.ensures.goes (made_function 0 (name_of e)) n);
+      refuses_as _ x _ _ _ r (comprehension_scope_as v (made_function 0 (name_of e)) c.in_ok-name.name
+      (name_of e) c.args.em.now c.text.new.self (c.in_ok-name.ensures.data ∙ c.scope_name.ensures) c.in_ok-name.ensures.same)
+      (λ n. c.in_err-code.ensures.goes (made_function 0 (name_of e)) n);
   same = search rules;
 }
 
@@ -88,7 +103,9 @@ comprehension_called t c = record {
       let d = c.index-generators-0.result in
       let here = comprehension_scope_first_is c.args.generators.now d (get_or c.args.generators.now 0 d) refl c.requires ∙ ap (λ (y : Expr). emission (expr_tree y)) (sym c.deref.ensures) in
       goes_as _ _ _ _
-      (ap (λ (f : Action). f (state c.args.em.now)) (ap (λ (v : Emission). run (called_at_once (name_of e) (scope_of cs e) v)) here ∙ called_is (name_of e) (scope_of cs e) (emission (expr_tree c.deref.result.now)))
+      (ap (λ (f : Action). f (state c.args.em.now))
+      (ap (λ (v : Emission). run (called_at_once (name_of e) (scope_of cs e) v)) here
+      ∙ called_is (name_of e) (scope_of cs e) (emission (expr_tree c.deref.result.now)))
       ∙ went _ _ _ c.in_ok-make_comprehension.ensures.goes
       ∙ went _ _ _ c.in_ok-compile_iterator.ensures.goes)
       c.emit_count.ensures.goes;
@@ -114,7 +131,9 @@ iterable_refused t c = record {
       let here = comprehension_scope_first_is c.args.generators.now d (get_or c.args.generators.now 0 d) refl c.requires ∙ ap (λ (y : Expr). emission (expr_tree y)) (sym c.deref.ensures) in
       let r : c.from_residual-in_err-compile_iterator.result ≡ Err c.in_err-compile_iterator.field-0.0 = grind arith in
       first_refuses _ _ _ _ _ _ r
-      (ap (λ (f : Action). f (state c.args.em.now)) (ap (λ (v : Emission). run (called_at_once (name_of e) (scope_of cs e) v)) here ∙ called_is (name_of e) (scope_of cs e) (emission (expr_tree c.deref.result.now)))
+      (ap (λ (f : Action). f (state c.args.em.now))
+      (ap (λ (v : Emission). run (called_at_once (name_of e) (scope_of cs e) v)) here
+      ∙ called_is (name_of e) (scope_of cs e) (emission (expr_tree c.deref.result.now)))
       ∙ went _ _ _ c.in_ok-make_comprehension.ensures.goes)
       c.in_err-compile_iterator.ensures.goes;
   same = search rules;
@@ -123,13 +142,21 @@ iterable_refused t c = record {
 pub no_generator : goal.comprehensions::compile_comprehension-returns-then-is_empty
 no_generator t c =
     let none = sym c.is_empty.ensures ∙ c.if-is_empty.true in
-    record { goes = λ n. ap (λ (f : Emission). run f (state c.args.em.now)) (no_clause c.args.generators.now c.args.element.now none) ∙ refused_shape _ (state c.args.em.now) _ c.refuse-error.result c.refuse-error.ensures.told; same = path_of _ (state c.args.em.now) _ c.refuse-error.result c.refuse-error.ensures.told }
+    record {
+      goes = λ n. ap (λ (f : Emission). run f (state c.args.em.now)) (no_clause c.args.generators.now c.args.element.now none)
+          ∙ refused_shape _ (state c.args.em.now) _ c.refuse-error.result c.refuse-error.ensures.told;
+      same =
+          path_of _ (state c.args.em.now) _ c.refuse-error.result c.refuse-error.ensures.told;
+    }
 
 pub comprehension_awaits : goal.comprehensions::compile_comprehension-returns-then-is_awaited
 comprehension_awaits t c = record {
   goes =
       let some = sym c.is_empty.ensures ∙ c.if-is_empty.false in
-      λ n. ap (λ (f : Emission). run f (state c.args.em.now)) (some_clause c.args.generators.now c.args.element.now some ∙ turn_if_so _ _ _ (sym c.is_awaited.ensures ∙ c.if-is_awaited.true)) ∙ refused_by error.NotImplementedYet (state c.args.em.now) _ c.refuse-error-then-is_awaited.result c.refuse-error-then-is_awaited.ensures.told;
+      λ n. ap (λ (f : Emission). run f (state c.args.em.now))
+      (some_clause c.args.generators.now c.args.element.now some ∙ turn_if_so _ _ _ (sym c.is_awaited.ensures ∙ c.if-is_awaited.true))
+      ∙ refused_by error.NotImplementedYet (state c.args.em.now) _ c.refuse-error-then-is_awaited.result
+      c.refuse-error-then-is_awaited.ensures.told;
   same = search rules;
 }
 
@@ -137,7 +164,9 @@ pub comprehension_goes : goal.comprehensions::compile_comprehension-returns
 comprehension_goes t c = record {
   goes =
       let some = sym c.is_empty.ensures ∙ c.if-is_empty.false in
-      goes_as _ _ _ _ (ap (λ (f : Emission). run f (state c.args.em.now)) (some_clause c.args.generators.now c.args.element.now some ∙ if_not _ _ _ (sym c.is_awaited.ensures ∙ c.if-is_awaited.false))) c.call_comprehension.ensures.goes;
+      goes_as _ _ _ _ (ap (λ (f : Emission). run f (state c.args.em.now))
+      (some_clause c.args.generators.now c.args.element.now some ∙ if_not _ _ _ (sym c.is_awaited.ensures ∙ c.if-is_awaited.false)))
+      c.call_comprehension.ensures.goes;
   same = search rules;
 }
 
@@ -194,10 +223,11 @@ pub unstarred_refused : goal.comprehensions::compile_unstarred-returns-in-Err
 unstarred_refused t c = record {
   goes =
       let e = c.in-Err.error in
-      let f = c.retell.ensures.error in
-      let g = c.retell.ensures.location in
-      λ n. told_refused (emission (expr_tree c.args.elt.now)) (state c.args.em.now) e.error e.location (c.in-Err.ensures.goes (λ q. n (f n ∙ ap retold q))) ∙ (λ i. Refused (sym (f n) i) (sym (g n) i));
-  same = (c.retell.ensures.path ∙ c.in-Err.ensures.same.0, c.retell.ensures.nowhere c.in-Err.ensures.same.1);
+      let f = c.rewrite_error.ensures.error in
+      let g = c.rewrite_error.ensures.location in
+      λ n. told_refused (emission (expr_tree c.args.elt.now)) (state c.args.em.now) e.error e.location
+      (c.in-Err.ensures.goes (λ q. n (f n ∙ ap rewritten q))) ∙ (λ i. Refused (sym (f n) i) (sym (g n) i));
+  same = (c.rewrite_error.ensures.path ∙ c.in-Err.ensures.same.0, c.rewrite_error.ensures.nowhere c.in-Err.ensures.same.1);
 }
 
 -- a dict comprehension, of a key and a value
@@ -238,8 +268,13 @@ generator_goes t c = record {
       goes_as _ _ _ _
       (went _ _ _ (step_stays e.location now c.requires.at)
       ∙ ap (λ (y : Expr). run (generator_value (expr_tree y) gs (generator_scope (expr_tree y) gs)) now) (sym c.deref.ensures)
-      ∙ ap (λ (ys : List (ComprehensionOf Expr)). run (generator_value (expr_tree c.deref.result.now) (generators expr_tree ys) (generator_scope (expr_tree c.deref.result.now) (generators expr_tree ys))) now) (sym c.as_slice.ensures)
-      ∙ scope_alike (some_async (generators expr_tree c.as_slice.result.now) || awaits (expr_tree c.deref.result.now)) (codes "<genexpr>") (clause_emissions (generators expr_tree c.as_slice.result.now)) (generator_scope (expr_tree c.deref.result.now) (generators expr_tree c.as_slice.result.now)) (keep ▸ generator_scope (expr_tree c.deref.result.now) (generators expr_tree c.as_slice.result.now)) now refl)
+      ∙ ap (λ (ys : List (ComprehensionOf Expr)). run
+      (generator_value (expr_tree c.deref.result.now) (generators expr_tree ys)
+      (generator_scope (expr_tree c.deref.result.now) (generators expr_tree ys))) now) (sym c.as_slice.ensures)
+      ∙ scope_alike (some_async (generators expr_tree c.as_slice.result.now) || awaits (expr_tree c.deref.result.now)) (codes "<genexpr>")
+      (clause_emissions (generators expr_tree c.as_slice.result.now))
+      (generator_scope (expr_tree c.deref.result.now) (generators expr_tree c.as_slice.result.now))
+      (keep ▸ generator_scope (expr_tree c.deref.result.now) (generators expr_tree c.as_slice.result.now)) now refl)
       c.compile_comprehension.ensures.goes;
   same = search rules;
 }

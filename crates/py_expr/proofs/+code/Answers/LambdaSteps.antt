@@ -17,7 +17,7 @@ use Rattle.py_emit.specs.States.{Goes, state}
 use Rattle.py_emit.specs.declared.emitter.Emitter.{Emitter}
 use Rattle.py_emit.proofs.Joined.{goes_as, refuses_as}
 use Rattle.py_emit.specs.declared.context.Naming.TheVariants as naming
-use Rattle.py_emit.proofs.Within.{within_inner}
+use Rattle.py_emit.proofs.NestedScopes.{nested_inner}
 use Rattle.py_expr_scopes.proofs.Scopes.{body_refused, defaults_refuse, lambda_done, left_gives, left_keeps, opening_refused, refused_gives, same_path, nested_scope_as, scope_done, scope_refuses}
 use Rattle.py_expr.proofs.+code.Goals as goal
 
@@ -33,14 +33,19 @@ lambda_left t c =
     let same = c.in_ok-compile_return.ensures.same ∙ c.in_ok-begin_function.ensures.same in
     let done = scope_done (parameters p) v (state entry) _ _ c.in_ok-begin_function.ensures.goes c.in_ok-compile_return.ensures.goes in
     record {
-      goes = left_gives kind.Function naming.AsAround h c.args.em.now entry begins last c.leave_scope.new.self into same (function_scope (parameters p) v) c.leave_scope.result done c.leave_scope.ensures.code c.leave_scope.ensures.state c.leave_scope.ensures.err;
-      same = left_keeps kind.Function naming.AsAround h c.args.em.now entry begins last c.leave_scope.new.self into same c.leave_scope.result c.leave_scope.ensures.rest c.leave_scope.ensures.err;
+      goes = left_gives kind.Function naming.AsEnclosing h c.args.em.now entry begins last c.leave_scope.new.self into same
+          (function_scope (parameters p) v) c.leave_scope.result done c.leave_scope.ensures.code c.leave_scope.ensures.state
+          c.leave_scope.ensures.err;
+      same = left_keeps kind.Function naming.AsEnclosing h c.args.em.now entry begins last c.leave_scope.new.self into same c.leave_scope.result c.leave_scope.ensures.rest c.leave_scope.ensures.err;
     }
 
 pub lambda_inner : goal.functions::compile_lambda_scope-leave_scope-requires
 lambda_inner t c =
     let h = function_shape (arguments expr_tree c.args.params.now) c.args.name in
-    record { inner = within_inner kind.Function naming.AsAround h c.args.em.now c.enter_function.new.em c.compile_return.new.em c.in_ok-enter_function.ensures.rest (c.in_ok-compile_return.ensures.same ∙ c.in_ok-begin_function.ensures.same) }
+    record {
+      inner = nested_inner kind.Function naming.AsEnclosing h c.args.em.now c.enter_function.new.em c.compile_return.new.em
+          c.in_ok-enter_function.ensures.rest (c.in_ok-compile_return.ensures.same ∙ c.in_ok-begin_function.ensures.same);
+    }
 
 pub lambda_not_begun : goal.functions::compile_lambda_scope-returns-in_err-begin_function
 lambda_not_begun t c =
@@ -52,8 +57,11 @@ lambda_not_begun t c =
     let x = c.in_err-begin_function.field-0.0 in
     let r : c.from_residual-in_err-begin_function.result ≡ Err x = grind arith in
     record {
-      goes = refused_gives kind.Function naming.AsAround h c.args.em.now entry begins (function_scope (parameters p) v) c.from_residual-in_err-begin_function.result x _ r (λ n. opening_refused (parameters p) v (state entry) x.error x.location (c.in_err-begin_function.ensures.goes n));
-      same = same_path kind.Function naming.AsAround h c.args.em.now entry begins entry entry c.in_ok-enter_function.ensures.rest refl c.from_residual-in_err-begin_function.result x _ r c.in_err-begin_function.ensures.same;
+      goes = refused_gives kind.Function naming.AsEnclosing h c.args.em.now entry begins
+          (function_scope (parameters p) v) c.from_residual-in_err-begin_function.result x _ r
+          (λ n. opening_refused (parameters p) v (state entry) x.error x.location (c.in_err-begin_function.ensures.goes n));
+      same = same_path kind.Function naming.AsEnclosing h c.args.em.now entry begins entry entry c.in_ok-enter_function.ensures.rest refl
+          c.from_residual-in_err-begin_function.result x _ r c.in_err-begin_function.ensures.same;
     }
 
 pub lambda_refused : goal.functions::compile_lambda_scope-returns-in_err-compile_return
@@ -67,16 +75,23 @@ lambda_refused t c =
     let x = c.in_err-compile_return.field-0.0 in
     let r : c.from_residual-in_err-compile_return.result ≡ Err x = grind arith in
     record {
-      goes = refused_gives kind.Function naming.AsAround h c.args.em.now entry begins (function_scope (parameters p) v) c.from_residual-in_err-compile_return.result x _ r (λ n. body_refused (parameters p) v (state entry) (state mid) x.error x.location c.in_ok-begin_function.ensures.goes (c.in_err-compile_return.ensures.goes n));
-      same = same_path kind.Function naming.AsAround h c.args.em.now entry begins mid mid c.in_ok-enter_function.ensures.rest c.in_ok-begin_function.ensures.same c.from_residual-in_err-compile_return.result x _ r c.in_err-compile_return.ensures.same;
+      goes = refused_gives kind.Function naming.AsEnclosing h c.args.em.now entry begins
+          (function_scope (parameters p) v) c.from_residual-in_err-compile_return.result x _ r
+          (λ n. body_refused (parameters p) v (state entry) (state mid) x.error x.location c.in_ok-begin_function.ensures.goes
+          (c.in_err-compile_return.ensures.goes n));
+      same = same_path kind.Function naming.AsEnclosing h c.args.em.now entry begins mid mid c.in_ok-enter_function.ensures.rest
+          c.in_ok-begin_function.ensures.same c.from_residual-in_err-compile_return.result x _ r c.in_err-compile_return.ensures.same;
     }
 
 -- by the parts of the tree themselves
-module _ {A : Type 0} (r : Result A (LocatedError CodegenErrorType)) (s : State) (em : Emitter) (e : ExprLambdaOf Expr) (params : ArgumentsOf Expr) (body : Expr) (is_params : params ≡ e.args.value) (is_body : body ≡ e.body.value) where
+module _ {A : Type 0} (r : Result A (LocatedError CodegenErrorType)) (s : State) (em : Emitter) (e : ExprLambdaOf Expr)
+    (params : ArgumentsOf Expr) (body : Expr) (is_params : params ≡ e.args.value) (is_body : body ≡ e.body.value) where
   by_parts : Goes r s (run (lambda_value (arguments expr_tree params) (default_emissions (arguments expr_tree params)) (emission_of_return (expr_tree body))) (state em))
       → Goes r s (run (lambda_value (arguments expr_tree e.args.value) (default_emissions (arguments expr_tree e.args.value)) (emission_of_return (expr_tree e.body.value))) (state em))
   by_parts h =
-      subst (λ (b : Expr). Goes r s (run (lambda_value (arguments expr_tree e.args.value) (default_emissions (arguments expr_tree e.args.value)) (emission_of_return (expr_tree b))) (state em))) is_body
+      subst (λ (b : Expr).
+      Goes r s (run (lambda_value (arguments expr_tree e.args.value) (default_emissions (arguments expr_tree e.args.value))
+      (emission_of_return (expr_tree b))) (state em))) is_body
       (subst (λ (p : ArgumentsOf Expr). Goes r s (run (lambda_value (arguments expr_tree p) (default_emissions (arguments expr_tree p)) (emission_of_return (expr_tree body))) (state em))) is_params h)
 
 pub lambda_goes : goal.functions::compile_lambda-returns
@@ -92,7 +107,9 @@ lambda_goes t c = record {
       let name = c.in_ok-name.name in
       by_parts c.make_lambda.result _ c.args.em.now c.args.e.now params body c.deref-params.ensures c.deref-body.ensures
       (goes_as _ _ _ _
-      (lambda_done p v d _ (state c.args.em.now) (state x) (state c.compile_lambda_scope.new.em) (object c.in_ok-code.code) c.in_ok-defaults.ensures.flags c.in_ok-defaults.ensures.emits.goes (λ k. nested_scope_as p v name x y k c.in_ok-name.ensures.data c.in_ok-name.ensures.same ∙ c.in_ok-code.ensures.goes k))
+      (lambda_done p v d _ (state c.args.em.now) (state x) (state c.compile_lambda_scope.new.em)
+      (object c.in_ok-code.code) c.in_ok-defaults.ensures.flags c.in_ok-defaults.ensures.emits.goes
+      (λ k. nested_scope_as p v name x y k c.in_ok-name.ensures.data c.in_ok-name.ensures.same ∙ c.in_ok-code.ensures.goes k))
       c.make_lambda.ensures.goes);
   same = search rules;
 }
@@ -124,6 +141,8 @@ lambda_step_scope_refused t c = record {
       let e = c.in_err-code.field-0.0 in
       let r : c.from_residual-in_err-code.result ≡ Err e = grind arith in
       by_parts c.from_residual-in_err-code.result _ c.args.em.now c.args.e.now params body c.deref-params.ensures c.deref-body.ensures
-      (refuses_as _ e _ _ _ r refl (λ n. scope_refuses p v (default_emissions p) (state c.args.em.now) (state x) e.error e.location c.in_ok-defaults.ensures.emits.goes (λ k. nested_scope_as p v name x y k c.in_ok-name.ensures.data c.in_ok-name.ensures.same ∙ c.in_err-code.ensures.goes k n)));
+      (refuses_as _ e _ _ _ r refl (λ n. scope_refuses p v (default_emissions p) (state c.args.em.now)
+      (state x) e.error e.location c.in_ok-defaults.ensures.emits.goes
+      (λ k. nested_scope_as p v name x y k c.in_ok-name.ensures.data c.in_ok-name.ensures.same ∙ c.in_err-code.ensures.goes k n)));
   same = search rules;
 }

@@ -26,20 +26,20 @@ maps_go_on t c =
     let e = keyword_emission x.arg (expr_tree x.value) in
     let left = keyword_emissions (keywords expr_tree (drop (c.loop-keyword.keyword-index + 1) c.args.keywords.now)) in
     let here = keywords_at c.args.keywords.now c.loop-keyword.keyword-index _ x c.keyword-item.is c.loop-keyword-test.true in
-    let behind = c.run_after-run.ensures in
+    let after = c.run_after-run.ensures in
     let many = c.in_ok-maps.ensures.count in
     let few = few_groups c.loop-keyword.run e in
     let all = c.loop-keyword.invariant.2 in
     let most = c.loop-keyword.invariant.3 in
     let next = ap (group_count c.loop-keyword.run) here in
-    let last = ap (λ n. group_count n left) behind in (
+    let last = ap (λ n. group_count n left) after in (
       c.in_ok-maps.ensures.emits.same ∙ c.loop-keyword.invariant.0,
       c.loop-keyword.invariant.1
           ∙ ap (λ (es : Keywords). run (map_rest c.loop-keyword.run es) (state c.loop-keyword.em)) here
           ∙ went _ _ _ c.in_ok-maps.ensures.emits.goes
-          ∙ ap (λ n. run (map_rest n left) (state c.compile_keyword.new.em)) (sym behind),
+          ∙ ap (λ n. run (map_rest n left) (state c.compile_keyword.new.em)) (sym after),
       omega (arith, all, next, many, last),
-      omega (arith, most, few, many, behind),
+      omega (arith, most, few, many, after),
     )
 
 pub keyword_refused : goal.keywords::compile_maps-returns-in_err-maps-clause-emits
@@ -47,7 +47,8 @@ keyword_refused t c = record {
   goes =
       let r : c.from_residual.result ≡ Err c.in_err-maps.field-0.0 = grind arith in
       first_refuses _ _ _ _ _ _ r
-      (c.loop-keyword.invariant.1 ∙ ap (λ (es : Keywords). run (map_rest c.loop-keyword.run es) (state c.loop-keyword.em)) (keywords_at c.args.keywords.now c.loop-keyword.keyword-index _ c.keyword-item.result c.keyword-item.is c.loop-keyword-test.true))
+      (c.loop-keyword.invariant.1 ∙ ap (λ (es : Keywords). run (map_rest c.loop-keyword.run es) (state c.loop-keyword.em))
+      (keywords_at c.args.keywords.now c.loop-keyword.keyword-index _ c.keyword-item.result c.keyword-item.is c.loop-keyword-test.true))
       c.in_err-maps.ensures.emits.goes;
   same = search rules;
 }

@@ -7,8 +7,8 @@ use Rattle.py_emission_parts.specs.Emitting.{Emission, ◌▸◌}
 use Rattle.py_emission_parts.specs.EmissionParts.{dict_value}
 use Rattle.py_emission.specs.Emission.{emission}
 use Rattle.py_emit.specs.States.{state}
-use Rattle.py_expr_parts.specs.Dicts.{begun_behind, dict_rest, entry_begun, entry_ended, entry_of}
-use Rattle.py_expr_parts.specs.Turns.{pairs_of, run_behind}
+use Rattle.py_expr_parts.specs.Dicts.{begun_after, dict_rest, entry_begun, entry_ended, entry_of}
+use Rattle.py_expr_parts.specs.Turns.{pairs_of, run_length_after}
 use Rattle.py_tree.specs.declared.expressions.Expr.{Expr}
 use Rattle.py_expr_parts.proofs.Dicts.{dict_as_rest, entry_next}
 use Rattle.py_expr_parts.proofs.Pairs.{begun_at, pair_first, pairs_at, pairs_over, run_at, pair_run_more}
@@ -19,13 +19,15 @@ abbrev PairLoopEntries : Type 0
 PairLoopEntries = List (Element (Emission × Emission) Emission)
 
 -- what is left after the entry of this key and this value, and what is left before it
-abbrev left_behind : Bool → ℕ → Option Expr → Expr → List (Option Expr) → List Expr → ℕ → Emission
-left_behind b n k v ks vs i = let e = entry_of (opt_expr expr_tree k) (expr_tree v) in dict_rest (begun_behind b e) (run_behind n e) (pairs_of (drop (i + 1) ks) (drop (i + 1) vs))
+abbrev left_after : Bool → ℕ → Option Expr → Expr → List (Option Expr) → List Expr → ℕ → Emission
+left_after b n k v ks vs i = let e = entry_of (opt_expr expr_tree k) (expr_tree v) in dict_rest (begun_after b e) (run_length_after n e) (pairs_of (drop (i + 1) ks) (drop (i + 1) vs))
 
 pair_loop_entry_at : (b : Bool) (n : ℕ) (ks : List (Option Expr)) (vs : List Expr) (i : ℕ) (c k : Option Expr) (d v : Expr) → k ≡ get_or ks i c
     → v ≡ get_or vs i d → i < length ks → i < length vs
-    → run (dict_rest b n (pairs_of (drop i ks) (drop i vs))) ≡ run (entry_begun b n (opt_expr expr_tree k) ▸ emission (expr_tree v) ▸ entry_ended (opt_expr expr_tree k) ▸ left_behind b n k v ks vs i)
-pair_loop_entry_at b n ks vs i c k d v p q l m = ap (λ (es : PairLoopEntries). run (dict_rest b n es)) (pairs_at ks vs i c k d v p q l m) ∙ entry_next b n (opt_expr expr_tree k) (expr_tree v) (pairs_of (drop (i + 1) ks) (drop (i + 1) vs))
+    → run (dict_rest b n (pairs_of (drop i ks) (drop i vs))) ≡ run (entry_begun b n (opt_expr expr_tree k) ▸ emission (expr_tree v) ▸ entry_ended (opt_expr expr_tree k) ▸ left_after b n k v ks vs i)
+pair_loop_entry_at b n ks vs i c k d v p q l m =
+    ap (λ (es : PairLoopEntries). run (dict_rest b n es)) (pairs_at ks vs i c k d v p q l m)
+    ∙ entry_next b n (opt_expr expr_tree k) (expr_tree v) (pairs_of (drop (i + 1) ks) (drop (i + 1) vs))
 
 pub entries_begin : goal.displays::compile_entries-loop-i-init
 entries_begin t c = (refl, ap (λ (f : Action). f (state c.args.em.now)) (dict_as_rest (pairs_of c.as_slice-keys.result.now c.as_slice-values.result.now)), omega arith)
@@ -52,7 +54,7 @@ entries_go_on t c =
           ∙ went _ _ _ c.in_ok-begin_entry.ensures.goes
           ∙ went _ _ _ c.in_ok-compile_expression.ensures.goes
           ∙ went _ _ _ c.in_ok-end_entry.ensures.goes
-          ∙ ap (λ b. run (dict_rest b (run_behind c.loop-i.run e) left) (state c.end_entry.new.em)) (sym started)
+          ∙ ap (λ b. run (dict_rest b (run_length_after c.loop-i.run e) left) (state c.end_entry.new.em)) (sym started)
           ∙ ap (λ l. run (dict_rest c.begun_after-begun.result l left) (state c.end_entry.new.em)) (sym counted),
       omega (arith, most, more, many),
     )
@@ -64,7 +66,9 @@ entries_done t c = record {
       ap (λ (vs : List Expr). run (dict_value (pairs_of c.args.e.now.keys vs)) (state c.args.em.now)) (sym c.as_slice-values.ensures)
       ∙ ap (λ (ks : List (Option Expr)). run (dict_value (pairs_of ks c.as_slice-values.result.now)) (state c.args.em.now)) (sym c.as_slice-keys.ensures)
       ∙ c.loop-i.invariant.1 in
-      let none = pairs_over c.args.e.now.keys c.as_slice-keys.result.now c.args.e.now.values c.as_slice-values.result.now c.loop-i.i c.pair_count-i-end.result c.as_slice-keys.ensures c.as_slice-values.ensures c.loop-i-test.false c.loop-i.auto.i-end c.pair_count-i-end.ensures.all in
+      let none = pairs_over c.args.e.now.keys c.as_slice-keys.result.now c.args.e.now.values c.as_slice-values.result.now c.loop-i.i
+      c.pair_count-i-end.result c.as_slice-keys.ensures c.as_slice-values.ensures c.loop-i-test.false c.loop-i.auto.i-end
+      c.pair_count-i-end.ensures.all in
       goes_as _ _ _ _ (begun ∙ ap (λ (es : PairLoopEntries). run (dict_rest c.loop-i.begun c.loop-i.run es) (state c.loop-i.em)) none) c.close_pairs.ensures.goes;
   same = search rules;
 }

@@ -17,14 +17,19 @@ use Rattle.py_expr.proofs.+code.Goals as goal
 pub stores_go_on : goal.targets::compile_stores-loop-elt-preserved
 stores_go_on t c = (
   c.in_ok-compile_element_store.ensures.same ∙ c.loop-elt.invariant.0,
-  c.loop-elt.invariant.1 ∙ ap (λ (f : Emission). run f (state c.loop-elt.em)) (store_stored_at c.args.elts.now c.loop-elt.elt-index _ c.elt-item.result c.elt-item.is c.loop-elt-test.true) ∙ went _ _ _ c.in_ok-compile_element_store.ensures.goes,
+  c.loop-elt.invariant.1 ∙ ap (λ (f : Emission). run f (state c.loop-elt.em))
+      (store_stored_at c.args.elts.now c.loop-elt.elt-index _ c.elt-item.result c.elt-item.is c.loop-elt-test.true)
+      ∙ went _ _ _ c.in_ok-compile_element_store.ensures.goes,
 )
 
 pub store_refused : goal.targets::compile_stores-returns-in_err-compile_element_store
 store_refused t c = record {
   goes =
       let r : c.from_residual.result ≡ Err c.in_err-compile_element_store.field-0.0 = grind arith in
-      first_refuses _ _ _ _ _ _ r (c.loop-elt.invariant.1 ∙ ap (λ (f : Emission). run f (state c.loop-elt.em)) (store_stored_at c.args.elts.now c.loop-elt.elt-index _ c.elt-item.result c.elt-item.is c.loop-elt-test.true)) c.in_err-compile_element_store.ensures.goes;
+      first_refuses _ _ _ _ _ _ r (c.loop-elt.invariant.1
+      ∙ ap (λ (f : Emission). run f (state c.loop-elt.em))
+      (store_stored_at c.args.elts.now c.loop-elt.elt-index _ c.elt-item.result c.elt-item.is c.loop-elt-test.true))
+      c.in_err-compile_element_store.ensures.goes;
   same = search rules;
 }
 
@@ -39,6 +44,8 @@ element_stored t c =
 pub attribute_stored : goal.targets::compile_store-returns-in-Attribute
 attribute_stored t c = record {
   goes =
-      goes_as _ _ _ _ (ap (λ (x : Expr). run (emission_of_store (expr_tree x)) (state c.args.em.now)) c.in-Attribute.is ∙ ap (λ (u : tree.Expr). run (emission_of_store u) (state c.args.em.now)) (tree_Attribute c.in-Attribute.e)) c.compile_attribute_change.ensures.goes;
+      goes_as _ _ _ _ (ap (λ (x : Expr). run (emission_of_store (expr_tree x)) (state c.args.em.now)) c.in-Attribute.is
+      ∙ ap (λ (u : tree.Expr). run (emission_of_store u) (state c.args.em.now))
+      (tree_Attribute c.in-Attribute.e)) c.compile_attribute_change.ensures.goes;
   same = search rules;
 }

@@ -12,6 +12,8 @@ use Rattle.py_expr.proofs.targets.+deletions.Goals as goal
 pub compile_delete-returns-in-Attribute : goal.compile_delete-returns-in-Attribute
 compile_delete-returns-in-Attribute t c = record {
   goes =
-      goes_as _ _ _ _ (ap (λ (x : Expr). run (emission_of_delete (expr_tree x)) (state c.args.em.now)) c.in-Attribute.is ∙ ap (λ (u : tree.Expr). run (emission_of_delete u) (state c.args.em.now)) (tree_Attribute c.in-Attribute.e)) c.compile_attribute_change.ensures.goes;
+      goes_as _ _ _ _ (ap (λ (x : Expr). run (emission_of_delete (expr_tree x)) (state c.args.em.now)) c.in-Attribute.is
+      ∙ ap (λ (u : tree.Expr). run (emission_of_delete u) (state c.args.em.now))
+      (tree_Attribute c.in-Attribute.e)) c.compile_attribute_change.ensures.goes;
   same = search rules;
 }

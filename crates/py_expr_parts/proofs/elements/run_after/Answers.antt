@@ -1,6 +1,6 @@
 use Rattle.std.proofs.Common.{sym, ◌∙◌}
-use Rattle.py_expr_parts.proofs.Groups.{plain_behind}
+use Rattle.py_expr_parts.proofs.Groups.{plain_after}
 use Rattle.py_expr_parts.proofs.elements.run_after.Goals as goal
 
 pub returns-else-is_star : goal.returns-else-is_star
-returns-else-is_star c = plain_behind c.args.run _ (sym c.is_star.ensures.element ∙ c.if-is_star.false)
+returns-else-is_star c = plain_after c.args.run _ (sym c.is_star.ensures.element ∙ c.if-is_star.false)

@@ -9,12 +9,17 @@ pub returns-in_err-check_keyword : goal.returns-in_err-check_keyword
 returns-in_err-check_keyword c = record {
   goes =
       let r : c.from_residual.result ≡ Err c.in_err-check_keyword.field-0.0 = grind arith in
-      first_refuses _ _ _ _ _ _ r (c.loop-keyword.invariant.1 ∙ ap (λ (f : Action). f (state c.loop-keyword.em)) (checked_at c.args.keywords.now c.loop-keyword.keyword-index c.keyword-item.result c.keyword-item.result c.keyword-item.is c.loop-keyword-test.true)) c.in_err-check_keyword.ensures.goes;
+      first_refuses _ _ _ _ _ _ r (c.loop-keyword.invariant.1
+      ∙ ap (λ (f : Action). f (state c.loop-keyword.em))
+      (checked_at c.args.keywords.now c.loop-keyword.keyword-index c.keyword-item.result c.keyword-item.result c.keyword-item.is
+      c.loop-keyword-test.true)) c.in_err-check_keyword.ensures.goes;
   same = search rules;
 }
 
 pub loop-keyword-preserved : goal.loop-keyword-preserved
 loop-keyword-preserved c = (
   c.in_ok-check_keyword.ensures.same ∙ c.loop-keyword.invariant.0,
-  c.loop-keyword.invariant.1 ∙ ap (λ (f : Action). f (state c.loop-keyword.em)) (checked_at c.args.keywords.now c.loop-keyword.keyword-index c.keyword-item.result c.keyword-item.result c.keyword-item.is c.loop-keyword-test.true) ∙ went _ _ _ c.in_ok-check_keyword.ensures.goes,
+  c.loop-keyword.invariant.1 ∙ ap (λ (f : Action). f (state c.loop-keyword.em))
+      (checked_at c.args.keywords.now c.loop-keyword.keyword-index c.keyword-item.result c.keyword-item.result c.keyword-item.is
+      c.loop-keyword-test.true) ∙ went _ _ _ c.in_ok-check_keyword.ensures.goes,
 )

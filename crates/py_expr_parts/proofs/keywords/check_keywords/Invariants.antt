@@ -7,4 +7,6 @@ use Rattle.py_emit.specs.States.{rest, state}
 use Rattle.py_expr_parts.proofs.keywords.check_keywords.Given as goal
 
 abbrev pub invariant-loop-keyword : goal.invariant-loop-keyword
-invariant-loop-keyword l = (rest l.em ≡ rest l.initial.em) × (run (keyword_checks (keyword_emissions (keywords expr_tree l.keywords))) (state l.initial.em) ≡ run (keyword_checks (keyword_emissions (keywords expr_tree (drop l.keyword-index l.keywords)))) (state l.em))
+invariant-loop-keyword l = (rest l.em ≡ rest l.initial.em)
+    × (run (keyword_checks (keyword_emissions (keywords expr_tree l.keywords))) (state l.initial.em)
+    ≡ run (keyword_checks (keyword_emissions (keywords expr_tree (drop l.keyword-index l.keywords)))) (state l.em))

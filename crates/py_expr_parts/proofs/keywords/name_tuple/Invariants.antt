@@ -7,4 +7,5 @@ use Rattle.py_emission.specs.Emission.{keyword_emissions}
 use Rattle.py_expr_parts.proofs.keywords.name_tuple.Given as goal
 
 abbrev pub invariant-loop-keyword : goal.invariant-loop-keyword
-invariant-loop-keyword l = const_list (names_in (keyword_emissions (keywords expr_tree l.keywords))) ≡ map constant l.names.items ++ const_list (names_in (keyword_emissions (keywords expr_tree (drop l.keyword-index l.keywords))))
+invariant-loop-keyword l = const_list (names_in (keyword_emissions (keywords expr_tree l.keywords))) ≡ map constant l.names.items
+    ++ const_list (names_in (keyword_emissions (keywords expr_tree (drop l.keyword-index l.keywords))))

@@ -11,8 +11,20 @@ use Rattle.py_expr_parts.proofs.targets.emit_unpack.Goals as goal
 
 pub returns : goal.returns
 returns c =
-    record { goes = goes_as _ _ _ _ (ap (λ (f : Emission). run f (state c.args.em.now)) (some_star c.args.location (all_stores (exprs expr_tree c.args.elts.now)) (λ e. c.if-starred-eq0.false (c.star_count-starred.ensures ∙ e)))) c.emit_starred_unpack.ensures.goes; same = c.emit_starred_unpack.ensures.same }
+    record {
+      goes = goes_as _ _ _ _ (ap (λ (f : Emission). run f (state c.args.em.now))
+          (some_star c.args.location (all_stores (exprs expr_tree c.args.elts.now))
+          (λ e. c.if-starred-eq0.false (c.star_count-starred.ensures ∙ e)))) c.emit_starred_unpack.ensures.goes;
+      same =
+          c.emit_starred_unpack.ensures.same;
+    }
 
 pub returns-then-starred-eq0 : goal.returns-then-starred-eq0
 returns-then-starred-eq0 c =
-    record { goes = goes_as _ _ _ _ (ap (λ (f : Emission). run f (state c.args.em.now)) (no_star c.args.location (all_stores (exprs expr_tree c.args.elts.now)) (sym c.star_count-starred.ensures ∙ c.if-starred-eq0.true) ∙ ap (λ n. emit_count op.UnpackSequence n) (many_targets c.args.elts.now))) c.emit_count.ensures.goes; same = c.emit_count.ensures.same }
+    record {
+      goes = goes_as _ _ _ _ (ap (λ (f : Emission). run f (state c.args.em.now))
+          (no_star c.args.location (all_stores (exprs expr_tree c.args.elts.now)) (sym c.star_count-starred.ensures ∙ c.if-starred-eq0.true)
+          ∙ ap (λ n. emit_count op.UnpackSequence n) (many_targets c.args.elts.now))) c.emit_count.ensures.goes;
+      same =
+          c.emit_count.ensures.same;
+    }

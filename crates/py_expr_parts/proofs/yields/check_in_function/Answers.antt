@@ -14,6 +14,8 @@ returns-then-is_function c = record {
 
 pub returns : goal.returns
 returns c = record {
-  goes = λ n. outside_function c.args.error keep (state c.args.em.now) (ap is_function (sym c.scope_type.ensures) ∙ sym c.is_function.ensures ∙ c.if-is_function.false) ∙ refused_so c.args.error (state c.args.em.now) _ c.refuse-error.result c.refuse-error.ensures.told n;
+  goes = λ n. outside_function c.args.error keep (state c.args.em.now)
+      (ap is_function (sym c.scope_type.ensures) ∙ sym c.is_function.ensures ∙ c.if-is_function.false)
+      ∙ refused_so c.args.error (state c.args.em.now) _ c.refuse-error.result c.refuse-error.ensures.told n;
   same = placed_path c.args.error (state c.args.em.now).location (rest c.args.em.now).path c.refuse-error.result c.refuse-error.ensures.told;
 }

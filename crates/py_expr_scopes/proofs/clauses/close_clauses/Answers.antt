@@ -7,7 +7,10 @@ use Rattle.py_expr_scopes.proofs.OpenClauses.{closed_push, last_open, others_ope
 use Rattle.py_expr_scopes.proofs.clauses.close_clauses.Goals as goal
 
 pub close_clause-requires : goal.close_clause-requires
-close_clause-requires c = record { «open» = last_open c.pop.new.self c.in-Some.clause (state c.loop-clause.em) (subst (λ bs. AllOpen bs (state c.loop-clause.em)) c.in-Some.ensures c.loop-clause.invariant.1) }
+close_clause-requires c = record {
+  «open» = last_open c.pop.new.self c.in-Some.clause (state c.loop-clause.em)
+      (subst (λ bs. AllOpen bs (state c.loop-clause.em)) c.in-Some.ensures c.loop-clause.invariant.1);
+}
 
 pub loop-clause-preserved : goal.loop-clause-preserved
 loop-clause-preserved c =
@@ -25,6 +28,8 @@ returns-in_err-close_clause c = record {
   goes =
       let now = state c.loop-clause.em in
       let r : c.from_residual.result ≡ Err c.in_err-close_clause.field-0.0 = grind arith in
-      refuses_as _ _ _ _ _ r (c.loop-clause.invariant.2 ∙ ap (λ bs. closed_clauses bs now) c.in-Some.ensures ∙ closed_push c.pop.new.self c.in-Some.clause now) (λ n. ap (λ o. on_done o (closed_clauses c.pop.new.self)) (c.in_err-close_clause.ensures.goes n));
+      refuses_as _ _ _ _ _ r (c.loop-clause.invariant.2 ∙ ap (λ bs. closed_clauses bs now) c.in-Some.ensures
+      ∙ closed_push c.pop.new.self c.in-Some.clause now)
+      (λ n. ap (λ o. on_done o (closed_clauses c.pop.new.self)) (c.in_err-close_clause.ensures.goes n));
   same = search rules;
 }

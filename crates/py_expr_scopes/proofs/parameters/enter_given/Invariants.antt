@@ -7,4 +7,6 @@ use Rattle.py_expr_scopes.specs.Functions.{names_given}
 use Rattle.py_expr_scopes.proofs.parameters.enter_given.Given as goal
 
 abbrev pub invariant-loop-item : goal.invariant-loop-item
-invariant-loop-item l = (rest l.em ≡ rest l.initial.em) × (run (enter_parameters (names_given l.given (args expr_tree l.items))) (state l.initial.em) ≡ run (enter_parameters (names_given l.given (args expr_tree (drop l.item-index l.items)))) (state l.em))
+invariant-loop-item l = (rest l.em ≡ rest l.initial.em)
+    × (run (enter_parameters (names_given l.given (args expr_tree l.items))) (state l.initial.em)
+    ≡ run (enter_parameters (names_given l.given (args expr_tree (drop l.item-index l.items)))) (state l.em))

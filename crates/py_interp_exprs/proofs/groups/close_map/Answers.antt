@@ -22,4 +22,6 @@ pub returns-in_err-map : goal.returns-in_err-map
 returns-in_err-map c =
     let n : c.args.run.len ≡ length c.args.run.items = omega (arith, c.args.run.ok.0) in
     let r : c.from_residual.result ≡ Err c.in_err-map.field-0.0 = grind arith in
-    continuation_ended _ _ _ _ _ _ _ r (map_some (world_of c.args.log.now) (values_of c.args.maps.items) c.args.count c.args.run.items (counts c.args.run.len c.args.run.items false n (sym c.is_empty.ensures ∙ c.if-is_empty.false))) c.in_err-map.ensures
+    continuation_ended _ _ _ _ _ _ _ r
+    (map_some (world_of c.args.log.now) (values_of c.args.maps.items) c.args.count c.args.run.items
+    (counts c.args.run.len c.args.run.items false n (sym c.is_empty.ensures ∙ c.if-is_empty.false))) c.in_err-map.ensures

@@ -14,7 +14,9 @@ returns-in_err-added c =
     let n : c.args.run.len ≡ length run = omega (arith, c.args.run.ok.0) in
     let some = counts c.args.run.len run false n (sym c.is_empty.ensures ∙ c.if-is_empty.false) in
     let r : c.from_residual.result ≡ Err c.in_err-added.field-0.0 = grind arith in
-    continuation_ended _ _ _ _ _ _ _ r (ap (λ o. close_pairs (told_option o) c.args.count (values_of run) w) c.in-Some.is ∙ pairs_some w (value_of c.in-Some.map) c.args.count run some) c.in_err-added.ensures
+    continuation_ended _ _ _ _ _ _ _ r
+    (ap (λ o. close_pairs (told_option o) c.args.count (values_of run) w) c.in-Some.is
+    ∙ pairs_some w (value_of c.in-Some.map) c.args.count run some) c.in_err-added.ensures
 
 pub returns : goal.returns
 returns c =
@@ -22,4 +24,7 @@ returns c =
     let run = c.args.run.items in
     let n : c.args.run.len ≡ length run = omega (arith, c.args.run.ok.0) in
     let some = counts c.args.run.len run false n (sym c.is_empty.ensures ∙ c.if-is_empty.false) in
-    continuation_same value_of c.add_map.result _ _ _ (ap (λ o. close_pairs (told_option o) c.args.count (values_of run) w) c.in-Some.is ∙ pairs_some w (value_of c.in-Some.map) c.args.count run some) (continuation_goes value_of _ _ _ _ _ _ c.in_ok-added.ensures c.add_map.ensures)
+    continuation_same value_of c.add_map.result
+    _ _ _ (ap (λ o. close_pairs (told_option o) c.args.count (values_of run) w) c.in-Some.is
+    ∙ pairs_some w (value_of c.in-Some.map) c.args.count run some)
+    (continuation_goes value_of _ _ _ _ _ _ c.in_ok-added.ensures c.add_map.ensures)

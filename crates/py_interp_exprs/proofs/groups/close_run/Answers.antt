@@ -22,4 +22,6 @@ pub returns-in_err-tuple : goal.returns-in_err-tuple
 returns-in_err-tuple c =
     let n : c.args.run.len ≡ length c.args.run.items = omega (arith, c.args.run.ok.0) in
     let r : c.from_residual.result ≡ Err c.in_err-tuple.field-0.0 = grind arith in
-    continuation_ended _ _ _ _ _ _ _ r (run_some (world_of c.args.log.now) (values_of c.args.groups.items) c.args.run.items (counts c.args.run.len c.args.run.items false n (sym c.is_empty.ensures ∙ c.if-is_empty.false))) c.in_err-tuple.ensures
+    continuation_ended _ _ _ _ _ _ _ r
+    (run_some (world_of c.args.log.now) (values_of c.args.groups.items) c.args.run.items
+    (counts c.args.run.len c.args.run.items false n (sym c.is_empty.ensures ∙ c.if-is_empty.false))) c.in_err-tuple.ensures

@@ -19,9 +19,13 @@ returns-then-has_star-clause-ok c =
     let p = c.before_star.ensures in
     let q = c.after_star.ensures in
     let n : c.before_star.result + 256 * c.after_star.result ≡ before_star (as_elements es) + 256 * after_star (as_elements es) = omega (arith, p, q) in
-    subst (λ (z : Operation). IfOk c.unpacking_around.result (λ o. operation_of o ≡ z)) (ap (counted_operation op.UnpackEx) n ∙ sym (unpacking_starred es (sym c.has_star.ensures ∙ c.if-has_star.true))) c.unpacking_around.ensures.ok
+    subst (λ (z : Operation). IfOk c.unpacking_beside.result (λ o. operation_of o ≡ z))
+    (ap (counted_operation op.UnpackEx) n ∙ sym (unpacking_starred es (sym c.has_star.ensures ∙ c.if-has_star.true)))
+    c.unpacking_beside.ensures.ok
 
 pub returns-else-has_star-clause-ok : goal.returns-else-has_star-clause-ok
 returns-else-has_star-clause-ok c =
     let es = exprs expr_tree c.args.elts.now in
-    subst (λ (z : Operation). IfOk c.counted.result (λ o. operation_of o ≡ z)) (ap (counted_operation op.UnpackSequence) (sym (many_starring c.args.elts.now)) ∙ sym (unpacking_plain es (sym c.has_star.ensures ∙ c.if-has_star.false))) c.counted.ensures.ok
+    subst (λ (z : Operation). IfOk c.counted.result (λ o. operation_of o ≡ z))
+    (ap (counted_operation op.UnpackSequence) (sym (many_starring c.args.elts.now))
+    ∙ sym (unpacking_plain es (sym c.has_star.ensures ∙ c.if-has_star.false))) c.counted.ensures.ok

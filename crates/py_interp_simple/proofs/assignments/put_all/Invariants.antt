@@ -8,5 +8,5 @@ use Rattle.py_interp_simple.proofs.assignments.put_all.Given as goal
 
 abbrev pub invariant-loop-target : goal.invariant-loop-target
 invariant-loop-target l =
-    put_all (targets_of l.around (exprs expr_tree l.targets)) (value_of l.value) (world_of l.initial.log)
-    ≡ put_all (targets_of l.around (exprs expr_tree (drop l.target-index l.targets))) (value_of l.value) (world_of l.log)
+    put_all (targets_of l.node_context (exprs expr_tree l.targets)) (value_of l.value) (world_of l.initial.log)
+    ≡ put_all (targets_of l.node_context (exprs expr_tree (drop l.target-index l.targets))) (value_of l.value) (world_of l.log)

@@ -7,10 +7,14 @@ use Rattle.py_interp_simple.proofs.classes.build_class.Goals as goal
 
 pub returns-then-is_packed : goal.returns-then-is_packed
 returns-then-is_packed c =
-    continuation_same value_of c.build_packed.result _ _ _ (packs c.args.around c.args.name.now (exprs expr_tree c.args.bases.now) (keywords expr_tree c.args.keywords.now) c.is_packed.result (world_of c.args.log.now) c.is_packed.ensures c.if-is_packed.true)
+    continuation_same value_of c.build_packed.result
+    _ _ _ (packs c.args.node_context c.args.name.now (exprs expr_tree c.args.bases.now)
+    (keywords expr_tree c.args.keywords.now) c.is_packed.result (world_of c.args.log.now) c.is_packed.ensures c.if-is_packed.true)
     (continuation_goes value_of c.build_packed.result _ _ _ _ _ c.in_ok-builder.ensures c.build_packed.ensures)
 
 pub returns : goal.returns
 returns c =
-    continuation_same value_of c.build_placed.result _ _ _ (places c.args.around c.args.name.now (exprs expr_tree c.args.bases.now) (keywords expr_tree c.args.keywords.now) c.is_packed.result (world_of c.args.log.now) c.is_packed.ensures c.if-is_packed.false)
+    continuation_same value_of c.build_placed.result
+    _ _ _ (places c.args.node_context c.args.name.now (exprs expr_tree c.args.bases.now)
+    (keywords expr_tree c.args.keywords.now) c.is_packed.result (world_of c.args.log.now) c.is_packed.ensures c.if-is_packed.false)
     (continuation_goes value_of c.build_placed.result _ _ _ _ _ c.in_ok-builder.ensures c.build_placed.ensures)

@@ -3,43 +3,47 @@ use Rattle.py_tree.specs.View.{expr_tree, exprs}
 use Rattle.py_answers.specs.Log.{world_of}
 use Rattle.py_answers.specs.Told.{values_of}
 use Rattle.py_interp.specs.Doing.{get_groups}
-use Rattle.py_interp.specs.Walks.{all_walks, walks}
+use Rattle.py_interp.specs.Interpreters.{all_interpreters, interpreters}
 use Rattle.py_interp_exprs.proofs.ContinuationLemmas.{continuation_after, continuation_ended}
-use Rattle.py_interp_exprs.proofs.Places.{walks_at}
-use Rattle.py_interp_exprs.proofs.Stars.{star_walk}
+use Rattle.py_interp_exprs.proofs.Places.{interpreters_at}
+use Rattle.py_interp_exprs.proofs.Stars.{star_interpreter}
 use Rattle.py_interp_exprs.proofs.Turns.{plain_step, star_step}
 use Rattle.py_interp_simple.proofs.classes.group_bases.Goals as goal
 use Rattle.py_interp_simple.proofs.classes.group_bases.Goals.{then-is_star+in_ok-closed+in_ok-groups, else-is_star+in_ok-run}
 
 pub loop-base-preserved : goal.loop-base-preserved
 loop-base-preserved c =
-    let a = c.args.around in
+    let a = c.args.node_context in
     let xs = c.args.bases.now in
     let i = c.loop-base.base-index in
     let x = c.base-item.result in
-    let rest = all_walks a (exprs expr_tree (drop (i + 1) xs)) in
-    let here = walks_at a xs i _ x c.base-item.is c.loop-base-test.true in
-    let is = star_walk a (expr_tree x) ∙ sym c.is_star.ensures in
+    let rest = all_interpreters a (exprs expr_tree (drop (i + 1) xs)) in
+    let here = interpreters_at a xs i _ x c.base-item.is c.loop-base-test.true in
+    let is = star_interpreter a (expr_tree x) ∙ sym c.is_star.ensures in
     elim c.if-is_star.branch [
       | then-is_star+in_ok-closed+in_ok-groups w ↦
-          star_step _ (values_of c.loop-base.groups.items) (values_of c.loop-base.run.items) (walks a (expr_tree x)) rest _ (world_of c.loop-base.log) c.loop-base.invariant here (is ∙ w.if-is_star.true)
+          star_step _ (values_of c.loop-base.groups.items) (values_of c.loop-base.run.items)
+          (interpreters a (expr_tree x)) rest _ (world_of c.loop-base.log) c.loop-base.invariant here (is ∙ w.if-is_star.true)
           ∙ continuation_after _ _ _ _ w.in_ok-closed.ensures ∙ continuation_after _ _ _ _ w.in_ok-groups.ensures
-          ∙ ap (λ ys. get_groups (values_of w.in_ok-groups.groups.items) (values_of ys) rest (world_of w.walk_behind.new.log)) (sym w.new-run-then-is_star.ensures.items)
+          ∙ ap (λ ys. get_groups (values_of w.in_ok-groups.groups.items) (values_of ys) rest (world_of w.interpret_after.new.log)) (sym w.new-run-then-is_star.ensures.items)
           ∙ (λ j. get_groups (values_of (sym w.groups-is j).items) (values_of (sym w.run-is j).items) rest (world_of (sym w.log-is j)))
       | else-is_star+in_ok-run w ↦
-          plain_step _ (values_of c.loop-base.groups.items) (values_of c.loop-base.run.items) (walks a (expr_tree x)) rest _ (world_of c.loop-base.log) c.loop-base.invariant here (is ∙ w.if-is_star.false)
+          plain_step _ (values_of c.loop-base.groups.items) (values_of c.loop-base.run.items)
+          (interpreters a (expr_tree x)) rest _ (world_of c.loop-base.log) c.loop-base.invariant here (is ∙ w.if-is_star.false)
           ∙ continuation_after _ _ _ _ w.in_ok-run.ensures
           ∙ (λ j. get_groups (values_of (sym w.groups-is j).items) (values_of (sym w.run-is j).items) rest (world_of (sym w.log-is j)))
     ]
 
 pub returns-in_err-run : goal.returns-in_err-run
 returns-in_err-run c =
-    let a = c.args.around in
+    let a = c.args.node_context in
     let xs = c.args.bases.now in
     let i = c.loop-base.base-index in
     let x = c.base-item.result in
-    let rest = all_walks a (exprs expr_tree (drop (i + 1) xs)) in
-    let here = walks_at a xs i _ x c.base-item.is c.loop-base-test.true in
-    let is = star_walk a (expr_tree x) ∙ sym c.is_star.ensures ∙ c.if-is_star.false in
+    let rest = all_interpreters a (exprs expr_tree (drop (i + 1) xs)) in
+    let here = interpreters_at a xs i _ x c.base-item.is c.loop-base-test.true in
+    let is = star_interpreter a (expr_tree x) ∙ sym c.is_star.ensures ∙ c.if-is_star.false in
     let r : c.from_residual-in_err-run.result ≡ Err c.in_err-run.field-0.0 = grind arith in
-    continuation_ended _ _ _ _ _ _ _ r (plain_step _ (values_of c.loop-base.groups.items) (values_of c.loop-base.run.items) (walks a (expr_tree x)) rest _ (world_of c.loop-base.log) c.loop-base.invariant here is) c.in_err-run.ensures
+    continuation_ended _ _ _ _ _ _ _ r
+    (plain_step _ (values_of c.loop-base.groups.items) (values_of c.loop-base.run.items)
+    (interpreters a (expr_tree x)) rest _ (world_of c.loop-base.log) c.loop-base.invariant here is) c.in_err-run.ensures

@@ -15,5 +15,6 @@ pub returns-in_err-value : goal.returns-in_err-value
 returns-in_err-value c =
     let r : c.from_residual.result ≡ Err c.in_err-value.field-0.0 = grind arith in
     continuation_ended _ _ _ _ _ _ _ r
-    (c.loop-decorator.invariant ∙ last_is c.loop-decorator.left.items c.pop.new.self.items c.in-Some.decorator (value_of c.loop-decorator.value) (world_of c.loop-decorator.log) c.in-Some.ensures.items)
+    (c.loop-decorator.invariant ∙ last_is c.loop-decorator.left.items c.pop.new.self.items c.in-Some.decorator
+    (value_of c.loop-decorator.value) (world_of c.loop-decorator.log) c.in-Some.ensures.items)
     c.in_err-value.ensures

@@ -4,7 +4,7 @@ use Rattle.py_answers.specs.Log.{world_of}
 use Rattle.py_answers.specs.Told.{value_of}
 use Rattle.py_interp_simple.proofs.Endings.{got_halted}
 use Rattle.py_interp_simple.specs.Ends.{Ends, flow_of}
-use Rattle.py_interp_stmts.proofs.Behind.{leaves_flow}
+use Rattle.py_interp_stmts.proofs.FollowingLemmas.{leaves_flow}
 use Rattle.py_interp_stmts.proofs.withs.leave.Goals as goal
 
 pub returns-in_err-exit_with-in-Ok : goal.returns-in_err-exit_with-in-Ok

@@ -16,20 +16,25 @@ within blocks cs block met h = let w = inside_now (map plain blocks) cs block me
 
 read_met : (blocks : List Block) (cs : List ℕ) (block : ℕ) (met : List Bool) (n : ℕ) (r v : Bool) → Following (map plain blocks) cs block met
     → n < length blocks → r ≡ get_or (set met block true) n r → r ≡ v → get_or (set met block true) n false ≡ v
-read_met blocks cs block met n r v h lt e q = get_or_default (set met block true) n false r (let m = length-map blocks plain in let s = length-set met block true in omega (arith, m, s, h.long, lt)) ∙ sym e ∙ q
+read_met blocks cs block met n r v h lt e q = get_or_default (set met block true) n false r
+    (let m = length-map blocks plain in let s = length-set met block true in omega (arith, m, s, h.long, lt)) ∙ sym e ∙ q
 
 pub returns-then-next-blocks-clause-refused : goal.returns-then-next-blocks-clause-refused
 returns-then-next-blocks-clause-refused c =
     let lt = within c.args.blocks.now c.loop-chain.chain.items c.loop-chain.block c.loop-chain.met.items c.loop-chain.invariant in
     let e = next_is c.args.blocks.now c.loop-chain.block c.index-blocks-block.result c.next_block.result c.in-Some.next lt c.index-blocks-block.is c.next_block.ensures c.in-Some.is in
     let m = length-map c.args.blocks.now plain in
-    breaks (map plain c.args.blocks.now) c.loop-chain.chain.items c.loop-chain.block c.loop-chain.met.items c.loop-chain.invariant c.in-Some.next e (inl (let t = c.if-next-blocks.true in omega (arith, m, t)))
+    breaks (map plain c.args.blocks.now) c.loop-chain.chain.items c.loop-chain.block c.loop-chain.met.items c.loop-chain.invariant
+    c.in-Some.next e (inl (let t = c.if-next-blocks.true in omega (arith, m, t)))
 
 pub returns-then-index-clause-refused : goal.returns-then-index-clause-refused
 returns-then-index-clause-refused c =
     let lt = within c.args.blocks.now c.loop-chain.chain.items c.loop-chain.block c.loop-chain.met.items c.loop-chain.invariant in
     let e = next_is c.args.blocks.now c.loop-chain.block c.index-blocks-block.result c.next_block.result c.in-Some.next lt c.index-blocks-block.is c.next_block.ensures c.in-Some.is in
-    breaks (map plain c.args.blocks.now) c.loop-chain.chain.items c.loop-chain.block c.loop-chain.met.items c.loop-chain.invariant c.in-Some.next e (inr (read_met c.args.blocks.now c.loop-chain.chain.items c.loop-chain.block c.loop-chain.met.items c.in-Some.next c.index.result.now true c.loop-chain.invariant c.if-next-blocks.false c.index.ensures c.if-index.true))
+    breaks (map plain c.args.blocks.now) c.loop-chain.chain.items c.loop-chain.block c.loop-chain.met.items c.loop-chain.invariant
+    c.in-Some.next e
+    (inr (read_met c.args.blocks.now c.loop-chain.chain.items c.loop-chain.block c.loop-chain.met.items c.in-Some.next
+    c.index.result.now true c.loop-chain.invariant c.if-next-blocks.false c.index.ensures c.if-index.true))
 
 pub loop-chain-smaller : goal.loop-chain-smaller
 loop-chain-smaller c =
@@ -44,4 +49,7 @@ loop-chain-preserved c =
     let e = next_is c.args.blocks.now c.loop-chain.block c.index-blocks-block.result c.next_block.result c.in-Some.next lt c.index-blocks-block.is c.next_block.ensures c.in-Some.is in
     let m = length-map c.args.blocks.now plain in
     let l : c.in-Some.next < length bs = (let t = c.if-next-blocks.false in omega (arith, m, t)) in
-    subst (λ (cs : List ℕ). Following bs cs c.in-Some.next met1) (sym c.in-Ok-push.ensures.items) (follow bs c.loop-chain.chain.items c.loop-chain.block c.loop-chain.met.items c.loop-chain.invariant c.in-Some.next e l (read_met c.args.blocks.now c.loop-chain.chain.items c.loop-chain.block c.loop-chain.met.items c.in-Some.next c.index.result.now false c.loop-chain.invariant c.if-next-blocks.false c.index.ensures c.if-index.false))
+    subst (λ (cs : List ℕ). Following bs cs c.in-Some.next met1) (sym c.in-Ok-push.ensures.items)
+    (follow bs c.loop-chain.chain.items c.loop-chain.block c.loop-chain.met.items c.loop-chain.invariant c.in-Some.next e l
+    (read_met c.args.blocks.now c.loop-chain.chain.items c.loop-chain.block c.loop-chain.met.items c.in-Some.next c.index.result.now
+    false c.loop-chain.invariant c.if-next-blocks.false c.index.ensures c.if-index.false))

@@ -1,5 +1,5 @@
-use Rattle.py_ir.proofs.Chained.{Placed}
+use Rattle.py_ir.proofs.Chained.{ChainPlaced}
 use Rattle.py_ir.proofs.taking.place_all.Given as goal
 
 abbrev pub invariant-loop-at : goal.invariant-loop-at
-invariant-loop-at l = Placed l.given l.chain l.at l.blocks
+invariant-loop-at l = ChainPlaced l.given l.chain l.at l.blocks

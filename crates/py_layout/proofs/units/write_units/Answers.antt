@@ -12,7 +12,10 @@ pub loop-k-preserved : goal.loop-k-preserved
 loop-k-preserved c =
     let x : InstructionInfo = c.index-items-k.result in
     record {
-      items = write_step c.args.starts.now c.args.offsets.now c.args.items.now c.args.widths.now c.loop-k.k x c.loop-k.units.items c.put_all.new.units.items c.operand.result c.requires.code c.requires.offsets (unit_write_long c.args.starts.now c.args.items.now c.args.widths.now c.requires.chosen) c.loop-k-test.true c.loop-k.invariant.items
+      items = write_step c.args.starts.now c.args.offsets.now c.args.items.now c.args.widths.now c.loop-k.k x c.loop-k.units.items
+          c.put_all.new.units.items c.operand.result c.requires.code c.requires.offsets
+          (unit_write_long c.args.starts.now c.args.items.now c.args.widths.now c.requires.chosen) c.loop-k-test.true
+          c.loop-k.invariant.items
           (c.operand.ensures ∙ ap (operand_at c.args.starts.now c.args.offsets.now) c.index-items-k.is)
           (c.put_all.ensures.items ∙ ap (λ (z : InstructionInfo). c.loop-k.units.items ++ units_of z.instr c.operand.result (get_or c.args.widths.now c.loop-k.k 0)) c.index-items-k.is);
       len = let s = offset-suc c.args.widths.now c.loop-k.k in omega (arith, s, c.put_all.ensures.len);

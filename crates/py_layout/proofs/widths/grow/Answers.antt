@@ -21,8 +21,10 @@ loop-k-preserved c =
     elim c.if-width-widths.branch [
       | then-width-widths w ↦
           carry needs old (set ws k c.wanted-width.result) c.if-width-widths.widths (k + 1) true c.if-width-widths.grown w.widths-is w.grown-is
-          (widened needs old offsets c.requires.offsets long ws k c.loop-k.grown x c.wanted-width.result c.loop-k.invariant lt same is c.wanted-width.ensures.within c.wanted-width.ensures.value w.if-width-widths.true)
+          (widened needs old offsets c.requires.offsets long ws k c.loop-k.grown x c.wanted-width.result c.loop-k.invariant lt same is
+          c.wanted-width.ensures.within c.wanted-width.ensures.value w.if-width-widths.true)
       | else-width-widths w ↦
           carry needs old ws c.if-width-widths.widths (k + 1) c.loop-k.grown c.if-width-widths.grown w.widths-is w.grown-is
-          (width_growth_kept needs old offsets c.requires.offsets long ws k c.loop-k.grown x c.loop-k.invariant lt same is (let e = c.wanted-width.ensures.value in let f = w.if-width-widths.false in omega (arith, e, f)))
+          (width_growth_kept needs old offsets c.requires.offsets long ws k c.loop-k.grown x c.loop-k.invariant lt same is
+          (let e = c.wanted-width.ensures.value in let f = w.if-width-widths.false in omega (arith, e, f)))
     ]

@@ -8,4 +8,5 @@ loop-units-smaller c =
     let m : sum c.loop-units.widths < sum c.grow.new.widths = c.grow.ensures.more c.if-not-grow.false in omega (arith, b, m)
 
 pub returns-in_default : goal.returns-in_default
-returns-in_default c = width_round_too_many c.args.needs.now c.loop-units.widths c.loop-units.invariant.chosen c.loop-units.invariant.least (let h : 2 ^ 32 ≤ sum c.loop-units.widths = c.in_default.ensures in h)
+returns-in_default c = width_round_too_many c.args.needs.now c.loop-units.widths c.loop-units.invariant.chosen c.loop-units.invariant.least
+    (let h : 2 ^ 32 ≤ sum c.loop-units.widths = c.in_default.ensures in h)

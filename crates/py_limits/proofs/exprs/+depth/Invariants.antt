@@ -5,19 +5,37 @@ use Rattle.py_tree.specs.View as view
 use Rattle.py_limits.proofs.exprs.+depth.Given as goal
 
 abbrev pub invariant-measure_exprs-loop-e : goal.invariant-measure_exprs-loop-e
-invariant-measure_exprs-loop-e l = (max l.deepest (exprs_nesting (view.exprs view.expr_tree (drop l.e-index l.items))) ≡ exprs_nesting (view.exprs view.expr_tree l.items)) × (l.deepest ≤ l.most) × (l.room - exprs_size (view.exprs view.expr_tree (drop l.e-index l.items)) ≡ l.fn.room - exprs_size (view.exprs view.expr_tree l.items))
+invariant-measure_exprs-loop-e l =
+    (max l.deepest (exprs_nesting (view.exprs view.expr_tree (drop l.e-index l.items))) ≡ exprs_nesting (view.exprs view.expr_tree l.items))
+    × (l.deepest ≤ l.most) × (l.room - exprs_size (view.exprs view.expr_tree (drop l.e-index l.items))
+    ≡ l.fn.room - exprs_size (view.exprs view.expr_tree l.items))
 
 abbrev pub invariant-measure_keys-loop-key : goal.invariant-measure_keys-loop-key
-invariant-measure_keys-loop-key l = (max l.deepest (opt_exprs_nesting (view.opt_exprs view.expr_tree (drop l.key-index l.keys))) ≡ opt_exprs_nesting (view.opt_exprs view.expr_tree l.keys)) × (l.deepest ≤ l.most) × (l.room - keys_size (view.opt_exprs view.expr_tree (drop l.key-index l.keys)) ≡ l.fn.room - keys_size (view.opt_exprs view.expr_tree l.keys))
+invariant-measure_keys-loop-key l =
+    (max l.deepest (opt_exprs_nesting (view.opt_exprs view.expr_tree (drop l.key-index l.keys)))
+    ≡ opt_exprs_nesting (view.opt_exprs view.expr_tree l.keys)) × (l.deepest ≤ l.most)
+    × (l.room - keys_size (view.opt_exprs view.expr_tree (drop l.key-index l.keys))
+    ≡ l.fn.room - keys_size (view.opt_exprs view.expr_tree l.keys))
 
 abbrev pub invariant-measure_keywords-loop-keyword : goal.invariant-measure_keywords-loop-keyword
-invariant-measure_keywords-loop-keyword l = (max l.deepest (keywords_nesting (view.keywords view.expr_tree (drop l.keyword-index l.items))) ≡ keywords_nesting (view.keywords view.expr_tree l.items)) × (l.deepest ≤ l.most) × (l.room - keywords_size (view.keywords view.expr_tree (drop l.keyword-index l.items)) ≡ l.fn.room - keywords_size (view.keywords view.expr_tree l.items))
+invariant-measure_keywords-loop-keyword l =
+    (max l.deepest (keywords_nesting (view.keywords view.expr_tree (drop l.keyword-index l.items)))
+    ≡ keywords_nesting (view.keywords view.expr_tree l.items)) × (l.deepest ≤ l.most)
+    × (l.room - keywords_size (view.keywords view.expr_tree (drop l.keyword-index l.items))
+    ≡ l.fn.room - keywords_size (view.keywords view.expr_tree l.items))
 
 abbrev pub invariant-measure_generators-loop-clause : goal.invariant-measure_generators-loop-clause
-invariant-measure_generators-loop-clause l = (max l.deepest (generators_nesting (view.generators view.expr_tree (drop l.clause-index l.clauses))) ≡ generators_nesting (view.generators view.expr_tree l.clauses)) × (l.deepest ≤ l.most) × (l.room - generators_size (view.generators view.expr_tree (drop l.clause-index l.clauses)) ≡ l.fn.room - generators_size (view.generators view.expr_tree l.clauses))
+invariant-measure_generators-loop-clause l =
+    (max l.deepest (generators_nesting (view.generators view.expr_tree (drop l.clause-index l.clauses)))
+    ≡ generators_nesting (view.generators view.expr_tree l.clauses)) × (l.deepest ≤ l.most)
+    × (l.room - generators_size (view.generators view.expr_tree (drop l.clause-index l.clauses))
+    ≡ l.fn.room - generators_size (view.generators view.expr_tree l.clauses))
 
 abbrev pub invariant-measure_args-loop-item : goal.invariant-measure_args-loop-item
-invariant-measure_args-loop-item l = (max l.deepest (args_nesting (view.args view.expr_tree (drop l.item-index l.items))) ≡ args_nesting (view.args view.expr_tree l.items)) × (l.deepest ≤ l.most) × (l.room - args_size (view.args view.expr_tree (drop l.item-index l.items)) ≡ l.fn.room - args_size (view.args view.expr_tree l.items))
+invariant-measure_args-loop-item l =
+    (max l.deepest (args_nesting (view.args view.expr_tree (drop l.item-index l.items))) ≡ args_nesting (view.args view.expr_tree l.items))
+    × (l.deepest ≤ l.most) × (l.room - args_size (view.args view.expr_tree (drop l.item-index l.items))
+    ≡ l.fn.room - args_size (view.args view.expr_tree l.items))
 
 abbrev pub decreases-measure_expr : goal.decreases-measure_expr
 decreases-measure_expr l = 8 * l.most

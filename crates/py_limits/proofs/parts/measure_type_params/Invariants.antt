@@ -5,4 +5,6 @@ use Rattle.py_tree.specs.View as view
 use Rattle.py_limits.proofs.parts.measure_type_params.Given as goal
 
 abbrev pub invariant-loop-item : goal.invariant-loop-item
-invariant-loop-item l = (max l.deepest (type_params_nesting (view.type_params (drop l.item-index l.items))) ≡ type_params_nesting (view.type_params l.items)) × (l.deepest ≤ l.most) × (l.room - type_params_size (view.type_params (drop l.item-index l.items)) ≡ l.fn.room - type_params_size (view.type_params l.items))
+invariant-loop-item l = (max l.deepest (type_params_nesting (view.type_params (drop l.item-index l.items)))
+    ≡ type_params_nesting (view.type_params l.items)) × (l.deepest ≤ l.most)
+    × (l.room - type_params_size (view.type_params (drop l.item-index l.items)) ≡ l.fn.room - type_params_size (view.type_params l.items))

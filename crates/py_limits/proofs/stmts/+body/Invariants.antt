@@ -5,13 +5,24 @@ use Rattle.py_tree.specs.View as view
 use Rattle.py_limits.proofs.stmts.+body.Given as goal
 
 abbrev pub invariant-measure_stmts-loop-s : goal.invariant-measure_stmts-loop-s
-invariant-measure_stmts-loop-s l = (max l.deepest (stmts_nesting (view.stmts view.stmt_tree (drop l.s-index l.body))) ≡ stmts_nesting (view.stmts view.stmt_tree l.body)) × (l.deepest ≤ l.most) × (l.room - stmts_size (view.stmts view.stmt_tree (drop l.s-index l.body)) ≡ l.fn.room - stmts_size (view.stmts view.stmt_tree l.body))
+invariant-measure_stmts-loop-s l =
+    (max l.deepest (stmts_nesting (view.stmts view.stmt_tree (drop l.s-index l.body))) ≡ stmts_nesting (view.stmts view.stmt_tree l.body))
+    × (l.deepest ≤ l.most) × (l.room - stmts_size (view.stmts view.stmt_tree (drop l.s-index l.body))
+    ≡ l.fn.room - stmts_size (view.stmts view.stmt_tree l.body))
 
 abbrev pub invariant-measure_handlers-loop-handler : goal.invariant-measure_handlers-loop-handler
-invariant-measure_handlers-loop-handler l = (max l.deepest (handlers_nesting (view.handlers view.stmt_tree (drop l.handler-index l.handlers))) ≡ handlers_nesting (view.handlers view.stmt_tree l.handlers)) × (l.deepest ≤ l.most) × (l.room - handlers_size (view.handlers view.stmt_tree (drop l.handler-index l.handlers)) ≡ l.fn.room - handlers_size (view.handlers view.stmt_tree l.handlers))
+invariant-measure_handlers-loop-handler l =
+    (max l.deepest (handlers_nesting (view.handlers view.stmt_tree (drop l.handler-index l.handlers)))
+    ≡ handlers_nesting (view.handlers view.stmt_tree l.handlers)) × (l.deepest ≤ l.most)
+    × (l.room - handlers_size (view.handlers view.stmt_tree (drop l.handler-index l.handlers))
+    ≡ l.fn.room - handlers_size (view.handlers view.stmt_tree l.handlers))
 
 abbrev pub invariant-measure_cases-loop-case : goal.invariant-measure_cases-loop-case
-invariant-measure_cases-loop-case l = (max l.deepest (cases_nesting (view.cases view.stmt_tree (drop l.case-index l.cases))) ≡ cases_nesting (view.cases view.stmt_tree l.cases)) × (l.deepest ≤ l.most) × (l.room - cases_size (view.cases view.stmt_tree (drop l.case-index l.cases)) ≡ l.fn.room - cases_size (view.cases view.stmt_tree l.cases))
+invariant-measure_cases-loop-case l =
+    (max l.deepest (cases_nesting (view.cases view.stmt_tree (drop l.case-index l.cases)))
+    ≡ cases_nesting (view.cases view.stmt_tree l.cases)) × (l.deepest ≤ l.most)
+    × (l.room - cases_size (view.cases view.stmt_tree (drop l.case-index l.cases))
+    ≡ l.fn.room - cases_size (view.cases view.stmt_tree l.cases))
 
 abbrev pub decreases-measure_stmt : goal.decreases-measure_stmt
 decreases-measure_stmt l = 8 * l.most + 1

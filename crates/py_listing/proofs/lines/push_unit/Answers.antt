@@ -17,7 +17,9 @@ returns c =
     let name = row.name in
     let byte = byte_text row.kind c.args.unit.arg in
     let whole = detail o row.kind c.args.whole in
-    let fronted = c.in_ok-push_front.ensures ∙ ap (λ ls. old ++ (decimal c.args.at ++ codes " " ++ place_text (slice_get ls c.args.at) ++ codes " ")) (c.as_slice.ensures ∙ sym (locations_are c.args.code.now)) in
+    let fronted = c.in_ok-push_front.ensures
+    ∙ ap (λ ls. old ++ (decimal c.args.at ++ codes " " ++ place_text (slice_get ls c.args.at) ++ codes " "))
+    (c.as_slice.ensures ∙ sym (locations_are c.args.code.now)) in
     let named = then_append old front name _ _ fronted (c.in_ok-push_text.ensures ∙ ap (λ t. string_bytes c.push_front.new.out ++ t) c.name.ensures) in
     let bytes = then_append old (front ++ name) byte _ _ named (c.in_ok-push_byte.ensures ∙ ap (λ k. string_bytes c.push_text.new.out ++ byte_text k c.args.unit.arg) c.operand_kind-kind.ensures) in
     let ended = c.in_ok-push_detail.ensures ∙ ap (λ k. string_bytes c.push_byte.new.out ++ (detail o k c.args.whole ++ codes "\n")) c.operand_kind-kind.ensures in

@@ -10,4 +10,6 @@ returns-clause-goes c =
     let at = c.args.at.now in
     let last : Step = use_name role.Assigned (codes "__doc__") at ▸ use_name role.Assigned class_cell at in
     let second : Step = use_name role.Assigned (codes "__qualname__") at ▸ last in
-    subst (Goes c.use_last_names.result (state c.use_last_names.new.scan)) (sym (ap (λ (o : Outcome). go_on o second) c.in_ok-use_own.ensures.goes ∙ ap (λ (o : Outcome). go_on o last) c.in_ok-use_own-2.ensures.goes)) c.use_last_names.ensures.goes
+    subst (Goes c.use_last_names.result (state c.use_last_names.new.scan))
+    (sym (ap (λ (o : Outcome). go_on o second) c.in_ok-use_own.ensures.goes
+    ∙ ap (λ (o : Outcome). go_on o last) c.in_ok-use_own-2.ensures.goes)) c.use_last_names.ensures.goes

@@ -1,4 +1,4 @@
-use Rattle.py_emission_parts.proofs.GrowthLemmas.{all_grow, around_stays, numbers_grow}
+use Rattle.py_emission_parts.proofs.GrowthLemmas.{all_grow, node_context_stays, numbers_grow}
 use Rattle.py_emission_parts.proofs.PassedNumberLemmas.{passed_numbers}
 use Rattle.py_emission_parts.proofs.TableGrowthLemmas.{all_lengthen}
 use Rattle.py_node_laws.proofs.laws.emissions_grow.Goals as goal
@@ -19,4 +19,4 @@ pub returns-clause-tables : goal.returns-clause-tables
 returns-clause-tables c = all_lengthen
 
 pub returns-clause-context : goal.returns-clause-context
-returns-clause-context c = around_stays
+returns-clause-context c = node_context_stays

@@ -2,4 +2,13 @@ use Rattle.py_node_laws.proofs.Faults.Missing.{bodies_find, comprehensions_find,
 use Rattle.py_node_laws.proofs.laws_of_calls.calls_find_cells.Goals as goal
 
 pub returns : goal.returns
-returns c = record { expressions = expressions_find; tests = tests_find; targets = stores_find; deletions = deletions_find; statements = statements_find; bodies = bodies_find; comprehensions = comprehensions_find }
+returns c = record {
+  expressions = expressions_find;
+  tests = tests_find;
+  targets = stores_find;
+  deletions = deletions_find;
+  statements =
+      statements_find;
+  bodies = bodies_find;
+  comprehensions = comprehensions_find;
+}

@@ -9,7 +9,9 @@ use Rattle.py_node_values.proofs.constants.+data.Goals as goal
 
 pub tuple_data-loop-item-preserved : goal.tuple_data-loop-item-preserved
 tuple_data-loop-item-preserved t c =
-    consts_next c.args.items.now c.loop-item.item-index _ c.item-item.result c.loop-item.elements.items c.push.new.self.items c.in_ok-constant_data.field-0 c.item-item.is c.loop-item-test.true c.in_ok-push.ensures.items c.in_ok-constant_data.ensures c.loop-item.invariant
+    consts_next c.args.items.now c.loop-item.item-index _ c.item-item.result c.loop-item.elements.items c.push.new.self.items
+    c.in_ok-constant_data.field-0 c.item-item.is c.loop-item-test.true c.in_ok-push.ensures.items c.in_ok-constant_data.ensures
+    c.loop-item.invariant
 
 pub tuple_data-returns : goal.tuple_data-returns
 tuple_data-returns t c =

@@ -9,7 +9,8 @@ pub push_texts-loop-part-preserved : goal.push_texts-loop-part-preserved
 push_texts-loop-part-preserved t c =
     c.loop-part.invariant
     ∙ ap (joined_text (Some (string_bytes c.loop-part.text))) (texts_at c.args.parts.now c.loop-part.part-index _ c.part-item.result c.part-item.is c.loop-part-test.true)
-    ∙ joined_next (string_bytes c.loop-part.text) (string_bytes c.push_text.new.text) (text_of (expr_tree c.part-item.result)) (texts_of (exprs expr_tree (drop (c.loop-part.part-index + 1) c.args.parts.now)))
+    ∙ joined_next (string_bytes c.loop-part.text) (string_bytes c.push_text.new.text) (text_of (expr_tree c.part-item.result))
+    (texts_of (exprs expr_tree (drop (c.loop-part.part-index + 1) c.args.parts.now)))
     (subst (λ (b : Bool). Appended b (text_of (expr_tree c.part-item.result)) (string_bytes c.loop-part.text) (string_bytes c.push_text.new.text)) c.if-not-branch.false c.in_ok-push_text.ensures)
 
 pub push_texts-returns-then-not-branch : goal.push_texts-returns-then-not-branch

@@ -8,4 +8,5 @@ use Rattle.py_node_values.proofs.texts.text_of.Goals as goal
 pub returns : goal.returns
 returns c =
     c.then_some.ensures ∙ ap (then_some c.in_ok-is_text.is_text) c.from_string.ensures
-    ∙ joined_text_told c.in_ok-is_text.is_text (text_of (expr_tree c.args.expr.now)) (string_bytes c.new-text.result) (string_bytes c.push_text.new.text) c.new-text.ensures.bytes c.in_ok-is_text.ensures
+    ∙ joined_text_told c.in_ok-is_text.is_text (text_of (expr_tree c.args.expr.now)) (string_bytes c.new-text.result)
+    (string_bytes c.push_text.new.text) c.new-text.ensures.bytes c.in_ok-is_text.ensures

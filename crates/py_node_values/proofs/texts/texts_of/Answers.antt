@@ -8,4 +8,5 @@ use Rattle.py_node_values.proofs.texts.texts_of.Goals as goal
 pub returns : goal.returns
 returns c =
     c.then_some.ensures ∙ ap (then_some c.in_ok-are_texts.are_texts) c.from_string.ensures
-    ∙ joined_text_told c.in_ok-are_texts.are_texts (texts_of (exprs expr_tree c.args.parts.now)) (string_bytes c.new-text.result) (string_bytes c.push_texts.new.text) c.new-text.ensures.bytes c.in_ok-are_texts.ensures
+    ∙ joined_text_told c.in_ok-are_texts.are_texts (texts_of (exprs expr_tree c.args.parts.now)) (string_bytes c.new-text.result)
+    (string_bytes c.push_texts.new.text) c.new-text.ensures.bytes c.in_ok-are_texts.ensures

@@ -32,7 +32,8 @@ loop-at-preserved c =
             omega (arith, c.loop-at.invariant.0),
             c.loop-at.invariant.1,
             ap (λ o. string_bytes o ++ slice_range text c.loop-at.start (at + 1)) w.out-is
-                ∙ run_goes_on text old (string_bytes c.loop-at.out) c.loop-at.start at c.loop-at.invariant.0 within (subst (λ b. b < 128 → quote_char b ≡ b ∷ []) byte (w.if-is_escaped.ensures.itself refl)) c.loop-at.invariant.2,
+                ∙ run_goes_on text old (string_bytes c.loop-at.out) c.loop-at.start at c.loop-at.invariant.0 within
+                (subst (λ b. b < 128 → quote_char b ≡ b ∷ []) byte (w.if-is_escaped.ensures.itself refl)) c.loop-at.invariant.2,
           )
     ]
 
@@ -41,5 +42,6 @@ returns c =
     let text = c.args.text.now in
     let over : length text ≤ c.loop-at.at = omega (arith, ap length c.as_bytes-bytes.ensures.value, c.loop-at-test.false) in
     let last = run_is_last text (string_bytes c.push.new.self) (string_bytes c.loop-at.out) c.loop-at.start c.loop-at.at c.utf8.text over c.loop-at.invariant.2 in
-    let written : string_bytes c.push_str-2.new.self ≡ string_bytes c.push.new.self ++ flat_map quote_char (chars text) = c.in_ok-push_str-2.ensures.bytes ∙ ap (λ t. string_bytes c.loop-at.out ++ t) c.range_from.ensures.value ∙ last in
+    let written : string_bytes c.push_str-2.new.self ≡ string_bytes c.push.new.self ++ flat_map quote_char (chars text) =
+    c.in_ok-push_str-2.ensures.bytes ∙ ap (λ t. string_bytes c.loop-at.out ++ t) c.range_from.ensures.value ∙ last in
     grind (arith, common_steps)

@@ -7,4 +7,5 @@ use Rattle.py_rows_slots.proofs.slots.take_comprehensions.Goals as goal
 
 pub returns : goal.returns
 returns c =
-    carried _ _ (λ p. Ok (generators_of p.0, record (nodes_view c.args.nodes.now) { comprehensions = p.1 })) c.take_list.result _ (λ x. rw (generators_same x) refl) (rw c.as_slice.ensures.value at c.take_list.ensures)
+    carried _ _ (λ p. Ok (generators_of p.0, record (nodes_view c.args.nodes.now) { comprehensions = p.1 })) c.take_list.result
+    _ (λ x. rw (generators_same x) refl) (rw c.as_slice.ensures.value at c.take_list.ensures)

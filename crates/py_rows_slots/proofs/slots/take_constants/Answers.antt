@@ -8,4 +8,5 @@ use Rattle.py_rows_slots.proofs.slots.take_constants.Goals as goal
 
 pub returns : goal.returns
 returns c =
-    carried _ _ (λ p. Ok (literal_list (λ (l : Literal). l) p.0, record (nodes_view c.args.nodes.now) { constants = p.1 })) c.take_list.result _ (λ x. rw (constants_same x) refl) (rw c.as_slice.ensures.value at c.take_list.ensures)
+    carried _ _ (λ p. Ok (literal_list (λ (l : Literal). l) p.0, record (nodes_view c.args.nodes.now) { constants = p.1 }))
+    c.take_list.result _ (λ x. rw (constants_same x) refl) (rw c.as_slice.ensures.value at c.take_list.ensures)

@@ -7,4 +7,5 @@ use Rattle.py_rows_slots.proofs.slots.take_handlers.Goals as goal
 
 pub returns : goal.returns
 returns c =
-    carried _ _ (λ p. Ok (handlers_of p.0, record (nodes_view c.args.nodes.now) { handlers = p.1 })) c.take_list.result _ (λ x. rw (handlers_same x) refl) (rw c.as_slice.ensures.value at c.take_list.ensures)
+    carried _ _ (λ p. Ok (handlers_of p.0, record (nodes_view c.args.nodes.now) { handlers = p.1 })) c.take_list.result
+    _ (λ x. rw (handlers_same x) refl) (rw c.as_slice.ensures.value at c.take_list.ensures)

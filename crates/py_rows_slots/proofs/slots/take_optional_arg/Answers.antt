@@ -7,4 +7,5 @@ use Rattle.py_rows_slots.proofs.slots.take_optional_arg.Goals as goal
 
 pub returns : goal.returns
 returns c =
-    carried _ _ (λ p. Ok (opt_arg_of p.0, record (nodes_view c.args.nodes.now) { args = p.1 })) c.take_optional_boxed.result _ (λ x. rw (opt_arg_same x) refl) (rw c.as_slice.ensures.value at c.take_optional_boxed.ensures)
+    carried _ _ (λ p. Ok (opt_arg_of p.0, record (nodes_view c.args.nodes.now) { args = p.1 })) c.take_optional_boxed.result
+    _ (λ x. rw (opt_arg_same x) refl) (rw c.as_slice.ensures.value at c.take_optional_boxed.ensures)

@@ -7,4 +7,5 @@ use Rattle.py_rows_slots.proofs.slots.take_optional_exprs.Goals as goal
 
 pub returns : goal.returns
 returns c =
-    carried _ _ (λ p. Ok (opts_of p.0, record (nodes_view c.args.nodes.now) { exprs = p.1 })) c.take_optionals.result _ (λ x. rw (opts_same x) refl) (rw c.as_slice.ensures.value at c.take_optionals.ensures)
+    carried _ _ (λ p. Ok (opts_of p.0, record (nodes_view c.args.nodes.now) { exprs = p.1 })) c.take_optionals.result
+    _ (λ x. rw (opts_same x) refl) (rw c.as_slice.ensures.value at c.take_optionals.ensures)

@@ -7,4 +7,5 @@ use Rattle.py_rows_slots.proofs.slots.take_type_params.Goals as goal
 
 pub returns : goal.returns
 returns c =
-    carried _ _ (λ p. Ok (type_params_of p.0, record (nodes_view c.args.nodes.now) { type_params = p.1 })) c.take_list.result _ (λ x. rw (type_params_same x) refl) (rw c.as_slice.ensures.value at c.take_list.ensures)
+    carried _ _ (λ p. Ok (type_params_of p.0, record (nodes_view c.args.nodes.now) { type_params = p.1 })) c.take_list.result
+    _ (λ x. rw (type_params_same x) refl) (rw c.as_slice.ensures.value at c.take_list.ensures)

@@ -6,5 +6,9 @@ use Rattle.py_run.proofs.stepping.run_both.Goals as goal
 
 pub returns-in-Ok-step_lines : goal.returns-in-Ok-step_lines
 returns-in-Ok-step_lines c =
-    let asked = compilation_view c.args.compilation.now in
-    (c.in-Ok.ensures, step_text_of asked c.args.script.now.answers (mod_tree c.args.tree.now) c.in-Ok.code c.into_bytes.result.items c.in-Ok.ensures (ap (λ v. v.items) c.into_bytes.ensures.value ∙ c.in-Ok-step_lines.ensures))
+    let asked = compilation_view c.args.compilation.now in (
+      c.in-Ok.ensures,
+      step_text_of asked c.args.script.now.answers
+          (mod_tree c.args.tree.now) c.in-Ok.code c.into_bytes.result.items c.in-Ok.ensures
+          (ap (λ v. v.items) c.into_bytes.ensures.value ∙ c.in-Ok-step_lines.ensures),
+    )

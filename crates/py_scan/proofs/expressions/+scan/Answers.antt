@@ -9,17 +9,20 @@ use Rattle.py_scan.proofs.expressions.+scan.Goals as goal
 
 pub scan_lambda-leave-requires : goal.scan_lambda-leave-requires
 scan_lambda-leave-requires t c =
-    let named = parameters_within (arguments expr_tree c.deref-2.result.now) (state c.enter.new.self) (state c.use_parameters.new.scan) c.in_ok-enter.ensures.within c.in_ok-use_parameters.ensures.goes in
+    let named = parameters_within (arguments expr_tree c.deref-2.result.now) (state c.enter.new.self)
+    (state c.use_parameters.new.scan) c.in_ok-enter.ensures.within c.in_ok-use_parameters.ensures.goes in
     expr_within c.passed_on.result (expr_tree c.deref-3.result.now) (state c.use_parameters.new.scan) (state c.scan_expr.new.scan) named c.in_ok-scan_expr.ensures.goes
 
 pub scan_comprehension-leave-requires : goal.scan_comprehension-leave-requires
 scan_comprehension-leave-requires t c =
-    let begun = clauses_within (generators expr_tree c.as_slice.result.now) (state c.begin_comprehension.new.scan) (state c.scan_clauses.new.scan) c.in_ok-begin_comprehension.ensures.within c.in_ok-scan_clauses.ensures.goes in
+    let begun = clauses_within (generators expr_tree c.as_slice.result.now) (state c.begin_comprehension.new.scan)
+    (state c.scan_clauses.new.scan) c.in_ok-begin_comprehension.ensures.within c.in_ok-scan_clauses.ensures.goes in
     expr_within Load (expr_tree c.args.elt.now) (state c.scan_clauses.new.scan) (state c.scan_expr.new.scan) begun c.in_ok-scan_expr.ensures.goes
 
 pub scan_dict_comp-leave-requires : goal.scan_dict_comp-leave-requires
 scan_dict_comp-leave-requires t c =
-    let begun = clauses_within (generators expr_tree c.as_slice.result.now) (state c.begin_comprehension.new.scan) (state c.scan_clauses.new.scan) c.in_ok-begin_comprehension.ensures.within c.in_ok-scan_clauses.ensures.goes in
+    let begun = clauses_within (generators expr_tree c.as_slice.result.now) (state c.begin_comprehension.new.scan)
+    (state c.scan_clauses.new.scan) c.in_ok-begin_comprehension.ensures.within c.in_ok-scan_clauses.ensures.goes in
     let key = expr_within Load (expr_tree c.deref.result.now) (state c.scan_clauses.new.scan) (state c.scan_expr.new.scan) begun c.in_ok-scan_expr.ensures.goes in
     expr_within Load (expr_tree c.deref-2.result.now) (state c.scan_expr.new.scan) (state c.scan_expr-2.new.scan) key c.in_ok-scan_expr-2.ensures.goes
 

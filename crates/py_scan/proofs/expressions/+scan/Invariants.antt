@@ -99,7 +99,8 @@ abbrev pub invariant-scan_exprs-loop-item : goal.invariant-scan_exprs-loop-item
 invariant-scan_exprs-loop-item l = scan_exprs l.usage (exprs expr_tree l.items) (state l.initial.scan) ≡ scan_exprs l.usage (exprs expr_tree (drop l.item-index l.items)) (state l.scan)
 
 abbrev pub invariant-scan_inner_clauses-loop-clause : goal.invariant-scan_inner_clauses-loop-clause
-invariant-scan_inner_clauses-loop-clause l = scan_inner_clauses (generators expr_tree l.clauses) (state l.initial.scan) ≡ scan_inner_clauses (generators expr_tree (drop l.clause-index l.clauses)) (state l.scan)
+invariant-scan_inner_clauses-loop-clause l = scan_inner_clauses (generators expr_tree l.clauses) (state l.initial.scan)
+    ≡ scan_inner_clauses (generators expr_tree (drop l.clause-index l.clauses)) (state l.scan)
 
 abbrev pub invariant-scan_keywords-loop-keyword : goal.invariant-scan_keywords-loop-keyword
 invariant-scan_keywords-loop-keyword l = scan_keywords (keywords expr_tree l.items) (state l.initial.scan) ≡ scan_keywords (keywords expr_tree (drop l.keyword-index l.items)) (state l.scan)

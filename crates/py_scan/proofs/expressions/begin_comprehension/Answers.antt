@@ -6,4 +6,5 @@ use Rattle.py_scan.proofs.OpenScopeLemmas.{step_within, use_stays}
 use Rattle.py_scan.proofs.expressions.begin_comprehension.Goals as goal
 
 pub returns-clause-within : goal.returns-clause-within
-returns-clause-within c = step_within (use_name role.Parameter (codes ".0") _) (use_stays role.Parameter (codes ".0") _) _ (state c.use_own.new.self) c.in_ok-enter.ensures.within c.in_ok-use_own.ensures.goes
+returns-clause-within c = step_within (use_name role.Parameter (codes ".0") _)
+    (use_stays role.Parameter (codes ".0") _) _ (state c.use_own.new.self) c.in_ok-enter.ensures.within c.in_ok-use_own.ensures.goes

@@ -24,7 +24,10 @@ returns-in_err-scan_alias_value-clause-goes c =
     let x = c.in_err-scan_alias_value.field-0.0 in
     let r : c.from_residual-in_err-scan_alias_value.result ≡ Err x = grind arith in
     refuses_as c.from_residual-in_err-scan_alias_value.result x (state c.scan_alias_value.new.scan) _ r
-    (generic_refuses c.args.generic n s.location f (state c.args.scan.now) (state c.enter_type_params.new.scan) (entered_as c.args.generic c.alias_name.result.now n s.location (state c.args.scan.now) (state c.enter_type_params.new.scan) (c.alias_name.ensures ∙ ap (λ e. alias_name (plain_name (expr_tree e))) q) c.in_ok-enter_type_params.ensures.goes) x c.in_err-scan_alias_value.ensures.goes)
+    (generic_refuses c.args.generic n s.location f (state c.args.scan.now) (state c.enter_type_params.new.scan)
+    (entered_as c.args.generic c.alias_name.result.now n s.location (state c.args.scan.now) (state c.enter_type_params.new.scan)
+    (c.alias_name.ensures ∙ ap (λ e. alias_name (plain_name (expr_tree e))) q) c.in_ok-enter_type_params.ensures.goes) x
+    c.in_err-scan_alias_value.ensures.goes)
 
 pub returns-clause-goes : goal.returns-clause-goes
 returns-clause-goes c =
@@ -33,5 +36,8 @@ returns-clause-goes c =
     let n = alias_name (plain_name (expr_tree s.name.value)) in
     let f : Step = scan_type_params [] (type_params s.type_params) ▸ scan_expr Load (expr_tree s.value.value) in
     goes_as c.leave_type_params.result (state c.leave_type_params.new.scan) _ _
-    (generic_leaves c.args.generic n s.location f (state c.args.scan.now) (state c.enter_type_params.new.scan) (entered_as c.args.generic c.alias_name.result.now n s.location (state c.args.scan.now) (state c.enter_type_params.new.scan) (c.alias_name.ensures ∙ ap (λ e. alias_name (plain_name (expr_tree e))) q) c.in_ok-enter_type_params.ensures.goes) (state c.scan_alias_value.new.scan) c.in_ok-scan_alias_value.ensures.goes)
+    (generic_leaves c.args.generic n s.location f (state c.args.scan.now) (state c.enter_type_params.new.scan)
+    (entered_as c.args.generic c.alias_name.result.now n s.location (state c.args.scan.now) (state c.enter_type_params.new.scan)
+    (c.alias_name.ensures ∙ ap (λ e. alias_name (plain_name (expr_tree e))) q) c.in_ok-enter_type_params.ensures.goes)
+    (state c.scan_alias_value.new.scan) c.in_ok-scan_alias_value.ensures.goes)
     c.leave_type_params.ensures.goes

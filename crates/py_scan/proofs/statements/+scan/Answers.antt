@@ -28,30 +28,41 @@ scan_function_body-leave-requires t c =
 pub scan_generic_function-leave_type_params-requires : goal.scan_generic_function-leave_type_params-requires
 scan_generic_function-leave_type_params-requires t c =
     let function = c.args.function.now in
-    step_open _ (handed_function_closed open_scope_stays c.args.generic function.location function.name.now (arguments expr_tree function.args.now) (scan_stmts (stmts stmt_tree function.body.now)) (opt_box expr_tree function.returns.now) (type_params function.type_params.now) (stmts_closed open_scope_stays (stmts stmt_tree function.body.now)))
+    step_open _ (handed_function_closed open_scope_stays c.args.generic function.location function.name.now
+    (arguments expr_tree function.args.now) (scan_stmts (stmts stmt_tree function.body.now)) (opt_box expr_tree function.returns.now)
+    (type_params function.type_params.now) (stmts_closed open_scope_stays (stmts stmt_tree function.body.now)))
     c.args.generic (state c.enter_type_params.new.scan) (state c.scan_handed_function.new.scan) c.in_ok-enter_type_params.ensures.open c.in_ok-scan_handed_function.ensures.goes
 
 pub scan_generic_function-returns-in_err-scan_handed_function-clause-goes : goal.scan_generic_function-returns-in_err-scan_handed_function-clause-goes
 scan_generic_function-returns-in_err-scan_handed_function-clause-goes t c =
     let function = c.args.function.now in
-    let f : Step = scan_handed_function c.args.generic function.location function.name.now (arguments expr_tree function.args.now) (scan_stmts (stmts stmt_tree function.body.now)) (opt_box expr_tree function.returns.now) (type_params function.type_params.now) in
+    let f : Step = scan_handed_function c.args.generic function.location function.name.now (arguments expr_tree function.args.now)
+    (scan_stmts (stmts stmt_tree function.body.now)) (opt_box expr_tree function.returns.now) (type_params function.type_params.now) in
     let x = c.in_err-scan_handed_function.field-0.0 in
     let r : c.from_residual-in_err-scan_handed_function.result ≡ Err x = grind arith in
     refuses_as c.from_residual-in_err-scan_handed_function.result x (state c.scan_handed_function.new.scan) _ r
-    (generic_refuses c.args.generic function.name.now function.location f (state c.args.scan.now) (state c.enter_type_params.new.scan) (entered_as c.args.generic c.as_str.result.now function.name.now function.location (state c.args.scan.now) (state c.enter_type_params.new.scan) c.as_str.ensures c.in_ok-enter_type_params.ensures.goes) x c.in_err-scan_handed_function.ensures.goes)
+    (generic_refuses c.args.generic function.name.now function.location f (state c.args.scan.now) (state c.enter_type_params.new.scan)
+    (entered_as c.args.generic c.as_str.result.now function.name.now function.location (state c.args.scan.now)
+    (state c.enter_type_params.new.scan) c.as_str.ensures c.in_ok-enter_type_params.ensures.goes) x
+    c.in_err-scan_handed_function.ensures.goes)
 
 pub scan_generic_function-returns-clause-goes : goal.scan_generic_function-returns-clause-goes
 scan_generic_function-returns-clause-goes t c =
     let function = c.args.function.now in
-    let f : Step = scan_handed_function c.args.generic function.location function.name.now (arguments expr_tree function.args.now) (scan_stmts (stmts stmt_tree function.body.now)) (opt_box expr_tree function.returns.now) (type_params function.type_params.now) in
+    let f : Step = scan_handed_function c.args.generic function.location function.name.now (arguments expr_tree function.args.now)
+    (scan_stmts (stmts stmt_tree function.body.now)) (opt_box expr_tree function.returns.now) (type_params function.type_params.now) in
     goes_as c.leave_type_params.result (state c.leave_type_params.new.scan) _ _
-    (generic_leaves c.args.generic function.name.now function.location f (state c.args.scan.now) (state c.enter_type_params.new.scan) (entered_as c.args.generic c.as_str.result.now function.name.now function.location (state c.args.scan.now) (state c.enter_type_params.new.scan) c.as_str.ensures c.in_ok-enter_type_params.ensures.goes) (state c.scan_handed_function.new.scan) c.in_ok-scan_handed_function.ensures.goes)
+    (generic_leaves c.args.generic function.name.now function.location f (state c.args.scan.now) (state c.enter_type_params.new.scan)
+    (entered_as c.args.generic c.as_str.result.now function.name.now function.location (state c.args.scan.now)
+    (state c.enter_type_params.new.scan) c.as_str.ensures c.in_ok-enter_type_params.ensures.goes)
+    (state c.scan_handed_function.new.scan) c.in_ok-scan_handed_function.ensures.goes)
     c.leave_type_params.ensures.goes
 
 pub scan_generic_class-leave_type_params-requires : goal.scan_generic_class-leave_type_params-requires
 scan_generic_class-leave_type_params-requires t c =
     let s = c.args.s.now in
-    step_open _ (class_parts_closed open_scope_stays s.location s.name (exprs expr_tree s.bases) (keywords expr_tree s.keywords) (scan_stmts (stmts stmt_tree s.body)) (type_params s.type_params) (stmts_closed open_scope_stays (stmts stmt_tree s.body)))
+    step_open _ (class_parts_closed open_scope_stays s.location s.name (exprs expr_tree s.bases) (keywords expr_tree s.keywords)
+    (scan_stmts (stmts stmt_tree s.body)) (type_params s.type_params) (stmts_closed open_scope_stays (stmts stmt_tree s.body)))
     c.args.generic (state c.enter_type_params.new.scan) (state c.scan_class_parts.new.scan) c.in_ok-enter_type_params.ensures.open c.in_ok-scan_class_parts.ensures.goes
 
 pub scan_generic_class-returns-in_err-scan_class_parts-clause-goes : goal.scan_generic_class-returns-in_err-scan_class_parts-clause-goes
@@ -61,12 +72,18 @@ scan_generic_class-returns-in_err-scan_class_parts-clause-goes t c =
     let x = c.in_err-scan_class_parts.field-0.0 in
     let r : c.from_residual-in_err-scan_class_parts.result ≡ Err x = grind arith in
     refuses_as c.from_residual-in_err-scan_class_parts.result x (state c.scan_class_parts.new.scan) _ r
-    (generic_refuses c.args.generic s.name s.location f (state c.args.scan.now) (state c.enter_type_params.new.scan) (entered_as c.args.generic c.as_str.result.now s.name s.location (state c.args.scan.now) (state c.enter_type_params.new.scan) c.as_str.ensures c.in_ok-enter_type_params.ensures.goes) x c.in_err-scan_class_parts.ensures.goes)
+    (generic_refuses c.args.generic s.name s.location f (state c.args.scan.now) (state c.enter_type_params.new.scan)
+    (entered_as c.args.generic c.as_str.result.now s.name s.location (state c.args.scan.now)
+    (state c.enter_type_params.new.scan) c.as_str.ensures c.in_ok-enter_type_params.ensures.goes) x
+    c.in_err-scan_class_parts.ensures.goes)
 
 pub scan_generic_class-returns-clause-goes : goal.scan_generic_class-returns-clause-goes
 scan_generic_class-returns-clause-goes t c =
     let s = c.args.s.now in
     let f : Step = scan_class_parts s.location s.name (exprs expr_tree s.bases) (keywords expr_tree s.keywords) (scan_stmts (stmts stmt_tree s.body)) (type_params s.type_params) in
     goes_as c.leave_type_params.result (state c.leave_type_params.new.scan) _ _
-    (generic_leaves c.args.generic s.name s.location f (state c.args.scan.now) (state c.enter_type_params.new.scan) (entered_as c.args.generic c.as_str.result.now s.name s.location (state c.args.scan.now) (state c.enter_type_params.new.scan) c.as_str.ensures c.in_ok-enter_type_params.ensures.goes) (state c.scan_class_parts.new.scan) c.in_ok-scan_class_parts.ensures.goes)
+    (generic_leaves c.args.generic s.name s.location f (state c.args.scan.now) (state c.enter_type_params.new.scan)
+    (entered_as c.args.generic c.as_str.result.now s.name s.location (state c.args.scan.now)
+    (state c.enter_type_params.new.scan) c.as_str.ensures c.in_ok-enter_type_params.ensures.goes)
+    (state c.scan_class_parts.new.scan) c.in_ok-scan_class_parts.ensures.goes)
     c.leave_type_params.ensures.goes

@@ -12,5 +12,5 @@ returns c = record {
   shared_name = refl;
   nonlocal_walrus = refl;
   global_walrus = refl;
-  walrus_within = refl;
+  walrus_nested = refl;
 }

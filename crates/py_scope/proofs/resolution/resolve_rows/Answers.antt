@@ -13,7 +13,9 @@ use Rattle.py_scope.proofs.resolution.resolve_rows.Goals as goal
 
 pub check_all-requires-clause-numbered : goal.check_all-requires-clause-numbered
 check_all-requires-clause-numbered c =
-    subst IsNumbered (sym c.deref.ensures.value) (lifting.still_numbered c.args.rows.items c.lift_all.new.rows.items (lifts c.args.rows.items c.args.order.now) c.in-Ok.ensures.lifted c.requires.numbered)
+    subst IsNumbered (sym c.deref.ensures.value)
+    (lifting.still_numbered c.args.rows.items c.lift_all.new.rows.items
+    (lifts c.args.rows.items c.args.order.now) c.in-Ok.ensures.lifted c.requires.numbered)
 
 pub check_all-requires-clause-within : goal.check_all-requires-clause-within
 check_all-requires-clause-within c k d l =
@@ -24,7 +26,9 @@ check_all-requires-clause-within c k d l =
 pub returns-in-Err-check_all-clause-refused : goal.returns-in-Err-check_all-clause-refused
 returns-in-Err-check_all-clause-refused c =
     second_told c.in-Err-check_all.fault _ _ c.in-Ok.ensures.allowed
-    (subst (λ rs. IsRefusal c.in-Err-check_all.fault (first_wrong rs c.args.order.now)) (c.deref.ensures.value ∙ pass_lifted_is c.args.rows.items c.lift_all.new.rows.items c.args.order.now c.in-Ok.ensures.lifted) c.in-Err-check_all.ensures.refused)
+    (subst (λ rs. IsRefusal c.in-Err-check_all.fault (first_wrong rs c.args.order.now))
+    (c.deref.ensures.value ∙ pass_lifted_is c.args.rows.items c.lift_all.new.rows.items c.args.order.now c.in-Ok.ensures.lifted)
+    c.in-Err-check_all.ensures.refused)
 
 pub mark_all-requires-clause-numbered : goal.mark_all-requires-clause-numbered
 mark_all-requires-clause-numbered c = lifting.still_numbered c.args.rows.items c.lift_all.new.rows.items (lifts c.args.rows.items c.args.order.now) c.in-Ok.ensures.lifted c.requires.numbered
@@ -52,10 +56,15 @@ table_of_rows-requires-clause-once c =
 
 pub returns-in-Ok-table_of_rows-clause-table : goal.returns-in-Ok-table_of_rows-clause-table
 returns-in-Ok-table_of_rows-clause-table c =
-    ap table_from (sym (settled_is c.lift_all.new.rows.items c.mark_all.new.rows.items c.args.order.now c.in-Ok-mark_all.ensures ∙ ap (λ rs. settled_rows rs c.args.order.now) (pass_lifted_is c.args.rows.items c.lift_all.new.rows.items c.args.order.now c.in-Ok.ensures.lifted)))
+    ap table_from
+    (sym (settled_is c.lift_all.new.rows.items c.mark_all.new.rows.items c.args.order.now c.in-Ok-mark_all.ensures
+    ∙ ap (λ rs. settled_rows rs c.args.order.now)
+    (pass_lifted_is c.args.rows.items c.lift_all.new.rows.items c.args.order.now c.in-Ok.ensures.lifted)))
     ∙ c.in-Ok-table_of_rows.ensures
 
 pub returns-in-Ok-table_of_rows-clause-allowed : goal.returns-in-Ok-table_of_rows-clause-allowed
 returns-in-Ok-table_of_rows-clause-allowed c =
     two_none _ _ c.in-Ok.ensures.allowed
-    (ap (λ rs. first_wrong rs c.args.order.now) (sym (c.deref.ensures.value ∙ pass_lifted_is c.args.rows.items c.lift_all.new.rows.items c.args.order.now c.in-Ok.ensures.lifted)) ∙ c.in-Ok-check_all.ensures.allowed)
+    (ap (λ rs. first_wrong rs c.args.order.now)
+    (sym (c.deref.ensures.value ∙ pass_lifted_is c.args.rows.items c.lift_all.new.rows.items c.args.order.now c.in-Ok.ensures.lifted))
+    ∙ c.in-Ok-check_all.ensures.allowed)

@@ -14,6 +14,9 @@ loop-i-preserved c =
 
 pub returns : goal.returns
 returns c =
-    let read : slice_get c.args.rows.now c.args.scope ≡ Some c.index-rows-scope.result = slice_get_read c.args.rows.now (length c.args.rows.now) c.args.scope c.index-rows-scope.result refl c.requires.within c.index-rows-scope.is in
-    c.from_vec.ensures ∙ c.loop-i.invariant ∙ ap (map {B = SymbolScope} (kind_at c.args.rows.now c.args.scope)) (take_all c.loop-i.i c.index-rows-scope.result.entries (omega (arith, c.len-i-end.ensures, c.loop-i-test.false)))
+    let read : slice_get c.args.rows.now c.args.scope ≡ Some c.index-rows-scope.result =
+    slice_get_read c.args.rows.now (length c.args.rows.now) c.args.scope c.index-rows-scope.result refl c.requires.within
+    c.index-rows-scope.is in
+    c.from_vec.ensures ∙ c.loop-i.invariant ∙ ap (map {B = SymbolScope} (kind_at c.args.rows.now c.args.scope))
+    (take_all c.loop-i.i c.index-rows-scope.result.entries (omega (arith, c.len-i-end.ensures, c.loop-i-test.false)))
     ∙ ap (λ o. map {B = SymbolScope} (kind_at c.args.rows.now c.args.scope) (entries_of o)) (sym read)

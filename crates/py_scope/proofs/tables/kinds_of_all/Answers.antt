@@ -6,7 +6,9 @@ use Rattle.py_scope.proofs.tables.kinds_of_all.Goals as goal
 pub loop-scope-preserved : goal.loop-scope-preserved
 loop-scope-preserved c =
     c.in_ok-push.ensures.items ∙ (λ j. c.loop-scope.invariant j ++ c.in_ok-kinds.ensures j ∷ [])
-    ∙ sym (take_next (all_kinds c.args.rows.now 0 c.args.rows.now) c.loop-scope.scope (kinds_in c.args.rows.now c.loop-scope.scope) (get_all_kinds c.args.rows.now c.loop-scope.scope c.loop-scope-test.true))
+    ∙ sym (take_next (all_kinds c.args.rows.now 0 c.args.rows.now) c.loop-scope.scope (kinds_in c.args.rows.now c.loop-scope.scope)
+    (get_all_kinds c.args.rows.now c.loop-scope.scope c.loop-scope-test.true))
 
 pub returns : goal.returns
-returns c = c.loop-scope.invariant ∙ take_all c.loop-scope.scope (all_kinds c.args.rows.now 0 c.args.rows.now) (omega (arith, length-all_kinds c.args.rows.now 0 c.args.rows.now, c.loop-scope-test.false))
+returns c = c.loop-scope.invariant ∙ take_all c.loop-scope.scope (all_kinds c.args.rows.now 0 c.args.rows.now)
+    (omega (arith, length-all_kinds c.args.rows.now 0 c.args.rows.now, c.loop-scope-test.false))

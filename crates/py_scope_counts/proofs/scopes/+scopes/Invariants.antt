@@ -7,16 +7,22 @@ abbrev pub invariant-scopes_in_all-loop-e : goal.invariant-scopes_in_all-loop-e
 invariant-scopes_in_all-loop-e l = l.sum + scopes_in_all l.postponed (view.exprs view.expr_tree (drop l.e-index l.items)) ≡ l.count + scopes_in_all l.postponed (view.exprs view.expr_tree l.items)
 
 abbrev pub invariant-scopes_in_keys-loop-key : goal.invariant-scopes_in_keys-loop-key
-invariant-scopes_in_keys-loop-key l = l.sum + scopes_in_opts l.postponed (view.opt_exprs view.expr_tree (drop l.key-index l.keys)) ≡ l.count + scopes_in_opts l.postponed (view.opt_exprs view.expr_tree l.keys)
+invariant-scopes_in_keys-loop-key l = l.sum + scopes_in_opts l.postponed (view.opt_exprs view.expr_tree (drop l.key-index l.keys)) ≡ l.count
+    + scopes_in_opts l.postponed (view.opt_exprs view.expr_tree l.keys)
 
 abbrev pub invariant-scopes_in_keywords-loop-keyword : goal.invariant-scopes_in_keywords-loop-keyword
-invariant-scopes_in_keywords-loop-keyword l = l.sum + scopes_in_keywords l.postponed (view.keywords view.expr_tree (drop l.keyword-index l.items)) ≡ l.count + scopes_in_keywords l.postponed (view.keywords view.expr_tree l.items)
+invariant-scopes_in_keywords-loop-keyword l = l.sum
+    + scopes_in_keywords l.postponed (view.keywords view.expr_tree (drop l.keyword-index l.items)) ≡ l.count
+    + scopes_in_keywords l.postponed (view.keywords view.expr_tree l.items)
 
 abbrev pub invariant-scopes_in_clauses-loop-clause : goal.invariant-scopes_in_clauses-loop-clause
-invariant-scopes_in_clauses-loop-clause l = l.sum + scopes_in_clauses l.postponed (view.generators view.expr_tree (drop l.clause-index l.clauses)) ≡ l.count + scopes_in_clauses l.postponed (view.generators view.expr_tree l.clauses)
+invariant-scopes_in_clauses-loop-clause l = l.sum
+    + scopes_in_clauses l.postponed (view.generators view.expr_tree (drop l.clause-index l.clauses)) ≡ l.count
+    + scopes_in_clauses l.postponed (view.generators view.expr_tree l.clauses)
 
 abbrev pub invariant-scopes_in_args-loop-item : goal.invariant-scopes_in_args-loop-item
-invariant-scopes_in_args-loop-item l = l.sum + scopes_in_args l.postponed (view.args view.expr_tree (drop l.item-index l.items)) ≡ l.count + scopes_in_args l.postponed (view.args view.expr_tree l.items)
+invariant-scopes_in_args-loop-item l = l.sum + scopes_in_args l.postponed (view.args view.expr_tree (drop l.item-index l.items)) ≡ l.count
+    + scopes_in_args l.postponed (view.args view.expr_tree l.items)
 
 abbrev pub invariant-scopes_in_notes-loop-item : goal.invariant-scopes_in_notes-loop-item
 invariant-scopes_in_notes-loop-item l = l.sum + scopes_in_notes false (view.args view.expr_tree (drop l.item-index l.items)) ≡ l.count + scopes_in_notes false (view.args view.expr_tree l.items)

@@ -5,19 +5,28 @@ use Rattle.py_tree.specs.View as view
 use Rattle.py_shapes.proofs.checks_exprs.+shapes.Given as goal
 
 abbrev pub invariant-check_exprs-loop-e : goal.invariant-check_exprs-loop-e
-invariant-check_exprs-loop-e l = first_malformed (exprs_shapes (option_copied l.class) (view.exprs view.expr_tree (drop l.e-index l.items))) ≡ first_malformed (exprs_shapes (option_copied l.class) (view.exprs view.expr_tree l.items))
+invariant-check_exprs-loop-e l = first_malformed (exprs_shapes (option_copied l.class) (view.exprs view.expr_tree (drop l.e-index l.items)))
+    ≡ first_malformed (exprs_shapes (option_copied l.class) (view.exprs view.expr_tree l.items))
 
 abbrev pub invariant-check_keys-loop-key : goal.invariant-check_keys-loop-key
-invariant-check_keys-loop-key l = first_malformed (opt_exprs_shapes (option_copied l.class) (view.opt_exprs view.expr_tree (drop l.key-index l.keys))) ≡ first_malformed (opt_exprs_shapes (option_copied l.class) (view.opt_exprs view.expr_tree l.keys))
+invariant-check_keys-loop-key l = first_malformed
+    (opt_exprs_shapes (option_copied l.class) (view.opt_exprs view.expr_tree (drop l.key-index l.keys)))
+    ≡ first_malformed (opt_exprs_shapes (option_copied l.class) (view.opt_exprs view.expr_tree l.keys))
 
 abbrev pub invariant-check_keywords-loop-keyword : goal.invariant-check_keywords-loop-keyword
-invariant-check_keywords-loop-keyword l = first_malformed (keywords_shapes (option_copied l.class) (view.keywords view.expr_tree (drop l.keyword-index l.items))) ≡ first_malformed (keywords_shapes (option_copied l.class) (view.keywords view.expr_tree l.items))
+invariant-check_keywords-loop-keyword l = first_malformed
+    (keywords_shapes (option_copied l.class) (view.keywords view.expr_tree (drop l.keyword-index l.items)))
+    ≡ first_malformed (keywords_shapes (option_copied l.class) (view.keywords view.expr_tree l.items))
 
 abbrev pub invariant-check_generators-loop-clause : goal.invariant-check_generators-loop-clause
-invariant-check_generators-loop-clause l = first_malformed (generators_shapes (option_copied l.class) (view.generators view.expr_tree (drop l.clause-index l.clauses))) ≡ first_malformed (generators_shapes (option_copied l.class) (view.generators view.expr_tree l.clauses))
+invariant-check_generators-loop-clause l = first_malformed
+    (generators_shapes (option_copied l.class) (view.generators view.expr_tree (drop l.clause-index l.clauses)))
+    ≡ first_malformed (generators_shapes (option_copied l.class) (view.generators view.expr_tree l.clauses))
 
 abbrev pub invariant-check_args-loop-item : goal.invariant-check_args-loop-item
-invariant-check_args-loop-item l = first_malformed (args_shapes (option_copied l.class) (view.args view.expr_tree (drop l.item-index l.items))) ≡ first_malformed (args_shapes (option_copied l.class) (view.args view.expr_tree l.items))
+invariant-check_args-loop-item l = first_malformed
+    (args_shapes (option_copied l.class) (view.args view.expr_tree (drop l.item-index l.items)))
+    ≡ first_malformed (args_shapes (option_copied l.class) (view.args view.expr_tree l.items))
 
 abbrev pub decreases-check_expr : goal.decreases-check_expr
 decreases-check_expr l = 8 * goal.size-check_expr l

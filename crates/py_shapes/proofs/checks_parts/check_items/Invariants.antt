@@ -5,4 +5,5 @@ use Rattle.py_tree.specs.View as view
 use Rattle.py_shapes.proofs.checks_parts.check_items.Given as goal
 
 abbrev pub invariant-loop-item : goal.invariant-loop-item
-invariant-loop-item l = first_malformed (with_items_shapes (option_copied l.class) (view.with_items (drop l.item-index l.items))) ≡ first_malformed (with_items_shapes (option_copied l.class) (view.with_items l.items))
+invariant-loop-item l = first_malformed (with_items_shapes (option_copied l.class) (view.with_items (drop l.item-index l.items)))
+    ≡ first_malformed (with_items_shapes (option_copied l.class) (view.with_items l.items))

@@ -5,4 +5,5 @@ use Rattle.py_tree.specs.View as view
 use Rattle.py_shapes.proofs.checks_parts.check_type_params.Given as goal
 
 abbrev pub invariant-loop-item : goal.invariant-loop-item
-invariant-loop-item l = first_malformed (type_params_shapes (option_copied l.class) (view.type_params (drop l.item-index l.items))) ≡ first_malformed (type_params_shapes (option_copied l.class) (view.type_params l.items))
+invariant-loop-item l = first_malformed (type_params_shapes (option_copied l.class) (view.type_params (drop l.item-index l.items)))
+    ≡ first_malformed (type_params_shapes (option_copied l.class) (view.type_params l.items))

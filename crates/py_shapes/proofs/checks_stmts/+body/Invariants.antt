@@ -5,13 +5,18 @@ use Rattle.py_tree.specs.View as view
 use Rattle.py_shapes.proofs.checks_stmts.+body.Given as goal
 
 abbrev pub invariant-check_stmts-loop-s : goal.invariant-check_stmts-loop-s
-invariant-check_stmts-loop-s l = first_malformed (stmts_shapes (option_copied l.class) (view.stmts view.stmt_tree (drop l.s-index l.body))) ≡ first_malformed (stmts_shapes (option_copied l.class) (view.stmts view.stmt_tree l.body))
+invariant-check_stmts-loop-s l = first_malformed (stmts_shapes (option_copied l.class) (view.stmts view.stmt_tree (drop l.s-index l.body)))
+    ≡ first_malformed (stmts_shapes (option_copied l.class) (view.stmts view.stmt_tree l.body))
 
 abbrev pub invariant-check_handlers-loop-handler : goal.invariant-check_handlers-loop-handler
-invariant-check_handlers-loop-handler l = first_malformed (handlers_shapes (option_copied l.class) (view.handlers view.stmt_tree (drop l.handler-index l.handlers))) ≡ first_malformed (handlers_shapes (option_copied l.class) (view.handlers view.stmt_tree l.handlers))
+invariant-check_handlers-loop-handler l = first_malformed
+    (handlers_shapes (option_copied l.class) (view.handlers view.stmt_tree (drop l.handler-index l.handlers)))
+    ≡ first_malformed (handlers_shapes (option_copied l.class) (view.handlers view.stmt_tree l.handlers))
 
 abbrev pub invariant-check_cases-loop-case : goal.invariant-check_cases-loop-case
-invariant-check_cases-loop-case l = first_malformed (cases_shapes (option_copied l.class) (view.cases view.stmt_tree (drop l.case-index l.cases))) ≡ first_malformed (cases_shapes (option_copied l.class) (view.cases view.stmt_tree l.cases))
+invariant-check_cases-loop-case l = first_malformed
+    (cases_shapes (option_copied l.class) (view.cases view.stmt_tree (drop l.case-index l.cases)))
+    ≡ first_malformed (cases_shapes (option_copied l.class) (view.cases view.stmt_tree l.cases))
 
 abbrev pub decreases-check_stmt : goal.decreases-check_stmt
 decreases-check_stmt l = 8 * goal.size-check_stmt l

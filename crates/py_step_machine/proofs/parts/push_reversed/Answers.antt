@@ -12,7 +12,10 @@ pub loop-index-preserved : goal.loop-index-preserved
 loop-index-preserved c =
     let i = c.loop-index.invariant in record {
       within = omega (arith, i.within);
-      given = rw c.in_ok-push.ensures (ap (λ l. It (Given c.args.answer (c.loop-index.index - 1)) ∷ l) i.given ∙ sym (stacked_on c.args.count c.args.answer c.loop-index.index (machine_stack c.args.stack.now) c.loop-index-test.true i.within));
+      given = rw c.in_ok-push.ensures
+          (ap (λ l. It (Given c.args.answer (c.loop-index.index - 1)) ∷ l) i.given
+          ∙ sym (stacked_on c.args.count c.args.answer c.loop-index.index
+          (machine_stack c.args.stack.now) c.loop-index-test.true i.within));
     }
 
 pub returns : goal.returns

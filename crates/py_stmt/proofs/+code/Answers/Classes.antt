@@ -6,7 +6,7 @@ use Rattle.py_scope.specs.declared.table_type.SymbolTableType.TheVariants as kin
 use Rattle.py_emission_parts.specs.Accesses.{emission_of_stored}
 use Rattle.py_emission_parts.specs.Children.{decorated_value, made_function}
 use Rattle.py_emission_parts.specs.Classes.{class_shape}
-use Rattle.py_emission_parts.specs.Within.{class_path, class_within}
+use Rattle.py_emission_parts.specs.NestedScopes.{class_path, nested_class}
 use Rattle.py_emission_parts.specs.Emitting.{Emission, State, ◌▸◌, by_context}
 use Rattle.py_emission_parts.specs.Running.{go_on, run}
 use Rattle.py_emission_parts.specs.EmissionParts.{values}
@@ -15,7 +15,7 @@ use Rattle.py_emit.specs.States.{AreMade, Rest, Same, rest, state}
 use Rattle.py_emit.specs.declared.context.Naming.TheVariants as naming
 use Rattle.py_emit.specs.declared.emitter.Emitter.{Emitter}
 use Rattle.py_emit.proofs.Joined.{first_refuses, goes_as, refuses_as, went}
-use Rattle.py_emit.proofs.Within.{within_inner}
+use Rattle.py_emit.proofs.NestedScopes.{nested_inner}
 use Rattle.py_expr_scopes.specs.Functions.{Gives}
 use Rattle.py_expr_scopes.proofs.Scopes.{left_gives, left_keeps, refused_gives, same_path}
 use Rattle.py_expr_parts.proofs.Steps.{step_stays}
@@ -38,17 +38,24 @@ class_scope_left t c =
     let begins = c.in_ok-enter_class.ensures.state in
     let into = c.in_ok-enter_class.ensures.rest in
     let same = c.in_ok-compile_inner.ensures.same in
-    let gives = left_gives kind.Class n h first entry begins last c.leave_scope.new.self into same (own_emission body) c.leave_scope.result c.in_ok-compile_inner.ensures.goes c.leave_scope.ensures.code c.leave_scope.ensures.state c.leave_scope.ensures.err in
+    let gives = left_gives kind.Class n h first entry begins last c.leave_scope.new.self into same
+    (own_emission body) c.leave_scope.result c.in_ok-compile_inner.ensures.goes c.leave_scope.ensures.code c.leave_scope.ensures.state
+    c.leave_scope.ensures.err in
     let keeps = left_keeps kind.Class n h first entry begins last c.leave_scope.new.self into same c.leave_scope.result c.leave_scope.ensures.rest c.leave_scope.ensures.err in
     record {
-      goes = subst (λ (e : Emitter). Gives c.leave_scope.result (state c.leave_scope.new.self) (λ k. run (own_scope (class_within c.args.path name) name body k) (state e))) c.in_ok-full.ensures.same gives;
+      goes = subst (λ (e : Emitter). Gives c.leave_scope.result (state c.leave_scope.new.self)
+          (λ k. run (own_scope (nested_class c.args.path name) name body k) (state e))) c.in_ok-full.ensures.same gives;
       same = subst (λ (e : Emitter). Same c.leave_scope.result (rest c.leave_scope.new.self) (rest e)) c.in_ok-full.ensures.same keeps;
     }
 
 pub class_scope_inner : goal.classes::compile_class_scope-leave_scope-requires
 class_scope_inner t c =
     let name = c.args.name.now in
-    record { inner = within_inner kind.Class (naming.Class name c.args.path) (class_shape name) c.text.new.self c.enter_class.new.em c.compile_inner.new.em c.in_ok-enter_class.ensures.rest c.in_ok-compile_inner.ensures.same }
+    record {
+      inner = nested_inner kind.Class (naming.Class name c.args.path)
+          (class_shape name) c.text.new.self c.enter_class.new.em c.compile_inner.new.em c.in_ok-enter_class.ensures.rest
+          c.in_ok-compile_inner.ensures.same;
+    }
 
 pub class_scope_refused : goal.classes::compile_class_scope-returns-in_err-compile_inner
 class_scope_refused t c =
@@ -66,7 +73,7 @@ class_scope_refused t c =
     let gives = refused_gives kind.Class n h first entry begins (own_emission body) out x _ r c.in_err-compile_inner.ensures.goes in
     let keeps = same_path kind.Class n h first entry begins entry entry into refl out x _ r c.in_err-compile_inner.ensures.same in
     record {
-      goes = subst (λ (e : Emitter). Gives out (state c.compile_inner.new.em) (λ k. run (own_scope (class_within c.args.path name) name body k) (state e))) c.in_ok-full.ensures.same gives;
+      goes = subst (λ (e : Emitter). Gives out (state c.compile_inner.new.em) (λ k. run (own_scope (nested_class c.args.path name) name body k) (state e))) c.in_ok-full.ensures.same gives;
       same = subst (λ (e : Emitter). Same out (rest c.compile_inner.new.em) (rest e)) c.in_ok-full.ensures.same keeps;
     }
 
@@ -75,7 +82,10 @@ pub scope_begins : goal.classes::compile_class_scope-compile_inner-requires
 scope_begins t c =
     let s = state c.text.new.self in
     let made : AreMade (rest c.enter_class.new.em).context.loop_blocks = subst (λ (r : Rest). AreMade r.context.loop_blocks) (sym c.in_ok-enter_class.ensures.rest) tt in
-    let path : c.in_ok-full.full ≡ (state c.enter_class.new.em).around.context.path = c.in_ok-full.ensures.data ∙ c.as_str.ensures ∙ sym (ap (λ (r : State). r.around.context.path) c.in_ok-enter_class.ensures.state ∙ entered_path c.args.name.now c.args.path s s.location (suc s.next)) in
+    let path : c.in_ok-full.full ≡ (state c.enter_class.new.em).node_context.context.path =
+    c.in_ok-full.ensures.data ∙ c.as_str.ensures ∙ sym
+    (ap (λ (r : State). r.node_context.context.path) c.in_ok-enter_class.ensures.state
+    ∙ entered_path c.args.name.now c.args.path s s.location (suc s.next)) in
     (search rules, (made, path))
 
 -- a function is made of its code
@@ -122,7 +132,7 @@ unfolding by_context
 class_goes t c = record {
   goes =
       let s = c.args.s.now in
-      let path = c.in_ok-path.ensures.data ∙ ap (class_path (state c.args.em.now).around.context) c.as_str.ensures in
+      let path = c.in_ok-path.ensures.data ∙ ap (class_path (state c.args.em.now).node_context.context) c.as_str.ensures in
       goes_as _ _ _ _
       (class_is s (state c.args.em.now)
       ∙ ap (λ p. run (emitted_class p s (class_params s)) (state c.args.em.now)) (sym path)

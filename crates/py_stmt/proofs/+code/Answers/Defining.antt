@@ -11,7 +11,7 @@ use Rattle.py_emission.specs.Parameters.{function_shape, parameters}
 use Rattle.py_bytecode.specs.Objects as const
 use Rattle.py_emission_parts.specs.Accesses.{emission_of_stored}
 use Rattle.py_emission_parts.specs.Children.{decorated_value, docstring_store, emission_of_defaults, enter_parameters, flags_of_defaults}
-use Rattle.py_emission_parts.specs.Within.{function_inside}
+use Rattle.py_emission_parts.specs.NestedScopes.{function_inside}
 use Rattle.py_emission_parts.specs.Context.{function_path}
 use Rattle.py_emission_parts.specs.Emitting.{Emission, State, ◌▸◌, add_constant, by_level}
 use Rattle.py_emission_parts.specs.Running.{Action, code_head, go_on, run}
@@ -24,7 +24,7 @@ use Rattle.py_emit.specs.declared.emitter.Emitter.{Emitter}
 use Rattle.py_emit.proofs.Joined.{first_refuses, goes_as, joined_actions, refuses_as, went}
 use Rattle.py_emit.specs.declared.context.Naming.{Naming}
 use Rattle.py_emit.specs.declared.context.Naming.TheVariants as naming
-use Rattle.py_emit.proofs.Within.{within_inner}
+use Rattle.py_emit.proofs.NestedScopes.{nested_inner}
 use Rattle.py_expr_parts.proofs.Steps.{step_stays}
 use Rattle.py_expr_scopes.proofs.Scopes.{left_gives, left_keeps, refused_gives, same_path}
 use Rattle.py_stmt.specs.Functions.{body_emission, body_of, def_emission, inner_emission, plain_emission, scope_emission, value_emission}
@@ -40,7 +40,10 @@ defining_shaped : (n : Naming) (first : Emitter) (name : List ℕ) (p q : Argume
     → r ≡ entered_rest n first.scope (code_head (nested_context kind.Function n (state first)) (function_shape (arguments expr_tree p) name) (state first).location) (rest first)
     → p ≡ q
     → r ≡ entered_rest n first.scope (code_head (nested_context kind.Function n (state first)) (function_shape (arguments expr_tree q) name) (state first).location) (rest first)
-defining_shaped n first name p q r is same = is ∙ ap (λ (x : ArgumentsOf Expr). entered_rest n first.scope (code_head (nested_context kind.Function n (state first)) (function_shape (arguments expr_tree x) name) (state first).location) (rest first)) same
+defining_shaped n first name p q r is same = is
+    ∙ ap (λ (x : ArgumentsOf Expr). entered_rest n first.scope
+    (code_head (nested_context kind.Function n (state first)) (function_shape (arguments expr_tree x) name) (state first).location)
+    (rest first)) same
 
 pub defining_scope_left : goal.functions::compile_function_scope-returns
 defining_scope_left t c =
@@ -52,7 +55,9 @@ defining_scope_left t c =
     let into = defining_shaped n c.args.em.now c.args.name c.deref.result.now c.args.s.now.args.value (rest entry) c.in_ok-enter_function.ensures.rest c.deref.ensures in
     let same = c.in_ok-compile_inner.ensures.same in
     record {
-      goes = left_gives kind.Function n h c.args.em.now entry begins last c.leave_scope.new.self into same (inner_emission c.args.s.now) c.leave_scope.result c.in_ok-compile_inner.ensures.goes c.leave_scope.ensures.code c.leave_scope.ensures.state c.leave_scope.ensures.err;
+      goes = left_gives kind.Function n h c.args.em.now entry begins last c.leave_scope.new.self into same
+          (inner_emission c.args.s.now) c.leave_scope.result c.in_ok-compile_inner.ensures.goes c.leave_scope.ensures.code
+          c.leave_scope.ensures.state c.leave_scope.ensures.err;
       same = left_keeps kind.Function n h c.args.em.now entry begins last c.leave_scope.new.self into same c.leave_scope.result c.leave_scope.ensures.rest c.leave_scope.ensures.err;
     }
 
@@ -61,7 +66,7 @@ defining_scope_inner t c =
     let h = function_shape (params_of c.args.s.now) c.args.name in
     let n = naming.Function c.args.path in
     let into = defining_shaped n c.args.em.now c.args.name c.deref.result.now c.args.s.now.args.value (rest c.enter_function.new.em) c.in_ok-enter_function.ensures.rest c.deref.ensures in
-    record { inner = within_inner kind.Function n h c.args.em.now c.enter_function.new.em c.compile_inner.new.em into c.in_ok-compile_inner.ensures.same }
+    record { inner = nested_inner kind.Function n h c.args.em.now c.enter_function.new.em c.compile_inner.new.em into c.in_ok-compile_inner.ensures.same }
 
 pub defining_scope_refused : goal.functions::compile_function_scope-returns-in_err-compile_inner
 defining_scope_refused t c =
@@ -113,7 +118,8 @@ made_goes t c = record {
       let s = c.args.s.now in
       let k = made_emission (given_flags c.args.defaults c.args.generic) s in
       let same = c.in_ok-path.ensures.same ∙ c.in_ok-name.ensures.same in
-      let path = c.in_ok-path.ensures.data ∙ ap (function_path (state c.text.new.self).around.context) c.as_str-2.ensures ∙ ap (λ (e : Emitter). function_path (state e).around.context s.name) (sym c.in_ok-path.ensures.same) in
+      let path = c.in_ok-path.ensures.data ∙ ap (function_path (state c.text.new.self).node_context.context) c.as_str-2.ensures
+      ∙ ap (λ (e : Emitter). function_path (state e).node_context.context s.name) (sym c.in_ok-path.ensures.same) in
       goes_as _ _ _ _
       (ap (λ (e : Emitter). run (scope_emission (function_inside s.name) s.name s k) (state e)) (sym same)
       ∙ function_part_scope_as s _ _ k _ (c.in_ok-name.ensures.data ∙ c.as_str.ensures) path
@@ -128,7 +134,8 @@ made_refused t c = record {
       let s = c.args.s.now in
       let k = made_emission (given_flags c.args.defaults c.args.generic) s in
       let same = c.in_ok-path.ensures.same ∙ c.in_ok-name.ensures.same in
-      let path = c.in_ok-path.ensures.data ∙ ap (function_path (state c.text.new.self).around.context) c.as_str-2.ensures ∙ ap (λ (e : Emitter). function_path (state e).around.context s.name) (sym c.in_ok-path.ensures.same) in
+      let path = c.in_ok-path.ensures.data ∙ ap (function_path (state c.text.new.self).node_context.context) c.as_str-2.ensures
+      ∙ ap (λ (e : Emitter). function_path (state e).node_context.context s.name) (sym c.in_ok-path.ensures.same) in
       let r : c.from_residual-in_err-code.result ≡ Err c.in_err-code.field-0.0 = grind arith in
       refuses_as _ _ _ _ _ r
       (ap (λ (e : Emitter). run (scope_emission (function_inside s.name) s.name s k) (state e)) (sym same)
@@ -146,14 +153,16 @@ def_as : (s : StmtFunctionDefOf Stmt) (p : ArgumentsOf Expr) (r : State) → p �
     → run (plain_emission s) r ≡ go_on (run (emission_of_defaults (default_emissions (arguments expr_tree p))) r) (value_emission (flags_of_defaults (default_emissions (arguments expr_tree p))) s)
 def_as s p r is =
     ap (λ (v : Emission). run v r) (def_is s)
-    ∙ ap (λ (x : ArgumentsOf Expr). go_on (run (emission_of_defaults (default_emissions (arguments expr_tree x))) r) (value_emission (flags_of_defaults (default_emissions (arguments expr_tree x))) s)) (sym is)
+    ∙ ap (λ (x : ArgumentsOf Expr). go_on (run (emission_of_defaults (default_emissions (arguments expr_tree x))) r)
+    (value_emission (flags_of_defaults (default_emissions (arguments expr_tree x))) s)) (sym is)
 
 pub defaults_refused : goal.functions::compile_plain-returns-in_err-defaults
 defaults_refused t c = record {
   goes =
       let s = c.args.s.now in
       let r : c.from_residual.result ≡ Err c.in_err-defaults.field-0.0 = grind arith in
-      first_refuses _ _ _ _ _ (run (value_emission (flags_of_defaults (default_emissions (arguments expr_tree c.deref.result.now))) s)) r (def_as s c.deref.result.now (state c.args.em.now) c.deref.ensures) c.in_err-defaults.ensures.emits.goes;
+      first_refuses _ _ _ _ _ (run (value_emission (flags_of_defaults (default_emissions (arguments expr_tree c.deref.result.now))) s)) r
+      (def_as s c.deref.result.now (state c.args.em.now) c.deref.ensures) c.in_err-defaults.ensures.emits.goes;
   same = search rules;
 }
 
@@ -208,7 +217,9 @@ pub rest_goes_on : goal.functions::compile_rest-loop-i-preserved
 rest_goes_on t c =
     let lt : c.loop-i.i < length c.args.body.now = omega (arith, c.loop-i-test.true) in (
       c.in_ok-compile_statement.ensures.same ∙ c.loop-i.invariant.0,
-      c.loop-i.invariant.1 ∙ ap (λ (v : Emission). run v (state c.loop-i.em)) (statement_at c.args.body.now c.loop-i.i _ c.index-body-i.result c.index-body-i.is lt) ∙ went _ _ _ c.in_ok-compile_statement.ensures.goes,
+      c.loop-i.invariant.1 ∙ ap (λ (v : Emission). run v (state c.loop-i.em))
+          (statement_at c.args.body.now c.loop-i.i _ c.index-body-i.result c.index-body-i.is lt)
+          ∙ went _ _ _ c.in_ok-compile_statement.ensures.goes,
     )
 
 pub rest_refused : goal.functions::compile_rest-returns-in_err-compile_statement
@@ -216,7 +227,9 @@ rest_refused t c = record {
   goes =
       let lt : c.loop-i.i < length c.args.body.now = omega (arith, c.loop-i-test.true) in
       let r : c.from_residual.result ≡ Err c.in_err-compile_statement.field-0.0 = grind arith in
-      first_refuses _ _ _ _ _ _ r (c.loop-i.invariant.1 ∙ ap (λ (v : Emission). run v (state c.loop-i.em)) (statement_at c.args.body.now c.loop-i.i _ c.index-body-i.result c.index-body-i.is lt)) c.in_err-compile_statement.ensures.goes;
+      first_refuses _ _ _ _ _ _ r (c.loop-i.invariant.1
+      ∙ ap (λ (v : Emission). run v (state c.loop-i.em))
+      (statement_at c.args.body.now c.loop-i.i _ c.index-body-i.result c.index-body-i.is lt)) c.in_err-compile_statement.ensures.goes;
   same = search rules;
 }
 

@@ -51,7 +51,12 @@ other_begins t c =
     let a = block_opens _ _ _ c.in_ok-end.ensures.ok c.in_ok-other.ensures.made in
     let e = opens (each_begun (emission (expr_tree c.deref.result.now))) _ _ _ c.in_ok-begin_each.ensures.goes a in
     let g = begin_opens _ _ _ start (λ e. first (sym e)) c.switch_to_block.ensures.state e in
-    record { made = opens (each_turn (emission_of_store (expr_tree c.args.s.now.target.value)) (emission_of_stmts (stmts stmt_tree c.args.s.now.body)) start other end) _ _ _ c.in_ok-compile_turn.ensures.goes g; below = c.in_ok-other.ensures.below }
+    record {
+      made = opens (each_turn (emission_of_store (expr_tree c.args.s.now.target.value))
+          (emission_of_stmts (stmts stmt_tree c.args.s.now.body)) start other end) _ _ _ c.in_ok-compile_turn.ensures.goes g;
+      below =
+          c.in_ok-other.ensures.below;
+    }
 
 pub end_begins : goal.loops::compile_for-switch_to_block-requires-3
 end_begins t c =
@@ -63,7 +68,8 @@ end_begins t c =
     let second = open_block_apart _ _ _ c.in_ok-other.ensures.made c.in_ok-end.ensures.number in
     let e = opens (each_begun (emission (expr_tree c.deref.result.now))) _ _ _ c.in_ok-begin_each.ensures.goes c.in_ok-end.ensures.made in
     let g = begin_opens _ _ _ start (λ e. first (sym e)) c.switch_to_block.ensures.state e in
-    let j = opens (each_turn (emission_of_store (expr_tree c.args.s.now.target.value)) (emission_of_stmts (stmts stmt_tree c.args.s.now.body)) start other end) _ _ _ c.in_ok-compile_turn.ensures.goes g in
+    let j = opens (each_turn (emission_of_store (expr_tree c.args.s.now.target.value))
+    (emission_of_stmts (stmts stmt_tree c.args.s.now.body)) start other end) _ _ _ c.in_ok-compile_turn.ensures.goes g in
     let m = begin_opens _ _ _ other (λ e. second (sym e)) c.switch_to_block-2.ensures.state j in
     record { made = opens (each_ended (emission_of_stmts (stmts stmt_tree c.as_slice.result.now))) _ _ _ c.in_ok-end_each.ensures.goes m; below = c.in_ok-end.ensures.below }
 

@@ -20,8 +20,12 @@ pub no_items : goal.withs::compile_with-returns-then-is_empty
 no_items t c = record {
   goes =
       let none = itemless_is c.args.s.now.items c.is_empty.result c.is_empty.ensures.0 c.is_empty.ensures.1 ∙ c.if-is_empty.true in
-      λ n. ap (λ (v : Emission). run v (state c.args.em.now)) (turn_if_so _ _ (emission_of_items c.args.s.now.location (with_items c.args.s.now.items) (full_body (stmts stmt_tree c.args.s.now.body))) none)
-      ∙ refused_as error.EmptyWithItems (state c.args.em.now) c.refuse-error.result (ap (λ (x : LocatedError CodegenErrorType). x.error) c.refuse-error.ensures.told) (ap (λ (x : LocatedError CodegenErrorType). x.location) c.refuse-error.ensures.told);
+      λ n. ap (λ (v : Emission). run v (state c.args.em.now))
+      (turn_if_so _ _ (emission_of_items c.args.s.now.location (with_items c.args.s.now.items)
+      (full_body (stmts stmt_tree c.args.s.now.body))) none)
+      ∙ refused_as error.EmptyWithItems (state c.args.em.now) c.refuse-error.result
+      (ap (λ (x : LocatedError CodegenErrorType). x.error) c.refuse-error.ensures.told)
+      (ap (λ (x : LocatedError CodegenErrorType). x.location) c.refuse-error.ensures.told);
   same = search rules;
 }
 
@@ -29,7 +33,9 @@ pub some_items : goal.withs::compile_with-returns
 some_items t c = record {
   goes =
       let some = itemless_is c.args.s.now.items c.is_empty.result c.is_empty.ensures.0 c.is_empty.ensures.1 ∙ c.if-is_empty.false in
-      goes_as _ _ _ _ (ap (λ (v : Emission). run v (state c.args.em.now)) (if_not _ _ (emission_of_items c.args.s.now.location (with_items c.args.s.now.items) (full_body (stmts stmt_tree c.args.s.now.body))) some)) c.compile_managed.ensures.goes;
+      goes_as _ _ _ _ (ap (λ (v : Emission). run v (state c.args.em.now))
+      (if_not _ _ (emission_of_items c.args.s.now.location (with_items c.args.s.now.items)
+      (full_body (stmts stmt_tree c.args.s.now.body))) some)) c.compile_managed.ensures.goes;
   same = search rules;
 }
 
@@ -38,7 +44,9 @@ no_body t c = record {
   goes =
       let none = none_stmts c.args.body.now ∙ sym c.is_empty.ensures ∙ c.if-is_empty.true in
       λ n. ap (λ (v : Emission). run v (state c.args.em.now)) (turn_if_so _ _ (emission_of_stmts (stmts stmt_tree c.args.body.now)) none)
-      ∙ refused_as error.EmptyWithBody (state c.args.em.now) c.refuse-error.result (ap (λ (x : LocatedError CodegenErrorType). x.error) c.refuse-error.ensures.told) (ap (λ (x : LocatedError CodegenErrorType). x.location) c.refuse-error.ensures.told);
+      ∙ refused_as error.EmptyWithBody (state c.args.em.now) c.refuse-error.result
+      (ap (λ (x : LocatedError CodegenErrorType). x.error) c.refuse-error.ensures.told)
+      (ap (λ (x : LocatedError CodegenErrorType). x.location) c.refuse-error.ensures.told);
   same = search rules;
 }
 

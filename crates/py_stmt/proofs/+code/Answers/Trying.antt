@@ -41,7 +41,12 @@ catch_begins t c =
     let end = c.in_ok-end.end.0 in
     let a = block_opens _ _ _ c.in_ok-other.ensures.ok c.in_ok-catch.ensures.made in
     let e = block_opens _ _ _ c.in_ok-end.ensures.ok a in
-    record { made = opens (guarded_body c.args.last (emission_of_stmts (stmts stmt_tree c.as_slice.result.now)) c.in_ok-catch.catch.0 other end) _ _ _ c.in_ok-compile_guarded.ensures.goes e; below = c.in_ok-catch.ensures.below }
+    record {
+      made = opens (guarded_body c.args.last
+          (emission_of_stmts (stmts stmt_tree c.as_slice.result.now)) c.in_ok-catch.catch.0 other end)
+          _ _ _ c.in_ok-compile_guarded.ensures.goes e;
+      below = c.in_ok-catch.ensures.below;
+    }
 
 pub else_begins : goal.tries::compile_parts-switch_to_block-requires-2
 else_begins t c =
@@ -94,7 +99,8 @@ handler_refused t c = record {
   goes =
       let r : c.from_residual.result ≡ Err c.in_err-compile_handler.field-0.0 = grind arith in
       first_refuses _ _ _ _ _ _ r
-      (c.loop-handler.invariant.1 ∙ handlers_at c.args.handlers.now c.loop-handler.handler-index _ c.handler-item.result c.args.last c.args.end.0 (state c.loop-handler.em) c.handler-item.is c.loop-handler-test.true)
+      (c.loop-handler.invariant.1 ∙ handlers_at c.args.handlers.now c.loop-handler.handler-index _ c.handler-item.result c.args.last
+      c.args.end.0 (state c.loop-handler.em) c.handler-item.is c.loop-handler-test.true)
       c.in_err-compile_handler.ensures.goes;
   same = search rules;
 }

@@ -14,6 +14,8 @@ returns c = record {
       let mid = state c.compile_futures.new.em in
       let all = ap (λ (xs : List Stmt). run (emission_of_block (stmts stmt_tree xs)) mid) (sym (slice_rest c.args.body.now c.in_ok-opening.opening.count)) ∙ c.in_ok-compile_block.ensures.goes in
       c.in_ok-opening.ensures.opens emission_of_block
-      ∙ restored_last _ c.in_ok-opening.opening.postponed c.context-before.result.future_annotations (flag (state c.args.em.now)) (state c.compile_block.new.em) (state c.restore.new.em) all c.restore.ensures.state (ap (λ (x : EmitContext). x.future_annotations) c.context-before.ensures ∙ sym (flag_is c.args.em.now));
+      ∙ restored_last _ c.in_ok-opening.opening.postponed c.context-before.result.future_annotations (flag (state c.args.em.now))
+      (state c.compile_block.new.em) (state c.restore.new.em) all c.restore.ensures.state
+      (ap (λ (x : EmitContext). x.future_annotations) c.context-before.ensures ∙ sym (flag_is c.args.em.now));
   same = search rules;
 }

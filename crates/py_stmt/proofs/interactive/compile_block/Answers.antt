@@ -9,6 +9,8 @@ pub returns : goal.returns
 returns c = record {
   goes =
       let some : suc (length c.args.body.now - 1) ≡ length c.args.body.now = omega (arith, c.if-count-eq0.false) in
-      goes_as _ _ _ _ (ap (λ (f : Action). f (state c.args.em.now)) (block_parts c.args.body.now (length c.args.body.now - 1) _ c.index-body-count.result some c.index-body-count.is)) c.compile_block_parts.ensures.goes;
+      goes_as _ _ _ _ (ap (λ (f : Action). f (state c.args.em.now))
+      (block_parts c.args.body.now (length c.args.body.now - 1) _ c.index-body-count.result some c.index-body-count.is))
+      c.compile_block_parts.ensures.goes;
   same = search rules;
 }

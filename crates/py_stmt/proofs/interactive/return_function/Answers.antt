@@ -18,6 +18,8 @@ returns-in_err-compile_decorated c = record {
       let s = c.args.s.now in
       let w = decorated_value (values (all_emissions (exprs expr_tree s.decorator_list))) (def_emission s) ▸ stored_and_returned s.name in
       let r : c.from_residual.result ≡ Err c.in_err-compile_decorated.field-0.0 = grind arith in
-      first_refuses _ _ _ _ _ (run (stored_and_returned s.name)) r (ap (λ o. on_done o (run w)) (move_goes s.location (state c.args.em.now)) ∙ ap (run w) (sym c.set_location.ensures.state)) c.in_err-compile_decorated.ensures.goes;
+      first_refuses _ _ _ _ _ (run (stored_and_returned s.name)) r
+      (ap (λ o. on_done o (run w)) (move_goes s.location (state c.args.em.now)) ∙ ap (run w) (sym c.set_location.ensures.state))
+      c.in_err-compile_decorated.ensures.goes;
   same = search rules;
 }

@@ -7,6 +7,7 @@ use Rattle.py_stmt_parts.proofs.assignments.keep_annotation.Goals as goal
 
 pub returns : goal.returns
 returns c = record {
-  goes = subst (λ x. Goes c.store_key.result (state c.store_key.new.em) (run (emission_of_annotation (tree.Name c.args.e.now.location x)) (state c.args.em.now))) c.as_str.ensures c.store_key.ensures.goes;
+  goes = subst (λ x. Goes c.store_key.result (state c.store_key.new.em)
+      (run (emission_of_annotation (tree.Name c.args.e.now.location x)) (state c.args.em.now))) c.as_str.ensures c.store_key.ensures.goes;
   same = search rules;
 }

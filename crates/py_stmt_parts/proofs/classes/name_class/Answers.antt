@@ -1,7 +1,7 @@
 use Rattle.std.proofs.Common.{rules, ◌≡◌, Err, ◌∙◌, arith}
 use Rattle.std.specs.Prelude.{codes}
 use Rattle.py_emission_parts.specs.Running.{run}
-use Rattle.py_emission_parts.specs.Within.{doc_const}
+use Rattle.py_emission_parts.specs.NestedScopes.{doc_const}
 use Rattle.py_emit.specs.States.{state}
 use Rattle.py_emit.proofs.Joined.{first_refuses, goes_as, went}
 use Rattle.py_stmt_parts.specs.Classes.{stored_as}
@@ -20,7 +20,9 @@ pub returns-in_err-store_text : goal.returns-in_err-store_text
 returns-in_err-store_text c = record {
   goes =
       let r : c.from_residual-in_err-store_text.result ≡ Err c.in_err-store_text.field-0.0 = grind arith in
-      first_refuses _ _ _ _ _ (run (stored_as (codes "__doc__") (doc_const c.args.doc))) r (titles_next c.args.doc c.args.path (state c.args.em.now) _ c.requires.path c.in_ok-copy_name.ensures.goes) c.in_err-store_text.ensures.goes;
+      first_refuses _ _ _ _ _ (run (stored_as (codes "__doc__") (doc_const c.args.doc))) r
+      (titles_next c.args.doc c.args.path (state c.args.em.now) _ c.requires.path c.in_ok-copy_name.ensures.goes)
+      c.in_err-store_text.ensures.goes;
   same = search rules;
 }
 
@@ -28,7 +30,8 @@ pub returns : goal.returns
 returns c = record {
   goes =
       goes_as _ _ _ _
-      (titles_next c.args.doc c.args.path (state c.args.em.now) _ c.requires.path c.in_ok-copy_name.ensures.goes ∙ went _ (run (stored_as (codes "__doc__") (doc_const c.args.doc))) _ c.in_ok-store_text.ensures.goes)
+      (titles_next c.args.doc c.args.path (state c.args.em.now) _ c.requires.path c.in_ok-copy_name.ensures.goes
+      ∙ went _ (run (stored_as (codes "__doc__") (doc_const c.args.doc))) _ c.in_ok-store_text.ensures.goes)
       c.store_doc.ensures.goes;
   same = search rules;
 }

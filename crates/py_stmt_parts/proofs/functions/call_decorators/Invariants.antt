@@ -8,4 +8,6 @@ use Rattle.py_emit.specs.States.{rest, state}
 use Rattle.py_stmt_parts.proofs.functions.call_decorators.Given as goal
 
 abbrev pub invariant-loop-decorator : goal.invariant-loop-decorator
-invariant-loop-decorator l = (rest l.em ≡ rest l.initial.em) × (run (decorations (values (all_emissions (exprs expr_tree l.items)))) (state l.initial.em) ≡ run (decorations (values (all_emissions (exprs expr_tree (drop l._decorator-index l.items))))) (state l.em))
+invariant-loop-decorator l = (rest l.em ≡ rest l.initial.em)
+    × (run (decorations (values (all_emissions (exprs expr_tree l.items)))) (state l.initial.em)
+    ≡ run (decorations (values (all_emissions (exprs expr_tree (drop l._decorator-index l.items))))) (state l.em))

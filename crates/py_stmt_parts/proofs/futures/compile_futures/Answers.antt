@@ -13,7 +13,9 @@ loop-s-preserved c =
     let d = future_import_one_of all i w in
     record {
       rest_is = c.in_ok-postponed.ensures.rest (rest c.args.em.now) c.loop-s.invariant.rest_is;
-      leads = leads_entered (state c.args.em.now) (state c.loop-s.em) all i c.loop-s.postponed f w c.in-Some.ensures.is c.loop-s.invariant.leads (state c.enter_future.new.em) _ (flag_as c.loop-s.em c.args.em.now c.loop-s.postponed c.loop-s.invariant.rest_is) c.in_ok-postponed.ensures.entered;
+      leads = leads_entered (state c.args.em.now) (state c.loop-s.em) all i c.loop-s.postponed f w c.in-Some.ensures.is
+          c.loop-s.invariant.leads (state c.enter_future.new.em)
+          _ (flag_as c.loop-s.em c.args.em.now c.loop-s.postponed c.loop-s.invariant.rest_is) c.in_ok-postponed.ensures.entered;
       within = omega (arith, w);
       others = c.loop-s.invariant.others ∙ others_next all i d f w (c.in-Some.ensures.is d);
       opened = c.loop-s.invariant.opened ∙ postponed_next all i d f c.loop-s.postponed _ w (c.in-Some.ensures.is d) c.in_ok-postponed.ensures.entered.after_is;
@@ -28,4 +30,6 @@ returns-clause-postponed c = c.loop-s.invariant.opened ∙ postponed_last c.loop
 pub returns-in_err-postponed-clause-opens : goal.returns-in_err-postponed-clause-opens
 returns-in_err-postponed-clause-opens c =
     let r : c.from_residual.result ≡ Err c.in_err-postponed.field-0.0 = grind arith in
-    leads_refused (state c.args.em.now) (state c.loop-s.em) c.args.body.now c.loop-s.count c.loop-s.postponed (future c.in-Some.s.now) c.in-Some.ensures.within c.in-Some.ensures.is c.loop-s.invariant.leads _ _ _ r c.in_err-postponed.ensures.refused
+    leads_refused (state c.args.em.now) (state c.loop-s.em) c.args.body.now c.loop-s.count c.loop-s.postponed
+    (future c.in-Some.s.now) c.in-Some.ensures.within c.in-Some.ensures.is c.loop-s.invariant.leads _ _ _ r
+    c.in_err-postponed.ensures.refused

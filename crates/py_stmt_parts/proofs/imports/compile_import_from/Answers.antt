@@ -18,6 +18,8 @@ returns-then-is_future c = record {
       let i = c.args.s.now in
       let within : from_future i.«module» ≡ true = sym c.is_future.ensures ∙ c.if-is_future.true in
       λ n. ap (λ b. run (if b then refuse error.InvalidFuturePlacement else emission_of_from i.«module» i.names i.level) s) within
-      ∙ refused_as error.InvalidFuturePlacement s c.refuse-error.result (ap (λ (x : LocatedError CodegenErrorType). x.error) c.refuse-error.ensures.told) (ap (λ (x : LocatedError CodegenErrorType). x.location) c.refuse-error.ensures.told);
+      ∙ refused_as error.InvalidFuturePlacement s c.refuse-error.result
+      (ap (λ (x : LocatedError CodegenErrorType). x.error) c.refuse-error.ensures.told)
+      (ap (λ (x : LocatedError CodegenErrorType). x.location) c.refuse-error.ensures.told);
   same = search rules;
 }

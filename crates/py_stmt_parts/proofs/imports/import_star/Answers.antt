@@ -19,8 +19,10 @@ returns-then-is_function c = record {
   goes =
       let s = state c.args.em.now in
       let i = c.args.s.now in
-      let within : is_function s.around.context.typ ≡ true = ap is_function (sym c.scope_type.ensures) ∙ sym c.is_function.ensures ∙ c.if-is_function.true in
+      let within : is_function s.node_context.context.typ ≡ true = ap is_function (sym c.scope_type.ensures) ∙ sym c.is_function.ensures ∙ c.if-is_function.true in
       λ n. ap (λ b. run (if b then refuse error.FunctionImportStar else emission_of_module i.«module» i.level asked_all ▸ emit op.ImportStar 0) s) within
-      ∙ refused_as error.FunctionImportStar s c.refuse-error.result (ap (λ (x : LocatedError CodegenErrorType). x.error) c.refuse-error.ensures.told) (ap (λ (x : LocatedError CodegenErrorType). x.location) c.refuse-error.ensures.told);
+      ∙ refused_as error.FunctionImportStar s c.refuse-error.result
+      (ap (λ (x : LocatedError CodegenErrorType). x.error) c.refuse-error.ensures.told)
+      (ap (λ (x : LocatedError CodegenErrorType). x.location) c.refuse-error.ensures.told);
   same = search rules;
 }

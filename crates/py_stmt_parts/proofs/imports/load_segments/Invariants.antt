@@ -5,9 +5,11 @@ use Rattle.py_emission.specs.Imports.{further_segments}
 use Rattle.py_emit.specs.States.{rest, state}
 use Rattle.py_stmt_parts.proofs.imports.load_segments.Given as goal
 
-abbrev pub invariant-loop-behind : goal.invariant-loop-behind
-invariant-loop-behind l =
-    (rest l.em ≡ rest l.initial.em) × (run (emission_of_attributes (further_segments l.fn.path)) (state l.initial.em) ≡ run (emission_of_attributes (further_segments l.left)) (state l.em)) × IsUtf8 l.left
+abbrev pub invariant-loop-after : goal.invariant-loop-after
+invariant-loop-after l =
+    (rest l.em ≡ rest l.initial.em)
+    × (run (emission_of_attributes (further_segments l.fn.path)) (state l.initial.em)
+    ≡ run (emission_of_attributes (further_segments l.left)) (state l.em)) × IsUtf8 l.left
 
-abbrev pub decreases-loop-behind : goal.decreases-loop-behind
-decreases-loop-behind l = length l.left
+abbrev pub decreases-loop-after : goal.decreases-loop-after
+decreases-loop-after l = length l.left

@@ -16,6 +16,8 @@ returns-in-None c = record {
   goes =
       let none : (rest c.args.em.now).context.loop_blocks ≡ None = ap (λ (x : EmitContext). x.loop_blocks) (sym c.context.ensures) ∙ c.in-None.is in
       λ n. ap (λ x. run (leave_loop op.Continue (λ y. y.on_continue) error.InvalidContinue (loop_blocks x)) (state c.args.em.now)) none
-      ∙ refused_as error.InvalidContinue (state c.args.em.now) c.refuse-error.result (ap (λ (x : LocatedError CodegenErrorType). x.error) c.refuse-error.ensures.told) (ap (λ (x : LocatedError CodegenErrorType). x.location) c.refuse-error.ensures.told);
+      ∙ refused_as error.InvalidContinue (state c.args.em.now) c.refuse-error.result
+      (ap (λ (x : LocatedError CodegenErrorType). x.error) c.refuse-error.ensures.told)
+      (ap (λ (x : LocatedError CodegenErrorType). x.location) c.refuse-error.ensures.told);
   same = search rules;
 }

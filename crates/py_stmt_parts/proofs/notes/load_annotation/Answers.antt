@@ -15,6 +15,8 @@ returns-in-Err-FString c = record {
       let s = state c.args.em.now in
       let none = c.in-Err-FString.ensures.f_string.0 (ap Err c.in-Err-FString.field-0-is) in
       λ n. ap (λ (x : Option (List ℕ)). run (emission_of_text x) s) none
-      ∙ refused_as error.NotImplementedYet s c.refuse-error.result (ap (λ (x : LocatedError CodegenErrorType). x.error) c.refuse-error.ensures.told) (ap (λ (x : LocatedError CodegenErrorType). x.location) c.refuse-error.ensures.told);
+      ∙ refused_as error.NotImplementedYet s c.refuse-error.result
+      (ap (λ (x : LocatedError CodegenErrorType). x.error) c.refuse-error.ensures.told)
+      (ap (λ (x : LocatedError CodegenErrorType). x.location) c.refuse-error.ensures.told);
   same = search rules;
 }

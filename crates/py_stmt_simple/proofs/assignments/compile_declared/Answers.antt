@@ -11,6 +11,9 @@ use Rattle.py_stmt_simple.proofs.assignments.compile_declared.Goals as goal
 pub returns-in-None : goal.returns-in-None
 returns-in-None c = record {
   goes =
-      goes_as _ _ _ _ (ap (λ v. run (emission_of_declared (expr_tree c.args.s.now.target.value) (opt_box expr_tree v)) (state c.args.em.now)) c.in-None.is ∙ ap (λ e. run (pass_scopes (λ postponed. scopes_in postponed (expr_tree e))) (state c.args.em.now)) (sym c.deref-in-None.ensures)) c.pass_expression.ensures.goes;
+      goes_as _ _ _ _ (ap (λ v. run (emission_of_declared (expr_tree c.args.s.now.target.value) (opt_box expr_tree v))
+      (state c.args.em.now)) c.in-None.is
+      ∙ ap (λ e. run (pass_scopes (λ postponed. scopes_in postponed (expr_tree e))) (state c.args.em.now))
+      (sym c.deref-in-None.ensures)) c.pass_expression.ensures.goes;
   same = search rules;
 }

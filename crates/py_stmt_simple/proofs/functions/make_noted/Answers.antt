@@ -7,7 +7,7 @@ use Rattle.py_tree.specs.declared.expressions.Expr.{Expr}
 use Rattle.py_emission.specs.EmissionDefs.{notes}
 use Rattle.py_emission_parts.specs.EmissionParts.{counted_build}
 use Rattle.py_emission_parts.specs.Children.{made_function, some_emitted}
-use Rattle.py_emission_parts.specs.Within.{some_flag}
+use Rattle.py_emission_parts.specs.NestedScopes.{some_flag}
 use Rattle.py_emission_parts.specs.Context.{qualified_under}
 use Rattle.py_emission_parts.specs.Emitting.{Emission, by_context}
 use Rattle.py_emit.specs.States.{state}

@@ -15,7 +15,8 @@ returns-in_err-sum-clause-emits c = record {
       let r : c.from_residual.result ≡ Err c.in_err-sum.field-0.0 = grind arith in
       let note = opt_box expr_tree c.item-item.result.def.annotation in
       let left = in_turn (arg_notes (args expr_tree (drop (c.loop-item.item-index + 1) c.args.items.now))) in
-      let turn = note_turn c.args.items.now c.loop-item.item-index c.item-item.result c.item-item.result c.item-item.is c.loop-item-test.true ∙ ap (λ x. run (in_turn (opt_note x note) ▸ left)) (sym c.as_str.ensures) in
+      let turn = note_turn c.args.items.now c.loop-item.item-index c.item-item.result c.item-item.result c.item-item.is
+      c.loop-item-test.true ∙ ap (λ x. run (in_turn (opt_note x note) ▸ left)) (sym c.as_str.ensures) in
       first_refuses _ _ _ _ _ _ r (c.loop-item.invariant.1 ∙ ap (λ (f : Action). f (state c.loop-item.em)) turn) c.in_err-sum.ensures.emits.goes;
   same = search rules;
 }
@@ -24,8 +25,10 @@ pub loop-item-preserved : goal.loop-item-preserved
 loop-item-preserved c =
     let note = opt_box expr_tree c.item-item.result.def.annotation in
     let rest = arg_notes (args expr_tree (drop (c.loop-item.item-index + 1) c.args.items.now)) in
-    let turn = note_turn c.args.items.now c.loop-item.item-index c.item-item.result c.item-item.result c.item-item.is c.loop-item-test.true ∙ ap (λ x. run (in_turn (opt_note x note) ▸ in_turn rest)) (sym c.as_str.ensures) in
-    let n = note_count c.args.items.now c.loop-item.item-index c.item-item.result c.item-item.result c.item-item.is c.loop-item-test.true ∙ ap (λ x. length (opt_note x note) + length rest) (sym c.as_str.ensures) in
+    let turn = note_turn c.args.items.now c.loop-item.item-index c.item-item.result c.item-item.result c.item-item.is c.loop-item-test.true
+    ∙ ap (λ x. run (in_turn (opt_note x note) ▸ in_turn rest)) (sym c.as_str.ensures) in
+    let n = note_count c.args.items.now c.loop-item.item-index c.item-item.result c.item-item.result c.item-item.is c.loop-item-test.true
+    ∙ ap (λ x. length (opt_note x note) + length rest) (sym c.as_str.ensures) in
     let m = c.in_ok-sum.ensures.count in
     let h = c.loop-item.invariant.2 in (
       c.in_ok-sum.ensures.emits.same ∙ c.loop-item.invariant.0,

@@ -22,9 +22,11 @@ returns c = record {
       let s = state c.args.em.now in
       let t = expr_tree c.args.s.now.test.value in
       let m = opt_box expr_tree c.args.s.now.msg in
-      let level = s.around.context.level in
+      let level = s.node_context.context.level in
       let above : level ≢ 0 = λ e. c.if-opts-eq0.false (ap (λ (o : CompileOpts). o.optimize) c.opts.ensures ∙ e) in
       let no : nat_eq level 0 ≡ false = search (rules, above) in
-      goes_as _ _ _ _ (ap (λ (v : Emission). run v s) (if_not (nat_eq level 0) (assertion_of (emission_of_test t) (emission_of_message m) (message_count m)) (pass_scopes (λ postponed. scopes_in postponed t + scopes_in_opt postponed m)) no)) c.pass_assertion.ensures.goes;
+      goes_as _ _ _ _ (ap (λ (v : Emission). run v s)
+      (if_not (nat_eq level 0) (assertion_of (emission_of_test t) (emission_of_message m) (message_count m))
+      (pass_scopes (λ postponed. scopes_in postponed t + scopes_in_opt postponed m)) no)) c.pass_assertion.ensures.goes;
   same = search rules;
 }

@@ -43,7 +43,9 @@ loop-item-preserved c =
       ap rest c.in_ok-keep_end.ensures.same ∙ c.in_ok-end.ensures.emits.same ∙ c.loop-item.invariant.0,
       subst (λ bs. AllOpen bs (state c.keep_end.new.em)) (sym pushed)
           (subst (AllOpen (c.loop-item.ends ++ end ∷ [])) (sym next)
-          (opens_push c.loop-item.ends end now (state c.enter_item.new.em) (λ b. entered_opens at (emission e) (emission_of_item v) now (state c.enter_item.new.em) b c.in_ok-end.ensures.emits.goes) c.in_ok-end.ensures.number c.in_ok-end.ensures.open c.in_ok-end.ensures.below c.loop-item.invariant.1)),
+          (opens_push c.loop-item.ends end now (state c.enter_item.new.em)
+          (λ b. entered_opens at (emission e) (emission_of_item v) now (state c.enter_item.new.em) b c.in_ok-end.ensures.emits.goes)
+          c.in_ok-end.ensures.number c.in_ok-end.ensures.open c.in_ok-end.ensures.below c.loop-item.invariant.1)),
       λ body.
           c.loop-item.invariant.2 body
           ∙ ap (λ ws. (run (emission_of_items at ws body) ▹ left_all at c.loop-item.ends) now) here

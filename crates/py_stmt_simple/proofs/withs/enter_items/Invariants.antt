@@ -11,4 +11,5 @@ abbrev pub invariant-loop-item : goal.invariant-loop-item
 invariant-loop-item l =
     (rest l.em ≡ rest l.initial.em)
     × AllOpen l.ends (state l.em)
-    × ((body : Emission) → run (emission_of_items l.location (with_items l.items) body) (state l.initial.em) ≡ (run (emission_of_items l.location (with_items (drop l.item-index l.items)) body) ▹ left_all l.location l.ends) (state l.em))
+    × ((body : Emission) → run (emission_of_items l.location (with_items l.items) body) (state l.initial.em)
+    ≡ (run (emission_of_items l.location (with_items (drop l.item-index l.items)) body) ▹ left_all l.location l.ends) (state l.em))

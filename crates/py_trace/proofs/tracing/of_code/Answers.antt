@@ -5,7 +5,8 @@ use Rattle.py_trace.proofs.Paths.{by_code}
 use Rattle.py_trace.proofs.tracing.of_code.Goals as goal
 
 pub returns-in-Some : goal.returns-in-Some
-returns-in-Some c = by_code (asked_of c.args.request.now) (object c.args.code.now) c.as_slice.result.now (Some (object c.in-Some.reached.now)) c.lines.result c.in-Some.ensures c.as_slice.ensures.value c.lines.ensures
+returns-in-Some c = by_code (asked_of c.args.request.now) (object c.args.code.now) c.as_slice.result.now
+    (Some (object c.in-Some.reached.now)) c.lines.result c.in-Some.ensures c.as_slice.ensures.value c.lines.ensures
 
 pub returns-in-None : goal.returns-in-None
 returns-in-None c = by_code (asked_of c.args.request.now) (object c.args.code.now) c.as_slice.result.now None c.no_code.result c.in-None.ensures c.as_slice.ensures.value c.no_code.ensures

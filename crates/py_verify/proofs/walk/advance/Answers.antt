@@ -20,7 +20,9 @@ loop-task-preserved c =
     let steps = c.in_ok-change.ensures.steps in
     let taken = listed_split task (tasks_in p) (heap_items c.pop.new.self) c.in-Some.ensures.permutation in
     let same : r.states.items ≡ p.states.items = subst (λ z. Moves z (entries_in p) p.states.items (entries_in r) r.states.items) c.in-Nothing.is steps.moves in
-    let marks : missing_marks (entries_in r) r.states.items ≡ missing_marks (entries_in p) p.states.items = ap (missing_marks (entries_in r)) same ∙ missing_same (entries_in p) (entries_in r) steps.extends p.states.items c.loop-task.invariant.working.known.stacks in
+    let marks : missing_marks (entries_in r) r.states.items ≡ missing_marks (entries_in p) p.states.items =
+    ap (missing_marks (entries_in r)) same ∙ missing_same (entries_in p)
+    (entries_in r) steps.extends p.states.items c.loop-task.invariant.working.known.stacks in
     record {
       working = working_after o p q r task.unit c.in_ok-change.change (λ k. refl) taken c.loop-task.invariant.working steps c.in_ok-change.ensures.settled;
       grows = λ k t v. grown_after o p q r task.unit c.in_ok-change.change (λ k. refl) taken c.loop-task.invariant.working steps c.in_ok-change.ensures.settled k t (c.loop-task.invariant.grows k t v);
@@ -42,7 +44,9 @@ returns-in-Marks c =
         working_after o p q r task.unit c.in_ok-change.change (λ k. refl) taken c.loop-task.invariant.working steps c.in_ok-change.ensures.settled,
         λ k t v. grown_after o p q r task.unit c.in_ok-change.change (λ k. refl) taken c.loop-task.invariant.working steps c.in_ok-change.ensures.settled k t (c.loop-task.invariant.grows k t v),
       );
-      moves = moves_since c.in_ok-change.change (entries_in c.args.progress.now) (entries_in p) (entries_in r) c.args.progress.now.states.items p.states.items r.states.items c.loop-task.invariant.same c.loop-task.invariant.marks steps.moves;
+      moves = moves_since c.in_ok-change.change (entries_in c.args.progress.now) (entries_in p)
+          (entries_in r) c.args.progress.now.states.items p.states.items r.states.items c.loop-task.invariant.same
+          c.loop-task.invariant.marks steps.moves;
       done = λ n. absurd (elim c.in-Marks.is [
         | inl m ↦ let z : Change.Nothing ≡ Change.Marks = sym n ∙ m in cc
         | inr m ↦ let z : Change.Nothing ≡ Change.Place = sym n ∙ m in cc

@@ -18,7 +18,9 @@ use Rattle.py_verify.proofs.walk.reach.Goals as goal
 
 pub returns-then-not-begins_in-clause-halts : goal.returns-then-not-begins_in-clause-halts
 returns-then-not-begins_in-clause-halts c =
-    leads_outside (object c.args.code.now) c.args.from c.args.to (coming_in (entries_in c.args.progress.now) c.args.arriving) c.requires.comes (sym (c.requires.reading c.args.to) ∙ c.begins_in.ensures.no c.if-not-begins_in.true)
+    leads_outside (object c.args.code.now) c.args.from c.args.to
+    (coming_in (entries_in c.args.progress.now) c.args.arriving) c.requires.comes
+    (sym (c.requires.reading c.args.to) ∙ c.begins_in.ensures.no c.if-not-begins_in.true)
 
 pub returns-then-arriving-code-clause-halts : goal.returns-then-arriving-code-clause-halts
 returns-then-arriving-code-clause-halts c =
@@ -48,7 +50,8 @@ returns-in_ok-note-in-Ok-clause-steps c =
     let level = ap (λ (s : State). s.height) c.in_ok-known.ensures.state in
     let low : t.height ≤ (head o).max_stackdepth = (let d = depth_is c.args.code.now in let h = c.if-arriving-code.false in omega (arith, d, h, level)) in
     steps_to o p q es vs c.args.from c.args.to t c.in-Ok.change c.requires.known c.in_ok-known.ensures.extends arrives moves same
-    comes (λ n. c.begins_in.ensures.yes c.if-not-begins_in.false (c.requires.reading c.args.to ∙ n)) low c.in_ok-note-in-Ok.ensures.listed c.in_ok-note-in-Ok.ensures.kept c.in_ok-note-in-Ok.ensures.still
+    comes (λ n. c.begins_in.ensures.yes c.if-not-begins_in.false (c.requires.reading c.args.to ∙ n)) low c.in_ok-note-in-Ok.ensures.listed
+    c.in_ok-note-in-Ok.ensures.kept c.in_ok-note-in-Ok.ensures.still
 
 pub returns-in_ok-note-in-Ok-clause-covered : goal.returns-in_ok-note-in-Ok-clause-covered
 returns-in_ok-note-in-Ok-clause-covered c =

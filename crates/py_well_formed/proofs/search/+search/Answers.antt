@@ -12,5 +12,9 @@ search-returns-in-Some-clause-exact t c = own_first c.args.code.now c.args.path.
 
 pub search-returns-clause-exact : goal.search-returns-clause-exact
 search-returns-clause-exact t c =
-    let e : fault_among 0 (constants_of c.as_slice.result.now) ≡ first_fault (object c.args.code.now) = ap (λ xs. fault_among 0 (constants_of xs)) c.as_slice.ensures ∙ sym (own_then c.args.code.now (sym c.in_ok-spot.ensures ∙ c.in_default.is)) in
-    subst (λ (f : Option FormFault). IfOk c.search_constants.result (λ found. option_map (at_path c.search_constants.new.path) found ≡ option_map (from c.args.path.now) f)) e c.search_constants.ensures.exact
+    let e : fault_among 0 (constants_of c.as_slice.result.now) ≡ first_fault (object c.args.code.now) =
+    ap (λ xs. fault_among 0 (constants_of xs)) c.as_slice.ensures
+    ∙ sym (own_then c.args.code.now (sym c.in_ok-spot.ensures ∙ c.in_default.is)) in
+    subst (λ (f : Option FormFault). IfOk c.search_constants.result
+    (λ found. option_map (at_path c.search_constants.new.path) found ≡ option_map (from c.args.path.now) f)) e
+    c.search_constants.ensures.exact

@@ -12,6 +12,8 @@ invariant_of-self c = record { room = c.args.self.now.room; told = told_pushed _
 pub returns-clause-ok : goal.returns-clause-ok
 returns-clause-ok c =
     elim c.match-push.branch [
-      | in-Ok w ↦ rw w.result-is (ap (λ es. record { events = es; answers = answers_of c.args.self.now.answers.now; taken = c.args.self.now.taken }) (ap events_of w.in-Ok.ensures.items ∙ events_more c.args.self.now.events.items c.args.event))
+      | in-Ok w ↦ rw w.result-is (ap
+          (λ es. record { events = es; answers = answers_of c.args.self.now.answers.now; taken = c.args.self.now.taken })
+          (ap events_of w.in-Ok.ensures.items ∙ events_more c.args.self.now.events.items c.args.event))
       | in-Err w ↦ rw w.result-is tt
     ]

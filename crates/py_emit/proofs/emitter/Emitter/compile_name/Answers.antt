@@ -7,6 +7,7 @@ use Rattle.py_emit.proofs.emitter.Emitter.compile_name.Goals as goal
 pub returns-in-Delete : goal.returns-in-Delete
 returns-in-Delete c = record {
   goes =
-      subst (λ u. Goes c.change_name-in-Delete.result (state c.change_name-in-Delete.new.self) (run (emission_of_access u c.args.name.now) (state c.args.self.now))) (sym c.in-Delete.is) c.change_name-in-Delete.ensures.goes;
+      subst (λ u. Goes c.change_name-in-Delete.result (state c.change_name-in-Delete.new.self)
+      (run (emission_of_access u c.args.name.now) (state c.args.self.now))) (sym c.in-Delete.is) c.change_name-in-Delete.ensures.goes;
   same = search rules;
 }

@@ -20,7 +20,7 @@ pub returns-clause-state : goal.returns-clause-state
 returns-clause-state g c =
     let e = c.args.self.now in
     let here = subst (λ n. typ_at e.scopes n ≡ Some c.typ-typ.result) c.next_scope-number.ensures c.typ-typ.ensures in
-    subst (λ (typ : SymbolTableType). OnOk c.open_scope.result (state c.open_scope.new.self ≡ initial_state (inside typ e.next (state e).around.context) e.location (suc e.next)))
+    subst (λ (typ : SymbolTableType). OnOk c.open_scope.result (state c.open_scope.new.self ≡ initial_state (inside typ e.next (state e).node_context.context) e.location (suc e.next)))
     (sym (typ_is e.scopes e.next c.typ-typ.result here))
     c.open_scope.ensures.state
 
@@ -28,6 +28,8 @@ pub returns-clause-rest : goal.returns-clause-rest
 returns-clause-rest g c =
     let e = c.args.self.now in
     let here = subst (λ n. typ_at e.scopes n ≡ Some c.typ-typ.result) c.next_scope-number.ensures c.typ-typ.ensures in
-    subst (λ (typ : SymbolTableType). OnOk c.open_scope.result (rest c.open_scope.new.self ≡ entered_rest naming.AsAround e.scope (code_head (inside typ e.next (state e).around.context) (shape_of c.args.head) e.location) (rest e)))
+    subst (λ (typ : SymbolTableType). OnOk c.open_scope.result
+    (rest c.open_scope.new.self ≡ entered_rest naming.AsEnclosing e.scope
+    (code_head (inside typ e.next (state e).node_context.context) (shape_of c.args.head) e.location) (rest e)))
     (sym (typ_is e.scopes e.next c.typ-typ.result here))
     c.open_scope.ensures.rest

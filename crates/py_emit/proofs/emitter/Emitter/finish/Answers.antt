@@ -2,8 +2,8 @@ use Rattle.py_emit.proofs.States.{state_unrefused}
 use Rattle.py_emit.proofs.Sealed.{emitter_sealed}
 use Rattle.py_emit.proofs.emitter.Emitter.finish.Goals as goal
 
-pub only_starved-requires : goal.only_starved-requires
-only_starved-requires c =
+pub only_out_of_memory-requires : goal.only_out_of_memory-requires
+only_out_of_memory-requires c =
     let w = c.laid_out.ensures.whole in
     state_unrefused c.args.self c.requires w.chain w.is_chain (c.has_short_tables.ensures c.if-not-has_short_tables.false) c.in-Err.error c.in-Err.ensures.refused
 

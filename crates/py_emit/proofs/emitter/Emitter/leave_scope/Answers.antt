@@ -4,7 +4,7 @@ use Rattle.py_emission_parts.specs.Sealed.{assembled_object}
 use Rattle.py_emit.specs.States.{head_of, left_rest, rest, source_of, state_of}
 use Rattle.py_emit.specs.declared.scopes.OpenScope.{OpenScope}
 use Rattle.py_emit.proofs.Sealed.{scope_sealed}
-use Rattle.py_emit.proofs.Within.{last_alike}
+use Rattle.py_emit.proofs.NestedScopes.{last_alike}
 use Rattle.py_emit.proofs.emitter.Emitter.leave_scope.Goals as goal
 
 some_length : {A : Type 0} (xs : List A) → xs ≢ [] → 0 < length xs
@@ -28,12 +28,12 @@ pub returns-in-Ok-clause-state : goal.returns-in-Ok-clause-state
 unfolding rest
 returns-in-Ok-clause-state c outer o h =
     let e = c.args.self.now in
-    let q = last_alike c.pop.new.self.items outer c.in-Some.around o (sym (c.pop.ensures.items ∙ ap (λ r. c.pop.new.self.items ++ option_to_list r) c.in-Some.is) ∙ h) in
+    let q = last_alike c.pop.new.self.items outer c.in-Some.enclosing o (sym (c.pop.ensures.items ∙ ap (λ r. c.pop.new.self.items ++ option_to_list r) c.in-Some.is) ∙ h) in
     ap (λ (x : OpenScope). state_of (source_of e) x e.location e.next) (c.replace-scope.ensures.after ∙ q.1)
 
 pub returns-in-Ok-clause-rest : goal.returns-in-Ok-clause-rest
 unfolding rest
 returns-in-Ok-clause-rest c outer o h =
     let e = c.args.self.now in
-    let q = last_alike c.pop.new.self.items outer c.in-Some.around o (sym (c.pop.ensures.items ∙ ap (λ r. c.pop.new.self.items ++ option_to_list r) c.in-Some.is) ∙ h) in
+    let q = last_alike c.pop.new.self.items outer c.in-Some.enclosing o (sym (c.pop.ensures.items ∙ ap (λ r. c.pop.new.self.items ++ option_to_list r) c.in-Some.is) ∙ h) in
     λ i. left_rest (q.0 i) ((c.replace-scope.ensures.after ∙ q.1) i) (rest e)

@@ -19,4 +19,6 @@ pub returns-in-Ok-clause-made : goal.returns-in-Ok-clause-made
 returns-in-Ok-clause-made c =
     let v = c.args.self.now.scope.code.body in
     let r = state record c.args.self.now { scope = record c.args.self.now.scope { code = record c.args.self.now.scope.code { body = c.new_block.new.self } } } in
-    subst (λ n. IsOpen n r) (sym c.in-Ok.ensures.number) (new_open v c.in-Ok.ensures.whole r (ap (λ (u : BlockList). steps_in (map plain u.blocks)) c.in-Ok.ensures.ok) (ap (λ (u : BlockList). length u.blocks) c.in-Ok.ensures.ok))
+    subst (λ n. IsOpen n r) (sym c.in-Ok.ensures.number)
+    (new_open v c.in-Ok.ensures.whole r (ap (λ (u : BlockList). steps_in (map plain u.blocks)) c.in-Ok.ensures.ok)
+    (ap (λ (u : BlockList). length u.blocks) c.in-Ok.ensures.ok))

@@ -6,7 +6,9 @@ use Rattle.py_ir.proofs.sets.NameSet.into_list.Goals as goal
 
 pub returns : goal.returns
 returns c =
-    let given = items_from_collect _ c.collect.ensures.ran (YieldsList-from_map _ string_bytes (YieldsList-from_first (λ x. x) (λ x. x) c.self.inside.set.keys cc) c.map.ensures.closure (λ x r q k. search (rules, tests))) in
+    let given = items_from_collect _ c.collect.ensures.ran
+    (YieldsList-from_map _ string_bytes (YieldsList-from_first (λ x. x) (λ x. x) c.self.inside.set.keys cc) c.map.ensures.closure
+    (λ x r q k. search (rules, tests))) in
     let items = rw c.in_ok-items.was at given in
     let seen = c.self.view_is in
     cc

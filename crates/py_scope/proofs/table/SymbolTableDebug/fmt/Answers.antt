@@ -2,7 +2,7 @@ use Rattle.std.proofs.Common.{subst, ◌++◌, codes, decimal}
 use Rattle.std.specs.Fmt.{HasWritten}
 use Rattle.py_scope.proofs.table.SymbolTableDebug.fmt.Goals as goal
 
--- the numbers that are written are those of the symbols and of the tables within
+-- the numbers that are written are those of the symbols and of the nested tables
 pub returns : goal.returns
 returns g c = record {
   writes = λ plain done.

@@ -2,7 +2,7 @@ use Rattle.std.proofs.Common.{◌+◌, ◌≤◌, length, drop, sym, ◌∙◌, 
 use Rattle.std.proofs.lemmas.Option.{slice_get_past}
 use Rattle.py_step_machine.specs.Held.{block_of}
 use Rattle.py_step_machine.specs.State.{machine_blocks}
-use Rattle.py_step_machine.proofs.BlocksLeft.{loop_at, loop_behind, loop_here, loop_past}
+use Rattle.py_step_machine.proofs.BlocksLeft.{loop_at, loop_after, loop_here, loop_past}
 use Rattle.py_step_machine.proofs.machine.Machine.has_loop.Goals as goal
 
 pub returns-in_default : goal.returns-in_default
@@ -18,7 +18,7 @@ returns-then-is_loop c =
 pub loop-depth-preserved : goal.loop-depth-preserved
 loop-depth-preserved c =
     let rest = machine_blocks (drop (c.loop-depth.depth + 1) c.args.self.now.blocks) in
-    sym (loop_behind (block_of c.in-Some.block) rest (sym c.is_loop.ensures ∙ c.if-is_loop.false))
+    sym (loop_after (block_of c.in-Some.block) rest (sym c.is_loop.ensures ∙ c.if-is_loop.false))
     ∙ sym (loop_at c.args.self.now.blocks c.loop-depth.depth c.in-Some.block (sym c.in-Some.ensures))
     ∙ c.loop-depth.invariant
 

@@ -13,7 +13,9 @@ loop-left-init c = rw c.new-operands.ensures.items refl
 pub returns-in_err-operand : goal.returns-in_err-operand
 returns-in_err-operand c =
     let p = err_from_is_err_and c.from_residual.result c.from_residual.ensures.1 in
-    rw (p.1, p.2) (halts_same _ _ _ _ (sym c.loop-left.invariant) (taken_halts c.loop-left.left c.loop-left-test.true (values_of (reverse c.loop-left.operands.items)) (state_of c.loop-left.self) _ _ c.in_err-operand.ensures))
+    rw (p.1, p.2) (halts_same _ _ _ _ (sym c.loop-left.invariant)
+    (taken_halts c.loop-left.left c.loop-left-test.true (values_of (reverse c.loop-left.operands.items))
+    (state_of c.loop-left.self) _ _ c.in_err-operand.ensures))
 
 pub loop-left-preserved : goal.loop-left-preserved
 loop-left-preserved c =

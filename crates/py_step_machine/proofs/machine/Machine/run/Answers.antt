@@ -9,7 +9,9 @@ use Rattle.py_step_machine.proofs.machine.Machine.run.Goals as goal
 pub returns-in_err-place : goal.returns-in_err-place
 returns-in_err-place c =
     let p = err_from_is_err_and c.from_residual.result c.from_residual.ensures.1 in
-    rw (p.1, p.2) (fails_same _ _ _ _ (sym c.loop-left.invariant) (run_fails (object c.args.code.now) c.loop-left.left c.loop-left-test.true c.loop-left.place (state_of c.loop-left.self) _ _ c.in_err-place.ensures))
+    rw (p.1, p.2) (fails_same _ _ _ _ (sym c.loop-left.invariant)
+    (run_fails (object c.args.code.now) c.loop-left.left c.loop-left-test.true c.loop-left.place
+    (state_of c.loop-left.self) _ _ c.in_err-place.ensures))
 
 pub loop-left-preserved : goal.loop-left-preserved
 loop-left-preserved c = sym (run_on (object c.args.code.now) c.loop-left.left c.loop-left-test.true c.loop-left.place _ _ _ c.in_ok-place.ensures) ∙ c.loop-left.invariant

@@ -24,7 +24,9 @@ returns-in-Some-2 c =
 pub loop-block-smaller : goal.loop-block-smaller
 loop-block-smaller c =
     let at : Option ℕ → Run (Option ℕ) = λ o. Ok (o, state_of c.leave_block.new.self) in
-    fewer_left c.loop-block.self.blocks c.pop.new.self c.leave_block.new.self.blocks c.in-Some.block (reason_of c.args.reason) _ (state_of c.leave_block.new.self) c.in-Some.ensures refl refl (c.in_ok-place.ensures ∙ ap at (blocks_left_none_of _ c.in_default-2.not-Some))
+    fewer_left c.loop-block.self.blocks c.pop.new.self c.leave_block.new.self.blocks c.in-Some.block
+    (reason_of c.args.reason) _ (state_of c.leave_block.new.self) c.in-Some.ensures refl refl
+    (c.in_ok-place.ensures ∙ ap at (blocks_left_none_of _ c.in_default-2.not-Some))
 
 pub loop-block-preserved : goal.loop-block-preserved
 loop-block-preserved c =

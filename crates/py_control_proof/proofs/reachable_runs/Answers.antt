@@ -1,0 +1,5 @@
+use Rattle.py_control_proof.proofs.BlockMachine.{reachable_runs}
+use Rattle.py_control_proof.proofs.reachable_runs.Goals as goal
+
+pub returns : goal.returns
+returns c = reachable_runs

@@ -1,7 +1,0 @@
-use Rattle.py_answers.specs.Log.{world_of}
-use Rattle.py_interp_simple.proofs.Endings.{ending_same}
-use Rattle.py_interp_stmts.proofs.Lasts.{other_last}
-use Rattle.py_interp_stmts.proofs.blocks.walk_last.Goals as goal
-
-pub returns-in_default : goal.returns-in_default
-returns-in_default c = ending_same _ _ _ _ _ (other_last c.args.around c.args.statement.now c.in_default.not-FunctionDef c.in_default.not-ClassDef c.in_default.not-Expr (world_of c.args.log.now)) c.walk_other.ensures

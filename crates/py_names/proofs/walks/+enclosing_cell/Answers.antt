@@ -1,0 +1,16 @@
+use Rattle.std.proofs.Common.{sym, ◌∙◌, slice_get}
+use Rattle.py_names.specs.Places.{holds_cell}
+use Rattle.py_names.proofs.OutwardStepLemmas.{find_further, find_here, find_none}
+use Rattle.py_names.proofs.walks.+enclosing_cell.Goals as goal
+
+pub returns-then-parent-at : goal.returns-then-parent-at
+returns-then-parent-at t c = find_none c.args.places.now c.args.at c.parent_of-parent.result c.parent_of-parent.ensures
+    (λ e. holds_cell c.args.name.now (slice_get c.args.places.now e)) c.if-parent-at.true
+
+pub returns-then-holds : goal.returns-then-holds
+returns-then-holds t c = find_here c.args.places.now c.args.at c.parent_of-parent.result c.parent_of-parent.ensures
+    (λ e. holds_cell c.args.name.now (slice_get c.args.places.now e)) c.if-parent-at.false (sym c.if-holds.ensures)
+
+pub returns : goal.returns
+returns t c = c.enclosing_cell.ensures ∙ find_further c.args.places.now c.args.at c.parent_of-parent.result c.parent_of-parent.ensures
+    (λ e. holds_cell c.args.name.now (slice_get c.args.places.now e)) c.if-parent-at.false (sym c.if-holds.ensures)

@@ -1,5 +1,0 @@
-use Rattle.py_rows_fields.proofs.Tables.{not_behind}
-use Rattle.py_rows_fields.proofs.fields.behind_place.Goals as goal
-
-pub returns-then-fields-lt2 : goal.returns-then-fields-lt2
-returns-then-fields-lt2 c = not_behind c.args.row c.args.fields.now c.if-fields-lt2.true

@@ -1,5 +1,0 @@
-use Rattle.py_scope_proof.proofs.NodeScopes.EnteringPrograms.{scan_enters_owners}
-use Rattle.py_scope_proof.proofs.laws_of_scans.scan_enters_owners.Goals as goal
-
-pub returns : goal.returns
-returns c = scan_enters_owners
