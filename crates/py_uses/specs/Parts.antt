@@ -15,7 +15,7 @@ use Rattle.py_scope.specs.Scanned.{is_function}
 use Rattle.py_name_uses.specs.declared.usage.Usage.{Usage}
 use Rattle.py_name_uses.specs.declared.usage.Usage.TheVariants.{Load, Iterable, Store, Delete, Target, Walrus}
 use Rattle.py_name_uses.specs.Parts.{bound_name, has_default, is_future, names_annotations, role_of_parameter}
-use Rattle.py_uses.specs.Uses.{Part, ◌▸◌, in_class, inside, nothing, postpone, refuse, refuse_if, use_name, when, written_name}
+use Rattle.py_uses.specs.Uses.{Part, ◌▷◌, in_class, inside, nothing, postpone, refuse, refuse_if, use_name, when, written_name}
 
 -- `super` that is loaded directly in a function needs the class
 abbrev pub super_cell : Name → SourceLocation → Part
@@ -23,10 +23,10 @@ super_cell n at p = when (same_name n (codes "super") && is_function p.kind) (us
 
 -- how a name is used as a target or a value
 abbrev pub use_as : Usage → Name → SourceLocation → Part
-use_as Load n at = use_name role.Used n at ▸ super_cell n at
+use_as Load n at = use_name role.Used n at ▷ super_cell n at
 use_as Iterable n at = use_name role.Used n at
 use_as Store n at = use_name role.Assigned n at
-use_as Delete n at = use_name role.Assigned n at ▸ use_name role.Used n at
+use_as Delete n at = use_name role.Assigned n at ▷ use_name role.Used n at
 use_as Target n at = use_name role.Iterated n at
 use_as Walrus n at = use_name role.Walrus n at
 
@@ -62,25 +62,25 @@ use_opt_parameter (tree.some_arg a) = use_parameter a
 
 abbrev pub use_parameters_in : tree.Args → Part
 use_parameters_in tree.no_args = nothing
-use_parameters_in (tree.more_args a default more) = use_parameter a ▸ use_parameters_in more
+use_parameters_in (tree.more_args a default more) = use_parameter a ▷ use_parameters_in more
 
 -- the parameters of a function: positional-only, positional, keyword-only, then those that take the rest
 abbrev pub use_parameters : tree.Arguments → Part
 use_parameters (tree.arguments posonlyargs args vararg kwonlyargs kwarg) =
-    use_parameters_in posonlyargs ▸ use_parameters_in args ▸ use_parameters_in kwonlyargs ▸ use_opt_parameter vararg ▸ use_opt_parameter kwarg
+    use_parameters_in posonlyargs ▷ use_parameters_in args ▷ use_parameters_in kwonlyargs ▷ use_opt_parameter vararg ▷ use_opt_parameter kwarg
 
 abbrev pub use_each : Role → List Name → SourceLocation → Part
 use_each r [] at = nothing
-use_each r (n ∷ ns) at = use_name r n at ▸ use_each r ns at
+use_each r (n ∷ ns) at = use_name r n at ▷ use_each r ns at
 
 -- the names that each class has
 abbrev pub use_first_names : SourceLocation → Part
-use_first_names at = use_name role.Assigned (codes "__module__") at ▸ use_name role.Assigned (codes "__qualname__") at
-    ▸ use_name role.Assigned (codes "__doc__") at ▸ use_name role.Assigned class_cell at
+use_first_names at = use_name role.Assigned (codes "__module__") at ▷ use_name role.Assigned (codes "__qualname__") at
+    ▷ use_name role.Assigned (codes "__doc__") at ▷ use_name role.Assigned class_cell at
 
 abbrev pub use_aliases : List Alias → SourceLocation → Part
 use_aliases [] at = nothing
-use_aliases (a ∷ more) at = use_name role.Imported (bound_name a.asname a.name) at ▸ use_aliases more at
+use_aliases (a ∷ more) at = use_name role.Imported (bound_name a.asname a.name) at ▷ use_aliases more at
 
 -- `from __future__ import annotations`
 abbrev pub check_future : Option Name → List Alias → Part
@@ -104,7 +104,7 @@ check_new earlier n at p = refuse_if (is_among p.class earlier n) (refusal.SameT
 -- the scope of type parameters of a function is handed its defaults
 abbrev pub use_handed_defaults : tree.Arguments → SourceLocation → Part
 use_handed_defaults (tree.arguments posonlyargs args vararg kwonlyargs kwarg) at =
-    when (has_default posonlyargs || has_default args) (use_name role.Parameter (codes ".defaults") at) ▸ when (has_default kwonlyargs) (use_name role.Parameter (codes ".kwdefaults") at)
+    when (has_default posonlyargs || has_default args) (use_name role.Parameter (codes ".defaults") at) ▷ when (has_default kwonlyargs) (use_name role.Parameter (codes ".kwdefaults") at)
 
 abbrev pub use_opt_name : Option Name → SourceLocation → Part
 use_opt_name None at = nothing
@@ -116,8 +116,8 @@ in_type_params generic within = if generic then inside scope.TypeParams within e
 
 -- a comprehension is a scope, whose parameter is its first iterable, which stands outside
 abbrev pub comprehension : SourceLocation → (clauses element outermost : Part) → Part
-comprehension at clauses element outermost = inside scope.Comprehension (use_name role.Parameter (codes ".0") at ▸ clauses ▸ element) ▸ outermost
+comprehension at clauses element outermost = inside scope.Comprehension (use_name role.Parameter (codes ".0") at ▷ clauses ▷ element) ▷ outermost
 
 -- the scope of a class
 abbrev pub class_scope : SourceLocation → Name → Part → Part
-class_scope at n body = in_class n (inside scope.Class (use_first_names at ▸ body))
+class_scope at n body = in_class n (inside scope.Class (use_first_names at ▷ body))

@@ -51,9 +51,9 @@ abbrev pub then_part : Place → Part → Scan → Scan
 then_part p b x = joined x (b (behind p x))
 
 -- one part and then another
-infixr 10 ◌▸◌
-abbrev pub ◌▸◌ : Part → Part → Part
-(a ▸ b) p = then_part p b (a p)
+infixr 10 ◌▷◌
+abbrev pub ◌▷◌ : Part → Part → Part
+(a ▷ b) p = then_part p b (a p)
 
 -- of these uses, and no scopes
 abbrev pub of_uses : List Use → Part
