@@ -93,7 +93,7 @@ module _ (ss more : List Scope) where
 -- behind a part its place stands still, among more scopes
 pub grown : (ss : List Scope) (p : Place) (x : Scan) → Stands ss p → Stands (ss ++ x.scopes) (behind p x)
 grown ss p x h = record {
-  inside = (let i = h.inside in let l = length-append ss x.scopes in omega (arith, i, l));
+  inside = (let i = h.inside in let l = length-append ss x.scopes in let z : p.scope < length (ss ++ x.scopes) = omega (arith, i, l) in z);
   next = length-append ss x.scopes ∙ ap (λ (n : ℕ). n + length x.scopes) h.next;
   kind = kind_old ss x.scopes p.scope h.inside ∙ h.kind;
   holder = holder_old ss x.scopes p.scope h.inside ∙ h.holder;
@@ -118,7 +118,7 @@ module _ (ss : List Scope) (p : Place) (h : Stands ss p) (kind : SymbolTableType
 
   begun_stands : Stands (ss ++ begun kind p ∷ []) (place_within kind p)
   begun_stands = record {
-    inside = (let n = h.next in let l = length_push ss (begun kind p) in omega (arith, n, l));
+    inside = (let n = h.next in let l = length_push ss (begun kind p) in let z : p.next < length (ss ++ begun kind p ∷ []) = omega (arith, n, l) in z);
     next = length_push ss (begun kind p) ∙ ap suc h.next;
     kind = begun_kind;
     holder =
@@ -356,7 +356,7 @@ module _ {f : Step} {g : Part} (a : Follows f g) (kind : SymbolTableType) (n : N
   left_ends : (us : List Use) (ss : List Scope) (es : List ℕ) (p : Place) → Stands ss p → (x : Scan) (o : Outcome)
       → Ends us (ss ++ begun kind p ∷ []) es (place_within kind p) x o → Ends us ss es p (closed kind p x) (go_on o leave)
   left_ends us ss es p h x (Done u) e = (e.0, record {
-    scanned = scanned_left u.scopes tied.scanned (let c = tied.current in let i = h.inside in let n = h.next in omega (arith, c, i, n));
+    scanned = scanned_left u.scopes tied.scanned (let c : u.scopes.current ≡ p.next = tied.current in let i = h.inside in let n = h.next in omega (arith, c, i, n));
     rows = tied.rows ∙ append_assoc ss (begun kind p ∷ []) x.scopes;
     entries = tied.entries;
     names = tied.names;

@@ -76,7 +76,7 @@ opt_parameter_follows : (o : tree.OptArg) → Follows (steps.use_opt_parameter o
 opt_parameter_follows tree.no_arg = nothing_follows
 opt_parameter_follows (tree.some_arg a) = parameter_follows a
 
-parameters_follow_in : (as : tree.Args) → Follows (steps.use_parameters_in as) (parts.use_parameters_in as)
+parameters_follow_in : (ps : tree.Args) → Follows (steps.use_parameters_in ps) (parts.use_parameters_in ps)
 parameters_follow_in tree.no_args = nothing_follows
 parameters_follow_in (tree.more_args a default more) = then_follows (parameter_follows a) (parameters_follow_in more)
 

@@ -28,14 +28,14 @@ AllFollow [] (g ∷ gs) = ⊥
 AllFollow (f ∷ fs) [] = ⊥
 AllFollow (f ∷ fs) (g ∷ gs) = Follows f g × AllFollow fs gs
 
-pairwise_follows : (fs : List Step) (gs : List Part) (as : List Step) (bs : List Part) → AllFollow fs gs → AllFollow as bs → Follows (pairwise fs as) (uses.pairwise gs bs)
-pairwise_follows [] [] as bs h k = nothing_follows
-pairwise_follows [] (g ∷ gs) as bs h k = absurd h
-pairwise_follows (f ∷ fs) [] as bs h k = absurd h
+pairwise_follows : (fs : List Step) (gs : List Part) (vs : List Step) (ws : List Part) → AllFollow fs gs → AllFollow vs ws → Follows (pairwise fs vs) (uses.pairwise gs ws)
+pairwise_follows [] [] vs ws h k = nothing_follows
+pairwise_follows [] (g ∷ gs) vs ws h k = absurd h
+pairwise_follows (f ∷ fs) [] vs ws h k = absurd h
 pairwise_follows (f ∷ fs) (g ∷ gs) [] [] h k = nothing_follows
-pairwise_follows (f ∷ fs) (g ∷ gs) [] (b ∷ bs) h k = absurd k
-pairwise_follows (f ∷ fs) (g ∷ gs) (a ∷ as) [] h k = absurd k
-pairwise_follows (f ∷ fs) (g ∷ gs) (a ∷ as) (b ∷ bs) h k = then_follows h.0 (then_follows k.0 (pairwise_follows fs gs as bs h.1 k.1))
+pairwise_follows (f ∷ fs) (g ∷ gs) [] (w ∷ ws) h k = absurd k
+pairwise_follows (f ∷ fs) (g ∷ gs) (v ∷ vs) [] h k = absurd k
+pairwise_follows (f ∷ fs) (g ∷ gs) (v ∷ vs) (w ∷ ws) h k = then_follows h.0 (then_follows k.0 (pairwise_follows fs gs vs ws h.1 k.1))
 
 mutual
   pub expr_follows : (u : Usage) (e : tree.Expr) → Follows (scan_expr u e) (uses.expr_uses u e)
@@ -106,7 +106,7 @@ mutual
   inner_follow (tree.more_generators target iter ifs is_async clauses) =
       then_follows (expr_follows Iterable iter) (then_follows (expr_follows Target target) (then_follows (exprs_follow Load ifs) (inner_follow clauses)))
 
-  defaults_follow_in : (as : tree.Args) → Follows (scan_defaults_in as) (uses.defaults_uses_in as)
+  defaults_follow_in : (ps : tree.Args) → Follows (scan_defaults_in ps) (uses.defaults_uses_in ps)
   defaults_follow_in tree.no_args = nothing_follows
   defaults_follow_in (tree.more_args a default more) = then_follows (opt_follows Load default) (defaults_follow_in more)
 
@@ -120,7 +120,7 @@ mutual
   opt_annotation_follows tree.no_arg = nothing_follows
   opt_annotation_follows (tree.some_arg a) = annotation_follows a
 
-  annotations_follow_in : (as : tree.Args) → Follows (scan_annotations_in as) (uses.annotations_uses_in as)
+  annotations_follow_in : (ps : tree.Args) → Follows (scan_annotations_in ps) (uses.annotations_uses_in ps)
   annotations_follow_in tree.no_args = nothing_follows
   annotations_follow_in (tree.more_args a default more) = then_follows (annotation_follows a) (annotations_follow_in more)
 

@@ -143,7 +143,7 @@ abbrev first_scopes : List Scope
 first_scopes = (whole (record { uses = []; scopes = []; ended = []; postponed = false })).scopes
 
 begun_stands : Stands first_scopes outermost
-begun_stands = record { inside = omega arith; next = refl; kind = refl; holder = refl }
+begun_stands = record { inside = (let i : 0 < 1 = omega arith in i); next = refl; kind = refl; holder = refl }
 
 begun_tied : Tied [] first_scopes [] outermost begun_state
 begun_tied = record {

@@ -5,3 +5,4 @@ pub mod Scopes
 pub mod Resolve
 pub mod Refused
 pub mod Entries
+pub mod Resolved
