@@ -1,0 +1,98 @@
+-- The first fault of a tree by its scan is the first by its uses.
+use Rattle.std.proofs.Common.{◌≡◌, refl, sym, ap, ◌∙◌, ℕ, List, [], ◌∷◌, ◌++◌, map, Option, Some, None}
+use Rattle.py_tree.specs.Tree as tree
+use Rattle.py_tree.specs.declared.modules.Mode.{Mode}
+use Rattle.py_limits.specs.Nesting.{nesting}
+use Rattle.py_limits.specs.Size.{size_of}
+use Rattle.py_shapes.specs.Valid.{shapes}
+use Rattle.std.specs.Prelude.{◌^◌}
+use Rattle.py_scope.specs.declared.refusal.Refusal.{Refusal}
+use Rattle.py_scope.specs.declared.rows.Row.{Row}
+use Rattle.py_scope.specs.InOrder.{IsScanned}
+use Rattle.py_scope.specs.Lifts.{first_of_two}
+use Rattle.py_scope.specs.Resolved.{first_fault}
+use Rattle.py_scope.specs.Scanned.{Scanned, order_of}
+use Rattle.py_name_uses.specs.Steps.{Outcome, Done, Refused}
+use Rattle.py_scan.specs.Scan.{scan_program, scan_value}
+use Rattle.py_symbol_tables.specs.Tables as tables
+use Rattle.symboltable.specs.Errors.{codegen_error}
+use Rattle.py_meaning.specs.ExprFaults.{Fault}
+use Rattle.py_meaning.specs.Faults.{compile_faults, malformed_faults, too_deep, too_large, whole}
+use Rattle.py_meaning.specs.Faults as scanned
+use Rattle.py_meaning.specs.Scanned.{fault_as, scan_faults}
+use Rattle.py_scope_proof.specs.Refused.{first_refused}
+use Rattle.py_scope_proof.proofs.RefusedNames.Names.{name_names_are}
+use Rattle.py_scope_proof.proofs.RefusedNames.Walruses.{walruses_are}
+use Rattle.py_uses.specs.Uses.{Scan}
+use Rattle.py_uses.specs.Scopes.{scopes_of}
+use Rattle.py_uses.specs.Refused.{PlacedRefusal, nowhere, refused_in, refused_of, refused_together, refused_uses}
+use Rattle.py_uses.proofs.FirstRefusals.{first_is, first_of, first_together}
+use Rattle.py_uses.proofs.ScopesAre.{EndsListed, IsListed, program_listed, scopes_by_rows, value_listed}
+use Rattle.py_uses_proof.specs.Faults.{fault_of, faults}
+use Rattle.py_uses_proof.specs.Laws.{HaveSameFirst, SameFirstFaults}
+
+-- ---- first elements
+
+first_only : List Fault → List Fault
+first_only [] = []
+first_only (f ∷ fs) = f ∷ []
+
+joined_first : (xs ys zs : List Fault) → first_only ys ≡ first_only zs → first_only (xs ++ ys) ≡ first_only (xs ++ zs)
+unfolding first_only
+joined_first [] ys zs e = e
+joined_first (x ∷ xs) ys zs e = refl
+
+front_first : (ys zs ds : List Fault) → first_only ys ≡ first_only zs → first_only (ys ++ ds) ≡ first_only (zs ++ ds)
+unfolding first_only
+front_first [] [] ds e = refl
+front_first [] (z ∷ zs) ds e = absurd cc
+front_first (y ∷ ys) [] ds e = absurd cc
+front_first (y ∷ ys) (z ∷ zs) ds e = e
+
+same_first : (xs ys : List Fault) → first_only xs ≡ first_only ys → HaveSameFirst xs ys
+unfolding first_only
+same_first [] [] e = record { none = (λ q. refl, λ q. refl); first = λ f rest q. absurd cc }
+same_first [] (y ∷ ys) e = absurd cc
+same_first (x ∷ xs) [] e = absurd cc
+same_first (x ∷ xs) (y ∷ ys) e = record { none = (λ q. absurd cc, λ q. absurd cc); first = λ f rest q. (ys, heads f rest q) }
+  where
+    heads : (f : Fault) (rest : List Fault) → x ∷ xs ≡ f ∷ rest → y ∷ ys ≡ f ∷ ys
+    heads f rest q = let a : y ≡ x = cc in let b : x ≡ f = cc in ap (λ (z : Fault). z ∷ ys) (a ∙ b)
+
+-- ---- scans
+
+-- what the passes refuse first is what the uses refuse first
+passes_first : (s : Scanned) → IsScanned s → first_fault s ≡ first_refused s.rows (order_of s)
+passes_first s old = λ j. first_of_two (walruses_are s.rows old.first (order_of s) j) (name_names_are s old (order_of s) j)
+
+rows_first : (rows : List Row) (order : List ℕ) → first_refused rows order ≡ first_together (scopes_by_rows rows) order
+rows_first rows order = refl
+
+listed_first : (rs : List Refusal) → first_only (map fault_as (tables.fault_of (first_of rs))) ≡ first_only (map fault_of (map nowhere rs))
+unfolding first_only
+listed_first [] = refl
+listed_first (r ∷ rs) = refl
+
+ends_first : (x : Scan) (o : Outcome) → EndsListed x o → first_only (map fault_as (tables.faults_of o)) ≡ first_only (map fault_of (refused_in x))
+unfolding first_only
+ends_first x (Done s) h =
+    ap (λ (o : Option Refusal). first_only (map fault_as (tables.fault_of o)))
+    (passes_first s.scopes h.scanned ∙ rows_first s.scopes.rows (order_of s.scopes) ∙ (λ j. first_together (h.scopes j) (h.order j)) ∙ sym (first_is (scopes_of x) x.ended))
+    ∙ listed_first (refused_together (scopes_of x) x.ended)
+    ∙ ap (λ (us : List PlacedRefusal). first_only (map fault_of (us ++ map nowhere (refused_together (scopes_of x) x.ended)))) (sym h.allowed)
+ends_first x (Refused fault at) h =
+    (λ j. record { error = codegen_error (h.4 j); location = h.5 j } ∷ [])
+    ∙ ap (λ (us : List PlacedRefusal). first_only (map fault_of (us ++ map nowhere (refused_together (scopes_of x) x.ended)))) (sym h.3)
+
+scan_first : (t : tree.Mod) → first_only (scan_faults t) ≡ first_only (map fault_of (refused_of t))
+scan_first (tree.Module stmts) = ends_first _ (scan_program stmts) (program_listed stmts)
+scan_first (tree.Interactive stmts) = ends_first _ (scan_program stmts) (program_listed stmts)
+scan_first (tree.Expression value) = ends_first _ (scan_value value) (value_listed value)
+scan_first (tree.FunctionType argtypes returns) = refl
+
+pub same_first_faults : SameFirstFaults
+same_first_faults t m level =
+    same_first (scanned.faults t m level) (faults t m level)
+    (joined_first (whole too_deep (2 ^ 10) (nesting t)) _ _
+    (joined_first (whole too_large (2 ^ 22) (size_of t)) _ _
+    (joined_first (malformed_faults (shapes t m)) _ _ (front_first (scan_faults t) (map fault_of (refused_of t)) (compile_faults m level t) (scan_first t)))))
