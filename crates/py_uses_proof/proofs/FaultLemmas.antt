@@ -33,31 +33,37 @@ use Rattle.py_uses_proof.specs.Laws.{HaveSameFirst, SameFirstFaults}
 
 -- ---- first elements
 
-first_only : List Fault → List Fault
+abbrev first_only : List Fault → List Fault
 first_only [] = []
 first_only (f ∷ fs) = f ∷ []
 
+some_none : (f : Fault) (fs : List Fault) → f ∷ fs ≡ [] → ⊥
+some_none f fs q = cc
+
+none_some : (f : Fault) (fs : List Fault) → [] ≡ f ∷ fs → ⊥
+none_some f fs q = cc
+
+same_head : (f g : Fault) (fs gs : List Fault) → f ∷ fs ≡ g ∷ gs → f ≡ g
+same_head f g fs gs q = cc
+
 joined_first : (xs ys zs : List Fault) → first_only ys ≡ first_only zs → first_only (xs ++ ys) ≡ first_only (xs ++ zs)
-unfolding first_only
 joined_first [] ys zs e = e
 joined_first (x ∷ xs) ys zs e = refl
 
 front_first : (ys zs ds : List Fault) → first_only ys ≡ first_only zs → first_only (ys ++ ds) ≡ first_only (zs ++ ds)
-unfolding first_only
 front_first [] [] ds e = refl
-front_first [] (z ∷ zs) ds e = absurd cc
-front_first (y ∷ ys) [] ds e = absurd cc
+front_first [] (z ∷ zs) ds e = absurd (none_some z [] e)
+front_first (y ∷ ys) [] ds e = absurd (some_none y [] e)
 front_first (y ∷ ys) (z ∷ zs) ds e = e
 
-same_first : (xs ys : List Fault) → first_only xs ≡ first_only ys → HaveSameFirst xs ys
-unfolding first_only
-same_first [] [] e = record { none = (λ q. refl, λ q. refl); first = λ f rest q. absurd cc }
-same_first [] (y ∷ ys) e = absurd cc
-same_first (x ∷ xs) [] e = absurd cc
-same_first (x ∷ xs) (y ∷ ys) e = record { none = (λ q. absurd cc, λ q. absurd cc); first = λ f rest q. (ys, heads f rest q) }
-  where
-    heads : (f : Fault) (rest : List Fault) → x ∷ xs ≡ f ∷ rest → y ∷ ys ≡ f ∷ ys
-    heads f rest q = let a : y ≡ x = cc in let b : x ≡ f = cc in ap (λ (z : Fault). z ∷ ys) (a ∙ b)
+have_same_first : (xs ys : List Fault) → first_only xs ≡ first_only ys → HaveSameFirst xs ys
+have_same_first [] [] e = record { none = (λ q. refl, λ q. refl); first = λ f rest q. absurd (none_some f rest q) }
+have_same_first [] (y ∷ ys) e = absurd (none_some y [] e)
+have_same_first (x ∷ xs) [] e = absurd (some_none x [] e)
+have_same_first (x ∷ xs) (y ∷ ys) e = record {
+  none = (λ q. absurd (some_none x xs q), λ q. absurd (some_none y ys q));
+  first = λ f rest q. (ys, ap (λ (z : Fault). z ∷ ys) (sym (same_head x y [] [] e) ∙ same_head x f xs rest q));
+}
 
 -- ---- scans
 
@@ -69,12 +75,10 @@ rows_first : (rows : List Row) (order : List ℕ) → first_refused rows order �
 rows_first rows order = refl
 
 listed_first : (rs : List Refusal) → first_only (map fault_as (tables.fault_of (first_of rs))) ≡ first_only (map fault_of (map nowhere rs))
-unfolding first_only
 listed_first [] = refl
 listed_first (r ∷ rs) = refl
 
 ends_first : (x : Scan) (o : Outcome) → EndsListed x o → first_only (map fault_as (tables.faults_of o)) ≡ first_only (map fault_of (refused_in x))
-unfolding first_only
 ends_first x (Done s) h =
     ap (λ (o : Option Refusal). first_only (map fault_as (tables.fault_of o)))
     (passes_first s.scopes h.scanned ∙ rows_first s.scopes.rows (order_of s.scopes) ∙ (λ j. first_together (h.scopes j) (h.order j)) ∙ sym (first_is (scopes_of x) x.ended))
@@ -92,7 +96,7 @@ scan_first (tree.FunctionType argtypes returns) = refl
 
 pub same_first_faults : SameFirstFaults
 same_first_faults t m level =
-    same_first (scanned.faults t m level) (faults t m level)
+    have_same_first (scanned.faults t m level) (faults t m level)
     (joined_first (whole too_deep (2 ^ 10) (nesting t)) _ _
     (joined_first (whole too_large (2 ^ 22) (size_of t)) _ _
     (joined_first (malformed_faults (shapes t m)) _ _ (front_first (scan_faults t) (map fault_of (refused_of t)) (compile_faults m level t) (scan_first t)))))

@@ -9,9 +9,9 @@ use Rattle.py_shapes.specs.Valid.{shapes}
 use Rattle.py_scope.specs.Refusals.{text_of}
 use Rattle.py_meaning.specs.ExprFaults.{Fault}
 use Rattle.py_meaning.specs.Faults.{compile_faults, malformed_faults, too_deep, too_large, whole}
-use Rattle.py_uses.specs.Refused.{Refused, refused_of}
+use Rattle.py_uses.specs.Refused.{PlacedRefusal, refused_of}
 
-abbrev pub fault_of : Refused → Fault
+abbrev pub fault_of : PlacedRefusal → Fault
 fault_of r = record { error = error.SyntaxError (text_of r.why); location = r.location }
 
 -- nesting, then size, then shapes, then what the uses refuse, then what is wrong with the nodes that are compiled
