@@ -10,6 +10,9 @@ use Rattle.py_rows_fields.specs.declared.error.RowsError.{RowsError}
 use Rattle.py_rows_format.specs.Rows.{rows_tree}
 use Rattle.py_meaning.specs.ExprFaults.{Fault}
 use Rattle.py_meaning.specs.Faults.{faults}
+use Rattle.py_meaning.specs.Scanned.{scopes_of}
+use Rattle.py_uses_proof.proofs.FaultLemmas.{same_first_faults}
+use Rattle.py_uses_proof.proofs.SameScopes.{scopes_resolve}
 use Rattle.py_lines.specs.Words.{level_of, mode_of}
 use Rattle.py_run.specs.declared.report.Status.{Status}
 use Rattle.py_run.specs.declared.report.Status.TheVariants as status
@@ -72,7 +75,8 @@ module _ (rows mode level : List ℕ) (c : Compilation) (text line : List ℕ) (
       → (s : Status) (code : Option CodeObject) → Ran (Some (Compile c)) (Some (owed.Refused f)) s code [] [] text line
       → RunOwes rows mode level c.path s text line
   refused t f rest e g status.Done code h = absurd h.is_due
-  refused t f rest e g status.Refused code h = (c.mode, c.level, is_mode, is_level, record { t = t; fault = f; rest = rest; read = e; first = g; told = h.err })
+  refused t f rest e g status.Refused code h =
+      let w = (same_first_faults t c.mode c.level).first f rest g in (c.mode, c.level, is_mode, is_level, record { t = t; fault = f; rest = w.0; read = e; first = w.1; told = h.err })
   refused t f rest e g status.Usage code h = absurd (let e = h.fits in cc)
   refused t f rest e g status.Input code h = absurd h.is_due
   refused t f rest e g status.ReadFault code h = absurd (omega (arith, h.read))
@@ -83,7 +87,17 @@ module _ (rows mode level : List ℕ) (c : Compilation) (text line : List ℕ) (
       → Ran (Some (Compile c)) (Some (owed.Compiled c t)) s code [] [] text line → RunOwes rows mode level c.path s text line
   done t e g status.Done None h = absurd (let e = h.reported in cc)
   done t e g status.Done (Some code) h =
-      (c.mode, c.level, is_mode, is_level, record { t = t; code = object code; read = e; clean = g; agrees = h.codes_due.agrees; named = (h.codes_due.named 1).0; listed = h.out })
+      (c.mode, c.level, is_mode, is_level, record {
+        t = t;
+        code = object code;
+        read = e;
+        clean = (same_first_faults t c.mode c.level).none.0 g;
+        scopes = scopes_of t;
+        resolved = scopes_resolve t c.mode c.level g;
+        agrees = h.codes_due.agrees;
+        named = (h.codes_due.named 1).0;
+        listed = h.out;
+      })
   done t e g status.Refused code h = absurd h.is_due
   done t e g status.Usage code h = absurd (let e = h.fits in cc)
   done t e g status.Input code h = absurd h.is_due

@@ -8,9 +8,14 @@ use Rattle.py_bytecode.specs.Objects.{Object, head}
 use Rattle.py_control.specs.Agreement.{Agree}
 use Rattle.py_listing.specs.Listing.{listing}
 use Rattle.py_meaning.specs.ExprFaults.{Fault}
-use Rattle.py_meaning.specs.Faults.{faults}
+use Rattle.py_meaning.specs.Faults as scanned
 use Rattle.py_meaning.specs.Meaning.{body}
-use Rattle.py_meaning.specs.Scanned.{scopes_of}
+use Rattle.py_meaning.specs.Scanned as scanned_scopes
+use Rattle.py_scope.specs.declared.flat.ScopeEntry.{ScopeEntry}
+use Rattle.py_uses.specs.Tree.{uses_of}
+use Rattle.py_uses.specs.Scopes.{scopes_of}
+use Rattle.py_uses_proof.specs.Faults.{faults}
+use Rattle.py_uses_proof.specs.Laws.{Resolves}
 use Rattle.py_lines.specs.Lines.{input_line, refusal_line}
 use Rattle.headline.specs.declared.answer.Answer.{Answer}
 use Rattle.headline.specs.declared.answer.Answer.TheVariants as answer
@@ -47,7 +52,9 @@ ReadsTree input (Err a) = NoTree input a
 
 -- the same of a tree
 abbrev pub CompilesTree : tree.Mod → Mode → (l : ℕ) → (path text : List ℕ) → Type 0
-CompilesTree t m l path text = (code : Object) × (faults t m l ≡ []) × Agree code (body (scopes_of t) t m l) × ((head code).source_path ≡ path) × (text ≡ listing code)
+CompilesTree t m l path text =
+    (code : Object) × (scopes : List ScopeEntry) × (faults t m l ≡ []) × Resolves (scopes_of (uses_of t)) scopes × Agree code (body scopes t m l)
+    × ((head code).source_path ≡ path) × (text ≡ listing code)
 
 abbrev pub RefusesTree : tree.Mod → Mode → (l : ℕ) → (line : List ℕ) → Type 0
 RefusesTree t m l line = (fault : Fault) × (rest : List Fault) × (faults t m l ≡ fault ∷ rest) × (line ≡ refusal_line fault)
@@ -57,6 +64,19 @@ GetsTree t m l path (answer.Done text) = CompilesTree t m l path (string_bytes t
 GetsTree t m l path (answer.Refused line) = RefusesTree t m l (string_bytes line)
 GetsTree t m l path answer.Memory = Unit {0}
 GetsTree t m l path other = ⊥
+
+-- the same by the scan of the tree, of which the compiler speaks
+abbrev pub CompilesScanned : tree.Mod → Mode → (l : ℕ) → (path text : List ℕ) → Type 0
+CompilesScanned t m l path text = (code : Object) × (scanned.faults t m l ≡ []) × Agree code (body (scanned_scopes.scopes_of t) t m l) × ((head code).source_path ≡ path) × (text ≡ listing code)
+
+abbrev pub RefusesScanned : tree.Mod → Mode → (l : ℕ) → (line : List ℕ) → Type 0
+RefusesScanned t m l line = (fault : Fault) × (rest : List Fault) × (scanned.faults t m l ≡ fault ∷ rest) × (line ≡ refusal_line fault)
+
+abbrev pub GetsScanned : tree.Mod → Mode → (l : ℕ) → (path : List ℕ) → Answer → Type 0
+GetsScanned t m l path (answer.Done text) = CompilesScanned t m l path (string_bytes text)
+GetsScanned t m l path (answer.Refused line) = RefusesScanned t m l (string_bytes line)
+GetsScanned t m l path answer.Memory = Unit {0}
+GetsScanned t m l path other = ⊥
 
 -- the text is that of the code, unless memory ran out
 abbrev pub IsListed : Object → Answer → Type 0

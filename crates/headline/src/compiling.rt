@@ -5,7 +5,7 @@ ghost use Rattle.py_tree.specs.View.{mod_tree};
 ghost use Rattle.py_lines.specs.Lines.{rows_text};
 ghost use Rattle.py_rows.specs.Rows.{rows_tree as tree_read};
 ghost use Rattle.headline.specs.Headline.{Owed, input_tree};
-ghost use Rattle.headline.specs.Steps.{Gets, GetsTree, IsListed, IsRefused, ReadsTree, Tells, input_by};
+ghost use Rattle.headline.specs.Steps.{Gets, GetsScanned, GetsTree, IsListed, IsRefused, ReadsTree, Tells, input_by};
 
 use crate::answer::Answer;
 use codegen::CompileOpts;
@@ -90,6 +90,13 @@ fn misread(alloc: Global, error: &RowsError) -> Answer
 /// The listing of the code of a tree, or the line of its first fault.
 fn compiled_tree(alloc: Global, tree: &Mod, mode: Mode, level: u8, path: &str) -> Answer
     ensures { GetsTree (mod_tree tree.now) mode level path.now result }
+{
+    compiled_scanned(alloc, tree, mode, level, path)
+}
+
+/// The same, by the scan of the tree; its uses say so too.
+fn compiled_scanned(alloc: Global, tree: &Mod, mode: Mode, level: u8, path: &str) -> Answer
+    ensures { GetsScanned (mod_tree tree.now) mode level path.now result }
 {
     let Ok(path) = String::from_str(alloc, path) else {
         return Answer::Memory;
