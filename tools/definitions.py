@@ -48,8 +48,9 @@ SECTIONS = [
     Section("Agreement", "When a code object does what a form says. `plain` and `plainly` say what is compared here: each operation with its operands, names by their text, and how the run ends. By what access a name is reached, closures and cells are no part of it: the clauses of `run` and the laws of scopes say these (`GUARANTEES.md`).", ("py_control/Agreement:Agree",)),
     Section("Rows", "The tree whose rows some bytes are, or what is wrong with them first.", ("py_rows_format/Rows:rows_tree", "headline/Headline:input_tree")),
     Section("The listing", "The text of a code object.", ("py_listing/Listing:listing",)),
-    Section("Scopes", "The uses of names in a tree, in their order, and the scopes to which they resolve.", ("py_meaning/Scanned:scopes_of",)),
-    Section("Faults", "What is wrong with a tree, in order, and the line that says so.", ("py_meaning/Faults:faults", "py_lines/Lines:refusal_line")),
+    Section("Uses of names", "The uses of names in a tree, in their order, as one list.", ("py_uses/Tree:uses_of",)),
+    Section("What names are", "What the uses say of each scope, and what each name is there.", ("py_uses/Scopes:scopes_of", "py_uses_proof/Laws:Resolves")),
+    Section("Faults", "What is wrong with a tree, in order, and the line that says so.", ("py_uses_proof/Faults:faults", "py_lines/Lines:refusal_line")),
 ]
 
 Found = Tuple[str, str]
