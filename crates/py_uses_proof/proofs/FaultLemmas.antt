@@ -24,6 +24,7 @@ use Rattle.py_scope_proof.specs.Refused.{first_refused}
 use Rattle.py_scope_proof.proofs.RefusedNames.Names.{name_names_are}
 use Rattle.py_scope_proof.proofs.RefusedNames.Walruses.{walruses_are}
 use Rattle.py_uses.specs.Uses.{Scan}
+use Rattle.py_uses.specs.Tree.{uses_of}
 use Rattle.py_uses.specs.Scopes.{scopes_of}
 use Rattle.py_uses.specs.Refused.{PlacedRefusal, nowhere, refused_in, refused_of, refused_together, refused_uses}
 use Rattle.py_uses.proofs.FirstRefusals.{first_is, first_of, first_together}
@@ -89,14 +90,20 @@ ends_first x (Refused fault at) h =
     ∙ ap (λ (us : List PlacedRefusal). first_only (map fault_of (us ++ map nowhere (refused_together (scopes_of x) x.ended)))) (sym h.3)
 
 scan_first : (t : tree.Mod) → first_only (scan_faults t) ≡ first_only (map fault_of (refused_of t))
-scan_first (tree.Module stmts) = ends_first _ (scan_program stmts) (program_listed stmts)
-scan_first (tree.Interactive stmts) = ends_first _ (scan_program stmts) (program_listed stmts)
-scan_first (tree.Expression value) = ends_first _ (scan_value value) (value_listed value)
+scan_first (tree.Module stmts) = ends_first (uses_of (tree.Module stmts)) (scan_program stmts) (program_listed stmts)
+scan_first (tree.Interactive stmts) = ends_first (uses_of (tree.Interactive stmts)) (scan_program stmts) (program_listed stmts)
+scan_first (tree.Expression value) = ends_first (uses_of (tree.Expression value)) (scan_value value) (value_listed value)
 scan_first (tree.FunctionType argtypes returns) = refl
 
 pub same_first_faults : SameFirstFaults
 same_first_faults t m level =
+    let deep = whole too_deep (2 ^ 10) (nesting t) in
+    let large = whole too_large (2 ^ 22) (size_of t) in
+    let shaped = malformed_faults (shapes t m) in
+    let old = scan_faults t in
+    let new = map fault_of (refused_of t) in
+    let rest = compile_faults m level t in
     have_same_first (scanned.faults t m level) (faults t m level)
-    (joined_first (whole too_deep (2 ^ 10) (nesting t)) _ _
-    (joined_first (whole too_large (2 ^ 22) (size_of t)) _ _
-    (joined_first (malformed_faults (shapes t m)) _ _ (front_first (scan_faults t) (map fault_of (refused_of t)) (compile_faults m level t) (scan_first t)))))
+    (joined_first deep (large ++ (shaped ++ (old ++ rest))) (large ++ (shaped ++ (new ++ rest)))
+    (joined_first large (shaped ++ (old ++ rest)) (shaped ++ (new ++ rest))
+    (joined_first shaped (old ++ rest) (new ++ rest) (front_first old new rest (scan_first t)))))
