@@ -35,6 +35,7 @@ pub fn compile_rows(alloc: Global, rows: &[u8], mode: &str, level: &str, path: &
     compiled(alloc, rows, mode, level, path)
 }
 
+#[tactic(auto, using(crate::proofs::OwedLemmas::gets_rows))]
 fn compiled(alloc: Global, rows: &[u8], mode: Mode, level: u8, path: &str) -> Answer
     ensures { Gets rows.now mode level path.now result }
 {
