@@ -23,7 +23,7 @@ use Rattle.py_expr_scopes.specs.Comprehensions.{comprehension_of}
 use Rattle.py_expr_scopes.specs.declared.comprehensions.ComprehensionElement.{ComprehensionElement}
 use Rattle.py_calls.specs.Placed.{comprehension_at, deletion_at}
 
--- what the form of a node is reported: its context, but for the path of the source
+-- what the form of a node is given: its context, but for the path of the source
 abbrev pub form_context : State → Context
 form_context s = record s.node_context.context { source = [] }
 
