@@ -1,5 +1,5 @@
 -- What a call leaves of the enclosing code, and the call that takes what a future import names.
-use Rattle.std.proofs.Common.{◌≡◌, Bool, true, false, Result, Ok, Err, refl, sym, ap, ◌∙◌, subst}
+use Rattle.std.proofs.Common.{Bool, true, false, Result, Ok, Err, refl, sym, subst}
 use Rattle.std.specs.Prelude.{OnOk, if◌then◌else◌, ◌||◌}
 use Rattle.py_base.specs.declared.location.LocatedError.{LocatedError}
 use Rattle.py_base.specs.declared.errors.CodegenErrorType.{CodegenErrorType}

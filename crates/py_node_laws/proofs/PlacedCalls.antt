@@ -1,5 +1,5 @@
 -- What calls emit where a future import may stand first runs as its form says, tells the first of its faults, and misses no cell.
-use Rattle.std.proofs.Common.{◌≡◌, ◌≢◌, ℕ, ◌+◌, ◌*◌, ◌<◌, ◌≤◌, ◌^◌, List, [], ◌++◌, Bool, true, false, Option, Some, None, refl, sym, ap, ◌∙◌, subst, arith}
+use Rattle.std.proofs.Common.{◌≡◌, ℕ, ◌+◌, ◌*◌, ◌<◌, ◌^◌, List, [], ◌++◌, Bool, true, false, Option, Some, None, refl, sym, subst, arith}
 use Rattle.std.specs.Prelude.{Result, Ok, Err, if◌then◌else◌}
 use Rattle.py_tree.specs.Tree as tree
 use Rattle.py_tree.specs.declared.statements.Alias.{Alias}
@@ -14,26 +14,26 @@ use Rattle.py_bytecode.specs.Decode.{Tables}
 use Rattle.py_ir.specs.Chain.{Blk, coded_blocks}
 use Rattle.py_control.specs.Form.{Interp, SForm, SThen}
 use Rattle.py_control.specs.Fit.{Loops}
-use Rattle.py_control.specs.Code.{code, labels}
+use Rattle.py_control.specs.Code.{labels}
 use Rattle.py_control.specs.Looped.{Looped}
 use Rattle.py_control.specs.Agree.{AllOf, exactly, kids}
 use Rattle.py_control_proof.specs.Blocks.{Lies}
 use Rattle.py_control_proof.proofs.BlockMachine.{blocks_simulate}
 use Rattle.py_control_proof.proofs.CodeOver.{over_s}
-use Rattle.py_emission_parts.specs.Context.{Context}
-use Rattle.py_emission_parts.specs.Emitting.{NodeContext, Done, Emission, Outcome, Refused, State, TooWide, ◌▸◌, postponed_part, refuse, with_postponed}
+use Rattle.py_emission_parts.specs.Emitting.{NodeContext, Done, Emission, LoopBlocks, Outcome, Refused, State, TooWide, ◌▸◌, postponed_part, refuse, with_postponed}
 use Rattle.py_emission_parts.specs.Running.{run}
 use Rattle.py_emit.specs.States.{Goes, state}
-use Rattle.py_emission.specs.EmissionFutures.{after_future_import, check_features, emission_after, emission_of_future}
+use Rattle.py_emit.proofs.Joined.{done_same}
+use Rattle.py_emission.specs.EmissionFutures.{after_future_import, emission_after, emission_of_future}
 use Rattle.py_emission.specs.EmissionStmts.{emission_of_stmts}
 use Rattle.py_emission.specs.Futures.{Future, after_future, future_of, postpones}
 use Rattle.py_meaning.specs.ExprFaults.{Fault}
 use Rattle.py_meaning.specs.Faults.{future_faults, setting_after, stmts_faults}
 use Rattle.py_meaning.specs.StmtEnds.{Setting, setting_of, stmts_end}
 use Rattle.py_meaning.specs.TableImports.{after_futures, future_form}
+use Rattle.py_meaning.specs.StmtCounts.{scopes_in_stmts}
 use Rattle.py_meaning.specs.TableStmts.{stmts_form}
-use Rattle.py_emission_proof.proofs.Additions.EmissionSequenceLemmas.{EmissionSequenceStands, emission_sequence_postponed_node_context}
-use Rattle.py_emission_proof.proofs.Trees.Controls.{Controls, InLoop, control_held, in_more}
+use Rattle.py_emission_proof.proofs.Trees.Controls.{Controls, InLoop, in_more}
 use Rattle.py_emission_proof.proofs.Trees.FutureAdds.{future_then, node_context_after}
 use Rattle.py_emission_proof.proofs.Trees.StmtAdds.{stmts_add}
 use Rattle.py_emission_proof.proofs.Trees.Told.{table_context}
@@ -47,10 +47,8 @@ use Rattle.py_emission_outcomes.proofs.Faults.RefusalLemmas.{RefusalEndsAs, post
 use Rattle.py_emission_outcomes.proofs.Faults.RefusingExprs.{refusing_expr_both_none}
 use Rattle.py_emission_outcomes.proofs.Faults.RefusingStmts.{refusing_stmt_held, stmts_end_so}
 use Rattle.py_stmt_parts.specs.Futures.{emission_of_features, emission_placed, postponed_after}
-use Rattle.py_node_laws.specs.Adding.{Adds, IsReady, LoopIsMade, form_context, labels_of, loops_in, present, present_interp}
-use Rattle.py_node_laws.specs.CallFaults.{TellsFirst}
-use Rattle.py_node_laws.specs.MissingCells as missing
-use Rattle.py_node_laws.specs.NodeFaults.{EndsBy, in_loop, setting_in}
+use Rattle.py_node_laws.specs.Adding.{IsReady, LoopIsMade, form_context, labels_of, loops_in, present, present_interp}
+use Rattle.py_node_laws.specs.NodeFaults.{EndsBy, in_loop, is_loop, setting_in}
 use Rattle.py_node_laws.specs.PlacedCalls.{PlacedCalls, PlacedCallsRun, PlacedFindCells, PlacedRuns, TakenFeatureCalls, opening_faults, placed_faults, placed_form, taken_features}
 use Rattle.py_node_laws.specs.Running.{Hold, end_of}
 use Rattle.py_node_laws.proofs.Faults.CallParts.{features_end}
@@ -64,10 +62,10 @@ use Rattle.py_node_laws.proofs.Runs.{lies_there}
 record DoneBefore (p : Bool) (o : Outcome) (r : State) : Type 0 where
   mid : State
   done : o ≡ Done mid
-  is : r ≡ with_postponed p mid
+  state_is : r ≡ with_postponed p mid
 
 done_before : (p : Bool) (o : Outcome) (r : State) → postponed_after p o ≡ Done r → DoneBefore p o r
-done_before p (Done m) r e = record { mid = m; done = refl; is = (let h : r ≡ with_postponed p m = cc in h) }
+done_before p (Done m) r e = record { mid = m; done = refl; state_is = sym (done_same (with_postponed p m) r e) }
 done_before p TooWide r e = absurd cc
 done_before p (Refused x at) r e = absurd cc
 
@@ -88,9 +86,9 @@ Opening k c b n v g = (l : ℕ) × Controls c b n k l v g
 
 openings_add : (k : ℕ) (ts : tree.Stmts) → stmts_size ts < 2 ^ 22 → (c : NodeContext) (b : Loops) (n : ℕ) → InLoop c.loops b n
     → Opening k c b n (emission_after emission_of_stmts ts) (after_futures (λ d. stmts_form d k) (table_context c) ts)
-openings_add k tree.no_stmts few c b n w = (_, stmts_add c k tree.no_stmts few b n w)
+openings_add k tree.no_stmts few c b n w = (scopes_in_stmts c.context.postponed tree.no_stmts, stmts_add c k tree.no_stmts few b n w)
 openings_add k (tree.more_stmts s ss) few c b n w =
-    go (future_of s) (_, stmts_add c k (tree.more_stmts s ss) few b n w)
+    go (future_of s) (scopes_in_stmts c.context.postponed (tree.more_stmts s ss), stmts_add c k (tree.more_stmts s ss) few b n w)
     (λ f. let m = n + labels (future_form (table_context c) f) in openings_add k ss (omega (arith, few)) (node_context_after f c) b m
     (in_more c.loops b n m (omega arith) w))
   where
@@ -114,7 +112,7 @@ openings_add k (tree.more_stmts s ss) few c b n w =
 
 placed_add : (over : Bool) (k : ℕ) (ts : tree.Stmts) → stmts_size ts < 2 ^ 22 → (c : NodeContext) (b : Loops) (n : ℕ) → InLoop c.loops b n
     → Opening k c b n (emission_placed over ts) (placed_form over (table_context c) k ts)
-placed_add true k ts few c b n w = (_, stmts_add c k ts few b n w)
+placed_add true k ts few c b n w = (scopes_in_stmts c.context.postponed ts, stmts_add c k ts few b n w)
 placed_add false k ts few c b n w = openings_add k ts few c b n w
 
 -- blocks that hold what is emitted run so
@@ -157,10 +155,10 @@ placed_calls_run (Ok a) over ts x before after h few ready loop =
     let s = state before in
     let d = done_before x.future_annotations (run (emission_placed over ts) s) (state after) h.goes in
     λ bs tables held.
-        subst (λ r. PlacedRuns over ts s r bs tables) (sym d.is)
+        subst (λ r. PlacedRuns over ts s r bs tables) (sym d.state_is)
         (runs_after x.future_annotations over ts s d.mid bs tables
         (placed_run over ts few s d.mid ready loop d.done bs tables
-        (held_before x.future_annotations d.mid bs tables (subst (λ r. Hold r bs tables) d.is held))))
+        (held_before x.future_annotations d.mid bs tables (subst (λ r. Hold r bs tables) d.state_is held))))
 placed_calls_run (Err e) over ts x before after h few ready loop = tt
 
 -- what follows a future import ends as its faults say
@@ -214,15 +212,15 @@ openings_end class c p (tree.more_stmts s ss) h =
 held_is : (s : State) → refusing_stmt_held s.node_context.loops ≡ in_loop s
 held_is s = go s.node_context.loops
   where
-    go : (x : Option Rattle.py_emission_parts.specs.Emitting.LoopBlocks) → refusing_stmt_held x ≡ Rattle.py_node_laws.specs.NodeFaults.is_loop x
+    go : (x : Option LoopBlocks) → refusing_stmt_held x ≡ is_loop x
     go None = refl
     go (Some b) = refl
 
 placed_end : (class : Option (List ℕ)) (over : Bool) (ts : tree.Stmts) → stmts_shapes class ts ≡ [] → (s : State)
     → (q : SourceLocation) × EndsBy s (placed_faults over (setting_in s) (in_loop s) ts) q (run (emission_placed over ts) s)
-placed_end class true ts h s = (_, bodies_end class ts h s)
+placed_end class true ts h s = (stmts_end (setting_in s) s.location ts, bodies_end class ts h s)
 placed_end class false ts h s = (
-  _,
+  opening_end (setting_in s) s.location ts,
   ends_by s _ _ _
       (subst (λ (b : Bool). RefusalEndsAs s.node_context (emission_after emission_of_stmts ts) s.location
       (opening_end (setting_in s) s.location ts) (opening_faults (setting_in s) b ts)) (held_is s)

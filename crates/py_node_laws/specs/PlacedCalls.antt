@@ -1,10 +1,8 @@
 -- Calls that emit statements where a future import may stand first, or where none may any more, and the call that takes what one names.
-use Rattle.std.specs.Prelude.{◌≡◌, ℕ, ◌*◌, ◌<◌, ◌^◌, List, [], ◌∷◌, ◌++◌, Bool, Option, Some, None, Result, OnOk, if◌then◌else◌}
+use Rattle.std.specs.Prelude.{◌≡◌, ℕ, ◌*◌, ◌<◌, ◌^◌, List, [], ◌∷◌, ◌++◌, Bool, Option, Some, None, OnOk, if◌then◌else◌}
 use Rattle.py_tree.specs.Tree as tree
 use Rattle.py_tree.specs.declared.statements.Alias.{Alias}
-use Rattle.py_base.specs.declared.errors.CodegenErrorType.{CodegenErrorType}
 use Rattle.py_base.specs.declared.errors.CodegenErrorType.TheVariants as error
-use Rattle.py_base.specs.declared.location.LocatedError.{LocatedError}
 use Rattle.py_base.specs.declared.location.SourceLocation.{SourceLocation}
 use Rattle.py_limits.specs.Size.{stmts_size}
 use Rattle.py_shapes.specs.Valid.{stmts_shapes}

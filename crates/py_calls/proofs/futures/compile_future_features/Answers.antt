@@ -1,15 +1,10 @@
-use Rattle.std.proofs.Common.{rules, ◌≡◌, Bool, true, false, List, ◌||◌, ◌∙◌, ap, sym}
-use Rattle.std.specs.Prelude.{if◌then◌else◌}
+use Rattle.std.proofs.Common.{rules, ◌≡◌, true, ◌∙◌, ap, sym}
 use Rattle.py_base.specs.declared.errors.CodegenErrorType.TheVariants as error
-use Rattle.py_tree.specs.declared.statements.Alias.{Alias}
-use Rattle.py_name_uses.specs.Parts.{names_annotations}
-use Rattle.py_emission_parts.specs.Emitting.{Done, with_postponed}
 use Rattle.py_emission_parts.specs.Running.{run}
-use Rattle.py_emission.specs.EmissionFutures.{check_features}
 use Rattle.py_emit.specs.States.{rest, state}
 use Rattle.py_emit.specs.declared.context.EmitContext.{EmitContext}
 use Rattle.py_expr_parts.proofs.Turns.{refused_by}
-use Rattle.py_stmt_parts.specs.Futures.{emission_of_features, postponed_after}
+use Rattle.py_stmt_parts.specs.Futures.{emission_of_features}
 use Rattle.py_stmt.proofs.PlacedStatementLemmas.{refused_after}
 use Rattle.py_calls.proofs.futures.compile_future_features.Goals as goal
 

@@ -1,13 +1,12 @@
-use Rattle.std.proofs.Common.{◌≡◌, ◌<◌, List, Err, ◌∙◌, ap, sym, subst, arith}
-use Rattle.std.specs.Prelude.{if◌then◌else◌, nat_lt, length}
+use Rattle.std.proofs.Common.{List, ◌∙◌, ap, sym, arith}
 use Rattle.py_tree.specs.View.{stmt_tree, stmts}
 use Rattle.py_tree.specs.declared.statements.Stmt.{Stmt}
-use Rattle.py_emission_parts.specs.Emitting.{State, with_postponed}
+use Rattle.py_emission_parts.specs.Emitting.{Done}
 use Rattle.py_emission_parts.specs.Running.{run}
 use Rattle.py_emission.specs.EmissionFutures.{emission_after}
 use Rattle.py_emission.specs.EmissionStmts.{emission_of_stmts}
 use Rattle.py_emit.specs.States.{rest, state}
-use Rattle.py_stmt_parts.specs.Futures.{context_after, postponed_after, restore_postponed}
+use Rattle.py_stmt_parts.specs.Futures.{context_after, restore_postponed}
 use Rattle.py_stmt_parts.proofs.FutureImportLemmas.{flag, slice_rest}
 use Rattle.py_emit.proofs.Joined.{went}
 use Rattle.py_stmt.proofs.PlacedStatementLemmas.{opened_flag, opened_goes, opened_rest}
