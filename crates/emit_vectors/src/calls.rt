@@ -251,7 +251,7 @@ fn close_over(alloc: Global, em: &mut Emitter, free: &str) -> Result<String, Fai
 }
 
 /// Goes into a function.
-#[tactic(auto, using(py_emit::proofs::Nested::nested_inner))]
+#[tactic(auto, using(py_emit::proofs::NestedScopes::nested_inner))]
 fn open(em: &mut Emitter, head: ScopeHead) -> Result<(), CodegenError>
     ensures { OnOk result ((rest em.new).outer ≢ []) }
 {

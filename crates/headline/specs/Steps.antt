@@ -1,5 +1,5 @@
 -- What the steps on the way to a listing owe.
-use Rattle.std.specs.Prelude.{◌≡◌, ◌^◌, ℕ, nat_lt, List, [], ◌∷◌, length, Result, Ok, Err, codes, if◌then◌else◌, string_bytes}
+use Rattle.std.specs.Prelude.{◌≡◌, ℕ, List, [], ◌∷◌, Result, Ok, Err, string_bytes}
 use Rattle.py_tree.specs.Tree as tree
 use Rattle.py_tree.specs.View.{mod_tree}
 use Rattle.py_tree.specs.declared.modules.Mod.{Mod}
@@ -19,8 +19,7 @@ use Rattle.py_uses_proof.specs.Laws.{Resolves}
 use Rattle.py_lines.specs.Lines.{input_line, refusal_line}
 use Rattle.headline.specs.declared.answer.Answer.{Answer}
 use Rattle.headline.specs.declared.answer.Answer.TheVariants as answer
-use Rattle.headline.specs.Headline.{Compiles, Misreads, Refuses, or_text}
-use Rattle.py_rows_fields.specs.declared.error.RowsError.{RowsError}
+use Rattle.headline.specs.Headline.{Compiles, Misreads, Refuses}
 
 -- what is made of rows in a mode, at a level
 abbrev pub Gets : (rows : List ℕ) → Mode → (l : ℕ) → (path : List ℕ) → Answer → Type 0
@@ -35,10 +34,6 @@ abbrev pub Tells : (text : List ℕ) → Answer → Type 0
 Tells text (answer.Input line) = string_bytes line ≡ input_line text
 Tells text answer.Memory = Unit {0}
 Tells text other = ⊥
-
--- the tree that rows are by a reader of rows, or the text that says why there is none
-abbrev pub input_by : (List ℕ → Result tree.Mod RowsError) → (rows : List ℕ) → Result tree.Mod (List ℕ)
-input_by reads rows = if nat_lt (length rows) (2 ^ 26) then or_text (reads rows) else Err (codes "too long")
 
 abbrev pub NoTree : Result tree.Mod (List ℕ) → Answer → Type 0
 NoTree input (answer.Input line) = (text : List ℕ) × (input ≡ Err text) × (string_bytes line ≡ input_line text)

@@ -3,9 +3,8 @@ ghost use Rattle.std.specs.Prelude.{codes};
 ghost use Rattle.py_bytecode.specs.View.{object};
 ghost use Rattle.py_tree.specs.View.{mod_tree};
 ghost use Rattle.py_lines.specs.Lines.{rows_text};
-ghost use Rattle.py_rows.specs.Rows.{rows_tree as tree_read};
 ghost use Rattle.headline.specs.Headline.{Owed, input_tree};
-ghost use Rattle.headline.specs.Steps.{Gets, GetsScanned, GetsTree, IsListed, IsRefused, ReadsTree, Tells, input_by};
+ghost use Rattle.headline.specs.Steps.{Gets, GetsScanned, GetsTree, IsListed, IsRefused, ReadsTree, Tells};
 
 use crate::answer::Answer;
 use codegen::CompileOpts;
@@ -14,7 +13,8 @@ use py_base::{CodegenErrorType, SourceLocation, Text};
 use py_bytecode::CodeObject;
 use py_lines::{input_line, level_of, mode_of, refusal_line, too_long_line};
 use py_listing::listing;
-use py_rows::{RowsError, read_rows};
+use py_rows_fields::RowsError;
+use py_rows_law::read_rows;
 use py_tree::{Mod, Mode};
 use std::alloc::Global;
 
@@ -52,13 +52,6 @@ fn compiled(alloc: Global, rows: &[u8], mode: Mode, level: u8, path: &str) -> An
 /// The tree that the rows are.
 fn tree_of(alloc: Global, rows: &[u8]) -> Result<Mod, Answer>
     ensures { ReadsTree (input_tree rows.now) result }
-{
-    read_tree(alloc, rows)
-}
-
-/// The tree that `read_rows` reads, which is that of the format by the law of rows.
-fn read_tree(alloc: Global, rows: &[u8]) -> Result<Mod, Answer>
-    ensures { ReadsTree (input_by tree_read rows.now) result }
 {
     if rows.len() >= LIMIT {
         return Err(too_long(alloc));

@@ -24,7 +24,7 @@ abbrev pub before_next : (before : List ℕ) → List (List ℕ) → List ℕ
 before_next before [] = before
 before_next before (t ∷ ts) = comma
 
--- these texts are appended with commas between them, and what stands before the next is reported
+-- these texts are appended with commas between them, and what stands before the next is given
 pub record IsAppended (before : List ℕ) (texts : List (List ℕ)) (old new next : List ℕ) : Type 0 where
   pub appended : new ≡ old ++ separated_text before comma texts
   pub follows : next ≡ before_next before texts

@@ -4,13 +4,9 @@ use Rattle.std.specs.Prelude.{if◌then◌else◌}
 use Rattle.py_bytecode.specs.Equality.{const_eq, insert_if_new, text_eq}
 use Rattle.py_emission_parts.specs.Emitting.{State, Done, Emission, with_step, with_block, with_name, with_varname, with_constant, with_location, with_loops, with_postponed}
 use Rattle.py_emission_parts.specs.Running.{run}
+use Rattle.py_emission_parts.specs.Growth.{Extends, Longer}
 use Rattle.py_emission_parts.proofs.EmissionLawLemmas.{Law, all_hold}
 use Rattle.py_emission_parts.proofs.GrowthLemmas.{of_done}
-
--- the second is the first and more
-pub record Extends {A : Type 0} (xs ys : List A) : Type 0 where
-  pub more : List A
-  pub is : ys ≡ xs ++ more
 
 module _ {A : Type 0} where
   extends_same : (xs : List A) → Extends xs xs
@@ -28,12 +24,6 @@ module _ {A : Type 0} where
 
   extends_entered : (equal : A → A → Bool) (xs : List A) (x : A) → Extends xs (insert_if_new equal xs x)
   extends_entered equal xs x = extends_chosen _ xs x
-
-pub record Longer (s r : State) : Type 0 where
-  pub steps : Extends s.steps r.steps
-  pub names : Extends s.names r.names
-  pub varnames : Extends s.varnames r.varnames
-  pub constants : Extends s.constants r.constants
 
 longer_law : Law Longer
 unfolding with_step with_name with_varname with_constant with_location with_block with_loops with_postponed

@@ -5,6 +5,7 @@ pub mod Emitting
 pub mod Running
 pub mod Listed
 pub mod Sealed
+pub mod Growth
 pub mod EmissionParts
 pub mod Accesses
 pub mod Children

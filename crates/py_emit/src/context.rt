@@ -1,4 +1,4 @@
-//! What an emitter is reported of the enclosing code.
+//! What an emitter is told of the enclosing code.
 
 use py_base::Text;
 use py_bytecode::CodeFlags;

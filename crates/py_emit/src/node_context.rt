@@ -90,7 +90,7 @@ impl Emitter {
     }
 }
 
-/// The finally block goes, where there is one.
+/// The last part goes, where there is one.
 #[tactic(auto, using(crate::proofs::Dotted::but_last_is))]
 fn drop_last(path: &mut Names)
     ensures { path.new ≡ but_last path.old }

@@ -57,7 +57,7 @@ document (Some text) f w = then_get (f w) (λ v w1. then_get (for_none (Operates
 abbrev pub make_function : DefaultInterpreters → (notes : KeywordInterpreters) → (name : List ℕ) → Doing (Value Known)
 make_function d notes name w = then_get (get_defaults d w) (λ p w1. then_get (get_maps [] 0 [] notes w1) (λ ns w2. make (default_flags p + some_flag 0x02 ns) (p.0 ++ p.1) ns name w2))
 
--- the type-parameter scope of type parameters is called at once with the defaults that it is handed
+-- the type-parameter scope is called at once with the defaults that it is handed
 abbrev pub call_type_param_scope : (name : List ℕ) → DefaultInterpreters → Doing (Value Known)
 call_type_param_scope name d w = then_get (make 0 [] [] (type_param_scope_name name) w)
     (λ f w1. then_get (get_defaults d w1)

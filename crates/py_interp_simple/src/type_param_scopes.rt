@@ -1,4 +1,4 @@
-//! The type-parameter scopes of type parameters.
+//! The type-parameter scopes.
 ghost use Rattle.std.specs.Prelude.{[], ◌∷◌, ◌++◌, ◌+◌, ◌≡◌, length, IfErr, IfOk};
 ghost use Rattle.py_bytecode.specs.declared.instruction.Instruction.TheVariants as op;
 ghost use Rattle.py_emission_parts.specs.TableParts.{counted_operation};

@@ -9,7 +9,7 @@ use Rattle.py_base.specs.declared.operators.Operator.TheVariants.{Add}
 use Rattle.py_base.specs.declared.operators.CmpOp.TheVariants.{Lt}
 
 abbrev sample_row_at : SourceLocation
-row_at = record { row = 1; column = 1 }
+sample_row_at = record { row = 1; column = 1 }
 
 abbrev row_name : ℕ → tree.Expr
 row_name x = tree.Name sample_row_at (x ∷ [])

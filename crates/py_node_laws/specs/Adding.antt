@@ -96,7 +96,7 @@ BeginsReady = (level : ℕ) (source : List ℕ) (scopes : List ScopeEntry) → I
 abbrev pub EntersReady : Type 0
 EntersReady = (typ : SymbolTableType) (number : ℕ) (c : Context) (at : SourceLocation) (next : ℕ) → IsReady (initial_state (inside typ number c) at next)
 
--- what the form of a node is reported: its context, but for the path of the source
+-- what the form of a node is given: its context, but for the path of the source
 abbrev pub form_context : State → Context
 form_context s = record s.node_context.context { source = [] }
 

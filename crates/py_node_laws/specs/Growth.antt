@@ -3,8 +3,7 @@ use Rattle.std.specs.Prelude.{◌≡◌, ◌≤◌, ◌<◌, ℕ}
 use Rattle.py_emission_parts.specs.Emitting.{Done, Emission, State}
 use Rattle.py_emission_parts.specs.Listed.{Begun}
 use Rattle.py_emission_parts.specs.Running.{run}
-use Rattle.py_emission_parts.proofs.PassedNumberLemmas.{Passes}
-use Rattle.py_emission_parts.proofs.TableGrowthLemmas.{Longer}
+use Rattle.py_emission_parts.specs.Growth.{Longer, Passes}
 
 -- the number of the next scope
 abbrev pub NumbersGrow : Type 0

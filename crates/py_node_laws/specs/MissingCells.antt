@@ -23,7 +23,7 @@ use Rattle.py_expr_scopes.specs.Comprehensions.{comprehension_of}
 use Rattle.py_expr_scopes.specs.declared.comprehensions.ComprehensionElement.{ComprehensionElement}
 use Rattle.py_calls.specs.Placed.{comprehension_at, deletion_at}
 
--- what the form of a node is reported: its context, but for the path of the source
+-- what the form of a node is given: its context, but for the path of the source
 abbrev pub form_context : State → Context
 form_context s = record s.node_context.context { source = [] }
 
@@ -47,7 +47,7 @@ FindsCells (Err e) = e.error ≢ error.MissingCell
 abbrev pub Answer : Type 0
 Answer = Result (Unit {0}) (LocatedError CodegenErrorType)
 
--- `compile_expression` and its like, `compile_jump_if`, `compile_store`, `compile_delete`, `compile_statement` and `compile_statements`
+-- `compile_expression` and its like, `compile_jump_if`, `compile_store`, `compile_delete`, and `compile_statements` of py_stmt
 abbrev pub ExpressionsFindCells : Type 0
 ExpressionsFindCells =
     (answer : Answer) (e : tree.Expr) (before after : Emitter) → Emits answer (emission e) before after

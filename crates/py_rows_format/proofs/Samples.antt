@@ -542,7 +542,7 @@ too_deep : with_row (deep 1023 ∷ []) (a (t "Expr" ∷ k 1 ∷ k 1 ∷ k 0 ∷ 
 too_deep = refl
 
 abbrev sample_over : Made
-over = record { sort = Stmt; made = tree.StmtExpr (at 1 1) (tree.Name (at 1 1) (codes "a")); depth = 1023; names = 0 ∷ [] }
+sample_over = record { sort = Stmt; made = tree.StmtExpr (at 1 1) (tree.Name (at 1 1) (codes "a")); depth = 1023; names = 0 ∷ [] }
 
 deep_enough : with_row (deep 1022 ∷ []) (a (t "Expr" ∷ k 1 ∷ k 1 ∷ k 0 ∷ [])) ≡ Ok (deep 1022 ∷ sample_over ∷ [])
 deep_enough = refl

@@ -1,6 +1,5 @@
 //! From words and a source to the text that is due.
 ghost use Rattle.std.specs.Prelude.{◌≡◌, ◌<◌, ◌^◌, false, length, IfSome, codes};
-ghost use Rattle.py_rows.specs.Rows.{rows_tree as tree_read};
 ghost use Rattle.py_rows_format.specs.Rows.{rows_tree};
 ghost use Rattle.py_run.specs.Prepared.{HasForm, IsListed, Prepares, Readies, ReadsOf, ReadsTree, RefusesTree, TellsFault};
 ghost use Rattle.py_run.specs.Reading.{TakesFew};
@@ -20,7 +19,8 @@ use py_bytecode::CodeObject;
 use py_devices::Source;
 use py_lines::{input_line, refusal_line, too_long_line};
 use py_listing::listing;
-use py_rows::{RowsError, read_rows};
+use py_rows_fields::RowsError;
+use py_rows_law::read_rows;
 use py_tree::{Mod, SourceLocation};
 use std::alloc::Global;
 
@@ -100,14 +100,6 @@ fn too_long(alloc: Global) -> Prepared
 pub(crate) fn tree_of(alloc: Global, bytes: &[u8]) -> Result<Mod, Prepared>
     requires { length bytes.now < 2 ^ 26 }
     ensures { ReadsTree result (rows_tree bytes.now) }
-{
-    read_tree(alloc, bytes)
-}
-
-/// The tree that `read_rows` reads, which is that of the format by the law of rows.
-fn read_tree(alloc: Global, bytes: &[u8]) -> Result<Mod, Prepared>
-    requires { length bytes.now < 2 ^ 26 }
-    ensures { ReadsTree result (tree_read bytes.now) }
 {
     match read_rows(alloc, bytes) {
         Ok(tree) => Ok(tree),

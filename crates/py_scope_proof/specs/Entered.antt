@@ -32,7 +32,7 @@ report_at kind n at = record { kind = kind; name = n; line = at.row }
 
 -- the scope of a whole tree
 abbrev pub report_of_whole : ScopeReport
-told_whole = record { kind = scope.Module; name = codes "top"; line = 0 }
+report_of_whole = record { kind = scope.Module; name = codes "top"; line = 0 }
 
 -- the scope of a lambda or a comprehension; no other expression has one
 abbrev pub report_of_value : tree.Expr → ScopeReport

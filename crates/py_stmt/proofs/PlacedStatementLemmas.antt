@@ -1,4 +1,4 @@
--- Statements on an emitter that is reported whether a future import may still stand.
+-- Statements on an emitter that is told whether a future import may still stand.
 use Rattle.std.proofs.Common.{◌≡◌, ◌≢◌, Bool, true, false, ◌||◌, Result, Ok, Err, refl, sym, ap, ◌∙◌}
 use Rattle.std.specs.Prelude.{if◌then◌else◌, Option}
 use Rattle.py_base.specs.declared.location.SourceLocation.{SourceLocation}

@@ -61,7 +61,7 @@ pub fn compile_futures(em: &mut Emitter, body: &[Stmt]) -> Result<Opening, Codeg
 }
 
 /// Emits a future import, and postpones the annotations of what follows where it says so. Answers whether they are
-/// postponed by it or, as is reported, by one before.
+/// postponed by it or, as it is told, by one before.
 ///
 /// # Errors
 /// InvalidFutureFeature for the first name that cannot be taken from the future, SyntaxError where a name that is stored

@@ -71,7 +71,7 @@ fn as_begin(statement: &Stmt, more: bool) -> Option<Begin<'_>>
 }
 
 /// Emits what stands before other statements at a prompt, and postpones the annotations of what follows where it says
-/// so. Answers whether they are postponed by it or, as is reported, by one before.
+/// so. Answers whether they are postponed by it or, as it is told, by one before.
 fn enter_begin(em: &mut Emitter, begin: Begin<'_>, postponed: bool) -> Result<bool, CodegenError>
     ensures entered { IfOk result (λ after.
         Entered (begin_emission begin.entry) (begin_postpones begin.entry) (state em.old)
@@ -87,7 +87,7 @@ fn enter_begin(em: &mut Emitter, begin: Begin<'_>, postponed: bool) -> Result<bo
     }
 }
 
-/// Emits an expression that stands at a prompt, and what prints it. Answers whether annotations are postponed, as is reported.
+/// Emits an expression that stands at a prompt, and what prints it. Answers whether annotations are postponed, as it is told.
 fn enter_value(em: &mut Emitter, s: &StmtExpr, postponed: bool) -> Result<bool, CodegenError>
     ensures entered { IfOk result (λ after.
         Entered (emission (expr_tree s.now.value.value) ▸ emitting Instruction.PrintExpr 0) false

@@ -203,16 +203,19 @@ refuse_follows r at = record { follow = λ us ss es p s h t. (r, at, [], refl, r
 
 pub postpone_follows : Follows step.postpone part.postpone
 postpone_follows = record {
-  follow = λ us ss es p s h t. (refl, record {
-    scanned = t.scanned;
-    rows = t.rows ∙ sym (append-nil ss);
-    entries = λ k n. t.entries k n ∙ ap (λ (z : List Use). entry_by (roles_in k n z)) (sym (append-nil us));
-    names = λ k. t.names k ∙ ap (names_in k) (sym (append-nil us));
-    left = t.left ∙ sym (append-nil es);
-    current = t.current;
-    class = t.class;
-    postponed = refl;
-  });
+  follow = λ us ss es p s h t. (
+    refl,
+    record {
+      scanned = t.scanned;
+      rows = t.rows ∙ sym (append-nil ss);
+      entries = λ k n. t.entries k n ∙ ap (λ (z : List Use). entry_by (roles_in k n z)) (sym (append-nil us));
+      names = λ k. t.names k ∙ ap (names_in k) (sym (append-nil us));
+      left = t.left ∙ sym (append-nil es);
+      current = t.current;
+      class = t.class;
+      postponed = refl;
+    },
+  );
 }
 
 pub when_follows : {f : Step} {g : Part} (b : Bool) → Follows f g → Follows (step.when b f) (part.when b g)
@@ -268,9 +271,14 @@ then_follows {f = f} {a = a} {g = g} {b = b} c d = record { follow = λ us ss es
         (d.follow (us ++ x.uses) (ss ++ x.scopes) (es ++ x.ended) (behind p x) t (grown ss p x h) e.1)
     go us ss es p h (Refused fault at) e =
         let x = g p in
-        let y = b (behind p (g p)) in
-        (e.0, e.1, e.2 ++ refused_uses (us ++ x.uses) y.uses,
-        refused_joined us x.uses y.uses ∙ ap (λ (ds : List PlacedRefusal). ds ++ refused_uses (us ++ x.uses) y.uses) e.3, e.4, e.5)
+        let y = b (behind p (g p)) in (
+          e.0,
+          e.1,
+          e.2 ++ refused_uses (us ++ x.uses) y.uses,
+          refused_joined us x.uses y.uses ∙ ap (λ (ds : List PlacedRefusal). ds ++ refused_uses (us ++ x.uses) y.uses) e.3,
+          e.4,
+          e.5,
+        )
 
 -- ---- a use of a name
 
@@ -355,18 +363,21 @@ module _ {f : Step} {g : Part} (a : Follows f g) (kind : SymbolTableType) (n : N
 
   left_ends : (us : List Use) (ss : List Scope) (es : List ℕ) (p : Place) → Stands ss p → (x : Scan) (o : Outcome)
       → Ends us (ss ++ begun kind p ∷ []) es (place_within kind p) x o → Ends us ss es p (closed kind p x) (go_on o leave)
-  left_ends us ss es p h x (Done u) e = (e.0, record {
-    scanned = scanned_left u.scopes tied.scanned (let c : u.scopes.current ≡ p.next = tied.current in let i = h.inside in let n = h.next in omega (arith, c, i, n));
-    rows = tied.rows ∙ append_assoc ss (begun kind p ∷ []) x.scopes;
-    entries = tied.entries;
-    names = tied.names;
-    left = (λ j. tied.left j ++ tied.current j ∷ []) ∙ append_assoc es x.ended (p.next ∷ []);
-    current =
-        ap (parents u.scopes.rows) tied.current ∙ row_parent u.scopes.rows p.next ∙ ap (λ (z : List Scope). parent_at z p.next) tied.rows
-        ∙ parent_old (ss ++ begun kind p ∷ []) x.scopes p.next (begun_stands ss p h kind).inside ∙ begun_parent ss p h kind;
-    class = tied.class;
-    postponed = tied.postponed;
-  })
+  left_ends us ss es p h x (Done u) e = (
+    e.0,
+    record {
+      scanned = scanned_left u.scopes tied.scanned (let c : u.scopes.current ≡ p.next = tied.current in let i = h.inside in let n = h.next in omega (arith, c, i, n));
+      rows = tied.rows ∙ append_assoc ss (begun kind p ∷ []) x.scopes;
+      entries = tied.entries;
+      names = tied.names;
+      left = (λ j. tied.left j ++ tied.current j ∷ []) ∙ append_assoc es x.ended (p.next ∷ []);
+      current =
+          ap (parents u.scopes.rows) tied.current ∙ row_parent u.scopes.rows p.next ∙ ap (λ (z : List Scope). parent_at z p.next) tied.rows
+          ∙ parent_old (ss ++ begun kind p ∷ []) x.scopes p.next (begun_stands ss p h kind).inside ∙ begun_parent ss p h kind;
+      class = tied.class;
+      postponed = tied.postponed;
+    },
+  )
     where
       tied : Tied (us ++ x.uses) ((ss ++ begun kind p ∷ []) ++ x.scopes) (es ++ x.ended) (behind (place_within kind p) x) u
       tied = e.1
@@ -387,16 +398,19 @@ module _ {f : Step} {g : Part} (a : Follows f g) (n : Name) where
 
   class_ends : (us : List Use) (ss : List Scope) (es : List ℕ) (p : Place) (c : Option Name) → c ≡ p.class → (x : Scan) (o : Outcome)
       → Ends us ss es (class_place p) x o → Ends us ss es p x (go_on o (set_class c))
-  class_ends us ss es p c q x (Done u) e = (e.0, record {
-    scanned = tied.scanned;
-    rows = tied.rows;
-    entries = tied.entries;
-    names = tied.names;
-    left = tied.left;
-    current = tied.current;
-    class = q;
-    postponed = tied.postponed;
-  })
+  class_ends us ss es p c q x (Done u) e = (
+    e.0,
+    record {
+      scanned = tied.scanned;
+      rows = tied.rows;
+      entries = tied.entries;
+      names = tied.names;
+      left = tied.left;
+      current = tied.current;
+      class = q;
+      postponed = tied.postponed;
+    },
+  )
     where
       tied : Tied (us ++ x.uses) (ss ++ x.scopes) (es ++ x.ended) (behind (class_place p) x) u
       tied = e.1

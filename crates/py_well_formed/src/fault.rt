@@ -35,6 +35,11 @@ pub enum FormFaultKind {
 }
 
 impl fmt::Display for FormFaultKind {
+    ghost use Rattle.std.specs.Prelude.{Some};
+    ghost use Rattle.py_well_formed.specs.Texts.{kind_text};
+
+    ghost output = { λ k. Some (kind_text k) };
+
     fn fmt<W: fmt::Write>(&self, f: &mut fmt::Formatter<W>) -> fmt::Result {
         f.write_str(match self {
             FormFaultKind::PositionalOnly => "more parameters are positional-only than positional",

@@ -25,7 +25,7 @@ StandsIn scopes here s = (n : ℕ) → StandUpTo scopes here n s
 abbrev pub AvailableCellAllStand : List ScopeEntry → (here : ℕ) → List Scope → Type 0
 AvailableCellAllStand scopes here ss = AllOf (StandsIn scopes here) ss
 
--- a context, but for the path of the source, of which forms are not reported
+-- a context, but for the path of the source, which forms are not given
 abbrev pub available_cell_context : NodeContext → Context
 available_cell_context c = record c.context { source = [] }
 

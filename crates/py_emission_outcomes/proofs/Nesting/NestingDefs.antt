@@ -1,4 +1,4 @@
--- Functions, classes and aliases nest one deeper than their own scopes, and two deeper where a type-parameter scope of type parameters stands around these.
+-- Functions, classes and aliases nest one deeper than their own scopes, and two deeper where a type-parameter scope stands around these.
 use Rattle.std.proofs.Common.{ℕ, zero, suc, ◌+◌, ◌*◌, ◌≤◌, List, [], ◌∷◌, ◌++◌, length, Bool, true, false, Option, Some, None, codes, arith}
 use Rattle.std.specs.Prelude.{if◌then◌else◌}
 use Rattle.py_tree.specs.Tree as tree

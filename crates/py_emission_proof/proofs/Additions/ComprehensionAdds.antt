@@ -73,7 +73,7 @@ module _ (i : Interp Scope) (c : NodeContext) where
       (after_these (for_iter_adds (1 + n) c _ _ (omega arith)) (then_yields (target (2 + n + labels_v f)) (then_yields (filter n (2 + n + labels_v f + labels_g t) (omega arith))
       (then_these body (going_adds n c _ _ (omega arith)))))) keep_yields))
 
-  -- Clauses that have iterables of their own, around what is within: that is reported under how many iterators it stands, and from which
+  -- Clauses that have iterables of their own, around what is within: that is told under how many iterators it stands, and from which
   -- label on.
   abbrev pub FurtherAdd : Relation (List ClauseEmissions) Clauses
   FurtherAdd k l es cs = (nested : Emission) (leaf : (depth label : ℕ) → List (Item Scope)) (m z d : ℕ)

@@ -60,7 +60,7 @@ IterableAdds c k (tree.more_generators target iter ifs is_async gs) =
     ValueAdds (table_outer c) c k (scopes_in c.context.postponed iter) (emissions iter).value (expr_forms (table_context c) k iter).value
 
 module _ (c : NodeContext) (k : ℕ) where
-  -- the context in the comprehension, and what the table is reported of it
+  -- the context in the comprehension, and what the table is given of it
   abbrev comprehension_add_inner : Context
   comprehension_add_inner = comprehension_inside c.context k
 

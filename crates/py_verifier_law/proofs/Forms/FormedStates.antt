@@ -12,7 +12,7 @@ use Rattle.py_emission_parts.specs.Emitting.{Put, Begin, State, LoopBlocks, init
 use Rattle.py_emission_parts.specs.Everywhere.{Everywhere}
 use Rattle.py_emission_parts.specs.Running.{begins, after_child}
 use Rattle.py_emission_parts.proofs.ConstantLawLemmas.{All}
-use Rattle.py_emission_parts.proofs.TableGrowthLemmas.{Extends}
+use Rattle.py_emission_parts.specs.Growth.{Extends}
 use Rattle.py_well_formed.specs.Conditions.{unit_fault}
 use Rattle.py_well_formed.specs.Tables.{are_entries, has_entries, parameters}
 use Rattle.py_verifier_law.proofs.Forms.StepGroups.{Group, Alone, GroupFits, GroupsFit, Room, StepFits, Wider, groups_wider, one_more_fits, one_more_group, steps_of, steps_of_group}

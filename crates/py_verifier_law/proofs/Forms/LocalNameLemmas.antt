@@ -27,7 +27,8 @@ use Rattle.py_emission_parts.specs.TypeParameters.{load_handed}
 use Rattle.py_emission_parts.specs.NestedScopes.{some_flag}
 use Rattle.py_emission_parts.proofs.EmissionLawLemmas.{EmissionLawHolds}
 use Rattle.py_emission_parts.proofs.GrowthLemmas.{of_done}
-use Rattle.py_emission_parts.proofs.TableGrowthLemmas.{Extends, all_lengthen}
+use Rattle.py_emission_parts.specs.Growth.{Extends}
+use Rattle.py_emission_parts.proofs.TableGrowthLemmas.{all_lengthen}
 use Rattle.py_verifier_law.proofs.Forms.ScopeForms.{Takes}
 
 -- ---- names that stand in a table

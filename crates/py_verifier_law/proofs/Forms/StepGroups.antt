@@ -10,7 +10,7 @@ use Rattle.py_bytecode.specs.Units.{is_prefix}
 use Rattle.py_bytecode.proofs.Tables.{get_left}
 use Rattle.py_emission_parts.specs.Children.{free_names}
 use Rattle.py_emission_parts.specs.Emitting.{Step, Put, Begin}
-use Rattle.py_emission_parts.proofs.TableGrowthLemmas.{Extends}
+use Rattle.py_emission_parts.specs.Growth.{Extends}
 use Rattle.py_well_formed.specs.Conditions.{is_quick, is_yield, makes_function}
 
 -- a function is made of cells, which make a tuple where there are any, of a code and of a name

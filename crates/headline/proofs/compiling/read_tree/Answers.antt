@@ -1,6 +1,0 @@
-use Rattle.py_rows.specs.Rows.{rows_tree}
-use Rattle.headline.proofs.OwedLemmas.{told_long}
-use Rattle.headline.proofs.compiling.read_tree.Goals as goal
-
-pub returns-then-rows-ge-LIMIT : goal.returns-then-rows-ge-LIMIT
-returns-then-rows-ge-LIMIT c = told_long rows_tree c.args.rows.now c.too_long.result c.if-rows-ge-LIMIT.true c.too_long.ensures
