@@ -1,14 +1,14 @@
 -- What a name is by the rows of a scan is what it is by what the rows say of each scope.
-use Rattle.std.proofs.Common.{◌≡◌, refl, ap, ◌∙◌, subst, ℕ, Bool, List, ◌||◌}
+use Rattle.std.proofs.Common.{◌≡◌, refl, ap, ◌∙◌, subst, ℕ, Bool, List, ◌||◌, slice_get, Some}
 use Rattle.py_scope.specs.declared.rows.Row.{Row}
 use Rattle.py_scope.specs.declared.symbols.Symbol.{Symbol}
 use Rattle.py_scope.specs.Laws.{SymbolsFollow}
-use Rattle.py_scope.specs.Laws as laws
+use Rattle.py_scope.specs.Laws.{has_symbol}
 use Rattle.py_scope.specs.Names.{Name}
 use Rattle.py_scope.specs.Resolve as rows
 use Rattle.py_uses.specs.Scopes.{Scopes}
 use Rattle.py_uses.specs.Resolve.{binder_in, binds_in, holds_in, is_held, is_used, kind_by_uses, look_in, needs, resolve}
-use Rattle.py_uses.specs.Resolved.{AreSymbols, flags_by_uses}
+use Rattle.py_uses.specs.Entries.{has_name}
 use Rattle.py_uses.proofs.ScopesAre.{scopes_by_rows}
 
 pub holds_alike : (rs : List Row) (k : ℕ) (n : Name) → rows.holds_in rs k n ≡ holds_in (scopes_by_rows rs) k n
@@ -30,14 +30,14 @@ kind_alike rs k n = refl
 pub resolve_alike : (rs : List Row) (k : ℕ) (n : Name) → rows.resolve rs k n ≡ resolve (scopes_by_rows rs) k n
 resolve_alike rs k n = refl
 
-flags_alike : (rs : List Row) (k : ℕ) (n : Name) → laws.flags_by_uses rs k n ≡ flags_by_uses (scopes_by_rows rs) k n
-flags_alike rs k n = refl
+-- these are the symbols of scope k, by their names and kinds
+pub record AreSymbols (c : Scopes) (k : ℕ) (ts : List Symbol) : Type 0 where
+  pub names : (n : Name) → has_symbol ts n ≡ has_name c k n
+  pub kinds : (i : ℕ) (t : Symbol) → slice_get ts i ≡ Some t → t.scope ≡ kind_by_uses c k t.name
 
 -- the symbols that follow from rows are those of the scopes
 pub symbols_alike : (rs : List Row) (c : Scopes) → scopes_by_rows rs ≡ c → (k : ℕ) (ts : List Symbol) → SymbolsFollow rs k ts → AreSymbols c k ts
 symbols_alike rs c e k ts h = subst (λ (x : Scopes). AreSymbols x k ts) e (record {
   names = λ n. h.names n ∙ used_alike rs k n;
-  apart = h.apart;
   kinds = λ i t g. h.kinds i t g ∙ kind_alike rs k t.name;
-  flags = λ i t g. h.flags i t g ∙ flags_alike rs k t.name;
 })

@@ -16,7 +16,7 @@ use Rattle.py_scope.specs.Names.{Name, same_name}
 use Rattle.py_scope.specs.Roles.{bound_opt, declares, flags_of, with_role}
 use Rattle.py_scope.proofs.NameLemmas.{intersects-or}
 use Rattle.py_uses.specs.Uses.{Use, Uses, Refuses}
-use Rattle.py_uses.specs.Scopes.{flags_by, held_by, is_binding, is_some_role, is_target, is_walrus, names_after, names_in, roles_in}
+use Rattle.py_uses.specs.Scopes.{held_by, is_binding, is_some_role, is_target, is_walrus, names_after, names_in, roles_in}
 
 -- one role more, and then another
 module _ {A B : Type 0} where
@@ -111,18 +111,6 @@ held_from o (r ∷ rs) = held_from (entry_after o r) rs ∙ ap (λ (h : Holds). 
 
 pub held_is : (rs : List Role) → holds_opt (entry_by rs) ≡ held_by rs
 held_is rs = held_from None rs
-
--- the flags
-flags_more : (r : Role) (o : Option Entry) → bits_of (entry_after o r) ≡ bit_or (bits_of o) (flags_of r)
-flags_more r None = refl
-flags_more r (Some e) = refl
-
-bits_from : (o : Option Entry) (rs : List Role) → bits_of (fold entry_after o rs) ≡ fold (λ (b : ℕ) (r : Role). bit_or b (flags_of r)) (bits_of o) rs
-bits_from o [] = refl
-bits_from o (r ∷ rs) = bits_from (entry_after o r) rs ∙ ap (λ (b : ℕ). fold (λ (c : ℕ) (q : Role). bit_or c (flags_of q)) b rs) (flags_more r o)
-
-pub bits_is : (rs : List Role) → bits_of (entry_by rs) ≡ flags_by rs
-bits_is rs = bits_from None rs
 
 -- used at all
 stays_some : (e : Entry) (rs : List Role) → is_some (fold entry_after (Some e) rs) ≡ true

@@ -82,7 +82,7 @@ passing_class =
     (class (at 2 5) (codes "A") (store (at 3 9) (codes "y") ∷ function (at 4 9) (codes "g") no_parameters (load (at 4 18) (codes "y") ∷ []) ∷ []) ∷ []) ∷ []))
 
 class_symbols : shown passing_class ≡ ((codes "f", kind.Local) ∷ []) ∷ ((codes "y", kind.Cell) ∷ (codes "A", kind.Local) ∷ [])
-    ∷ ((codes "__module__", kind.Local) ∷ (codes "__qualname__", kind.Local) ∷ (codes "__doc__", kind.Local) ∷ (codes "__class__", kind.Local) ∷ (codes "y", kind.Local) ∷ (codes "g", kind.Local) ∷ [])
+    ∷ ((codes "y", kind.Local) ∷ (codes "__module__", kind.Local) ∷ (codes "__qualname__", kind.Local) ∷ (codes "__doc__", kind.Local) ∷ (codes "__class__", kind.Local) ∷ (codes "g", kind.Local) ∷ [])
     ∷ ((codes "y", kind.Free) ∷ []) ∷ []
 class_symbols = refl
 

@@ -30,7 +30,7 @@ use Rattle.py_uses.specs.Uses.{Part, Place, Scan, Scope, Use, behind}
 use Rattle.py_uses.specs.Tree.{expr_uses, outermost, stmts_uses, uses_of, whole}
 use Rattle.py_uses.specs.Scopes.{Scopes, is_walrus, names_in, roles_in, scopes_of}
 use Rattle.py_uses.specs.Refused.{PlacedRefusal, refused_uses}
-use Rattle.py_uses.proofs.RoleLemmas.{bits_is, bound_is, entry_by, held_is, iterated_is, some_is, stored_is}
+use Rattle.py_uses.proofs.RoleLemmas.{bound_is, entry_by, held_is, iterated_is, some_is, stored_is}
 use Rattle.py_uses.proofs.UseLemmas.{map_length, scope_of_row}
 use Rattle.py_uses.proofs.Following.{Ends, Follows, Stands, Tied, grown, kinds_are, parents_are}
 use Rattle.py_uses.proofs.FollowingTree.{expr_follows, stmts_follow}
@@ -95,7 +95,6 @@ scopes_by_rows rows = record {
   binds = λ k n. bound_opt (entry_at rows k n);
   iterates = λ k n. iterated_opt (entry_at rows k n);
   declared = λ k n. holds_opt (entry_at rows k n);
-  flags = λ k n. bits_of (entry_at rows k n);
 }
 
 pub scopes_same : (x : Scan) (es : List ℕ) (p : Place) (s : State) → Stands x.scopes p → Tied x.uses x.scopes es p s → scopes_by_rows s.scopes.rows ≡ scopes_of x
@@ -109,7 +108,6 @@ scopes_same x es p s h t = λ j. record {
   binds = λ k n. (ap bound_opt (t.entries k n) ∙ bound_is (roles_in k n x.uses)) j;
   iterates = λ k n. (ap iterated_opt (t.entries k n) ∙ iterated_is (roles_in k n x.uses)) j;
   declared = λ k n. (ap holds_opt (t.entries k n) ∙ held_is (roles_in k n x.uses)) j;
-  flags = λ k n. (ap bits_of (t.entries k n) ∙ bits_is (roles_in k n x.uses)) j;
 }
   where
     stored_same : (k : ℕ) (n : Name) → intersects (bits_of (entry_at s.scopes.rows k n)) 0x040 ≡ list_any is_walrus (roles_in k n x.uses)

@@ -5,4 +5,3 @@ pub mod Scopes
 pub mod Resolve
 pub mod Refused
 pub mod Entries
-pub mod Resolved

@@ -1,7 +1,6 @@
 -- What the uses of a tree say of each scope. A scope is its number.
 use Rattle.std.specs.Prelude.{ℕ, Bool, true, false, not, ◌&&◌, List, [], ◌∷◌, Option, Some, None, fold, filter, length, slice_get, nat_eq, if◌then◌else◌}
 use Rattle.std.specs.List.{list_any}
-use Rattle.std.specs.Int.RustNames.{bit_or}
 use Rattle.py_scope.specs.declared.roles.Role.{Role}
 use Rattle.py_scope.specs.declared.roles.Role.TheVariants as role
 use Rattle.py_scope.specs.declared.rows.Holds.{Holds}
@@ -10,7 +9,7 @@ use Rattle.py_scope.specs.declared.table_type.SymbolTableType.{SymbolTableType}
 use Rattle.py_scope.specs.declared.table_type.SymbolTableType.TheVariants.{Module}
 use Rattle.py_scope.specs.Kinds.{add_name}
 use Rattle.py_scope.specs.Names.{Name, same_name}
-use Rattle.py_scope.specs.Roles.{declares, flags_of}
+use Rattle.py_scope.specs.Roles.{declares}
 use Rattle.py_uses.specs.Uses.{Scan, Scope, Use, Uses, Refuses}
 
 pub record Scopes : Type 0 where
@@ -26,7 +25,6 @@ pub record Scopes : Type 0 where
   pub binds : ℕ → Name → Bool
   pub iterates : ℕ → Name → Bool
   pub declared : ℕ → Name → Holds
-  pub flags : ℕ → Name → ℕ
 
 -- the roles in which a scope uses a name, in their order
 abbrev pub roles_in : ℕ → Name → List Use → List Role
@@ -60,10 +58,6 @@ is_target r = false
 abbrev pub held_by : List Role → Holds
 held_by rs = fold (λ h r. declares r h) Plain rs
 
--- the flags that roles add
-abbrev pub flags_by : List Role → ℕ
-flags_by rs = fold (λ b r. bit_or b (flags_of r)) 0 rs
-
 abbrev pub is_some_role : List Role → Bool
 is_some_role [] = false
 is_some_role (r ∷ rs) = true
@@ -85,5 +79,4 @@ scopes_of x = record {
   binds = λ k n. list_any is_binding (roles_in k n x.uses);
   iterates = λ k n. list_any is_target (roles_in k n x.uses);
   declared = λ k n. held_by (roles_in k n x.uses);
-  flags = λ k n. flags_by (roles_in k n x.uses);
 }

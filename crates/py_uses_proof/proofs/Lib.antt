@@ -1,2 +1,3 @@
 pub mod FaultLemmas
-pub mod SameScopes
+pub mod SymbolLemmas
+pub mod SameMeaning
