@@ -49,7 +49,7 @@ SECTIONS = [
     Section("Rows", "The tree whose rows some bytes are, or what is wrong with them first.", ("py_rows_format/Rows:rows_tree", "headline/Headline:input_tree")),
     Section("The listing", "The text of a code object.", ("py_listing/Listing:listing",)),
     Section("Uses of names", "The uses of names in a tree, in their order, as one list.", ("py_uses/Tree:uses_of",)),
-    Section("What names are", "What the uses say of each scope, and what each name is there.", ("py_uses/Scopes:scopes_of", "py_uses_proof/Laws:Resolves")),
+    Section("What names are", "What the uses say of each scope, and what each name is there.", ("py_uses/Scopes:scopes_of", "py_uses/Entries:entries_of")),
     Section("Faults", "What is wrong with a tree, in order, and the line that says so.", ("py_uses_proof/Faults:faults", "py_lines/Lines:refusal_line")),
 ]
 

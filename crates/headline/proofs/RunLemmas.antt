@@ -10,9 +10,8 @@ use Rattle.py_rows_fields.specs.declared.error.RowsError.{RowsError}
 use Rattle.py_rows_format.specs.Rows.{rows_tree}
 use Rattle.py_meaning.specs.ExprFaults.{Fault}
 use Rattle.py_meaning.specs.Faults.{faults}
-use Rattle.py_meaning.specs.Scanned.{scopes_of}
 use Rattle.py_uses_proof.proofs.FaultLemmas.{same_first_faults}
-use Rattle.py_uses_proof.proofs.SameScopes.{scopes_resolve}
+use Rattle.py_uses_proof.proofs.SameMeaning.{same_meaning}
 use Rattle.py_lines.specs.Words.{level_of, mode_of}
 use Rattle.py_run.specs.declared.report.Status.{Status}
 use Rattle.py_run.specs.declared.report.Status.TheVariants as status
@@ -92,9 +91,7 @@ module _ (rows mode level : List ℕ) (c : Compilation) (text line : List ℕ) (
         code = object code;
         read = e;
         clean = (same_first_faults t c.mode c.level).none.0 g;
-        scopes = scopes_of t;
-        resolved = scopes_resolve t c.mode c.level g;
-        agrees = h.codes_due.agrees;
+        agrees = (same_meaning t c.mode c.level g (object code)).0 h.codes_due.agrees;
         named = (h.codes_due.named 1).0;
         listed = h.out;
       })

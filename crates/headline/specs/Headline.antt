@@ -9,11 +9,9 @@ use Rattle.py_control.specs.Agreement.{Agree}
 use Rattle.py_listing.specs.Listing.{listing}
 use Rattle.py_meaning.specs.ExprFaults.{Fault}
 use Rattle.py_meaning.specs.Meaning.{body}
-use Rattle.py_scope.specs.declared.flat.ScopeEntry.{ScopeEntry}
 use Rattle.py_uses.specs.Tree.{uses_of}
-use Rattle.py_uses.specs.Scopes.{scopes_of}
+use Rattle.py_uses.specs.Entries.{entries_of}
 use Rattle.py_uses_proof.specs.Faults.{faults}
-use Rattle.py_uses_proof.specs.Laws.{Resolves}
 use Rattle.py_lines.specs.Lines.{input_line, refusal_line, rows_text}
 use Rattle.py_lines.specs.Words.{level_of, mode_of}
 use Rattle.headline.specs.declared.answer.Answer.{Answer}
@@ -31,15 +29,13 @@ input_tree rows = if nat_lt (length rows) (2 ^ 26) then or_text (rows_tree rows)
 
 -- ---- what is owed
 
--- the text is the listing of a code that does what the tree means, where each name is what the uses of names in the tree say; the tree has no fault
+-- the text is the listing of a code that does what the tree means, where names are what their uses say; the tree has no fault
 pub record Compiles (rows : List ℕ) (m : Mode) (l : ℕ) (path : List ℕ) (text : List ℕ) : Type 0 where
   pub t : tree.Mod
   pub code : Object
   pub read : input_tree rows ≡ Ok t
   pub clean : faults t m l ≡ []
-  pub scopes : List ScopeEntry
-  pub resolved : Resolves (scopes_of (uses_of t)) scopes
-  pub agrees : Agree code (body scopes t m l)
+  pub agrees : Agree code (body (entries_of (uses_of t)) t m l)
   pub named : (head code).source_path ≡ path
   pub listed : text ≡ listing code
 

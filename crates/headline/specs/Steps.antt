@@ -11,11 +11,9 @@ use Rattle.py_meaning.specs.ExprFaults.{Fault}
 use Rattle.py_meaning.specs.Faults as scanned
 use Rattle.py_meaning.specs.Meaning.{body}
 use Rattle.py_meaning.specs.Scanned as scanned_scopes
-use Rattle.py_scope.specs.declared.flat.ScopeEntry.{ScopeEntry}
 use Rattle.py_uses.specs.Tree.{uses_of}
-use Rattle.py_uses.specs.Scopes.{scopes_of}
+use Rattle.py_uses.specs.Entries.{entries_of}
 use Rattle.py_uses_proof.specs.Faults.{faults}
-use Rattle.py_uses_proof.specs.Laws.{Resolves}
 use Rattle.py_lines.specs.Lines.{input_line, refusal_line}
 use Rattle.headline.specs.declared.answer.Answer.{Answer}
 use Rattle.headline.specs.declared.answer.Answer.TheVariants as answer
@@ -48,8 +46,7 @@ ReadsTree input (Err a) = NoTree input a
 -- the same of a tree
 abbrev pub CompilesTree : tree.Mod → Mode → (l : ℕ) → (path text : List ℕ) → Type 0
 CompilesTree t m l path text =
-    (code : Object) × (scopes : List ScopeEntry) × (faults t m l ≡ []) × Resolves (scopes_of (uses_of t)) scopes × Agree code (body scopes t m l)
-    × ((head code).source_path ≡ path) × (text ≡ listing code)
+    (code : Object) × (faults t m l ≡ []) × Agree code (body (entries_of (uses_of t)) t m l) × ((head code).source_path ≡ path) × (text ≡ listing code)
 
 abbrev pub RefusesTree : tree.Mod → Mode → (l : ℕ) → (line : List ℕ) → Type 0
 RefusesTree t m l line = (fault : Fault) × (rest : List Fault) × (faults t m l ≡ fault ∷ rest) × (line ≡ refusal_line fault)
