@@ -72,8 +72,9 @@ module _ (scopes : List ScopeEntry) where
   }
 
   mutual
-    pub expr_same : (c : Context) (n : ℕ) (e : tree.Expr) → bare_forms (expr_forms c n e) ≡ bare_forms (expr_forms (other c) n e)
     unfolding inside with_path nested_in_class
+
+    pub expr_same : (c : Context) (n : ℕ) (e : tree.Expr) → bare_forms (expr_forms c n e) ≡ bare_forms (expr_forms (other c) n e)
     expr_same c n (tree.BoolOp at o operands) = bool_bare at o (all_forms c n operands) ∙ ap (bool_forms at o) (all_same c n operands) ∙ sym (bool_bare at o (all_forms (other c) n operands))
     expr_same c n (tree.NamedExpr at target value) = λ j. tested_form (VAt at (VKeep (expr_same c n value j).value None (target_same c (after c n value) target j).alone))
     expr_same c n (tree.BinOp at left o right) = λ j. tested_form (VAt at (VOp (binary o) (VMore (expr_same c n left j).value (VMore (expr_same c (after c n left) right j).value VNone))))

@@ -374,8 +374,9 @@ module _ (scopes : List ScopeEntry) where
     paths_same c name q = λ j. if (ap (λ (z : List ScopeEntry). is_global (scope_in z c.here (mangled_by c name))) q ∙ globals c.here (mangled_by c name)) j then name else qualified_under c name
 
     mutual
-      pub stmt_same : (c : Context) (n : ℕ) (s : tree.Stmt) → c.scopes ≡ old → bare_form (stmt_form c n s) ≡ bare_form (stmt_form (to c) n s)
       unfolding inside with_path nested_in_class
+
+      pub stmt_same : (c : Context) (n : ℕ) (s : tree.Stmt) → c.scopes ≡ old → bare_form (stmt_form c n s) ≡ bare_form (stmt_form (to c) n s)
       stmt_same c n (tree.FunctionDef at name params body decorators returns ps) q =
           let m = after_all c n decorators in let k = function_number c m params ps in
           let i = function_inside name (enclosing_own c m ps) k in

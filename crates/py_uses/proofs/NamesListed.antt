@@ -53,19 +53,21 @@ stays_all n ns (m ∷ ms) h = stays_all n (add_name ns m) ms (stays_added n m ns
 
 all_added : (n : Name) (ns ms : List Name) → list_any (same_name n) ms ≡ true → list_any (same_name n) (fold add_name ns ms) ≡ true
 all_added n ns [] h = cc
-all_added n ns (m ∷ ms) h = by (truth_either (same_name n m) _ h)
+all_added n ns (m ∷ ms) h = by (truth_either (same_name n m) _ h) (all_added n (add_name ns m) ms)
   where
-    by : (same_name n m ≡ true) ⊎ (list_any (same_name n) ms ≡ true) → list_any (same_name n) (fold add_name (add_name ns m) ms) ≡ true
-    by (inl e) = stays_all n (add_name ns m) ms (subst (λ (x : Name). list_any (same_name x) (add_name ns m) ≡ true) (sym (equal_names n m e)) (is_added m ns))
-    by (inr e) = all_added n (add_name ns m) ms e
+    by : (same_name n m ≡ true) ⊎ (list_any (same_name n) ms ≡ true) → (list_any (same_name n) ms ≡ true → list_any (same_name n) (fold add_name (add_name ns m) ms) ≡ true)
+        → list_any (same_name n) (fold add_name (add_name ns m) ms) ≡ true
+    by (inl e) ih = stays_all n (add_name ns m) ms (subst (λ (x : Name). list_any (same_name x) (add_name ns m) ≡ true) (sym (equal_names n m e)) (is_added m ns))
+    by (inr e) ih = ih e
 
 in_flat : (f : ℕ → List Name) (k : ℕ) (n : Name) (ks : List ℕ) → list_any (nat_eq k) ks ≡ true → list_any (same_name n) (f k) ≡ true → list_any (same_name n) (flat_map f ks) ≡ true
 in_flat f k n [] h g = cc
-in_flat f k n (x ∷ xs) h g = any_joined n (f x) (flat_map f xs) ∙ by (truth_either (nat_eq k x) _ h)
+in_flat f k n (x ∷ xs) h g = any_joined n (f x) (flat_map f xs) ∙ by (truth_either (nat_eq k x) _ h) (λ e. in_flat f k n xs e g)
   where
-    by : (nat_eq k x ≡ true) ⊎ (list_any (nat_eq k) xs ≡ true) → list_any (same_name n) (f x) || list_any (same_name n) (flat_map f xs) ≡ true
-    by (inl e) = left_or (list_any (same_name n) (f x)) _ (subst (λ (z : ℕ). list_any (same_name n) (f z) ≡ true) (equal_numbers k x e) g)
-    by (inr e) = truth_right_or (list_any (same_name n) (f x)) _ (in_flat f k n xs e g)
+    by : (nat_eq k x ≡ true) ⊎ (list_any (nat_eq k) xs ≡ true) → (list_any (nat_eq k) xs ≡ true → list_any (same_name n) (flat_map f xs) ≡ true)
+        → list_any (same_name n) (f x) || list_any (same_name n) (flat_map f xs) ≡ true
+    by (inl e) ih = left_or (list_any (same_name n) (f x)) _ (subst (λ (z : ℕ). list_any (same_name n) (f z) ≡ true) (equal_numbers k x e) g)
+    by (inr e) ih = truth_right_or (list_any (same_name n) (f x)) _ (ih e)
 
 -- ---- names of rows
 

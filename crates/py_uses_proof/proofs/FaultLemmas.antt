@@ -104,6 +104,5 @@ same_first_faults t m level =
     let new = map fault_of (refused_of t) in
     let rest = compile_faults m level t in
     have_same_first (scanned.faults t m level) (faults t m level)
-    (joined_first deep (large ++ (shaped ++ (old ++ rest))) (large ++ (shaped ++ (new ++ rest)))
-    (joined_first large (shaped ++ (old ++ rest)) (shaped ++ (new ++ rest))
-    (joined_first shaped (old ++ rest) (new ++ rest) (front_first old new rest (scan_first t)))))
+    (front_first (((deep ++ large) ++ shaped) ++ old) (((deep ++ large) ++ shaped) ++ new) rest
+    (joined_first ((deep ++ large) ++ shaped) old new (scan_first t)))

@@ -55,19 +55,19 @@ module _ (c : Scopes) (k : ℕ) (n : Name) where
 
   symbol_names : (ns : List Name) → has_symbol (made (kept ns)) n ≡ true → has_name c k n ≡ true
   symbol_names [] h = cc
-  symbol_names (m ∷ ms) h = by (has_name c k m) refl h
+  symbol_names (m ∷ ms) h = by (has_name c k m) refl h (symbol_names ms)
     where
-      here : (b : Bool) → same_name n m ≡ b → has_name c k m ≡ true → b || has_symbol (made (kept ms)) n ≡ true → has_name c k n ≡ true
-      here true e g l = ap (has_name c k) (equal_names n m e) ∙ g
-      here false e g l = symbol_names ms l
+      here : (b : Bool) → same_name n m ≡ b → has_name c k m ≡ true → b || has_symbol (made (kept ms)) n ≡ true → (has_symbol (made (kept ms)) n ≡ true → has_name c k n ≡ true) → has_name c k n ≡ true
+      here true e g l ih = ap (has_name c k) (equal_names n m e) ∙ g
+      here false e g l ih = ih l
 
-      by : (b : Bool) → has_name c k m ≡ b → has_symbol (made (if b then m ∷ kept ms else kept ms)) n ≡ true → has_name c k n ≡ true
-      by true e l = here (same_name n m) refl e l
-      by false e l = symbol_names ms l
+      by : (b : Bool) → has_name c k m ≡ b → has_symbol (made (if b then m ∷ kept ms else kept ms)) n ≡ true → (has_symbol (made (kept ms)) n ≡ true → has_name c k n ≡ true) → has_name c k n ≡ true
+      by true e l ih = here (same_name n m) refl e l ih
+      by false e l ih = ih l
 
   names_symbol : (ns : List Name) → has_name c k n ≡ true → list_any (same_name n) ns ≡ true → has_symbol (made (kept ns)) n ≡ true
   names_symbol [] g h = cc
-  names_symbol (m ∷ ms) g h = here (same_name n m) refl h
+  names_symbol (m ∷ ms) g h = here (same_name n m) refl h (names_symbol ms g)
     where
       later : (b : Bool) → has_symbol (made (kept ms)) n ≡ true → b || has_symbol (made (kept ms)) n ≡ true
       later true l = refl
@@ -77,11 +77,12 @@ module _ (c : Scopes) (k : ℕ) (n : Name) where
       still true l = later (same_name n m) l
       still false l = l
 
-      here : (b : Bool) → same_name n m ≡ b → b || list_any (same_name n) ms ≡ true → has_symbol (made (if has_name c k m then m ∷ kept ms else kept ms)) n ≡ true
-      here true e l =
+      here : (b : Bool) → same_name n m ≡ b → b || list_any (same_name n) ms ≡ true → (list_any (same_name n) ms ≡ true → has_symbol (made (kept ms)) n ≡ true)
+          → has_symbol (made (if has_name c k m then m ∷ kept ms else kept ms)) n ≡ true
+      here true e l ih =
           let q : has_name c k m ≡ true = ap (has_name c k) (sym (equal_names n m e)) ∙ g in
           ap (λ (b : Bool). has_symbol (made (if b then m ∷ kept ms else kept ms)) n) q ∙ ap (λ (b : Bool). b || has_symbol (made (kept ms)) n) e
-      here false e l = still (has_name c k m) (names_symbol ms g l)
+      here false e l ih = still (has_name c k m) (ih l)
 
   -- so are those that the uses give
   pub given_so : (has_name c k n ≡ true → list_any (same_name n) (all_names c) ≡ true) → scope_among (symbols_of c k) n ≡ if has_name c k n then kind_by_uses c k n else Unknown
@@ -104,12 +105,12 @@ below (suc k) (suc n) = by (below k n)
 range_got : (f : ℕ → ScopeEntry) (a n k : ℕ) → k < n → slice_get (map {B = ScopeEntry} f (range_with_len a n)) k ≡ Some (f (a + k))
 range_got f a zero k l = absurd (omega arith)
 range_got f a (suc n) zero l = ap (λ (z : ℕ). Some (f z)) (omega arith)
-range_got f a (suc n) (suc k) l = range_got f (suc a) n k (omega arith) ∙ ap (λ (z : ℕ). Some (f z)) (omega arith)
+range_got f a (suc n) (suc k) l = range_got f (a + 1) n k (omega arith) ∙ ap (λ (z : ℕ). Some (f z)) (omega arith)
 
 range_past : (f : ℕ → ScopeEntry) (a n k : ℕ) → n ≤ k → slice_get (map {B = ScopeEntry} f (range_with_len a n)) k ≡ None
 range_past f a zero k l = refl
 range_past f a (suc n) zero l = absurd (omega arith)
-range_past f a (suc n) (suc k) l = range_past f (suc a) n k (omega arith)
+range_past f a (suc n) (suc k) l = range_past f (a + 1) n k (omega arith)
 
 list_past : (xs : List ScopeEntry) (k : ℕ) → length xs ≤ k → slice_get xs k ≡ None
 list_past [] k l = refl
