@@ -1,11 +1,12 @@
 -- The first fault of a tree.
-use Rattle.std.proofs.Common.{◌≡◌, ◌≢◌, ℕ, List, [], ◌∷◌, ◌++◌, Option, Some, None, Result, Ok, Err, IfErr, OnOk, inl, inr, refl, sym, ap, ◌∙◌, subst}
+use Rattle.std.proofs.Common.{◌≡◌, ◌≢◌, ◌⊎◌, ℕ, List, [], ◌∷◌, ◌++◌, Option, Some, None, Result, Ok, Err, IfErr, OnOk, inl, inr, refl, sym, ap, ◌∙◌, subst}
 use Rattle.py_tree.specs.Tree as tree
 use Rattle.py_shapes.specs.Valid.{shapes}
 use Rattle.py_base.specs.declared.location.LocatedError.{LocatedError}
 use Rattle.py_tree.specs.declared.modules.Mode.{Mode}
 use Rattle.py_bytecode.specs.declared.code.CodeObject.{CodeObject}
 use Rattle.py_emission_parts.specs.Emitting.{Outcome, State, Done, TooWide, Refused}
+use Rattle.py_emission_parts.specs.Refused.{unlaid}
 use Rattle.py_emission.specs.EmissionMods.{emission_outcome}
 use Rattle.py_meaning.specs.ExprFaults.{Fault}
 use Rattle.py_meaning.specs.Faults.{faults, compile_faults}
@@ -53,32 +54,37 @@ first_refused_first e t m l w (inr h) known =
     let f = h.1 known in
     (f.0, compiled t m l w ∙ ap (λ fs. fs ++ compile_faults m l t) h.0 ∙ f.1)
 
--- what is emitted of a tree without faults misses no cell
-missing_faulty : (t : tree.Mod) (m : Mode) (l : ℕ) (path : List ℕ) (at : Option SourceLocation) → IsWhole t m → scan_faults t ≡ []
-    → emission_outcome t m (tree_context t path l) ≡ Refused error.MissingCell at → compile_faults m l t ≢ []
-missing_faulty t m l path at w clean r none =
+-- what is emitted of a tree without faults is refused for nothing: it misses no cell, and its scopes have a layout
+refused_faulty : (e : CodegenErrorType) (t : tree.Mod) (m : Mode) (l : ℕ) (path : List ℕ) (at : Option SourceLocation) → IsWhole t m → scan_faults t ≡ []
+    → emission_outcome t m (tree_context t path l) ≡ Refused e at → compile_faults m l t ≢ []
+refused_faulty e t m l path at w clean r none =
     let f = trees_fit uses_are_few t m l path (compiled t m l w ∙ (λ i. clean i ++ none i)) in
-    let same : ◌≡◌ {A = Outcome} (Refused error.MissingCell at) (Done f.0) = sym r ∙ f.1 in
+    let same : ◌≡◌ {A = Outcome} (Refused e at) (Done f.0) = sym r ∙ f.1 in
     cc
 
--- so where a call says that one is missing, there is a fault
+no_memory : (e : CodegenErrorType) → (e ≡ error.MissingCell) ⊎ (e ≡ unlaid) → e ≢ error.OutOfMemory
+no_memory e (inl q) o = let z : error.MissingCell ≡ error.OutOfMemory = sym q ∙ o in cc
+no_memory e (inr q) o = let z : unlaid ≡ error.OutOfMemory = sym q ∙ o in cc
+
+-- so where a call says that a cell is missing, or a layout, there is a fault
 pub missing_is_faulty : (e : LocatedError CodegenErrorType) (t : tree.Mod) (m : Mode) (l : ℕ) (path : List ℕ) (scopes : List ScopeEntry) → IsWhole t m
-    → scan_faults t ≡ [] → scopes ≡ scopes_of t → e.error ≡ error.MissingCell → IsRefused e (emission_outcome t m (outermost l path scopes))
+    → scan_faults t ≡ [] → scopes ≡ scopes_of t → (e.error ≡ error.MissingCell) ⊎ (e.error ≡ unlaid) → IsRefused e (emission_outcome t m (outermost l path scopes))
     → compile_faults m l t ≢ []
 missing_is_faulty e t m l path scopes w clean s q refused =
-    missing_faulty t m l path e.location w clean
-    (subst (λ x. emission_outcome t m (outermost l path x) ≡ Refused error.MissingCell e.location) s
-    (refused (λ o. let z : error.MissingCell ≡ error.OutOfMemory = sym q ∙ o in cc) ∙ ap (λ x. Refused x e.location) q))
+    refused_faulty e.error t m l path e.location w clean
+    (subst (λ x. emission_outcome t m (outermost l path x) ≡ Refused e.error e.location) s (refused (no_memory e.error q)))
 
--- over any scopes where no cell is missing, a refusal is for the first fault of the nodes that are compiled
+-- over any scopes where neither is missing, a refusal is for the first fault of the nodes that are compiled
 pub refused_over : (e : LocatedError CodegenErrorType) (t : tree.Mod) (m : Mode) (l : ℕ) (path : List ℕ) (scopes : List ScopeEntry) → IsWhole t m
-    → e.error ≢ error.MissingCell → IsRefused e (emission_outcome t m (outermost l path scopes)) → IsFirst e (compile_faults m l t)
-refused_over e t m l path scopes w other refused known = refusal_heads t m l path scopes e.error e.location w.2 (refused known) other
+    → (e.error ≢ error.MissingCell) × (e.error ≢ unlaid) → IsRefused e (emission_outcome t m (outermost l path scopes)) → IsFirst e (compile_faults m l t)
+refused_over e t m l path scopes w other refused known = refusal_heads t m l path scopes e.error e.location w.2 (refused known) other.0 other.1
 
 -- without scopes none is
 pub refused_without : (e : LocatedError CodegenErrorType) (t : tree.Mod) (m : Mode) (l : ℕ) (path : List ℕ) → IsWhole t m
     → IsRefused e (emission_outcome t m (outermost l path [])) → IsFirst e (compile_faults m l t)
-refused_without e t m l path w refused known = refusal_heads t m l path [] e.error e.location w.2 (refused known) (refused_without_scopes t m l path e.error e.location w.1 (refused known))
+refused_without e t m l path w refused known =
+    let n = refused_without_scopes t m l path e.error e.location w.1 (refused known) in
+    refusal_heads t m l path [] e.error e.location w.2 (refused known) n.0 n.1
 
 emitted_faultless : (code : CodeObject) (path : List ℕ) (t : tree.Mod) (m : Mode) (l : ℕ) (o : Outcome) → emission_outcome t m (tree_context t path l) ≡ o
     → shapes t m ≡ [] → IsEmitted code (tree_context t path l) o → compile_faults m l t ≡ []

@@ -220,8 +220,8 @@ fn compile_scanned(
     }
 }
 
-/// The code of a program with these scopes, which are those of its scan. Where it has no fault, each cell is there; so
-/// where one is missing, its first fault is reported, which is the same without scopes.
+/// The code of a program with these scopes, which are those of its scan. Where it has no fault, each cell is there and
+/// each scope has a layout; so where one is missing, its first fault is reported, which is the same without scopes.
 fn compile_mod(
     alloc: Global,
     program: &Program<'_>,
@@ -245,18 +245,20 @@ fn compile_mod(
         Ok(code) => return Ok(code),
         Err(error) => error,
     };
-    if is_missing_cell(&error.error) {
+    if is_no_fault(&error.error) {
         return Err(first_fault(alloc, program, error.source_path, mode, opts));
     }
     Err(error)
 }
 
-/// Whether the error says that a cell is not there.
-fn is_missing_cell(error: &CodegenErrorType) -> bool
-    ensures missing { result ≡ true → error.now ≡ CodegenErrorType.MissingCell }
-    ensures other { result ≡ false → error.now ≢ CodegenErrorType.MissingCell }
+/// Whether the error is one that no fault of a tree is: a cell is not there, or a scope has no layout.
+fn is_no_fault(error: &CodegenErrorType) -> bool
+    ensures missing { result ≡ true
+        → (error.now ≡ CodegenErrorType.MissingCell) ⊎ (error.now ≡ unlaid) }
+    ensures other { result ≡ false
+        → (error.now ≢ CodegenErrorType.MissingCell) × (error.now ≢ unlaid) }
 {
-    matches!(error, CodegenErrorType::MissingCell)
+    matches!(error, CodegenErrorType::MissingCell | CodegenErrorType::AsyncYieldFrom)
 }
 
 /// The code of a program over these scopes.

@@ -3,6 +3,7 @@
 use Rattle.std.proofs.Common.{ℕ, suc, ◌^◌, List, [], ◌∷◌, ◌++◌, Bool, true, false, Some, None}
 use Rattle.std.specs.Prelude.{nat_lt, if◌then◌else◌}
 use Rattle.std.specs.List.{list_any}
+use Rattle.py_base.specs.declared.location.SourceLocation.{SourceLocation}
 use Rattle.py_bytecode.specs.declared.instruction.Instruction.{Instruction}
 use Rattle.py_bytecode.specs.Equality.{const_eq, insert_if_new, text_eq}
 use Rattle.py_bytecode.specs.Objects.{Const, Object}
@@ -12,7 +13,8 @@ use Rattle.py_emission_parts.specs.Emitting.{OfVarname, OfConstant, AddsVarname,
 use Rattle.py_emission_parts.specs.Emitting.{One, Two, Three, ByContext, ByLoops, InLoop, Postpones, Rewritten, Nested, initial_state}
 use Rattle.py_emission_parts.specs.Emitting.{place_in, with_step, with_block, with_name, with_varname, with_constant, with_location}
 use Rattle.py_emission_parts.specs.Emitting.{with_loops, with_postponed}
-use Rattle.py_emission_parts.specs.Running.{Action, ◌▹◌, begin, begins, after_child, code_head, on_done, on_sealed, put_instruction, rewritten_in, run}
+use Rattle.py_emission_parts.specs.Laid.{has_layout}
+use Rattle.py_emission_parts.specs.Running.{Action, ◌▹◌, begin, begins, after_child, code_head, on_done, on_sealed, put_instruction, rewritten_in, run, when_laid}
 use Rattle.py_emission_parts.specs.Sealed.{Head, assembled_object}
 use Rattle.py_emission_parts.proofs.EmissionLawLemmas.{EmissionLawHolds}
 
@@ -72,10 +74,15 @@ module _ (C : ℕ → Const → Type 0) (O : ℕ → Object → Type 0) where
     constant_law_told k TooWide h = tt
     constant_law_told k (Refused e at) h = tt
 
+    constant_law_laid : (k : ℕ) (b : Bool) (at : SourceLocation) (o : Outcome) → EmissionLawHolds (ConstantLawGood k) o → EmissionLawHolds (ConstantLawGood k) (when_laid b at o)
+    constant_law_laid k true at o h = h
+    constant_law_laid k false at o h = tt
+
     on_scope : (k j level : ℕ) (h : Head) (s : State) (o : Outcome) (f : Object → Action) → ConstantLawGood k s → EmissionLawHolds (ConstantLawGood j) o
         → ((x : Object) (t : State) → O j x → ConstantLawGood k t → EmissionLawHolds (ConstantLawGood k) (f x t))
         → EmissionLawHolds (ConstantLawGood k) (on_sealed level h s o f)
-    on_scope k j level h s (Done t) f g d x = x (assembled_object level h t) (after_child s t) (seals j level h t d) g
+    on_scope k j level h s (Done t) f g d x = constant_law_laid k (has_layout level h t) t.location (f (assembled_object level h t) (after_child s t))
+        (x (assembled_object level h t) (after_child s t) (seals j level h t d) g)
     on_scope k j level h s TooWide f g d x = tt
     on_scope k j level h s (Refused e at) f g d x = tt
 

@@ -11,7 +11,8 @@ use Rattle.py_emission_parts.specs.Emitting.{OfName, OfVarname, OfConstant, Adds
 use Rattle.py_emission_parts.specs.Emitting.{Faults, One, Two, Three, ByContext, ByLoops, InLoop, Postpones, Rewritten, Nested}
 use Rattle.py_emission_parts.specs.Emitting.{initial_state, place_in, with_step, with_block, with_name, with_varname, with_constant}
 use Rattle.py_emission_parts.specs.Emitting.{with_location, with_loops, with_postponed}
-use Rattle.py_emission_parts.specs.Running.{Action, ◌▹◌, begin, begins, after_child, code_head, on_done, on_sealed, put_instruction, rewritten_in, run}
+use Rattle.py_emission_parts.specs.Laid.{has_layout}
+use Rattle.py_emission_parts.specs.Running.{Action, ◌▹◌, begin, begins, after_child, code_head, on_done, on_sealed, put_instruction, rewritten_in, run, when_laid}
 use Rattle.py_emission_parts.specs.Sealed.{Head, assembled_object}
 
 -- of a state that is reached; nothing is asked where none is
@@ -60,13 +61,18 @@ module _ (R : State → State → Type 0) (law : Law R) where
   told_holds s TooWide h = tt
   told_holds s (Refused e at) h = tt
 
+  laid_holds : (s : State) (b : Bool) (at : SourceLocation) (o : Outcome) → EmissionLawHolds (R s) o → EmissionLawHolds (R s) (when_laid b at o)
+  laid_holds s true at o h = h
+  laid_holds s false at o h = tt
+
   sealed_holds : (s : State) (level : ℕ) (h : Head) (o : Outcome) (k : Object → Action) → EmissionLawHolds (λ t. suc s.next ≤ t.next) o
       → ((x : Object) (t : State) → R s t → EmissionLawHolds (R s) (k x t)) → EmissionLawHolds (R s) (on_sealed level h s o k)
   unfolding with_location
   sealed_holds s level h (Done t) k l f =
-      f (assembled_object level h t) (after_child s t)
+      laid_holds s (has_layout level h t) t.location (k (assembled_object level h t) (after_child s t))
+      (f (assembled_object level h t) (after_child s t)
       (law.after s (with_location t.location s) (after_child s t) (law.placed s t.location)
-      (law.numbered (with_location t.location s) t.next (omega (arith, l))))
+      (law.numbered (with_location t.location s) t.next (omega (arith, l)))))
   sealed_holds s level h TooWide k l f = tt
   sealed_holds s level h (Refused e at) k l f = tt
 

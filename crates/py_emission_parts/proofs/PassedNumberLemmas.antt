@@ -1,10 +1,12 @@
 -- The states that an emission passes, those of scopes within too: their numbers of scopes are no larger than the one at its end.
-use Rattle.std.proofs.Common.{◌≡◌, ◌⊎◌, ℕ, suc, ◌≤◌, Some, true, inl, inr, refl, sym, subst, arith}
+use Rattle.std.proofs.Common.{◌≡◌, ◌⊎◌, ℕ, suc, ◌≤◌, Bool, Some, true, false, inl, inr, refl, sym, subst, arith}
+use Rattle.py_base.specs.declared.location.SourceLocation.{SourceLocation}
 use Rattle.py_bytecode.specs.Objects.{Object}
 use Rattle.py_emission_parts.specs.Emitting.{State, Outcome, Done, TooWide, Refused, Emission, Then, One, Two, Three, ByContext, ByLoops}
 use Rattle.py_emission_parts.specs.Emitting.{InLoop, Postpones, Rewritten, Nested, initial_state, with_block, with_loops, with_postponed}
 use Rattle.py_emission_parts.specs.Emitting.{with_step}
-use Rattle.py_emission_parts.specs.Running.{Action, begins, after_child, code_head, on_done, on_sealed, rewritten_in, run}
+use Rattle.py_emission_parts.specs.Laid.{has_layout}
+use Rattle.py_emission_parts.specs.Running.{Action, begins, after_child, code_head, on_done, on_sealed, rewritten_in, run, when_laid}
 use Rattle.py_emission_parts.specs.Sealed.{Head, assembled_object}
 use Rattle.py_emission_parts.proofs.EmissionLawLemmas.{EmissionLawHolds}
 use Rattle.py_emission_parts.proofs.GrowthLemmas.{numbers_grow}
@@ -77,12 +79,20 @@ unpostponed (Done t) s r e = record { at = t; done = refl; next = subst (λ (o :
 unpostponed TooWide s r e = absurd cc
 unpostponed (Refused x at) s r e = absurd cc
 
+-- what has a layout goes on
+pub laid_done : (b : Bool) (at : SourceLocation) (o : Outcome) (r : State) → when_laid b at o ≡ Done r → o ≡ Done r
+laid_done true at o r e = e
+laid_done false at o r e = absurd cc
+
 sealed_parts : (level : ℕ) (h : Head) (s : State) (o : Outcome) (k : Object → Action) (r t : State) (P : Type 0) (Q : State → Type 0)
     → on_sealed level h s o k ≡ Done r → ((m : State) → o ≡ Done m → P → t.next ≤ m.next)
     → ((m : State) → k (assembled_object level h m) (after_child s m) ≡ Done r → m.next ≤ r.next)
     → ((m : State) → k (assembled_object level h m) (after_child s m) ≡ Done r → Q m → t.next ≤ r.next) → P ⊎ After o Q → t.next ≤ r.next
-sealed_parts level h s (Done m) k r t P Q e f g i (inl p) = let x = f m refl p in let y = g m e in omega (arith, x, y)
-sealed_parts level h s (Done m) k r t P Q e f g i (inr q) = i m e q
+sealed_parts level h s (Done m) k r t P Q e f g i (inl p) =
+    let x = f m refl p in
+    let y = g m (laid_done (has_layout level h m) m.location (k (assembled_object level h m) (after_child s m)) r e) in
+    omega (arith, x, y)
+sealed_parts level h s (Done m) k r t P Q e f g i (inr q) = i m (laid_done (has_layout level h m) m.location (k (assembled_object level h m) (after_child s m)) r e) q
 sealed_parts level h s TooWide k r t P Q e f g i p = absurd cc
 sealed_parts level h s (Refused x at) k r t P Q e f g i p = absurd cc
 

@@ -14,3 +14,4 @@ pub mod Classes
 pub mod TypeParameters
 pub mod NestedScopes
 pub mod Refused
+pub mod Laid

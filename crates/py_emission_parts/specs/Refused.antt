@@ -24,3 +24,7 @@ no_unpacking = codes "iterable unpacking cannot be used in comprehension"
 abbrev pub rewritten : CodegenErrorType → CodegenErrorType
 rewritten error.InvalidStarExpr = error.SyntaxError no_unpacking
 rewritten other = other
+
+-- the error of a scope within whose code has no layout
+abbrev pub unlaid : CodegenErrorType
+unlaid = error.AsyncYieldFrom

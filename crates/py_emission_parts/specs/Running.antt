@@ -1,5 +1,5 @@
 -- What an emission does to a state. It goes on from where another has reached, and the first refusal ends it.
-use Rattle.std.specs.Prelude.{ℕ, suc, ◌+◌, ◌^◌, Some, None, nat_lt, true, if◌then◌else◌}
+use Rattle.std.specs.Prelude.{ℕ, suc, ◌+◌, ◌^◌, Some, None, nat_lt, Bool, true, false, if◌then◌else◌}
 use Rattle.py_base.specs.declared.location.SourceLocation.{SourceLocation}
 use Rattle.py_bytecode.specs.declared.instruction.Instruction.{Instruction}
 use Rattle.py_bytecode.specs.Equality.{const_eq, text_eq}
@@ -10,7 +10,8 @@ use Rattle.py_emission_parts.specs.Emitting.{OfName, OfVarname, OfConstant, Adds
 use Rattle.py_emission_parts.specs.Emitting.{Faults, One, Two, Three, ByContext, ByLoops, InLoop, Postpones, Rewritten, Nested}
 use Rattle.py_emission_parts.specs.Emitting.{initial_state, place_in, with_step, with_block, with_name, with_varname, with_constant}
 use Rattle.py_emission_parts.specs.Emitting.{with_location, with_loops, with_postponed}
-use Rattle.py_emission_parts.specs.Refused.{rewritten}
+use Rattle.py_emission_parts.specs.Laid.{has_layout}
+use Rattle.py_emission_parts.specs.Refused.{rewritten, unlaid}
 use Rattle.py_emission_parts.specs.Sealed.{Head, assembled_object}
 use Rattle.py_emission_parts.specs.NestedScopes.{Shape}
 
@@ -52,9 +53,14 @@ code_head c h at = record {
 abbrev pub after_child : (parent child : State) → State
 after_child s t = record s { location = t.location; next = t.next }
 
+-- what has no layout is refused, where it ends
+abbrev pub when_laid : (laid : Bool) → SourceLocation → Outcome → Outcome
+when_laid true at o = o
+when_laid false at o = Refused unlaid (Some at)
+
 -- what a child reaches is sealed, and what follows goes on with its code object
 abbrev pub on_sealed : (level : ℕ) → Head → (parent : State) → Outcome → (Object → Action) → Outcome
-on_sealed level h s (Done t) k = k (assembled_object level h t) (after_child s t)
+on_sealed level h s (Done t) k = when_laid (has_layout level h t) t.location (k (assembled_object level h t) (after_child s t))
 on_sealed level h s TooWide k = TooWide
 on_sealed level h s (Refused e at) k = Refused e at
 

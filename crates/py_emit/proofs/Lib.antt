@@ -14,3 +14,4 @@ pub mod CellPlaces
 pub mod Closures
 pub mod Dotted
 pub mod TableDropLemmas
+pub mod Layouts

@@ -1,5 +1,5 @@
 -- A scope within that is entered, emitted and left.
-use Rattle.std.proofs.Common.{◌≡◌, ℕ, suc, List, [], ◌∷◌, ◌++◌, None, refl, sym, ap, ◌∙◌}
+use Rattle.std.proofs.Common.{◌≡◌, ℕ, suc, List, [], ◌∷◌, ◌++◌, Bool, true, false, None, Some, refl, sym, ap, ◌∙◌}
 use Rattle.py_base.specs.declared.location.SourceLocation.{SourceLocation}
 use Rattle.py_bytecode.specs.Objects.{Object}
 use Rattle.py_bytecode.specs.View.{object}
@@ -7,12 +7,14 @@ use Rattle.py_bytecode.specs.declared.code.CodeObject.{CodeObject}
 use Rattle.py_scope.specs.declared.table_type.SymbolTableType.{SymbolTableType}
 use Rattle.py_scope.specs.declared.table_type.SymbolTableType.TheVariants as kind
 use Rattle.py_emission_parts.specs.Children.{child}
-use Rattle.py_emission_parts.specs.Running.{after_child, code_head, on_sealed, run}
+use Rattle.py_emission_parts.specs.Laid.{has_layout}
+use Rattle.py_emission_parts.specs.Refused.{unlaid}
+use Rattle.py_emission_parts.specs.Running.{after_child, code_head, on_sealed, run, when_laid}
 use Rattle.py_emission_parts.specs.NestedScopes.{Shape}
 use Rattle.py_emission_parts.specs.Context.{cells_among, frees_among, inside, outermost, symbols_in, with_path, nested_in_class}
-use Rattle.py_emission_parts.specs.Emitting.{Done, Emission, State, initial_state}
+use Rattle.py_emission_parts.specs.Emitting.{Done, Emission, Refused, State, initial_state}
 use Rattle.py_emission_parts.specs.Sealed.{Head, assembled_object}
-use Rattle.py_emit.specs.States.{Rest, Source, context_of, dotted, nested_context, entered_rest, head_in, left_scope, left_rest}
+use Rattle.py_emit.specs.States.{IsSealed, Rest, Source, context_of, dotted, nested_context, entered_rest, head_in, left_scope, left_rest}
 use Rattle.py_emit.specs.States.{module_head, module_shape, named_in, no_context, parts_in, rest, state, unlooped_context}
 use Rattle.py_emit.specs.declared.context.Naming.{Naming}
 use Rattle.py_emit.specs.declared.context.Naming.TheVariants as naming
@@ -152,14 +154,35 @@ module _ (typ : SymbolTableType) (n : Naming) (h : Shape) (first : Emitter) (ent
     unfolding rest
     sealed_so o e = e ∙ ap (λ (r : Rest). assembled_object r.opts.optimize r.head (state last)) waits ∙ ap (λ l. assembled_object l head (state last)) (sym (nested_level typ n (state first)))
 
+    -- whether it has a layout
+    laid_so : (b : Bool) → has_layout (rest last).opts.optimize (rest last).head (state last) ≡ b → has_layout (nested_context typ n (state first)).level head (state last) ≡ b
+    unfolding rest
+    laid_so b e = ap (λ l. has_layout l head (state last)) (nested_level typ n (state first)) ∙ sym (ap (λ (r : Rest). has_layout r.opts.optimize r.head (state last)) waits) ∙ e
+
+    -- where its body is emitted, it is sealed or refused by its layout
+    child_done : (body : Emission) (k : Object → Emission) (b : Bool)
+        → state entry ≡ initial_state (nested_context typ n (state first)) (state first).location (suc (state first).next)
+        → run body (state entry) ≡ Done (state last) → has_layout (rest last).opts.optimize (rest last).head (state last) ≡ b
+        → run (child (λ c m. inside typ m (named_in n c)) h body k) (state first)
+        ≡ when_laid b (state last).location (run (k (assembled_object (nested_context typ n (state first)).level head (state last))) (after_child (state first) (state last)))
+    unfolding child
+    child_done body k b begins done laid =
+        ap (λ q. on_sealed (nested_context typ n (state first)).level head (state first) (run body q) (λ x. run (k x))) (sym begins)
+        ∙ ap (λ o. on_sealed (nested_context typ n (state first)).level head (state first) o (λ x. run (k x))) done
+        ∙ ap (λ z. when_laid z (state last).location (run (k (assembled_object (nested_context typ n (state first)).level head (state last))) (after_child (state first) (state last)))) (laid_so b laid)
+
     -- what is emitted of it and after it
     pub child_goes : (body : Emission) (k : Object → Emission) (code : CodeObject) (s : State)
         → state entry ≡ initial_state (nested_context typ n (state first)) (state first).location (suc (state first).next)
-        → run body (state entry) ≡ Done (state last) → object code ≡ assembled_object (rest last).opts.optimize (rest last).head (state last)
+        → run body (state entry) ≡ Done (state last) → IsSealed (rest last).opts.optimize (rest last).head (state last) (object code)
         → s ≡ left_scope (rest last) first.scope (state last)
         → run (child (λ c m. inside typ m (named_in n c)) h body k) (state first) ≡ run (k (object code)) s
-    unfolding child
     child_goes body k code s begins done is after =
-        ap (λ q. on_sealed (nested_context typ n (state first)).level head (state first) (run body q) (λ x. run (k x))) (sym begins)
-        ∙ ap (λ o. on_sealed (nested_context typ n (state first)).level head (state first) o (λ x. run (k x))) done
-        ∙ (λ i. run (k (sym (sealed_so (object code) is) i)) (sym (left_state s after) i))
+        child_done body k true begins done is.laid ∙ (λ i. run (k (sym (sealed_so (object code) is.is) i)) (sym (left_state s after) i))
+
+    -- and where it has no layout, that is refused where it ends
+    pub child_unlaid : (body : Emission) (k : Object → Emission)
+        → state entry ≡ initial_state (nested_context typ n (state first)) (state first).location (suc (state first).next)
+        → run body (state entry) ≡ Done (state last) → has_layout (rest last).opts.optimize (rest last).head (state last) ≡ false
+        → run (child (λ c m. inside typ m (named_in n c)) h body k) (state first) ≡ Refused unlaid (Some (state last).location)
+    child_unlaid body k begins done laid = child_done body k false begins done laid

@@ -1,8 +1,9 @@
 -- What an emitter holds: what is emitted, and the rest, which steps of an emission leave as it is.
-use Rattle.std.specs.Prelude.{◌≡◌, ◌≢◌, ◌<◌, ℕ, List, [], ◌∷◌, ◌++◌, length, map, codes, Bool, false, Option, Some, None, Result, Ok, Err}
+use Rattle.std.specs.Prelude.{◌≡◌, ◌≢◌, ◌<◌, ℕ, List, [], ◌∷◌, ◌++◌, length, map, codes, Bool, true, false, Option, Some, None, Result, Ok, Err}
 use Rattle.std.specs.List.{join_with_byte}
 use Rattle.py_base.specs.declared.location.SourceLocation.{SourceLocation}
 use Rattle.py_base.specs.declared.location.LocatedError.{LocatedError}
+use Rattle.py_bytecode.specs.Objects.{Object}
 use Rattle.py_bytecode.specs.View.{constant}
 use Rattle.py_dataflow.specs.declared.info.BlockIdx.{BlockIdx}
 use Rattle.py_ir.specs.declared.error.FinalizeError.{FinalizeError}
@@ -19,7 +20,9 @@ use Rattle.py_scope.specs.declared.table_type.SymbolTableType.{SymbolTableType}
 use Rattle.py_scope.specs.declared.symbols.Symbol.{Symbol}
 use Rattle.py_emission_parts.specs.Context.{Context, cells_among, frees_among, inside, outermost, with_path, nested_in_class}
 use Rattle.py_emission_parts.specs.Emitting.{NodeContext, Emission, State, LoopBlocks, Outcome, Done, Refused}
-use Rattle.py_emission_parts.specs.Sealed.{Head, flags_of}
+use Rattle.py_emission_parts.specs.Laid.{has_layout}
+use Rattle.py_emission_parts.specs.Refused.{unlaid}
+use Rattle.py_emission_parts.specs.Sealed.{Head, assembled_object, flags_of}
 use Rattle.py_emission_parts.specs.Running.{Action, code_head, run}
 use Rattle.py_emission_parts.specs.NestedScopes.{Shape}
 use Rattle.py_base.specs.declared.errors.CodegenErrorType.{CodegenErrorType}
@@ -194,6 +197,16 @@ IsReported e path = (e.source_path ≡ path) × (e.error ≡ error.OutOfMemory �
 abbrev pub Same : {A : Type 0} → Result A (LocatedError CodegenErrorType) → (after before : Rest) → Type 0
 Same (Ok a) after before = after ≡ before
 Same (Err e) after before = IsReported e before.path
+
+-- the code object of what is emitted of a scope, which has a layout
+pub record IsSealed (level : ℕ) (head : Head) (s : State) (o : Object) : Type 0 where
+  pub laid : has_layout level head s ≡ true
+  pub is : o ≡ assembled_object level head s
+
+-- a scope that is left has no layout, and that stands where the scope ends; or there was no memory
+pub record IsUnlaid (level : ℕ) (head : Head) (s : State) (path : List ℕ) (e : LocatedError CodegenErrorType) : Type 0 where
+  pub reported : IsReported e path
+  pub told : e.error ≢ error.OutOfMemory → (has_layout level head s ≡ false) × ((e.error ≡ unlaid) × (e.location ≡ Some s.location))
 
 -- a call emits this: where it is Ok, it has come from the state before to the one after, and the rest is as it was; where it is not, the
 -- emission is refused so, and the error names the path, unless memory is wanting

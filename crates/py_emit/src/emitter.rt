@@ -9,12 +9,12 @@ ghost use Rattle.py_emission_parts.specs.Running.{code_head, run};
 ghost use Rattle.py_emission_parts.specs.Context.{inside, outermost, symbols_in};
 ghost use Rattle.py_emission_parts.specs.Emitting.{Begin, Done, Put, initial_state, emit as emission_of, emit_count, generator_mark, jump as jumping, with_location, nothing, with_block, with_loops, with_postponed, with_step};
 ghost use Rattle.py_emission_parts.specs.Sealed.{assembled_object};
-ghost use Rattle.py_emit.specs.States.{Emits, Goes, IsFirst, IsOutOfMemory, IsUnrefused, nested_context, entered_rest, first_rest, head_in, head_of, info, left_scope, left_rest, loop_blocks, looped_rest, module_shape, named_in, parts_in, placed_error, postponed_rest, rest, shape_of, source_of, state, state_of, told_rest, unlooped_context, without_path, without_source};
+ghost use Rattle.py_emit.specs.States.{Emits, Goes, IsFirst, IsOutOfMemory, IsSealed, IsUnlaid, IsUnrefused, nested_context, entered_rest, first_rest, head_in, head_of, info, left_scope, left_rest, loop_blocks, looped_rest, module_shape, named_in, parts_in, placed_error, postponed_rest, rest, shape_of, source_of, state, state_of, told_rest, unlooped_context, without_path, without_source};
 ghost use Rattle.py_emit.specs.Steps.{IsOpen, step_of};
 
 use crate::context::{CompileOpts, EmitContext, Naming, ScopeHead};
 use crate::paths::{alone, copied};
-use crate::refusals::{has_short_tables, only_out_of_memory, out_of_memory};
+use crate::refusals::{has_short_tables, layout_error, only_out_of_memory, out_of_memory};
 use crate::scopes::{OpenScope, first_code, laid_out};
 use py_base::{
     CodegenError, CodegenErrorType, LocatedError, Names, OneIndexed, SourceLocation, Text,
@@ -339,21 +339,22 @@ impl Emitter {
     /// around goes on.
     ///
     /// # Errors
-    /// OutOfMemory alone: a table of 2^31 entries, and blocks that have no code, count as that. The part "Out of memory"
-    /// of docs/DECISIONS.md says what no tree without faults reaches.
+    /// AsyncYieldFrom, at the present location, where the blocks are refused for anything but their size, or OutOfMemory.
+    /// A table of 2^31 entries and a code of 2^32 units count as that. The part "Out of memory" of docs/DECISIONS.md says
+    /// what no tree without faults reaches.
     #[tactic(auto, unfolding(crate::specs::States::rest))]
     pub fn leave_scope(&mut self) -> Result<CodeObject, CodegenError>
         requires inner { (rest self.old).outer ≢ [] }
-        ensures code { IfOk result (λ code.
-            object code ≡ assembled_object (rest self.old).opts.optimize (rest self.old).head
-            (state self.old)) }
+        ensures code { IfOk result (λ code. IsSealed (rest self.old).opts.optimize
+            (rest self.old).head (state self.old) (object code)) }
         ensures state { OnOk result ((outer : Scopes OpenScope) (o : OpenScope)
             → (rest self.old).outer ≡ outer ++ o ∷ []
             → state self.new ≡ left_scope (rest self.old) o (state self.old)) }
         ensures rest { OnOk result ((outer : Scopes OpenScope) (o : OpenScope)
             → (rest self.old).outer ≡ outer ++ o ∷ []
             → rest self.new ≡ left_rest outer o (rest self.old)) }
-        ensures err { IfErr result (λ e. IsOutOfMemory e (rest self.old).path) }
+        ensures err { IfErr result (λ e. IsUnlaid (rest self.old).opts.optimize
+            (rest self.old).head (state self.old) (rest self.old).path e) }
     {
         let Some(enclosing) = self.outer.pop() else {
             unreachable!();
@@ -364,7 +365,7 @@ impl Emitter {
         }
         match laid_out(self.alloc, self.opts.optimize, scope) {
             Ok(code) => Ok(code),
-            Err(_) => Err(self.error(CodegenErrorType::OutOfMemory)),
+            Err(error) => Err(self.error(layout_error(error))),
         }
     }
 

@@ -4,6 +4,8 @@ ghost use Rattle.py_ir.specs.Checks.{lens_of};
 ghost use Rattle.py_ir.specs.Final.{tables_of};
 ghost use Rattle.py_ir.specs.FlatCode.{info_of};
 ghost use Rattle.py_ir.specs.Refusals.{TooLong};
+ghost use Rattle.py_ir.specs.Sizes.{IsOfSize};
+ghost use Rattle.py_emission_parts.specs.Refused.{unlaid};
 ghost use Rattle.py_emit.specs.States.{IsOutOfMemory};
 
 use py_base::{CodegenError, CodegenErrorType, LocatedError, Text};
@@ -40,4 +42,17 @@ pub(crate) fn only_out_of_memory(error: FinalizeError, source_path: Text) -> Cod
 {
     let _ = error;
     out_of_memory(source_path)
+}
+
+/// The error of a nested scope whose blocks have no code: their size counts as want of memory.
+pub(crate) fn layout_error(error: FinalizeError) -> CodegenErrorType
+    ensures size { IsOfSize error → result ≡ CodegenErrorType.OutOfMemory }
+    ensures others { ¬ IsOfSize error → result ≡ unlaid }
+{
+    match error {
+        FinalizeError::TooManyNames | FinalizeError::TooManyUnits | FinalizeError::OutOfMemory => {
+            CodegenErrorType::OutOfMemory
+        }
+        _ => CodegenErrorType::AsyncYieldFrom,
+    }
 }

@@ -18,15 +18,14 @@ use Rattle.py_emission_parts.specs.NestedScopes.{Shape, lambda_inside}
 use Rattle.py_emission_parts.specs.Context.{Context, inside}
 use Rattle.py_emission_parts.specs.Emitting.{Done, Emission, Refused, State, ◌▸◌, add_constant, initial_state}
 use Rattle.py_emission_parts.specs.EmissionParts.{pass_scopes}
-use Rattle.py_emission_parts.specs.Sealed.{assembled_object}
 use Rattle.py_emission.specs.Emission.{lambda_value}
 use Rattle.py_emission.specs.Parameters.{function_shape, parameters}
-use Rattle.py_emit.specs.States.{IsOutOfMemory, IsReported, Rest, Same, nested_context, entered_rest, left_scope, left_rest, named_in, rest, state}
+use Rattle.py_emit.specs.States.{IsReported, IsSealed, IsUnlaid, Rest, Same, nested_context, entered_rest, left_scope, left_rest, named_in, rest, state}
 use Rattle.py_emit.specs.declared.context.Naming.{Naming}
 use Rattle.py_emit.specs.declared.emitter.Emitter.{Emitter}
 use Rattle.py_emit.specs.declared.scopes.OpenScope.{OpenScope}
 use Rattle.py_emit.proofs.Joined.{joined_actions, joined_refused_first, went}
-use Rattle.py_emit.proofs.NestedScopes.{child_goes, left_same, outer_is}
+use Rattle.py_emit.proofs.NestedScopes.{child_goes, child_unlaid, left_same, outer_is}
 use Rattle.py_expr_scopes.specs.Functions.{Gives}
 
 -- a nested scope by another name of the context
@@ -77,13 +76,16 @@ module _ (typ : SymbolTableType) (n : Naming) (h : Shape) (first entry : Emitter
       (rest first)) (same : rest last ≡ rest entry) where
     -- it is left, and what follows goes on with its code object
     pub left_gives : (body : Emission) (r : Result CodeObject (LocatedError CodegenErrorType)) → run body (state entry) ≡ Done (state last)
-        → IfOk r (λ code. object code ≡ assembled_object (rest last).opts.optimize (rest last).head (state last))
+        → IfOk r (λ code. IsSealed (rest last).opts.optimize (rest last).head (state last) (object code))
         → OnOk r ((outer : List OpenScope) (o : OpenScope) → (rest last).outer ≡ outer ++ o ∷ [] → state after ≡ left_scope (rest last) o (state last))
-        → IfErr r (λ e. IsOutOfMemory e (rest last).path) → Gives r (state after) (λ k. run (inner_child body k) (state first))
+        → IfErr r (λ e. IsUnlaid (rest last).opts.optimize (rest last).head (state last) (rest last).path e)
+        → Gives r (state after) (λ k. run (inner_child body k) (state first))
     left_gives body (Ok code) done is goes err = λ k.
         child_goes typ n h first entry last into same body k code (state after) begins done is
         (goes (rest first).outer first.scope (outer_is typ n h first entry last into same))
-    left_gives body (Err e) done is goes err = λ k ne. absurd (ne err.error_is)
+    left_gives body (Err e) done is goes err = λ k ne.
+        let x = err.told ne in
+        child_unlaid typ n h first entry last into same body k begins done x.0 ∙ (λ i. Refused (sym x.1.0 i) (sym x.1.1 i))
 
     -- an error names the path of the enclosing scope
     pub same_path : (r : Result CodeObject (LocatedError CodegenErrorType)) (x : LocatedError CodegenErrorType) (s : Rest) → r ≡ Err x → IsReported x (rest last).path → Same r s (rest first)
@@ -92,9 +94,9 @@ module _ (typ : SymbolTableType) (n : Naming) (h : Shape) (first entry : Emitter
     -- the enclosing scope goes on as it was
     pub left_keeps : (r : Result CodeObject (LocatedError CodegenErrorType))
         → OnOk r ((outer : List OpenScope) (o : OpenScope) → (rest last).outer ≡ outer ++ o ∷ [] → rest after ≡ left_rest outer o (rest last))
-        → IfErr r (λ e. IsOutOfMemory e (rest last).path) → Same r (rest after) (rest first)
+        → IfErr r (λ e. IsUnlaid (rest last).opts.optimize (rest last).head (state last) (rest last).path e) → Same r (rest after) (rest first)
     left_keeps (Ok code) goes err = left_same typ n h first entry last into same (rest after) (goes (rest first).outer first.scope (outer_is typ n h first entry last into same))
-    left_keeps (Err e) goes err = (err.path_is ∙ ap (λ (x : Rest). x.path) (same ∙ into), λ o. err.location_is)
+    left_keeps (Err e) goes err = (err.reported.0 ∙ ap (λ (x : Rest). x.path) (same ∙ into), err.reported.1)
 
 -- a lambda of these parameters, whose body is returned so
 module _ (p : tree.Arguments) (v : Emission) where

@@ -5,6 +5,7 @@ use Rattle.py_base.specs.declared.errors.CodegenErrorType.{CodegenErrorType}
 use Rattle.py_base.specs.declared.errors.CodegenErrorType.TheVariants as error
 use Rattle.py_base.specs.declared.location.LocatedError.{LocatedError}
 use Rattle.py_shapes.specs.Valid.{expr_shapes, exprs_shapes, stmt_shapes, stmts_shapes}
+use Rattle.py_emission_parts.specs.Refused.{unlaid}
 use Rattle.py_emit.specs.declared.emitter.Emitter.{Emitter}
 use Rattle.py_emit.specs.States.{Emits, state}
 use Rattle.py_emission.specs.Emission.{emission, emission_of_delete, emission_of_deletes, emission_of_store, emission_of_test}
@@ -13,10 +14,10 @@ use Rattle.py_meaning.specs.ExprFaults.{Fault, delete_faults, deletes_faults, ex
 use Rattle.py_meaning.specs.Faults.{stmt_faults, stmts_faults}
 use Rattle.py_node_laws.specs.NodeFaults.{in_function, in_loop, setting_in}
 
--- Ok only where there is no fault; an error is the first of them, with its location, unless it says that there was no memory, or that a cell is not there
+-- Ok only where there is no fault; an error is the first of them, with its location, unless it says that there was no memory, that a cell is not there, or that a nested scope has no layout
 abbrev pub TellsFirst : {A : Type 0} → Result A (LocatedError CodegenErrorType) → List Fault → Type 0
 TellsFirst (Ok a) fs = fs ≡ []
-TellsFirst (Err e) fs = e.error ≢ error.OutOfMemory → e.error ≢ error.MissingCell → (rest : List Fault) × (fs ≡ record { error = e.error; location = e.location } ∷ rest)
+TellsFirst (Err e) fs = e.error ≢ error.OutOfMemory → e.error ≢ error.MissingCell → e.error ≢ unlaid → (rest : List Fault) × (fs ≡ record { error = e.error; location = e.location } ∷ rest)
 
 -- `compile_expression` and its like, `compile_jump_if`, `compile_store`, `compile_delete`, `compile_deletes`, `compile_statement` and `compile_statements`
 abbrev pub ExpressionCalls : Type 0

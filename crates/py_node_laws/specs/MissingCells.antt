@@ -11,6 +11,7 @@ use Rattle.py_control.specs.Form.{Scope}
 use Rattle.py_emission_parts.specs.Context.{Context, cells_among, frees_among, symbols_in}
 use Rattle.py_emission_parts.specs.Emitting.{State}
 use Rattle.py_emission_parts.specs.Everywhere.{Everywhere}
+use Rattle.py_emission_parts.specs.Refused.{unlaid}
 use Rattle.py_emit.specs.declared.emitter.Emitter.{Emitter}
 use Rattle.py_emit.specs.States.{Emits, state}
 use Rattle.py_emission.specs.Emission.{emission, emission_of_delete, emission_of_store, emission_of_test}
@@ -39,10 +40,10 @@ pub record IsPlaced (s : State) (within : List Scope) (w : ℕ) : Type 0 where
   pub room : length s.names + length s.varnames + length s.constants + s.blocks + w < 2 ^ 30
   pub short : AllOf (Everywhere HasShortTables) (codes_in s.constants)
 
--- an answer that does not say that a cell is not there
+-- an answer that says neither that a cell is not there nor that a nested scope has no layout
 abbrev pub FindsCells : {A : Type 0} → Result A (LocatedError CodegenErrorType) → Type 0
 FindsCells (Ok a) = Unit {0}
-FindsCells (Err e) = e.error ≢ error.MissingCell
+FindsCells (Err e) = (e.error ≢ error.MissingCell) × (e.error ≢ unlaid)
 
 abbrev pub Answer : Type 0
 Answer = Result (Unit {0}) (LocatedError CodegenErrorType)

@@ -1,4 +1,4 @@
--- Where the emission of a node is refused for anything but a missing cell, it is for the first of the node's faults, and where it is done there are none.
+-- Where the emission of a node is refused for anything but a missing cell or a missing layout, it is for the first of the node's faults, and where it is done there are none.
 use Rattle.std.specs.Prelude.{◌≡◌, ◌≢◌, ℕ, List, [], ◌∷◌, Bool, true, false, Option, Some, None}
 use Rattle.py_tree.specs.Tree as tree
 use Rattle.py_base.specs.declared.errors.CodegenErrorType.TheVariants as error
@@ -6,6 +6,7 @@ use Rattle.py_base.specs.declared.location.SourceLocation.{SourceLocation}
 use Rattle.py_shapes.specs.Valid.{expr_shapes, exprs_shapes, stmt_shapes, stmts_shapes}
 use Rattle.py_emission_parts.specs.Context.{is_function}
 use Rattle.py_emission_parts.specs.Emitting.{Done, LoopBlocks, Outcome, Refused, State, TooWide}
+use Rattle.py_emission_parts.specs.Refused.{unlaid}
 use Rattle.py_emission_parts.specs.Running.{run}
 use Rattle.py_emission.specs.Emission.{emission, emission_of_deletes, emission_of_store, emission_of_test}
 use Rattle.py_emission.specs.EmissionStmts.{emission_of_stmt, emission_of_stmts}
@@ -15,11 +16,11 @@ use Rattle.py_meaning.specs.Faults.{stmt_faults, stmts_faults}
 use Rattle.py_meaning.specs.StmtEnds.{Setting, setting_of, stmt_end, stmts_end}
 
 -- From a state: the refusal is the first of these faults; or there are none, and what is emitted next stands there, with the same around it. Where an
--- operand is too large, or a cell is not there, nothing is said.
+-- operand is too large, a cell is not there, or a nested scope has no layout, nothing is said.
 abbrev pub EndsBy : (before : State) → List Fault → (end : SourceLocation) → Outcome → Type 0
 EndsBy s fs q (Done r) = (fs ≡ []) × (r.location ≡ q) × (r.node_context ≡ s.node_context)
 EndsBy s fs q TooWide = Unit {0}
-EndsBy s fs q (Refused e at) = e ≢ error.MissingCell → (rest : List Fault) × (fs ≡ record { error = e; location = at } ∷ rest)
+EndsBy s fs q (Refused e at) = e ≢ error.MissingCell → e ≢ unlaid → (rest : List Fault) × (fs ≡ record { error = e; location = at } ∷ rest)
 
 -- whether what is emitted stands in a function, and in a loop of its own scope
 abbrev pub in_function : State → Bool

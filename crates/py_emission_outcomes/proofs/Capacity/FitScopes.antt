@@ -74,10 +74,11 @@ child_fits {c} {k} {l} {m} {v} {w} {body} {follow} nested h q x few y = record {
 pub hand_as : {c : NodeContext} {names others : List (List ℕ)} → names ≡ others → AtHand c others → AtHand c names
 hand_as {c} e h = subst (AtHand c) (sym e) h
 
--- a refusal in other words says no more that a cell is missing
+-- a refusal in other words says no more that a cell is missing, or a layout
 told_so : (e : CodegenErrorType) → IsOfTree e → IsOfTree (rewritten e)
 told_so error.InvalidStarExpr h = tt
 told_so error.MissingCell h = h
+told_so error.AsyncYieldFrom h = h
 told_so other h = tt
 
 done_element : (c : NodeContext) (l b : ℕ) (o : Outcome) → FitsIn c l b o → FitsIn c l b (rewritten_in o)

@@ -33,12 +33,13 @@ pub record FitStands (c : NodeContext) (k : ℕ) (s : State) : Type 0 where
   pub next : s.next ≡ k
   pub short : AllOf IsShort s.constants
 
--- an error that does not say that a cell is not there
+-- an error that says neither that a cell is not there nor that a nested scope has no layout
 abbrev pub IsOfTree : CodegenErrorType → Type 0
 IsOfTree error.MissingCell = ⊥
+IsOfTree error.AsyncYieldFrom = ⊥
 IsOfTree other = Unit {0}
 
--- it is not too wide, and no cell is missing; where it is done, c stands around, the next scope has the number l, and at most b is taken
+-- it is not too wide, no cell is missing, and each nested scope has a layout; where it is done, c stands around, the next scope has the number l, and at most b is taken
 abbrev pub FitsIn : (c : NodeContext) (l b : ℕ) → Outcome → Type 0
 FitsIn c l b (Done t) = FitStands c l t × (fit_taken t ≤ b)
 FitsIn c l b TooWide = ⊥

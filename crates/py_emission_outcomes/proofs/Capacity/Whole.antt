@@ -12,6 +12,7 @@ use Rattle.py_emission_parts.specs.Emitting.{NodeContext, Done, Outcome, Refused
 use Rattle.py_emission_parts.specs.Everywhere.{Everywhere}
 use Rattle.py_emission_parts.specs.Sealed.{assembled_object}
 use Rattle.py_emit.specs.States.{module_head}
+use Rattle.py_emission_parts.specs.Refused.{unlaid}
 use Rattle.py_emission.specs.EmissionMods.{emission_of_mod, emission_outcome}
 use Rattle.py_meaning.specs.ExprFaults.{Fault}
 use Rattle.py_meaning.specs.Faults.{compile_faults}
@@ -57,9 +58,9 @@ unfolding fit_taken
 short_tables c level l b s r f i = let t = f.1 in sealed_short level (module_head c) s f.0.short (omega (arith, t, i))
     (cells_few (access_outside c) r) (record { positional = omega arith; arguments = omega arith; keywords = omega arith })
 
--- an error that does not say that a cell is not there is another one
-pub another : (e : CodegenErrorType) → IsOfTree e → e ≢ error.MissingCell
-another e h q = subst IsOfTree q h
+-- an error of a tree is another one than these two
+pub another : (e : CodegenErrorType) → IsOfTree e → (e ≢ error.MissingCell) × (e ≢ unlaid)
+another e h = (λ q. subst IsOfTree q h, λ q. subst IsOfTree q h)
 
 -- a list with a member is not empty
 some_none : {A : Type 0} (x : A) (xs ys : List A) → ys ≡ x ∷ xs → ys ≡ [] → ⊥
@@ -89,6 +90,7 @@ trees_fit uses t m level path h =
     go TooWide e l b n i f = absurd f
     go (Refused r at) e l b n i f =
         let z = parts_none t m level h in
-        let heads = refusal_heads t m level path (scopes_of t) r at z.0 e (another r f) in
+        let n = another r f in
+        let heads = refusal_heads t m level path (scopes_of t) r at z.0 e n.0 n.1 in
         let first : Fault = record { error = r; location = at } in
         absurd (some_none first heads.0 (compile_faults m level t) heads.1 z.2)

@@ -10,6 +10,7 @@ use Rattle.py_control.specs.Agree.{AllOf, form_of, head_of, kids}
 use Rattle.py_control.specs.Form.{Scope}
 use Rattle.py_emission_parts.specs.Context.{outermost}
 use Rattle.py_emission_parts.specs.Emitting.{Refused}
+use Rattle.py_emission_parts.specs.Refused.{unlaid}
 use Rattle.py_emission.specs.EmissionMods.{emission_outcome}
 use Rattle.py_meaning.specs.Meaning.{body}
 use Rattle.py_scope_proof.specs.Cells.{StandUpTo, at_hand, is_one_of, wanted_at}
@@ -45,7 +46,7 @@ module _ (t : tree.Mod) (m : Mode) where
 
   -- and a refusal says something else
   pub refused_without_scopes : (level : ℕ) (path : List ℕ) (e : CodegenErrorType) (at : Option SourceLocation) → size_of t < 2 ^ 22
-      → emission_outcome t m (outermost level path []) ≡ Refused e at → e ≢ error.MissingCell
+      → emission_outcome t m (outermost level path []) ≡ Refused e at → (e ≢ error.MissingCell) × (e ≢ unlaid)
   refused_without_scopes level path e at small r =
       let x = mod_fits t m (access_outside (outermost level path [])) (ready_outermost level path [] (λ n. omega arith)) (stands_there t m level path [] (all_stand level)) in
       let i : 1 + 192 * size_of t < 2 ^ 30 = omega (arith, small) in

@@ -14,7 +14,9 @@ use Rattle.py_bytecode.specs.Values.{Usage, Load, Store, Delete, Kind, Unsaid, F
 use Rattle.py_control.specs.Form.{Resolved}
 use Rattle.py_emission_parts.specs.Children.{child, load_cell}
 use Rattle.py_emission_proof.proofs.Additions.EmissionSequenceLemmas.{new_block, kept_on, emission_sequence_looping, emission_sequence_postponed_node_context}
-use Rattle.py_emission_parts.specs.Running.{Action, ◌▹◌, begin, after_child, code_head, on_done, on_sealed, put_instruction, run}
+use Rattle.py_emission_parts.specs.Running.{Action, ◌▹◌, begin, after_child, code_head, on_done, on_sealed, put_instruction, run, when_laid}
+use Rattle.py_emission_parts.specs.Laid.{has_layout}
+use Rattle.py_emission_parts.specs.Refused.{unlaid}
 use Rattle.py_emission_parts.specs.NestedScopes.{Shape}
 use Rattle.py_emission_parts.specs.Context.{Context, access_kind, cell_place, is_function, mangled_by}
 use Rattle.py_emission_parts.specs.Accesses.{access_by, name_access, accessed_in}
@@ -38,10 +40,11 @@ refusal_outside k = (nothing k).node_context
 abbrev pub refusal_in_function : NodeContext → Bool
 refusal_in_function c = is_function c.context.typ
 
--- an operand is too large; or a cell is not there; or it is refused as the first of these faults says; or there are none, and it goes on in this context, from that place
+-- an operand is too large; or a cell is not there; or a nested scope has no layout; or it is refused as the first of these faults says; or there are none, and it goes on in this context, from that place
 pub data RefusalEnds (c : NodeContext) (fs : List Fault) (q : SourceLocation) (o : Outcome) : Type 0 where
   Wide : o ≡ TooWide → RefusalEnds c fs q o
   Misses : (at : SourceLocation) → o ≡ Refused error.MissingCell (Some at) → RefusalEnds c fs q o
+  Unlaid : (at : SourceLocation) → o ≡ Refused unlaid (Some at) → RefusalEnds c fs q o
   Stops : (e : CodegenErrorType) (at : SourceLocation) (rest : List Fault) → o ≡ Refused e (Some at) → fs ≡ fault_at e at ∷ rest → RefusalEnds c fs q o
   GoesOn : (r : State) → r.location ≡ q → r.node_context ≡ c → o ≡ Done r → fs ≡ [] → RefusalEnds c fs q o
 
@@ -50,6 +53,7 @@ ends_then : (c d : NodeContext) (b : Action) (fs gs : List Fault) (m q : SourceL
     → ((r : State) → r.location ≡ m → r.node_context ≡ c → RefusalEnds d gs q (b r)) → RefusalEnds d (fs ++ gs) q (on_done o b)
 ends_then c d b fs gs m q o (Wide e) next = Wide (ap (λ x. on_done x b) e)
 ends_then c d b fs gs m q o (Misses at e) next = Misses at (ap (λ x. on_done x b) e)
+ends_then c d b fs gs m q o (Unlaid at e) next = Unlaid at (ap (λ x. on_done x b) e)
 ends_then c d b fs gs m q o (Stops e at rest f g) next = Stops e at (rest ++ gs) (ap (λ x. on_done x b) f) (ap (λ l. l ++ gs) g)
 ends_then c d b fs gs m q o (GoesOn r at z f g) next = subst (λ l. RefusalEnds d (l ++ gs) q (on_done o b)) (sym g) (subst (λ x. RefusalEnds d gs q (on_done x b)) (sym f) (next r at z))
 
@@ -340,17 +344,23 @@ pub scopes_passed : {c : NodeContext} {p : SourceLocation} (count : (postponed :
 unfolding pass_over by_context
 scopes_passed count = record { ends = λ s h z. GoesOn _ h z refl refl }
 
+-- what has no layout is refused
+laid_ends : (c : NodeContext) (fs : List Fault) (q : SourceLocation) (b : Bool) (at : SourceLocation) (o : Outcome) → RefusalEnds c fs q o → RefusalEnds c fs q (when_laid b at o)
+laid_ends c fs q true at o h = h
+laid_ends c fs q false at o h = Unlaid at refl
+
 -- what comes of a nested scope, in a context that stands there, and then of what follows, which begins where the scope leaves off
 sealed_ends : (c : NodeContext) (k : Context) (level : ℕ) (h : Head) (s : State) (follow : Object → Emission) (fs gs : List Fault) (m q : SourceLocation) (o : Outcome)
     → s.node_context ≡ c → RefusalEnds (refusal_outside k) fs m o → ((x : Object) → RefusalEndsAs c (follow x) m q gs)
     → RefusalEnds c (fs ++ gs) q (on_sealed level h s o (λ x. run (follow x)))
 sealed_ends c k level h s follow fs gs m q o z (Wide e) next = Wide (ap (λ x. on_sealed level h s x (λ y. run (follow y))) e)
 sealed_ends c k level h s follow fs gs m q o z (Misses at e) next = Misses at (ap (λ x. on_sealed level h s x (λ y. run (follow y))) e)
+sealed_ends c k level h s follow fs gs m q o z (Unlaid at e) next = Unlaid at (ap (λ x. on_sealed level h s x (λ y. run (follow y))) e)
 sealed_ends c k level h s follow fs gs m q o z (Stops e at rest f g) next = Stops e at (rest ++ gs) (ap (λ x. on_sealed level h s x (λ y. run (follow y))) f) (ap (λ l. l ++ gs) g)
 sealed_ends c k level h s follow fs gs m q o z (GoesOn r at y f g) next =
     subst (λ l. RefusalEnds c (l ++ gs) q (on_sealed level h s o (λ y. run (follow y)))) (sym g)
     (subst (λ x. RefusalEnds c gs q (on_sealed level h s x (λ y. run (follow y)))) (sym f)
-    ((next (assembled_object level h r)).ends (after_child s r) at z))
+    (laid_ends c gs q (has_layout level h r) r.location (run (follow (assembled_object level h r)) (after_child s r)) ((next (assembled_object level h r)).ends (after_child s r) at z)))
 
 -- a nested scope
 pub child_ends : {c : NodeContext} {p m q : SourceLocation} {fs gs : List Fault} (nested : Context → ℕ → Context) (h : Shape) (body : Emission) (follow : Object → Emission)

@@ -20,7 +20,7 @@ use Rattle.py_emission_parts.specs.Context.{Context, inside}
 use Rattle.py_emission_parts.specs.Emitting.{NodeContext, Emission, Outcome, ◌▸◌}
 use Rattle.py_emission_parts.specs.Running.{rewritten_in, run}
 use Rattle.py_emission.specs.Emission.{all_emissions, clause_emissions, emissions, stores}
-use Rattle.py_emission_outcomes.proofs.Faults.RefusalLemmas.{RefusalEnds, RefusalEndsAs, GoesOn, Misses, Stops, Wide, child_ends}
+use Rattle.py_emission_outcomes.proofs.Faults.RefusalLemmas.{RefusalEnds, RefusalEndsAs, GoesOn, Misses, Stops, Unlaid, Wide, child_ends}
 use Rattle.py_emission_outcomes.proofs.Faults.RefusalLemmas.{constant_passes, count_passes, emit_passes, ends_so, generating_passes}
 use Rattle.py_emission_outcomes.proofs.Faults.RefusalLemmas.{guarded_ends, refusal_in_function, jump_passes, last_ends, nothing_passes}
 use Rattle.py_emission_outcomes.proofs.Faults.RefusalLemmas.{refusal_outside, then_ends, two_blocks_end, varname_passes}
@@ -32,6 +32,7 @@ use Rattle.py_emission_outcomes.proofs.Faults.RefusingDefaults.{made_passes}
 rewritten_so : (c : NodeContext) (fs : List Fault) (q : SourceLocation) (o : Outcome) → RefusalEnds c fs q o → RefusalEnds c (rewritten_faults fs) q (rewritten_in o)
 rewritten_so c fs q o (Wide e) = Wide (ap rewritten_in e)
 rewritten_so c fs q o (Misses at e) = Misses at (ap rewritten_in e)
+rewritten_so c fs q o (Unlaid at e) = Unlaid at (ap rewritten_in e)
 rewritten_so c fs q o (Stops e at rest f g) = Stops (rewritten e) at (rewritten_faults rest) (ap rewritten_in f) (ap rewritten_faults g)
 rewritten_so c fs q o (GoesOn r at z f g) = GoesOn r at z (ap rewritten_in f) (ap rewritten_faults g)
 

@@ -19,6 +19,8 @@ use Rattle.py_emission_parts.specs.Emitting.{NodeContext, Emission, Outcome, Put
 use Rattle.py_emission_parts.specs.Emitting.{add_varname, initial_state, emit, emit_constant, keep, place_in, with_constant, with_step}
 use Rattle.py_emission_parts.specs.Emitting.{with_varname}
 use Rattle.py_emission_parts.specs.Children.{child, closure, enter_parameters, free_names, function_scope, made_function}
+use Rattle.py_emission_parts.proofs.PassedNumberLemmas.{laid_done}
+use Rattle.py_emission_parts.specs.Laid.{has_layout}
 use Rattle.py_emission_parts.specs.Running.{Action, after_child, code_head, on_sealed, put_instruction, run}
 use Rattle.py_emission_parts.specs.NestedScopes.{Shape, some_flag}
 use Rattle.py_emission_parts.specs.Refused.{no_assignment}
@@ -104,7 +106,7 @@ flag_is place (x ∷ xs) = refl
 -- what follows a child
 sealed_on : (level : ℕ) (h : Rattle.py_emission_parts.specs.Sealed.Head) (s r : State) (o : Outcome) (next : Object → Action)
     → on_sealed level h s o next ≡ Done r → (t : State) × (o ≡ Done t) × (next (assembled_object level h t) (after_child s t) ≡ Done r)
-sealed_on level h s r (Done t) next e = (t, refl, e)
+sealed_on level h s r (Done t) next e = (t, refl, laid_done (has_layout level h t) t.location (next (assembled_object level h t) (after_child s t)) r e)
 sealed_on level h s r TooWide next e = absurd cc
 sealed_on level h s r (Refused d at) next e = absurd cc
 

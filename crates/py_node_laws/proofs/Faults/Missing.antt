@@ -13,6 +13,7 @@ use Rattle.py_control.specs.Agree.{AllOf, kids, kids_v}
 use Rattle.py_control.specs.Form.{Scope}
 use Rattle.py_emission_parts.specs.Emitting.{NodeContext, Outcome, State, keep, with_location, move}
 use Rattle.py_emission_parts.specs.Everywhere.{Everywhere}
+use Rattle.py_emission_parts.specs.Refused.{unlaid}
 use Rattle.py_emission_parts.specs.Running.{go_on, run}
 use Rattle.py_emit.specs.States.{Goes, state}
 use Rattle.py_emission.specs.Emission.{emission, emission_of_delete}
@@ -37,10 +38,16 @@ use Rattle.py_node_laws.proofs.Faults.CallParts.{comprehension_is}
 other_error : error.MissingCell ≡ error.OutOfMemory → ⊥
 other_error e = cc
 
+unlaid_other : unlaid ≡ error.OutOfMemory → ⊥
+unlaid_other e = cc
+
 -- an emission that misses no cell is not refused for one
 finds : {A : Type 0} (answer : Result A (LocatedError CodegenErrorType)) (after : State) (c : NodeContext) (l b : ℕ) (o : Outcome) → Goes answer after o → FitsIn c l b o → FindsCells answer
 finds (Ok a) after c l b o goes h = tt
-finds (Err e) after c l b o goes h = λ q. subst IsOfTree q (subst (FitsIn c l b) (goes (λ r. other_error (sym q ∙ r))) h)
+finds (Err e) after c l b o goes h = (
+  λ q. subst IsOfTree q (subst (FitsIn c l b) (goes (λ r. other_error (sym q ∙ r))) h),
+  λ q. subst IsOfTree q (subst (FitsIn c l b) (goes (λ r. unlaid_other (sym q ∙ r))) h),
+)
 
 -- code objects with short tables are short constants
 short_of : (cs : List Const) → AllOf (Everywhere HasShortTables) (codes_in cs) → AllOf IsShort cs

@@ -1,12 +1,14 @@
 -- What is emitted of a nested scope, and of the functions that are made of it.
-use Rattle.std.proofs.Common.{◌≡◌, ℕ, suc, ◌≤◌, List, length, true, false, Option, refl, sym, subst, ◌∙◌}
+use Rattle.std.proofs.Common.{◌≡◌, ℕ, suc, ◌≤◌, List, length, Bool, true, false, Option, refl, sym, subst, ◌∙◌}
+use Rattle.py_base.specs.declared.location.SourceLocation.{SourceLocation}
 use Rattle.py_bytecode.specs.Cells.{parameter_count}
 use Rattle.py_bytecode.specs.Objects.{Object}
 use Rattle.py_emission_parts.specs.Children.{child}
 use Rattle.py_emission_parts.specs.Context.{Context}
 use Rattle.py_emission_parts.specs.Emitting.{State, Outcome, Done, TooWide, Refused, Emission, initial_state}
 use Rattle.py_emission_parts.specs.Everywhere.{Everywhere}
-use Rattle.py_emission_parts.specs.Running.{after_child, code_head, on_sealed, run}
+use Rattle.py_emission_parts.specs.Laid.{has_layout}
+use Rattle.py_emission_parts.specs.Running.{after_child, code_head, on_sealed, run, when_laid}
 use Rattle.py_emission_parts.specs.Sealed.{assembled_object, flags_of}
 use Rattle.py_emission_parts.specs.NestedScopes.{Shape}
 use Rattle.py_verifier_law.proofs.Forms.FormedObjectLemmas.{ShapeFits, sealed_meets}
@@ -21,6 +23,11 @@ child_start nested s = initial_state (nested s.node_context.context s.next) s.lo
 abbrev pub Takes : Option (List ℕ) → Shape → Emission → Type 0
 Takes class h body =
     (s t : State) → s.node_context.context.class ≡ class → run body s ≡ Done t → parameter_count (flags_of t.generator h.flags) h.arg_count h.kwonlyarg_count ≤ length t.varnames
+
+-- what has no layout is refused
+laid_formed : (c : Context) (s : State) (b : Bool) (at : SourceLocation) (o : Outcome) → DoneFormed c s o → DoneFormed c s (when_laid b at o)
+laid_formed c s true at o h = h
+laid_formed c s false at o h = tt
 
 -- a nested scope, and what follows with its code
 pub child_forms : {k : Frame} {body : Emission} {follow : Object → Emission} (j : Frame) (nested : Context → ℕ → Context) (h : Shape) → j.generates ≡ false
@@ -50,7 +57,8 @@ child_forms {k = k} {body = body} {follow = follow} j nested h plain typ class s
         let meets = sealed_meets d.level d h s.location t
         (subst (λ z. ShapeFits z h) (sym (typ s.node_context.context s.next)) shape) f.formed
         (takes (child_start nested s) t (class_here c s st) e) in
-        formed_from c s (after_child s t) (run (follow ob) (after_child s t)) (λ e. e)
-        ((y ob meets).forms c (after_child s t) (record { typ = st.typ; class = st.class; generates = st.generates; formed = after_child_formed c s t st.formed }))
+        laid_formed c s (has_layout d.level (code_head d h s.location) t) t.location (run (follow ob) (after_child s t))
+        (formed_from c s (after_child s t) (run (follow ob) (after_child s t)) (λ e. e)
+        ((y ob meets).forms c (after_child s t) (record { typ = st.typ; class = st.class; generates = st.generates; formed = after_child_formed c s t st.formed })))
     go c s st TooWide e f = tt
     go c s st (Refused x at) e f = tt
