@@ -19,3 +19,4 @@ pub mod FutureAdds
 pub mod InteractiveAdds
 pub mod Programs
 pub mod NeverRefused
+pub mod WholeScopes

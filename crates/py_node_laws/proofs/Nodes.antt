@@ -98,20 +98,20 @@ node_held_is None = refl
 node_held_is (Some x) = refl
 
 pub exprs_add : ExprsAdd
-exprs_add e few s r ready done = adds_so s r _ _ _ (((expr_adds s.node_context s.next e few).value s.blocks).does s r refl refl (node_stands s ready) done).0
+exprs_add e few s r ready done = adds_so s r _ _ _ (((expr_adds s.node_context s.next e (omega (arith, few))).value s.blocks).does s r refl refl (node_stands s ready) done).0
 
 pub tests_add : TestsAdd
-tests_add e few truth block s r ready lt done = adds_so s r _ _ _ (((expr_adds s.node_context s.next e few).test truth block s.blocks lt).does s r refl refl (node_stands s ready) done).0
+tests_add e few truth block s r ready lt done = adds_so s r _ _ _ (((expr_adds s.node_context s.next e (omega (arith, few))).test truth block s.blocks lt).does s r refl refl (node_stands s ready) done).0
 
 pub targets_add : TargetsAdd
-targets_add e few s r ready done = adds_so s r _ _ _ (((target_adds s.node_context s.next e few).alone s.blocks).does s r refl refl (node_stands s ready) done).0
+targets_add e few s r ready done = adds_so s r _ _ _ (((target_adds s.node_context s.next e (omega (arith, few))).alone s.blocks).does s r refl refl (node_stands s ready) done).0
 
 pub statements_add : StatementsAdd
 statements_add t few s r ready loop done =
-    let d = (stmt_gives t few s.node_context s.next (labels_of s.node_context.loops) s.blocks (looped_in s.node_context.loops s.blocks loop)).does s r refl refl (node_stands s ready) done in
+    let d = (stmt_gives t (omega (arith, few)) s.node_context s.next (labels_of s.node_context.loops) s.blocks (looped_in s.node_context.loops s.blocks loop)).does s r refl refl (node_stands s ready) done in
     (adds_so s r _ _ _ d.0, subst (λ b. Looped b (stmt_form (form_context s) s.next t)) (node_held_is s.node_context.loops) d.1)
 
 pub bodies_add : BodiesAdd
 bodies_add ts few s r ready loop done =
-    let d = (stmts_add s.node_context s.next ts few (labels_of s.node_context.loops) s.blocks (looped_in s.node_context.loops s.blocks loop)).does s r refl refl (node_stands s ready) done in
+    let d = (stmts_add s.node_context s.next ts (omega (arith, few)) (labels_of s.node_context.loops) s.blocks (looped_in s.node_context.loops s.blocks loop)).does s r refl refl (node_stands s ready) done in
     (adds_so s r _ _ _ d.0, subst (λ b. Looped b (stmts_form (form_context s) s.next ts)) (node_held_is s.node_context.loops) d.1)

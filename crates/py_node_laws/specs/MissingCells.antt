@@ -1,4 +1,4 @@
--- Calls that reach no cell that is not there: the emitter stands where the scan of a tree has reached the node, over the scopes of this scan.
+-- Calls that reach no cell that is not there and no nested scope without a layout: the emitter stands where the scan of a tree has reached the node, over the scopes of this scan.
 use Rattle.std.specs.Prelude.{◌≡◌, ◌≢◌, ℕ, ◌+◌, ◌*◌, ◌<◌, ◌^◌, List, [], length, Bool, Result, Ok, Err}
 use Rattle.py_tree.specs.Tree as tree
 use Rattle.py_base.specs.declared.errors.CodegenErrorType.{CodegenErrorType}
@@ -18,6 +18,7 @@ use Rattle.py_emission.specs.Emission.{emission, emission_of_delete, emission_of
 use Rattle.py_emission.specs.EmissionStmts.{emission_of_stmt, emission_of_stmts}
 use Rattle.py_meaning.specs.Table.{expr_form, target_form}
 use Rattle.py_meaning.specs.TableStmts.{stmt_form, stmts_form}
+use Rattle.py_emission_proof.specs.Loads.{LoadsUpTo}
 use Rattle.py_scope_proof.specs.Cells.{StandUpTo}
 use Rattle.py_emission_outcomes.specs.Fitting.{HasShortTables}
 use Rattle.py_expr_scopes.specs.Comprehensions.{comprehension_of}
@@ -36,6 +37,8 @@ pub record IsPlaced (s : State) (within : List Scope) (w : ℕ) : Type 0 where
   pub few : (n : ℕ) → length (cells_among (symbols_in s.node_context.context.scopes n)) + length (frees_among (symbols_in s.node_context.context.scopes n)) < 2 ^ 30
   -- what each of these scopes has from outside is at hand in the present one, and so it is at every depth, as it is in a tree without faults
   pub stand : (n : ℕ) → AllOf (StandUpTo s.node_context.context.scopes s.node_context.context.here n) within
+  -- the codes of these scopes load few cells, at every depth, as they do in a tree without faults
+  pub loads : (n : ℕ) → AllOf (LoadsUpTo s.node_context.context.scopes (3 * 2 ^ 22) n) within
   -- the tables and the blocks have room for the node, and the code objects among the constants have short tables
   pub room : length s.names + length s.varnames + length s.constants + s.blocks + w < 2 ^ 30
   pub short : AllOf (Everywhere HasShortTables) (codes_in s.constants)

@@ -1,5 +1,5 @@
 -- What is emitted of each nested scope has few blocks, and is refused only when memory runs out, where its tables are short.
-use Rattle.std.specs.Prelude.{◌≡◌, ℕ, suc, ◌+◌, ◌<◌, ◌^◌, List, [], codes, length}
+use Rattle.std.specs.Prelude.{◌≡◌, ℕ, suc, ◌+◌, ◌<◌, ◌^◌, List, [], codes, length, true}
 use Rattle.py_base.specs.declared.location.SourceLocation.{SourceLocation}
 use Rattle.py_tree.specs.Tree as tree
 use Rattle.py_limits.specs.Size.{arguments_size, expr_size, exprs_size, generators_size, keywords_size, opt_expr_size, stmts_size, type_params_size}
@@ -14,6 +14,7 @@ use Rattle.py_emission_parts.specs.Classes.{class_shape}
 use Rattle.py_emission_parts.specs.Comprehensions.{as_element, comprehension_shape, collection_scope, generator_body}
 use Rattle.py_emission_parts.specs.Context.{Context, head_of}
 use Rattle.py_emission_parts.specs.Emitting.{Done, Emission, State, ◌▸◌, initial_state, emit}
+use Rattle.py_emission_parts.specs.Laid.{has_layout}
 use Rattle.py_emission_parts.specs.Sealed.{Head}
 use Rattle.py_emission_parts.specs.TypeParameters.{generic_alias, type_param_scope_shape, load_handed, no_defaults}
 use Rattle.py_emission_parts.specs.NestedScopes.{Shape, nested_class, comprehension_inside, function_inside, passed_defaults, handed_parts, type_param_scope_inside, lambda_inside}
@@ -34,10 +35,12 @@ use Rattle.py_meaning.specs.TableScopes as scopes
 use Rattle.py_meaning.specs.TableStmts.{function_body, rest_form}
 use Rattle.py_node_laws.specs.Adding.{LoadsFew}
 
--- the blocks are few, and blocks and tables that hold what is emitted are refused only when memory runs out, where the tables are short
+-- the blocks are few, what is emitted has a layout, and blocks and tables that hold it are refused only when memory runs out, where the tables
+-- are short
 pub record EndsUnrefused (level : ℕ) (head : Head) (t : State) : Type 0 where
   pub blocks : t.blocks < 2 ^ 30
   pub unrefused : (info : CodeInfo) → Holds info head t → IsUnrefused level info
+  pub laid : has_layout level head t ≡ true
 
 -- the body of a scope ends so in this context, where no code of the scope, nor of any nested in it, loads many cells
 abbrev pub BodyEndsUnrefused : (inner : Context) → Shape → (body : Emission) → (next : ℕ) → Scope → Type 0

@@ -227,20 +227,22 @@ module _ (look : ℕ → Option (Seen ℕ)) where
     -- an arrival that fits adds to what is known
     grows : (ks : List Known) → IsGood ks → (a : Known) → IsIn a (arrivals look ks) → is_seen (look a.place) ≡ true → fits_there (found ks a.place) a.at ≡ true
         → is_covered (found ks a.place) a.at ≡ false → measure width ks < measure width (with_arrival a ks)
-    grows ks g a i seen fits open =
+    grows ks g a i seen fits o =
         let n = few_good ks g in
         let l = (arrival_shown ks g a i).1 in
-        measure_grows width a ks fits open (omega (arith, n, l)) (λ k j. let m = g.short k j in omega (arith, m, n))
+        measure_grows width a ks fits o (omega (arith, n, l)) (λ k j. let m = g.short k j in omega (arith, m, n))
 
     decided : (n : ℕ) (ks : List Known) → IsGood ks → places * width < measure width ks + n
         → (passes_from look n ks ≡ true → Sound look 0 (2 ^ 32)) × (passes_from look n ks ≡ false → SomeRefused look)
     decided zero ks g l = absurd (let b = bounded ks g in omega (arith, b, l))
-    decided (suc n) ks g l = go (first_open (arrivals look ks) ks) refl
+    decided (suc n) ks g l = go (first_open (arrivals look ks) ks) refl (λ js h m. decided n js h m)
       where
         go : (o : Option Known) → first_open (arrivals look ks) ks ≡ o
+            → ((js : List Known) → IsGood js → places * width < measure width js + n
+            → (passes_from look n js ≡ true → Sound look 0 (2 ^ 32)) × (passes_from look n js ≡ false → SomeRefused look))
             → (passes_on look (passes_from look n) ks o ≡ true → Sound look 0 (2 ^ 32)) × (passes_on look (passes_from look n) ks o ≡ false → SomeRefused look)
-        go None e = (λ h. are_sound ks g e h, λ h. some_fails ks g ks (λ k i. i) h)
-        go (Some a) e =
+        go None e more = (λ h. are_sound ks g e h, λ h. some_fails ks g ks (λ k i. i) h)
+        go (Some a) e more =
             let i = open_is (arrivals look ks) ks a e in
             test (is_seen (look a.place)) refl (fits_there (found ks a.place) a.at) refl i.0 i.1
           where
@@ -253,7 +255,7 @@ module _ (look : ℕ → Option (Seen ℕ)) where
             test true eb false ec i o = (λ h. absurd cc, λ h. unfit ks g a.place (found ks a.place) a.at refl (arrival_shown ks g a i).0 ec)
             test true eb true ec i o =
                 let m = grows ks g a i eb ec o in
-                decided n (with_arrival a ks) (good_next ks g a i eb ec) (omega (arith, m, l))
+                more (with_arrival a ks) (good_next ks g a i eb ec) (omega (arith, m, l))
 
     abbrev first : List Known
     first = known_at 0 (state 0 []) ∷ []

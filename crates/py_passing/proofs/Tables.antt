@@ -1,5 +1,5 @@
 -- What is known of places, and an arrival that is joined to it.
-use Rattle.std.proofs.Common.{◌≡◌, ◌≢◌, ◌⊎◌, ℕ, suc, ◌+◌, ◌-◌, ◌*◌, ◌<◌, ◌≤◌, max, List, [], ◌∷◌, ◌++◌, length, map, Bool, true, false, Option, Some, None, if◌then◌else◌, refl, sym, inl, inr, ap, ◌∙◌, subst, arith, flat_map}
+use Rattle.std.proofs.Common.{◌≡◌, ◌≢◌, ◌⊎◌, ℕ, suc, ◌+◌, ◌-◌, ◌*◌, ◌<◌, ◌≤◌, max, List, [], ◌∷◌, ◌++◌, length, map, Bool, true, false, Option, Some, None, if◌then◌else◌, refl, sym, inl, inr, ap, ◌∙◌, subst, arith, flat_map, suc-mul}
 use Rattle.std.specs.Prelude.{not, ◌&&◌, ◌||◌, nat_eq}
 use Rattle.std.specs.List.{AllByRecursion, IsDistinct, list_any}
 use Rattle.std.proofs.lemmas.Bool.{cases_eq, cases_lt, eqb-true, eq-eqb, ne_eqb}
@@ -84,11 +84,12 @@ in_edge x s a h = elim (in_either a (if x.flow.falls then known_at x.next (falls
 -- what is known of a place is one of those
 pub found_in : (p : ℕ) (s : State) (ks : List Known) → found ks p ≡ Some s → (k : Known) × IsIn k ks × (k.place ≡ p) × (k.at ≡ s)
 found_in p s [] e = absurd cc
-found_in p s (k ∷ ks) e = go (nat_eq p k.place) refl e
+found_in p s (k ∷ ks) e = go (nat_eq p k.place) refl e (λ f. found_in p s ks f)
   where
-    go : (b : Bool) → nat_eq p k.place ≡ b → (if b then Some k.at else found ks p) ≡ Some s → (j : Known) × IsIn j (k ∷ ks) × (j.place ≡ p) × (j.at ≡ s)
-    go true q f = (k, inl refl, sym (eqb-true p k.place q), same_Some k.at s f)
-    go false q f = let r = found_in p s ks f in (r.0, inr r.1, r.2, r.3)
+    go : (b : Bool) → nat_eq p k.place ≡ b → (if b then Some k.at else found ks p) ≡ Some s
+        → (found ks p ≡ Some s → (j : Known) × IsIn j ks × (j.place ≡ p) × (j.at ≡ s)) → (j : Known) × IsIn j (k ∷ ks) × (j.place ≡ p) × (j.at ≡ s)
+    go true q f more = (k, inl refl, sym (eqb-true p k.place q), same_Some k.at s f)
+    go false q f more = let r = more f in (r.0, inr r.1, r.2, r.3)
 
 -- no place is known twice
 abbrev pub Apart : List Known → Type 0
@@ -98,14 +99,11 @@ Apart (k ∷ ks) = (found ks k.place ≡ None) × Apart ks
 pub found_of : (k : Known) (ks : List Known) → Apart ks → IsIn k ks → found ks k.place ≡ Some k.at
 found_of k [] h g = absurd g
 found_of k (j ∷ ks) h (inl e) = ap (λ (b : Bool). if b then Some j.at else found ks k.place) (eq-eqb k.place j.place (ap (λ (z : Known). z.place) e)) ∙ ap (λ (z : Known). Some z.at) (sym e)
-found_of k (j ∷ ks) h (inr r) = go (nat_eq k.place j.place) refl
+found_of k (j ∷ ks) h (inr r) = go (nat_eq k.place j.place) refl (found_of k ks h.1 r)
   where
-    there : found ks k.place ≡ Some k.at
-    there = found_of k ks h.1 r
-
-    go : (b : Bool) → nat_eq k.place j.place ≡ b → (if b then Some j.at else found ks k.place) ≡ Some k.at
-    go true q = absurd (let z : None ≡ Some k.at = sym h.0 ∙ ap (found ks) (sym (eqb-true k.place j.place q)) ∙ there in cc)
-    go false q = there
+    go : (b : Bool) → nat_eq k.place j.place ≡ b → found ks k.place ≡ Some k.at → (if b then Some j.at else found ks k.place) ≡ Some k.at
+    go true q there = absurd (let z : None ≡ Some k.at = sym h.0 ∙ ap (found ks) (sym (eqb-true k.place j.place q)) ∙ there in cc)
+    go false q there = there
 
 -- so there are no more than there are places
 abbrev known_places : List Known → List ℕ
@@ -113,11 +111,12 @@ known_places ks = map (λ (k : Known). k.place) ks
 
 unknown_all : (p : ℕ) (ks : List Known) → found ks p ≡ None → AllByRecursion (λ q. nat_eq p q ≡ false) (known_places ks)
 unknown_all p [] e = tt
-unknown_all p (k ∷ ks) e = go (nat_eq p k.place) refl e
+unknown_all p (k ∷ ks) e = go (nat_eq p k.place) refl e (λ f. unknown_all p ks f)
   where
-    go : (b : Bool) → nat_eq p k.place ≡ b → (if b then Some k.at else found ks p) ≡ None → AllByRecursion (λ q. nat_eq p q ≡ false) (k.place ∷ known_places ks)
-    go true q f = absurd cc
-    go false q f = (q, unknown_all p ks f)
+    go : (b : Bool) → nat_eq p k.place ≡ b → (if b then Some k.at else found ks p) ≡ None
+        → (found ks p ≡ None → AllByRecursion (λ q. nat_eq p q ≡ false) (known_places ks)) → AllByRecursion (λ q. nat_eq p q ≡ false) (k.place ∷ known_places ks)
+    go true q f more = absurd cc
+    go false q f more = (q, more f)
 
 distinct : (ks : List Known) → Apart ks → IsDistinct nat_eq (known_places ks)
 unfolding IsDistinct
@@ -126,11 +125,12 @@ distinct (k ∷ ks) h = (unknown_all k.place ks h.0, distinct ks h.1)
 
 in_places : (q : ℕ) (ks : List Known) → list_any (nat_eq q) (known_places ks) ≡ true → (k : Known) × IsIn k ks × (k.place ≡ q)
 in_places q [] e = absurd cc
-in_places q (k ∷ ks) e = go (nat_eq q k.place) refl e
+in_places q (k ∷ ks) e = go (nat_eq q k.place) refl e (λ f. in_places q ks f)
   where
-    go : (b : Bool) → nat_eq q k.place ≡ b → (b || list_any (nat_eq q) (known_places ks)) ≡ true → (j : Known) × IsIn j (k ∷ ks) × (j.place ≡ q)
-    go true p f = (k, inl refl, sym (eqb-true q k.place p))
-    go false p f = let r = in_places q ks f in (r.0, inr r.1, r.2)
+    go : (b : Bool) → nat_eq q k.place ≡ b → (b || list_any (nat_eq q) (known_places ks)) ≡ true
+        → (list_any (nat_eq q) (known_places ks) ≡ true → (j : Known) × IsIn j ks × (j.place ≡ q)) → (j : Known) × IsIn j (k ∷ ks) × (j.place ≡ q)
+    go true p f more = (k, inl refl, sym (eqb-true q k.place p))
+    go false p f more = let r = more f in (r.0, inr r.1, r.2)
 
 pub few_known : (count : ℕ) (ks : List Known) → Apart ks → ((k : Known) → IsIn k ks → k.place < count) → length ks ≤ count
 few_known count ks h low =
@@ -145,22 +145,22 @@ module _ (a : Known) where
 
   pub found_arrived : (ks : List Known) → found (with_arrival a ks) a.place ≡ Some (arrival (found ks a.place) a.at)
   found_arrived [] = ap (λ (b : Bool). if b then Some a.at else None) (eq-eqb a.place a.place refl)
-  found_arrived (j ∷ ks) = go (nat_eq a.place j.place) refl
+  found_arrived (j ∷ ks) = go (nat_eq a.place j.place) refl (found_arrived ks)
     where
-      go : (b : Bool) → nat_eq a.place j.place ≡ b
+      go : (b : Bool) → nat_eq a.place j.place ≡ b → found (with_arrival a ks) a.place ≡ Some (arrival (found ks a.place) a.at)
           → found (if b then joined j ∷ ks else j ∷ with_arrival a ks) a.place ≡ Some (arrival (if b then Some j.at else found ks a.place) a.at)
-      go true q = ap (λ (c : Bool). if c then Some (joined j).at else found ks a.place) q
-      go false q = ap (λ (c : Bool). if c then Some j.at else found (with_arrival a ks) a.place) q ∙ found_arrived ks
+      go true q more = ap (λ (c : Bool). if c then Some (joined j).at else found ks a.place) q
+      go false q more = ap (λ (c : Bool). if c then Some j.at else found (with_arrival a ks) a.place) q ∙ more
 
   pub found_elsewhere : (p : ℕ) (ks : List Known) → nat_eq p a.place ≡ false → found (with_arrival a ks) p ≡ found ks p
   found_elsewhere p [] n = ap (λ (b : Bool). if b then Some a.at else None) n
-  found_elsewhere p (j ∷ ks) n = go (nat_eq a.place j.place) refl
+  found_elsewhere p (j ∷ ks) n = go (nat_eq a.place j.place) refl (found_elsewhere p ks n)
     where
-      go : (b : Bool) → nat_eq a.place j.place ≡ b → found (if b then joined j ∷ ks else j ∷ with_arrival a ks) p ≡ (if nat_eq p j.place then Some j.at else found ks p)
-      go true q =
+      go : (b : Bool) → nat_eq a.place j.place ≡ b → found (with_arrival a ks) p ≡ found ks p → found (if b then joined j ∷ ks else j ∷ with_arrival a ks) p ≡ (if nat_eq p j.place then Some j.at else found ks p)
+      go true q more =
           let m : nat_eq p j.place ≡ false = subst (λ z. nat_eq p z ≡ false) (eqb-true a.place j.place q) n in
           ap (λ (c : Bool). if c then Some (joined j).at else found ks p) m ∙ sym (ap (λ (c : Bool). if c then Some j.at else found ks p) m)
-      go false q = ap (λ o. if nat_eq p j.place then Some j.at else o) (found_elsewhere p ks n)
+      go false q more = ap (λ o. if nat_eq p j.place then Some j.at else o) more
 
   pub long_kept : (ks : List Known) → length ks ≤ length (with_arrival a ks)
   long_kept [] = omega arith
@@ -172,35 +172,36 @@ module _ (a : Known) where
 
   pub long_new : (ks : List Known) → found ks a.place ≡ None → length ks < length (with_arrival a ks)
   long_new [] e = omega arith
-  long_new (j ∷ ks) e = go (nat_eq a.place j.place) e
+  long_new (j ∷ ks) e = go (nat_eq a.place j.place) e (λ f. long_new ks f)
     where
-      go : (b : Bool) → (if b then Some j.at else found ks a.place) ≡ None → suc (length ks) < length (if b then joined j ∷ ks else j ∷ with_arrival a ks)
-      go true f = absurd cc
-      go false f = let h = long_new ks f in omega (arith, h)
+      go : (b : Bool) → (if b then Some j.at else found ks a.place) ≡ None → (found ks a.place ≡ None → length ks < length (with_arrival a ks)) → suc (length ks) < length (if b then joined j ∷ ks else j ∷ with_arrival a ks)
+      go true f more = absurd cc
+      go false f more = let h = more f in omega (arith, h)
 
   flipped : (p q : ℕ) → nat_eq p q ≡ false → nat_eq q p ≡ false
   flipped p q n = ne_eqb q p (λ e. contrary (eq-eqb p q (sym e)) n)
 
   pub apart_arrived : (ks : List Known) → Apart ks → Apart (with_arrival a ks)
   apart_arrived [] h = (refl, tt)
-  apart_arrived (j ∷ ks) h = go (nat_eq a.place j.place) refl
+  apart_arrived (j ∷ ks) h = go (nat_eq a.place j.place) refl (apart_arrived ks h.1)
     where
-      go : (b : Bool) → nat_eq a.place j.place ≡ b → Apart (if b then joined j ∷ ks else j ∷ with_arrival a ks)
-      go true q = h
-      go false q = (found_elsewhere j.place ks (flipped a.place j.place q) ∙ h.0, apart_arrived ks h.1)
+      go : (b : Bool) → nat_eq a.place j.place ≡ b → Apart (with_arrival a ks) → Apart (if b then joined j ∷ ks else j ∷ with_arrival a ks)
+      go true q more = h
+      go false q more = (found_elsewhere j.place ks (flipped a.place j.place q) ∙ h.0, more)
 
   -- what is known then was known before, or is the arrival joined to what was known
   pub in_arrived : (k : Known) (ks : List Known) → IsIn k (with_arrival a ks) → IsIn k ks ⊎ ((k.place ≡ a.place) × (k.at ≡ arrival (found ks a.place) a.at))
   in_arrived k [] (inl e) = inr (ap (λ (z : Known). z.place) e, ap (λ (z : Known). z.at) e)
   in_arrived k [] (inr e) = absurd e
-  in_arrived k (j ∷ ks) h = go (nat_eq a.place j.place) refl h
+  in_arrived k (j ∷ ks) h = go (nat_eq a.place j.place) refl h (λ e. in_arrived k ks e)
     where
       go : (b : Bool) → nat_eq a.place j.place ≡ b → IsIn k (if b then joined j ∷ ks else j ∷ with_arrival a ks)
+          → (IsIn k (with_arrival a ks) → IsIn k ks ⊎ ((k.place ≡ a.place) × (k.at ≡ arrival (found ks a.place) a.at)))
           → IsIn k (j ∷ ks) ⊎ ((k.place ≡ a.place) × (k.at ≡ arrival (if b then Some j.at else found ks a.place) a.at))
-      go true q (inl e) = inr (ap (λ (z : Known). z.place) e ∙ sym (eqb-true a.place j.place q), ap (λ (z : Known). z.at) e)
-      go true q (inr e) = inl (inr e)
-      go false q (inl e) = inl (inl e)
-      go false q (inr e) = elim (in_arrived k ks e) [ inl l ↦ inl (inr l) | inr r ↦ inr r ]
+      go true q (inl e) more = inr (ap (λ (z : Known). z.place) e ∙ sym (eqb-true a.place j.place q), ap (λ (z : Known). z.at) e)
+      go true q (inr e) more = inl (inr e)
+      go false q (inl e) more = inl (inl e)
+      go false q (inr e) more = elim (more e) [ inl l ↦ inl (inr l) | inr r ↦ inr r ]
 
 -- what fits
 pub record FitsThere (s t : State) : Type 0 where
@@ -323,16 +324,17 @@ module _ (width : ℕ) where
 
   pub measure_bound : (ks : List Known) → measure ks ≤ length ks * width
   measure_bound [] = omega arith
-  measure_bound (k ∷ ks) = let h = measure_bound ks in let e : suc (length ks) * width ≡ width + length ks * width = refl in omega (arith, h, e)
+  measure_bound (k ∷ ks) = let h = measure_bound ks in let e = suc-mul (length ks) width in omega (arith, h, e)
 
   pub measure_grows : (a : Known) (ks : List Known) → fits_there (found ks a.place) a.at ≡ true → is_covered (found ks a.place) a.at ≡ false
       → 2 * length a.at.shape < width → ((k : Known) → IsIn k ks → 2 * length k.at.shape < width) → measure ks < measure (with_arrival a ks)
   measure_grows a [] f n l g = let m = missing_few a.at.shape in omega (arith, l, m)
-  measure_grows a (j ∷ ks) f n l g = go (nat_eq a.place j.place) f n
+  measure_grows a (j ∷ ks) f n l g = go (nat_eq a.place j.place) f n (λ e c. measure_grows a ks e c l (λ k i. g k (inr i)))
     where
       go : (b : Bool) → fits_there (if b then Some j.at else found ks a.place) a.at ≡ true → is_covered (if b then Some j.at else found ks a.place) a.at ≡ false
+          → (fits_there (found ks a.place) a.at ≡ true → is_covered (found ks a.place) a.at ≡ false → measure ks < measure (with_arrival a ks))
           → (width - missing_in j.at.shape) + measure ks < measure (if b then joined a j ∷ ks else j ∷ with_arrival a ks)
-      go true e c =
+      go true e c more =
           let x = fits_so j.at a.at e in
           let y = not_both (nat_eq j.at.height a.at.height) (are_alike j.at.shape a.at.shape && has_marks j.at.shape a.at.shape) c in
           let u = both (nat_eq j.at.height a.at.height) (are_alike j.at.shape a.at.shape && not (is_torn (join j.at.shape a.at.shape))) e in
@@ -344,25 +346,27 @@ module _ (width : ℕ) where
               | inr p ↦ (let m = fewer_missing j.at.shape a.at.shape x.alike p in let d = missing_few j.at.shape in let w = g j (inl refl) in omega (arith, m, d, w))
             ]
           ]
-      go false e c = let h = measure_grows a ks e c l (λ k i. g k (inr i)) in omega (arith, h)
+      go false e c more = let h = more e c in omega (arith, h)
 
 -- the first arrival that is not covered
 pub open_is : (xs : List Known) (ks : List Known) (a : Known) → first_open xs ks ≡ Some a → IsIn a xs × (is_covered (found ks a.place) a.at ≡ false)
 open_is [] ks a e = absurd cc
-open_is (x ∷ xs) ks a e = go (is_covered (found ks x.place) x.at) refl e
+open_is (x ∷ xs) ks a e = go (is_covered (found ks x.place) x.at) refl e (λ f. open_is xs ks a f)
   where
-    go : (b : Bool) → is_covered (found ks x.place) x.at ≡ b → (if b then first_open xs ks else Some x) ≡ Some a → IsIn a (x ∷ xs) × (is_covered (found ks a.place) a.at ≡ false)
-    go true q f = let r = open_is xs ks a f in (inr r.0, r.1)
-    go false q f = let z : x ≡ a = same_Some x a f in (inl (sym z), subst (λ (y : Known). is_covered (found ks y.place) y.at ≡ false) z q)
+    go : (b : Bool) → is_covered (found ks x.place) x.at ≡ b → (if b then first_open xs ks else Some x) ≡ Some a
+        → (first_open xs ks ≡ Some a → IsIn a xs × (is_covered (found ks a.place) a.at ≡ false)) → IsIn a (x ∷ xs) × (is_covered (found ks a.place) a.at ≡ false)
+    go true q f more = let r = more f in (inr r.0, r.1)
+    go false q f more = let z : x ≡ a = same_Some x a f in (inl (sym z), subst (λ (y : Known). is_covered (found ks y.place) y.at ≡ false) z q)
 
 pub none_open : (xs : List Known) (ks : List Known) (a : Known) → first_open xs ks ≡ None → IsIn a xs → is_covered (found ks a.place) a.at ≡ true
 none_open [] ks a e h = absurd h
-none_open (x ∷ xs) ks a e h = go (is_covered (found ks x.place) x.at) refl e h
+none_open (x ∷ xs) ks a e h = go (is_covered (found ks x.place) x.at) refl e h (λ f i. none_open xs ks a f i)
   where
-    go : (b : Bool) → is_covered (found ks x.place) x.at ≡ b → (if b then first_open xs ks else Some x) ≡ None → IsIn a (x ∷ xs) → is_covered (found ks a.place) a.at ≡ true
-    go true q f (inl z) = subst (λ (y : Known). is_covered (found ks y.place) y.at ≡ true) (sym z) q
-    go true q f (inr i) = none_open xs ks a f i
-    go false q f i = absurd cc
+    go : (b : Bool) → is_covered (found ks x.place) x.at ≡ b → (if b then first_open xs ks else Some x) ≡ None → IsIn a (x ∷ xs)
+        → (first_open xs ks ≡ None → IsIn a xs → is_covered (found ks a.place) a.at ≡ true) → is_covered (found ks a.place) a.at ≡ true
+    go true q f (inl z) more = subst (λ (y : Known). is_covered (found ks y.place) y.at ≡ true) (sym z) q
+    go true q f (inr i) more = more f i
+    go false q f i more = absurd cc
 
 covered_by : (st : ℕ → Option State) (p : ℕ) (t : State) (o : Option State) → st p ≡ o → is_covered o t ≡ true → Covered st p t
 covered_by st p t None e h = absurd cc

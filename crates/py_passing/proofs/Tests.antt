@@ -1,5 +1,5 @@
 -- What the tests of shapes and states say.
-use Rattle.std.proofs.Common.{◌≡◌, ◌≢◌, ◌⊎◌, ℕ, ◌+◌, ◌<◌, ◌≤◌, List, [], ◌∷◌, Bool, true, false, Option, Some, None, refl, sym, inl, inr, ap, ◌∙◌, subst, arith}
+use Rattle.std.proofs.Common.{◌≡◌, ◌≢◌, ◌⊎◌, ℕ, zero, suc, ◌+◌, ◌<◌, ◌≤◌, List, [], ◌∷◌, Bool, true, false, Option, Some, None, refl, sym, inl, inr, ap, ◌∙◌, subst, arith}
 use Rattle.std.specs.Prelude.{not, ◌&&◌, ◌||◌, nat_eq, nat_lt}
 use Rattle.std.proofs.lemmas.Bool.Decides.{nat_tests}
 use Rattle.std.proofs.lemmas.Bool.{eqb-true, eq-eqb}
@@ -30,12 +30,12 @@ pub contrary : {a : Bool} → a ≡ true → a ≡ false → ⊥
 contrary h g = let z : true ≡ false = sym h ∙ g in cc
 
 kind_of_number : ℕ → Kind
-kind_of_number 0 = Kind.Loop
-kind_of_number 1 = Kind.Except
-kind_of_number 2 = Kind.Finally
-kind_of_number 3 = Kind.With
-kind_of_number 4 = Kind.ExceptHandler
-kind_of_number _ = Kind.FinallyHandler
+kind_of_number zero = Kind.Loop
+kind_of_number (suc zero) = Kind.Except
+kind_of_number (suc (suc zero)) = Kind.Finally
+kind_of_number (suc (suc (suc zero))) = Kind.With
+kind_of_number (suc (suc (suc (suc zero)))) = Kind.ExceptHandler
+kind_of_number (suc (suc (suc (suc (suc n))))) = Kind.FinallyHandler
 
 number_back : (k : Kind) → kind_of_number (kind_number k) ≡ k
 number_back Kind.Loop = refl

@@ -31,14 +31,15 @@ use Rattle.py_meaning.specs.TableParams as forms
 use Rattle.py_meaning.specs.TableParams.{built_value, params_form}
 use Rattle.py_meaning.specs.TableScopes.{build_class, class_form}
 use Rattle.py_meaning.specs.TableStmts.{rest_form}
+use Rattle.py_emission_proof.proofs.Trees.WholeScopes.{whole_class, whole_generic_class, whole_laid}
 use Rattle.py_emission_outcomes.proofs.Capacity.ShortTables.{doc_short}
-use Rattle.py_emission_outcomes.proofs.Capacity.Fits.{EmissionFits, constant_fits, context_fits, fits_as, keep_fits, level_fits, name_fits, plain_fits, fit_room, then_fits}
+use Rattle.py_emission_outcomes.proofs.Capacity.Fits.{EmissionFits, constant_fits, context_fits, fits_as, keep_fits, level_fits, name_fits, plain_fits, fit_room, then_fits, few_so}
 use Rattle.py_emission_outcomes.proofs.Capacity.Accesses.{AtHand, AccessReady, cell_fits, made_fits, access_outside}
 use Rattle.py_emission_outcomes.proofs.Capacity.FitParts.{ElementFits, built_fits, call_fits, elements_fit}
-use Rattle.py_emission_outcomes.proofs.Capacity.FitScopes.{child_fits, hand_as}
+use Rattle.py_emission_outcomes.proofs.Capacity.FitScopes.{IsLaidOut, child_fits, hand_as}
 use Rattle.py_emission_outcomes.proofs.Capacity.FitExprs.{exprs_fit, keywords_fit}
 use Rattle.py_emission_outcomes.proofs.Capacity.FitDefs.{RestFits}
-use Rattle.py_emission_outcomes.proofs.Capacity.FitGeneric.{type_param_scope_fits, type_param_scope_of_value, type_param_scope_stands}
+use Rattle.py_emission_outcomes.proofs.Capacity.FitGeneric.{type_param_scope_fits, type_param_scope_of_value, type_param_scope_stands, type_param_scope_laid}
 use Rattle.py_emission_outcomes.proofs.Capacity.FitGeneric.{fit_generic_none_handed, params_fits, fit_generic_nested, nested_ready}
 use Rattle.py_emission_outcomes.proofs.Capacity.AvailableCellLemmas.{Here, available_cell_apart, free_at_hand, kids_stand, names_at_hand, available_cell_context}
 use Rattle.py_emission_outcomes.proofs.Capacity.StandingExprs.{InElement, InForm, call_in, elements_in, two_apart}
@@ -136,13 +137,19 @@ module _ (c : NodeContext) (r : AccessReady c) (k : ℕ) (path name : List ℕ) 
   unfolding inside with_path nested_in_class
   fit_class_reach h = free_at_hand r k (names_at_hand c.context.scopes c.context.here (head_of (nested_class path name (available_cell_context c) k)) fit_class_whole h)
 
+  -- where there is room for its statements, it has a layout
+  fit_class_laid : Here c class_own → 192 * stmts_size body < 2 ^ 30 → IsLaidOut (nested_class path name c.context k) (class_shape name) (suc k) (class_scope body (emission_of_rest body))
+  unfolding inside with_path nested_in_class
+  fit_class_laid h i = whole_laid (nested_class path name c.context k) (class_shape name) (class_scope body (emission_of_rest body)) (suc k) class_own
+      (whole_class path name body (omega (arith, i)) c.context k) h.1
+
   -- its function
   pub class_function_fits : (flags : ℕ) → flags < 2 ^ 31 → Here c class_own
       → EmissionFits c k (k + suc (scopes_in_stmts p body)) (192 * stmts_size body + 10) (class_function path flags name body (emission_of_rest body))
-  class_function_fits flags small h = fits_as (omega arith) (omega arith)
+  class_function_fits flags small h = few_so (192 * stmts_size body) (omega arith) (λ small_body. fits_as (omega arith) (omega arith)
       (child_fits (nested_class path name) (class_shape name) inner_ready (scope_fits h)
-      (λ i. record { positional = omega arith; arguments = omega arith; keywords = omega arith })
-      (λ o e short. made_fits r flags name o small (hand_as e (fit_class_reach h)) short))
+      (λ i. record { positional = omega arith; arguments = omega arith; keywords = omega arith }) (fit_class_laid h small_body)
+      (λ o e short. made_fits r flags name o small (hand_as e (fit_class_reach h)) short)))
 
 -- the call of what builds a class
 module _ (c : NodeContext) (r : AccessReady c) where
@@ -235,6 +242,7 @@ module _ (c : NodeContext) (r : AccessReady c) (k : ℕ) (name : List ℕ) (base
       let own = class_own w ready fit_class_own_here own_path name body rest in
       let form = VMake 0x10 (VMore tuple VNone) own name VNone in
       let y = type_param_scope_apart (Here c) (type_param_scope_of_value c r k value) name forms.no_defaults h in
+      few_so (64 * exprs_size bases + 64 * keywords_size keywords + 64 * type_params_size fit_class_generic + 64 * stmts_size body) (omega arith) (λ small.
       fits_as (omega arith) (omega arith)
       (context_fits (λ d. in_type_param_scope name no_defaults
       (class_call name (emission_of_params fit_class_generic
@@ -250,4 +258,6 @@ module _ (c : NodeContext) (r : AccessReady c) (k : ℕ) (name : List ℕ) (base
       fits_as (omega arith) (omega arith)
       (then_fits (params_fits w ready (suc k) fit_class_generic t.0)
       (class_function_fits w ready fit_class_own_here own_path name body rest 0x10 (omega arith) z.1))))
-      fit_generic_none_handed))
+      (type_param_scope_laid c r k _ _ value y.0
+      (whole_generic_class own_path name bases keywords body x xs (omega (arith, small)) c.context k))
+      fit_generic_none_handed)))

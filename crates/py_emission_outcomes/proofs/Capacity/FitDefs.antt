@@ -9,7 +9,7 @@ use Rattle.py_bytecode.specs.Objects as const
 use Rattle.py_bytecode.specs.Objects.{Object}
 use Rattle.py_control.specs.Agree.{AllOf, kids}
 use Rattle.py_control.specs.Form.{MkScope, SForm, Scope, VForms, VNone}
-use Rattle.py_emission_parts.specs.Children.{DefaultEmissions, decorated_value, decorations, docstring_store, emission_of_defaults, flags_of_defaults, free_names, function_made, made_function}
+use Rattle.py_emission_parts.specs.Children.{DefaultEmissions, decorated_value, decorations, docstring_store, emission_of_defaults, flags_of_defaults, free_names, function_made, made_function, function_scope}
 use Rattle.py_emission_parts.specs.Context.{Context, head_of, inside, qualified_under, with_path}
 use Rattle.py_emission_parts.specs.Emitting.{NodeContext, Emission, ◌▸◌}
 use Rattle.py_emission_parts.specs.EmissionParts.{in_turn}
@@ -28,10 +28,11 @@ use Rattle.py_meaning.specs.TableNotes.{note_forms}
 use Rattle.py_meaning.specs.TableParams.{def_form}
 use Rattle.py_meaning.specs.TableScopes.{default_flags, default_parts}
 use Rattle.py_meaning.specs.TableStmts.{ended_form, function_body, rest_form, stmt_form, stmts_form}
+use Rattle.py_emission_proof.proofs.Trees.WholeScopes.{whole_function, whole_laid}
 use Rattle.py_emission_outcomes.specs.Fitting.{HasShortTables}
-use Rattle.py_emission_outcomes.proofs.Capacity.Fits.{EmissionFits, constant_fits, context_fits, count_fits, fits_as, if_fits, keep_fits, level_fits, name_fits, plain_fits, fit_room, then_fits}
+use Rattle.py_emission_outcomes.proofs.Capacity.Fits.{EmissionFits, constant_fits, context_fits, count_fits, fits_as, if_fits, keep_fits, level_fits, name_fits, plain_fits, fit_room, then_fits, few_so}
 use Rattle.py_emission_outcomes.proofs.Capacity.Accesses.{AtHand, AccessReady, made_fits, access_outside}
-use Rattle.py_emission_outcomes.proofs.Capacity.FitScopes.{child_fits, defaults_fit, hand_as, scope_fits}
+use Rattle.py_emission_outcomes.proofs.Capacity.FitScopes.{IsLaidOut, child_fits, defaults_fit, hand_as, scope_fits}
 use Rattle.py_emission_outcomes.proofs.Capacity.FitLambdas.{defaults_size, function_few, parameters_less}
 use Rattle.py_emission_outcomes.proofs.Capacity.FitExprs.{defaults_fitted}
 use Rattle.py_emission_outcomes.proofs.Capacity.FitNotes.{notes_fit}
@@ -144,6 +145,14 @@ module _ (c : NodeContext) (r : AccessReady c) (k : ℕ) (name : List ℕ) (para
   unfolding inside with_path
   fit_def_reach h = free_at_hand r k (names_at_hand c.context.scopes c.context.here (head_of (function_inside name (available_cell_context c) k)) fit_def_statements h)
 
+  -- where there is room for its statements, it has a layout
+  fit_def_laid : Here c fit_def_own → 192 * stmts_size body < 2 ^ 30
+      → IsLaidOut (function_inside name c.context k) (function_shape params name) (suc k) (function_scope (parameters params) (emission_of_rest body ▸ emission_of_end (after_doc body)))
+  unfolding inside with_path
+  fit_def_laid h i = whole_laid (function_inside name c.context k) (function_shape params name)
+      (function_scope (parameters params) (emission_of_rest body ▸ emission_of_end (after_doc body))) (suc k) fit_def_own
+      (whole_function name params body (omega (arith, i)) c.context k) h.1
+
   -- the function with its annotations and its docstring
   pub function_value_fits : (flags : ℕ) (parts : VForms) → flags < 2 ^ 30
       → FunctionStands (Here c) parts fit_def_own (note_forms (available_cell_context c) (suc k + scopes_in_stmts p body) params returns)
@@ -154,12 +163,14 @@ module _ (c : NodeContext) (r : AccessReady c) (k : ℕ) (name : List ℕ) (para
       let m = suc k + scopes_in_stmts p body in
       let few = parameters_less params in
       let noted = notes_fit c r m params returns h.notes_so in
+      few_so (192 * stmts_size body) (omega arith) (λ small_body.
       fits_as (omega arith) (omega (arith, few))
       (then_fits
       (child_fits (function_inside name) (function_shape params name) inner_ready
       (scope_fits fit_def_inner (parameters params) (body_fits h.own)) (λ i. function_few params name (omega (arith, i)))
+      (fit_def_laid h.own small_body)
       (λ o e short. function_made_fits r flags (notes params returns) name o small noted (hand_as e (fit_def_reach h.own)) short))
-      (level_fits (λ l. docstring_store (doc_of l body)) (documented_fits (doc_of c.context.level body))))
+      (level_fits (λ l. docstring_store (doc_of l body)) (documented_fits (doc_of c.context.level body)))))
 
 -- the defaults of a function
 pub default_fits : (c : NodeContext) → AccessReady c → (k : ℕ) (params : tree.Arguments)

@@ -11,7 +11,9 @@ use Rattle.py_bytecode.specs.Objects as const
 use Rattle.py_emission.specs.Awaits.{awaits, some_async}
 use Rattle.py_emission.specs.Emission.{all_emissions, all_stores, clause_emissions, default_emissions, emission, emissions}
 use Rattle.py_emission.specs.Emission.{keyword_emissions, keyword_only_emissions, opt_emission, opt_emissions, positional_emissions, stores}
+use Rattle.py_emission.specs.Parameters.{function_shape}
 use Rattle.py_emission.specs.Texts.{texts_of}
+use Rattle.py_emission_proof.proofs.Trees.WholeScopes.{whole_dict, whole_generator, whole_lambda, whole_list, whole_set}
 use Rattle.py_control.specs.Agree.{AllOf, kids_bs, kids_c, kids_g, kids_gs, kids_t, kids_v, kids_vs}
 use Rattle.py_control.specs.Form.{MkScope, SReturn, Scope, VMore, VNone}
 use Rattle.py_meaning.specs.Table.{after, after_clauses, all_forms, all_targets, clause_forms, default_forms, expr_form, expr_forms}
@@ -19,7 +21,7 @@ use Rattle.py_meaning.specs.Table.{filter_forms, first_iterable, further_forms, 
 use Rattle.py_meaning.specs.Table.{positional_defaults, target_form, test_form, value_forms}
 use Rattle.py_meaning.specs.TableScopes.{default_parts, gather_form, generate_form}
 use Rattle.py_scope.specs.declared.table_type.SymbolTableType.TheVariants as kind
-use Rattle.py_emission_parts.specs.Comprehensions.{ClauseEmissions}
+use Rattle.py_emission_parts.specs.Comprehensions.{ClauseEmissions, comprehension_shape}
 use Rattle.py_emission_parts.specs.Context.{head_of, inside}
 use Rattle.py_emission_parts.specs.Elements.{bare, pairs}
 use Rattle.py_emission_parts.specs.Emitting.{NodeContext, ◌▸◌, emit, emit_mangled, move, refuse}
@@ -29,7 +31,7 @@ use Rattle.py_emission_parts.specs.TableParts as table
 use Rattle.py_emission_parts.specs.TableParts.{binary_case, constant_of, conversion_case}
 use Rattle.py_emission_parts.specs.NestedScopes.{comprehension_inside, lambda_inside}
 use Rattle.py_emission_outcomes.proofs.Capacity.ShortTables.{literal_short}
-use Rattle.py_emission_outcomes.proofs.Capacity.Fits.{EmissionFits, at_fits, constant_fits, emit_fits, fits_as, generating_fits}
+use Rattle.py_emission_outcomes.proofs.Capacity.Fits.{EmissionFits, at_fits, constant_fits, emit_fits, few_so, fits_as, generating_fits}
 use Rattle.py_emission_outcomes.proofs.Capacity.Fits.{in_function_fits, mangled_fits, plain_fits, refuse_fits, fit_room, then_fits}
 use Rattle.py_emission_outcomes.proofs.Capacity.Fits.{unless_debug_fits}
 use Rattle.py_emission_outcomes.proofs.Capacity.Accesses.{AccessReady, load_fits, access_outside, ready_inside, stored_fits}
@@ -40,7 +42,7 @@ use Rattle.py_emission_outcomes.proofs.Capacity.FitParts.{value_or_fits, values_
 use Rattle.py_emission_outcomes.proofs.Capacity.FitScopes.{ClausesFit, DefaultsFit, FirstFits, FurtherFits, RestFits, comprehension_fits, element_fits, gathered_fits, generated_fits}
 use Rattle.py_emission_outcomes.proofs.Capacity.FitLambdas.{default_sizes, defaults_size, lambda_fits, parameters_less}
 use Rattle.py_emission_outcomes.proofs.Capacity.FitTests.{bool_fits, tested_fits, fit_test_by_return, choice_fits, compare_fits, truth_fits, unary_fits, fit_test_value_returned, whole_fits}
-use Rattle.py_emission_outcomes.proofs.Capacity.Hands.{hand, kids_here}
+use Rattle.py_emission_outcomes.proofs.Capacity.Hands.{hand, kids_here, scope_laid}
 use Rattle.py_emission_outcomes.proofs.Capacity.AvailableCellLemmas.{Here, available_cell_apart, available_cell_context}
 use Rattle.py_emission_outcomes.proofs.Capacity.StandingExprs.{InEntry, InForm, InForms, InKeyword, InNamedForm, InOption, InTargetElement}
 use Rattle.py_emission_outcomes.proofs.Capacity.StandingExprs.{call_in, called_in, callee_in, compare_in, dict_in, display_in, elements_in}
@@ -85,8 +87,10 @@ mutual
       let few = parameters_less params in
       let inner = expr_fits (access_outside (lambda_inside c.context m)) (ready_inside c kind.Function m r) (suc m) body (kids_here c kind.Function m f x.1.0) in
       whole_fits at (omega arith) (omega (arith, few))
-      (lambda_fits c k m (suc m + scopes_in p body) (64 * defaults_size params) (64 * expr_size body) params (default_emissions params) r
-      (hand c r kind.Function m f x.1.0) (defaults_fitted c r k params x.0) inner.returned)
+      (few_so (64 * expr_size body) (omega arith)
+      (λ i. lambda_fits c k m (suc m + scopes_in p body) (64 * defaults_size params) (64 * expr_size body) params (default_emissions params) r
+      (hand c r kind.Function m f x.1.0) (defaults_fitted c r k params x.0) inner.returned
+      (scope_laid c kind.Function m (function_shape params (codes "<lambda>")) _ f x.1.0 (whole_lambda params body (omega (arith, i)) c.context m))))
   expr_fits c r k (tree.IfExp at t body orelse) h =
       let j = k + scopes_in c.context.postponed t in
       let m = j + scopes_in c.context.postponed body in
@@ -121,7 +125,9 @@ mutual
       let scope = gathered_fits d op.BuildList op.ListAppend (suc k) m j (64 * rest_size gs) (64 * expr_size elt) (clause_emissions gs) y.0 (element_fits z.value) in
       well_as c _ refl (omega arith)
       (comprehended_fits c k (scopes_in p elt) (64 * expr_size elt) at (some_async gs) (codes "<listcomp>") gs _ r
-      (hand c r kind.Comprehension k f x.0) scope (first_fits c r j gs x.1))
+      (hand c r kind.Comprehension k f x.0) scope
+      (λ i. scope_laid c kind.Comprehension k (comprehension_shape (codes "<listcomp>")) _ f x.0 (whole_list elt gs (omega (arith, i)) c.context k))
+      (first_fits c r j gs x.1))
   expr_fits c r k (tree.SetComp at elt gs) h =
       let p = c.context.postponed in
       let i = comprehension_inside (available_cell_context c) k in
@@ -136,7 +142,9 @@ mutual
       let scope = gathered_fits d op.BuildSet op.SetAdd (suc k) m j (64 * rest_size gs) (64 * expr_size elt) (clause_emissions gs) y.0 (element_fits z.value) in
       well_as c _ refl (omega arith)
       (comprehended_fits c k (scopes_in p elt) (64 * expr_size elt) at (some_async gs) (codes "<setcomp>") gs _ r
-      (hand c r kind.Comprehension k f x.0) scope (first_fits c r j gs x.1))
+      (hand c r kind.Comprehension k f x.0) scope
+      (λ i. scope_laid c kind.Comprehension k (comprehension_shape (codes "<setcomp>")) _ f x.0 (whole_set elt gs (omega (arith, i)) c.context k))
+      (first_fits c r j gs x.1))
   expr_fits c r k (tree.DictComp at key value gs) h =
       let p = c.context.postponed in
       let i = comprehension_inside (available_cell_context c) k in
@@ -153,9 +161,11 @@ mutual
       (clause_emissions gs) y.0 (then_fits (expr_fits d q m key u.0).value (expr_fits d q n value u.1).value) in
       let e = scopes_end (available_cell_context c) (suc k) gs in let w = sizes_split gs in
       whole_fits at (omega (arith, e)) (omega (arith, w))
-      (comprehension_fits c k j (j + first_scopes p gs) (64 * rest_size gs + (64 * expr_size key + 64 * expr_size value))
+      (few_so (64 * expr_size key + 64 * expr_size value + 64 * generators_size gs) (omega (arith, w))
+      (λ i. comprehension_fits c k j (j + first_scopes p gs) (64 * rest_size gs + (64 * expr_size key + 64 * expr_size value))
       (64 * first_size gs) (some_async gs) (codes "<dictcomp>") (clause_emissions gs) r (hand c r kind.Comprehension k f x.0) scope
-      (first_fits c r j gs x.1))
+      (scope_laid c kind.Comprehension k (comprehension_shape (codes "<dictcomp>")) _ f x.0 (whole_dict key value gs (omega (arith, i)) c.context k))
+      (first_fits c r j gs x.1)))
   expr_fits c r k (tree.GeneratorExp at elt gs) h =
       let p = c.context.postponed in
       let i = comprehension_inside (available_cell_context c) k in
@@ -172,7 +182,9 @@ mutual
       let scope = generated_fits d (suc k) m j (64 * rest_size gs) (64 * expr_size elt) (clause_emissions gs) y.0 (element_fits z.value) in
       well_as c _ refl (omega arith)
       (comprehended_fits c k (scopes_in p elt) (64 * expr_size elt + 1) at (some_async gs || awaits elt) (codes "<genexpr>") gs _ r
-      (hand c r kind.Comprehension k f x.0) (fit_room (omega arith) scope) (first_fits c r j gs x.1))
+      (hand c r kind.Comprehension k f x.0) (fit_room (omega arith) scope)
+      (λ i. scope_laid c kind.Comprehension k (comprehension_shape (codes "<genexpr>")) _ f x.0 (whole_generator elt gs (omega (arith, i)) c.context k))
+      (first_fits c r j gs x.1))
   expr_fits c r k (tree.Await at value) h = tested_fits (at_fits at (refuse_fits error.InvalidAwait tt))
   expr_fits c r k (tree.Yield at value) h =
       let l = k + scopes_in_opt c.context.postponed value in

@@ -1,5 +1,5 @@
 -- Type parameters fit, and the type-parameter scopes that they stand in: around functions and aliases.
-use Rattle.std.proofs.Common.{refl, ℕ, suc, ◌+◌, ◌*◌, ◌≤◌, List, [], ◌∷◌, ◌++◌, length, Bool, arith}
+use Rattle.std.proofs.Common.{refl, ℕ, suc, ◌+◌, ◌*◌, ◌≤◌, List, [], ◌∷◌, ◌++◌, length, Bool, arith, ◌<◌, ◌^◌}
 use Rattle.py_tree.specs.Tree as tree
 use Rattle.py_tree.specs.PythonName.{python_name}
 use Rattle.py_base.specs.declared.errors.CodegenErrorType.TheVariants as error
@@ -13,9 +13,9 @@ use Rattle.py_control.specs.Agree.{AllOf, kids, kids_v}
 use Rattle.py_control.specs.Form.{MkScope, SForm, SReturn, Scope, VForm, VForms, VConst, VMore, VNone, VSwap}
 use Rattle.py_emission_parts.specs.Children.{DefaultEmissions, emission_of_defaults, flags_of_defaults}
 use Rattle.py_emission_parts.specs.Context.{head_of, inside, with_path}
-use Rattle.py_emission_parts.specs.Emitting.{NodeContext, Emission, ◌▸◌}
+use Rattle.py_emission_parts.specs.Emitting.{NodeContext, Emission, ◌▸◌, emit}
 use Rattle.py_emission_parts.specs.TypeParameters.{in_type_param_scope, type_param_scope_shape, kept_as, load_handed, no_defaults}
-use Rattle.py_emission_parts.specs.NestedScopes.{function_inside, passed_defaults, handed_parts, type_param_scope_inside, type_param_scope_name, some_name}
+use Rattle.py_emission_parts.specs.NestedScopes.{function_inside, passed_defaults, handed_parts, type_param_scope_inside, type_param_scope_name, some_name, Shape}
 use Rattle.std.specs.Prelude.{codes}
 use Rattle.py_emission.specs.Emission.{default_emissions}
 use Rattle.py_emission.specs.EmissionDefs as emitting
@@ -29,9 +29,10 @@ use Rattle.py_meaning.specs.TableParams as forms
 use Rattle.py_meaning.specs.TableParams.{alias_form, def_form, param_form, param_forms, params_form}
 use Rattle.py_meaning.specs.TableScopes.{Defaults, default_flags}
 use Rattle.py_meaning.specs.TableStmts.{function_body}
-use Rattle.py_emission_outcomes.proofs.Capacity.Fits.{EmissionFits, at_fits, constant_fits, count_fits, fits_as, fits_from, keep_fits, plain_fits, refuse_fits, fit_room, then_fits, varname_fits}
+use Rattle.py_emission_proof.proofs.Trees.WholeScopes.{WholeScope, whole_generic_alias, whole_generic_function, whole_laid}
+use Rattle.py_emission_outcomes.proofs.Capacity.Fits.{EmissionFits, at_fits, constant_fits, count_fits, fits_as, fits_from, keep_fits, plain_fits, refuse_fits, fit_room, then_fits, varname_fits, few_so}
 use Rattle.py_emission_outcomes.proofs.Capacity.Accesses.{AtHand, AccessReady, made_fits, access_outside, stored_fits}
-use Rattle.py_emission_outcomes.proofs.Capacity.FitScopes.{child_fits, hand_as}
+use Rattle.py_emission_outcomes.proofs.Capacity.FitScopes.{IsLaidOut, child_fits, hand_as}
 use Rattle.py_emission_outcomes.proofs.Capacity.FitChanges.{value_fits}
 use Rattle.py_emission_outcomes.proofs.Capacity.FitControl.{lands}
 use Rattle.py_emission_outcomes.proofs.Capacity.FitDefs.{RestFits, default_fits, default_flags_small, function_value_fits}
@@ -118,16 +119,24 @@ module _ (c : NodeContext) (r : AccessReady c) (k : ℕ) where
   unfolding inside
   fit_generic_reach f h = free_at_hand r k (names_at_hand c.context.scopes c.context.here (head_of (type_param_scope_inside (available_cell_context c) k)) (SReturn f) h)
 
+  -- where its body is the whole code of the value, it has a layout
+  pub type_param_scope_laid : (h : Shape) (body : Emission) (f : VForm) → Here c (type_param_scope_of_value f)
+      → WholeScope (type_param_scope_inside c.context k) body (suc k) (type_param_scope_of_value f) → IsLaidOut (type_param_scope_inside c.context k) h (suc k) body
+  unfolding inside
+  type_param_scope_laid h body f here whole = whole_laid (type_param_scope_inside c.context k) h body (suc k) (type_param_scope_of_value f) whole here.1
+
   -- the type-parameter scope, and its call with the defaults
   pub type_param_scope_fits : {l m v w : ℕ} {value : Emission} (name : List ℕ) (d : DefaultEmissions) (f : VForm) → Here c (type_param_scope_of_value f)
-      → EmissionFits fit_generic_nested (suc k) l v value → EmissionFits c l m w (emission_of_defaults d) → EmissionFits c k m (v + w + 3) (in_type_param_scope name d value)
-  type_param_scope_fits name d f h x y =
+      → EmissionFits fit_generic_nested (suc k) l v value
+      → IsLaidOut (type_param_scope_inside c.context k) (type_param_scope_shape (length (passed_defaults d.positional d.keyword)) name) (suc k) (value ▸ emit op.ReturnValue 0)
+      → EmissionFits c l m w (emission_of_defaults d) → EmissionFits c k m (v + w + 3) (in_type_param_scope name d value)
+  type_param_scope_fits name d f h x lay y =
       let count = length (passed_defaults d.positional d.keyword) in
       let two = two_handed d.positional d.keyword in
       fit_room (omega arith)
       (then_fits (child_fits type_param_scope_inside (type_param_scope_shape count name) nested_ready
       (then_fits x (plain_fits op.ReturnValue))
-      (λ i. record { positional = omega (arith, two); arguments = omega (arith, two); keywords = omega arith })
+      (λ i. record { positional = omega (arith, two); arguments = omega (arith, two); keywords = omega arith }) lay
       (λ o e short. made_fits r 0 (type_param_scope_name name) o (omega arith) (hand_as e (fit_generic_reach f h)) short))
       (then_fits y (count_fits op.CallFunctionPositional count (omega (arith, two)))))
 
@@ -197,13 +206,15 @@ module _ (c : NodeContext) (r : AccessReady c) (k : ℕ) (name : List ℕ) (para
       (type_param_scope_stands c r k fit_generic_form y.0) in
       let t = handed_apart (Here w) (passed_defaults fit_generic_defaults.positional fit_generic_defaults.keyword) (VMore tuple VNone) z.parts_so in
       let u = available_cell_apart (Here w) (kids_v tuple) [] t in
+      few_so (64 * arguments_size params + 64 * opt_expr_size returns + 64 * type_params_size generic_fits_well + 64 * stmts_size body) (omega arith) (λ room.
       fits_as (omega arith) (omega (arith, two))
       (type_param_scope_fits c r k name d fit_generic_form y.0
       (then_fits (handed_fits names)
       (then_fits (params_fits w ready (suc k) generic_fits_well u.0)
       (function_value_fits w ready fit_generic_own_here name params body returns rest (0x10 + flags_of_defaults d) fit_generic_parts
       (omega (arith, small)) z)))
-      (fits_from (omega arith) (default_fits c r fit_generic_after params y.1)))
+      (type_param_scope_laid c r k _ _ fit_generic_form y.0 (whole_generic_function name params body returns x xs (omega (arith, room)) c.context k))
+      (fits_from (omega arith) (default_fits c r fit_generic_after params y.1))))
 
 -- an alias, with type parameters or without
 module _ (c : NodeContext) (r : AccessReady c) where
@@ -229,12 +240,14 @@ module _ (c : NodeContext) (r : AccessReady c) where
       let y = type_param_scope_apart (Here c) (type_param_scope_of_value c r k form) name forms.no_defaults h in
       let z = available_cell_apart (Here w) (kids_v tuple) (kids_v (expr_form (available_cell_context w) j e) ++ []) (type_param_scope_stands c r k form y.0) in
       let u = available_cell_apart (Here w) (kids_v (expr_form (available_cell_context w) j e)) [] z.1 in
+      few_so (64 * type_params_size generic + 64 * expr_size e) (omega arith) (λ room.
       fits_as (omega arith) (omega arith)
       (type_param_scope_fits c r k name no_defaults form y.0
       (then_fits (params_fits w ready (suc k) generic z.0)
       (then_fits (value_fits w ready j e u.0)
       (then_fits (plain_fits op.Rotate2) (then_fits (constant_fits op.LoadConst (const.str name) tt) (plain_fits op.TypeAlias)))))
-      fit_generic_none_handed)
+      (type_param_scope_laid c r k _ _ form y.0 (whole_generic_alias name e t ts (omega (arith, room)) c.context k))
+      fit_generic_none_handed))
 
   -- only a name is an alias
   pub alias_fits : (k : ℕ) (target : tree.Expr) (generic : tree.TypeParams) (e : tree.Expr)

@@ -7,13 +7,13 @@ use Rattle.py_emission.specs.Emission.{lambda_value}
 use Rattle.py_emission.specs.Parameters.{arg_names, function_shape, names_with_default, names_without_default, opt_arg_names, parameters}
 use Rattle.py_limits.specs.Size.{args_size, arguments_size, opt_arg_size, opt_expr_size}
 use Rattle.py_scope.specs.declared.table_type.SymbolTableType.TheVariants as kind
-use Rattle.py_emission_parts.specs.Children.{DefaultEmissions, flags_of_defaults}
+use Rattle.py_emission_parts.specs.Children.{DefaultEmissions, flags_of_defaults, function_scope}
 use Rattle.py_emission_parts.specs.NestedScopes.{lambda_inside}
 use Rattle.py_emission_parts.specs.Emitting.{NodeContext, Emission}
 use Rattle.py_emission_outcomes.proofs.Capacity.ShortTables.{HasFew}
 use Rattle.py_emission_outcomes.proofs.Capacity.Fits.{EmissionFits, fit_room, scopes_fit, then_fits}
 use Rattle.py_emission_outcomes.proofs.Capacity.Accesses.{AtHand, AccessReady, made_fits, access_outside, ready_inside}
-use Rattle.py_emission_outcomes.proofs.Capacity.FitScopes.{DefaultsFit, child_fits, default_flags_few, defaults_fit, hand_as, scope_fits}
+use Rattle.py_emission_outcomes.proofs.Capacity.FitScopes.{DefaultsFit, IsLaidOut, child_fits, default_flags_few, defaults_fit, hand_as, scope_fits}
 
 -- the sizes of the defaults of some parameters, with one more for each
 abbrev pub default_sizes : tree.Args → ℕ
@@ -78,12 +78,13 @@ function_few (tree.arguments posonly args vararg kwonly kwarg) name h =
 -- a lambda
 pub lambda_fits : {returned : Emission} (c : NodeContext) (k m l v w : ℕ) (params : tree.Arguments) (d : DefaultEmissions) → AccessReady c
     → AtHand c (lambda_inside c.context m).frees → DefaultsFit c k m v d → EmissionFits (access_outside (lambda_inside c.context m)) (suc m) l w returned
+    → IsLaidOut (lambda_inside c.context m) (function_shape params (codes "<lambda>")) (suc m) (function_scope (parameters params) returned)
     → EmissionFits c k (l + scopes_in_annotations c.context.postponed params) (v + w + length (parameters params) + 4) (lambda_value params d returned)
 unfolding lambda_value
-lambda_fits c k m l v w params d r hand x y =
+lambda_fits c k m l v w params d r hand x y lay =
     fit_room (omega arith)
     (then_fits (defaults_fit c k m v d x)
     (child_fits lambda_inside (function_shape params (codes "<lambda>")) (ready_inside c kind.Function m r)
     (scope_fits (access_outside (lambda_inside c.context m)) (parameters params) y)
-    (λ i. function_few params (codes "<lambda>") (omega (arith, i)))
+    (λ i. function_few params (codes "<lambda>") (omega (arith, i))) lay
     (λ o e short. then_fits (scopes_fit (λ postponed. scopes_in_annotations postponed params)) (made_fits r (flags_of_defaults d) (codes "<lambda>") o (default_flags_few d) (hand_as e hand) short))))

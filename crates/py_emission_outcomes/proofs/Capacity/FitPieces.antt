@@ -16,17 +16,17 @@ use Rattle.py_control.specs.Agree.{AllOf, kids_g}
 use Rattle.py_control.specs.Form.{VForm}
 use Rattle.py_meaning.specs.Table.{after, after_clauses, all_forms, target_form, target_forms}
 use Rattle.py_emission_parts.specs.Context.{Context}
-use Rattle.py_emission_parts.specs.Comprehensions.{comprehension}
+use Rattle.py_emission_parts.specs.Comprehensions.{comprehension, comprehension_shape}
 use Rattle.py_emission_parts.specs.Elements.{pairs}
 use Rattle.py_emission_parts.specs.Emitting.{NodeContext, Emission, ◌▸◌, move}
 use Rattle.py_emission_parts.specs.EmissionParts.{joined_value, tested_value, values}
 use Rattle.py_emission_parts.specs.NestedScopes.{comprehension_inside}
 use Rattle.py_emission_parts.specs.TableParts as table
 use Rattle.py_emission_parts.specs.TableParts.{binary_case, conversion_case, is_debug}
-use Rattle.py_emission_outcomes.proofs.Capacity.Fits.{EmissionFits, constant_fits, fits_as, fits_from, if_fits, fit_room}
+use Rattle.py_emission_outcomes.proofs.Capacity.Fits.{EmissionFits, constant_fits, fits_as, fits_from, if_fits, fit_room, few_so}
 use Rattle.py_emission_outcomes.proofs.Capacity.Accesses.{AtHand, AccessReady, accessed_fits, debug_fits, access_outside}
 use Rattle.py_emission_outcomes.proofs.Capacity.FitParts.{ElementFits, EntryFits, FitsWell, PairFits, Takes, built_fits}
-use Rattle.py_emission_outcomes.proofs.Capacity.FitScopes.{FirstFits, comprehension_fits}
+use Rattle.py_emission_outcomes.proofs.Capacity.FitScopes.{FirstFits, IsLaidOut, comprehension_fits}
 use Rattle.py_emission_outcomes.proofs.Capacity.FitTests.{fit_test_value_returned, whole_fits}
 use Rattle.py_emission_outcomes.proofs.Capacity.AvailableCellLemmas.{Here, available_cell_context}
 use Rattle.py_emission_outcomes.proofs.Capacity.StandingExprs.{InForm, InTargetElement, parts_in}
@@ -172,17 +172,19 @@ entries_fit c k (tree.more_opts (tree.some_expr t) os) (tree.more_exprs e es) x 
 pub comprehended_fits : (c : NodeContext) (k n u : ℕ) (at : SourceLocation) (awaited : Bool) (name : List ℕ) (gs : tree.Generators) (scope : Emission)
     → AccessReady c → AtHand c (comprehension_inside c.context k).frees
     → EmissionFits (access_outside (comprehension_inside c.context k)) (suc k) (after_clauses (available_cell_context c) (suc k) gs + n) (64 * rest_size gs + u) scope
+    → (64 * generators_size gs + u < 2 ^ 30 → IsLaidOut (comprehension_inside c.context k) (comprehension_shape name) (suc k) scope)
     → FirstFits c (after_clauses (available_cell_context c) (suc k) gs + n)
     (after_clauses (available_cell_context c) (suc k) gs + n + first_scopes c.context.postponed gs) (64 * first_size gs)
     (clause_emissions gs)
     → FitsWell c k (k + suc (scopes_in_clauses c.context.postponed gs + n)) (64 * generators_size gs + u + 3) (tested_value (move at ▸ comprehension awaited name (clause_emissions gs) scope))
-comprehended_fits c k n u at awaited name gs scope r near x y =
+comprehended_fits c k n u at awaited name gs scope r near x lay y =
     let m = after_clauses (available_cell_context c) (suc k) gs in
     let e = scopes_end (available_cell_context c) (suc k) gs in
     let w = sizes_split gs in
     whole_fits at (omega (arith, e)) (omega (arith, w))
-    (comprehension_fits c k (m + n) (m + n + first_scopes c.context.postponed gs) (64 * rest_size gs + u)
-    (64 * first_size gs) awaited name (clause_emissions gs) r near x y)
+    (few_so (64 * generators_size gs + u) (omega (arith, w))
+    (λ i. comprehension_fits c k (m + n) (m + n + first_scopes c.context.postponed gs) (64 * rest_size gs + u)
+    (64 * first_size gs) awaited name (clause_emissions gs) r near x (lay i) y))
 
 -- an expression as a target, alone and among others
 pub record TargetFits (c : NodeContext) (k l w : ℕ) (e : tree.Expr) : Type 0 where

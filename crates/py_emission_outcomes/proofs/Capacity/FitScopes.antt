@@ -1,8 +1,9 @@
 -- Nested scopes fit, each with room of its own that counts in the enclosing scope too: functions, lambdas and comprehensions.
-use Rattle.std.proofs.Common.{◌≡◌, refl, sym, ap, ◌∙◌, subst, ℕ, suc, ◌+◌, ◌<◌, ◌≤◌, ◌^◌, List, [], ◌∷◌, length, Bool, false, arith}
+use Rattle.std.proofs.Common.{◌≡◌, refl, sym, ap, ◌∙◌, subst, ℕ, suc, ◌+◌, ◌<◌, ◌≤◌, ◌^◌, List, [], ◌∷◌, length, Bool, true, false, arith}
 use Rattle.std.specs.Prelude.{codes}
 use Rattle.py_base.specs.declared.shapes.Malformed.TheVariants as shape
 use Rattle.py_base.specs.declared.errors.CodegenErrorType.{CodegenErrorType}
+use Rattle.py_base.specs.declared.location.SourceLocation.{SourceLocation}
 use Rattle.py_base.specs.declared.errors.CodegenErrorType.TheVariants as error
 use Rattle.py_bytecode.specs.declared.instruction.Instruction.{Instruction}
 use Rattle.py_bytecode.specs.declared.instruction.Instruction.TheVariants as op
@@ -10,7 +11,8 @@ use Rattle.py_bytecode.specs.Objects as const
 use Rattle.py_bytecode.specs.Objects.{Object}
 use Rattle.py_scope.specs.declared.table_type.SymbolTableType.TheVariants as kind
 use Rattle.py_emission_parts.specs.Children.{DefaultEmissions, child, emission_of_defaults, enter_parameters, flags_of_defaults, free_names, function_scope, some_emitted}
-use Rattle.py_emission_parts.specs.Running.{after_child, code_head, on_sealed, rewritten_in, run}
+use Rattle.py_emission_parts.specs.Laid.{has_layout}
+use Rattle.py_emission_parts.specs.Running.{after_child, code_head, on_sealed, rewritten_in, run, when_laid}
 use Rattle.py_emission_parts.specs.Comprehensions.{ClauseEmissions, as_element, called_at_once, clause, clauses, comprehension}
 use Rattle.py_emission_parts.specs.Comprehensions.{comprehension_shape, conditions, further_clauses, collection_scope, generator_body}
 use Rattle.py_emission_parts.specs.Context.{Context}
@@ -35,28 +37,34 @@ sealed_frees : (level : ℕ) (h : Head) (t : State) → free_names (assembled_ob
 unfolding assembled_object
 sealed_frees level h t = refl
 
+-- where the body of a nested scope is done, it has a layout
+abbrev pub IsLaidOut : (inner : Context) → Shape → (next : ℕ) → (body : Emission) → Type 0
+IsLaidOut inner h next body = (at : SourceLocation) (t : State) → run body (initial_state inner at next) ≡ Done t → has_layout inner.level (code_head inner h at) t ≡ true
+
 -- what a nested scope reaches is sealed, its tables are short, and what follows goes on
 seals : {c : NodeContext} {k m w d : ℕ} {follow : Object → Emission} (inner : NodeContext) (l b level : ℕ) (h : Head) (s : State) (o : Outcome) → FitStands c k s
     → FitsIn inner l b o → b < 2 ^ 30 → length h.cellvars + length h.freevars < 2 ^ 30 → FewParameters h.posonlyarg_count h.arg_count h.kwonlyarg_count
-    → fit_taken s + w ≤ d → d < 2 ^ 30 → ((x : Object) → free_names x ≡ h.freevars → Everywhere HasShortTables x → EmissionFits c l m w (follow x))
+    → fit_taken s + w ≤ d → d < 2 ^ 30 → ((t : State) → o ≡ Done t → has_layout level h t ≡ true) → ((x : Object) → free_names x ≡ h.freevars → Everywhere HasShortTables x → EmissionFits c l m w (follow x))
     → FitsIn c m d (on_sealed level h s o (λ x. run (follow x)))
 unfolding fit_taken
-seals {c} {k} {m} {w} {d} {follow} inner l b level h s (Done t) st g small cells few i r y =
+seals {c} {k} {m} {w} {d} {follow} inner l b level h s (Done t) st g small cells few i r lay y =
     let e = g.1 in
     let short = sealed_short level h t g.0.short (omega (arith, e, small)) cells few in
-    fit_more c m (fit_taken (after_child s t) + w) d (run (follow (assembled_object level h t)) (after_child s t)) i
+    subst (λ z. FitsIn c m d (when_laid z t.location (run (follow (assembled_object level h t)) (after_child s t)))) (sym (lay t refl))
+    (fit_more c m (fit_taken (after_child s t) + w) d (run (follow (assembled_object level h t)) (after_child s t)) i
     ((y (assembled_object level h t) (sealed_frees level h t) short).fits (after_child s t)
-    (record { node_context = st.node_context; next = g.0.next; short = st.short }) (omega (arith, i, r)))
-seals inner l b level h s TooWide st g small cells few i r y = g
-seals inner l b level h s (Refused z at) st g small cells few i r y = g
+    (record { node_context = st.node_context; next = g.0.next; short = st.short }) (omega (arith, i, r))))
+seals inner l b level h s TooWide st g small cells few i r lay y = g
+seals inner l b level h s (Refused z at) st g small cells few i r lay y = g
 
--- a nested scope that has few parameters where there is room for its body, and what follows of its code object, whose tables are short
+-- a nested scope that has a layout, and few parameters where there is room for its body, and what follows of its code object, whose tables are short
 pub child_fits : {c : NodeContext} {k l m v w : ℕ} {body : Emission} {follow : Object → Emission} (nested : Context → ℕ → Context) (h : Shape)
     → AccessReady (access_outside (nested c.context k)) → EmissionFits (access_outside (nested c.context k)) (suc k) l v body → (v < 2 ^ 30 → HasFew h)
+    → IsLaidOut (nested c.context k) h (suc k) body
     → ((o : Object) → free_names o ≡ (nested c.context k).frees → Everywhere HasShortTables o → EmissionFits c l m w (follow o))
     → EmissionFits c k m (v + w + 1) (child nested h body follow)
 unfolding child fit_taken
-child_fits {c} {k} {l} {m} {v} {w} {body} {follow} nested h q x few y = record {
+child_fits {c} {k} {l} {m} {v} {w} {body} {follow} nested h q x few lay y = record {
   fits = λ s st r.
       let d = nested s.node_context.context s.next in
       let same : d ≡ nested c.context k = λ j. nested (st.node_context j).context (st.next j) in
@@ -65,8 +73,12 @@ child_fits {c} {k} {l} {m} {v} {w} {body} {follow} nested h q x few y = record {
       let x2 = subst (λ n. EmissionFits (access_outside (nested s.node_context.context n)) (suc n) l v body) (sym st.next) x1 in
       let own = x2.fits (initial_state d s.location (suc s.next)) (record { node_context = refl; next = refl; short = tt }) (omega (arith, r)) in
       let parameters = few (omega (arith, r)) in
+      let laid : (t : State) → run body (initial_state d s.location (suc s.next)) ≡ Done t → has_layout d.level (code_head d h s.location) t ≡ true =
+      (λ t e. subst (λ (z : Context). has_layout z.level (code_head z h s.location) t ≡ true) (sym same)
+      (lay s.location t (subst (λ (z : Context). run body (initial_state z s.location (suc k)) ≡ Done t) same
+      (subst (λ n. run body (initial_state d s.location (suc n)) ≡ Done t) st.next e)))) in
       seals (access_outside d) l (fit_taken (initial_state d s.location (suc s.next)) + v) d.level (code_head d h s.location) s
-      (run body (initial_state d s.location (suc s.next))) st own (omega (arith, r)) cells parameters (omega arith) r
+      (run body (initial_state d s.location (suc s.next))) st own (omega (arith, r)) cells parameters (omega arith) r laid
       (λ o e short. y o (e ∙ ap (λ (z : Context). z.frees) same) short);
 }
 
@@ -216,13 +228,14 @@ module _ (c : NodeContext) where
 
   -- and what is made of them
   called_fits : {k m l v w : ℕ} {scope iterable : Emission} → AccessReady c → (name : List ℕ) → AtHand c (comprehension_inside c.context k).frees
-      → EmissionFits (access_outside (comprehension_inside c.context k)) (suc k) m v scope → EmissionFits c m l w iterable
+      → EmissionFits (access_outside (comprehension_inside c.context k)) (suc k) m v scope
+      → IsLaidOut (comprehension_inside c.context k) (comprehension_shape name) (suc k) scope → EmissionFits c m l w iterable
       → EmissionFits c k l (v + w + 3) (called_at_once name scope iterable)
   unfolding called_at_once
-  called_fits {k} r name hand x y =
+  called_fits {k} r name hand x lay y =
       fit_room (omega arith)
       (then_fits (child_fits comprehension_inside (comprehension_shape name) (ready_inside c kind.Comprehension k r) x
-      (λ i. record { positional = omega arith; arguments = omega arith; keywords = omega arith })
+      (λ i. record { positional = omega arith; arguments = omega arith; keywords = omega arith }) lay
       (λ o e short. made_fits r 0 name o (omega arith) (hand_as e hand) short))
       (then_fits y (then_fits (plain_fits op.GetIter) (count_fits op.CallFunctionPositional 1 (omega arith)))))
 
@@ -234,6 +247,6 @@ module _ (c : NodeContext) where
   -- a comprehension
   pub comprehension_fits : {scope : Emission} (k m l v w : ℕ) (awaited : Bool) (name : List ℕ) (xs : List ClauseEmissions) → AccessReady c
       → AtHand c (comprehension_inside c.context k).frees → EmissionFits (access_outside (comprehension_inside c.context k)) (suc k) m v scope
-      → FirstFits m l w xs → EmissionFits c k l (v + w + 3) (comprehension awaited name xs scope)
-  comprehension_fits k m l v w awaited name [] r hand x y = refuse_fits (error.MalformedTree shape.NoGenerator) tt
-  comprehension_fits k m l v w awaited name (z ∷ zs) r hand x y = if_fits awaited (refuse_fits error.NotImplementedYet tt) (called_fits r name hand x y)
+      → IsLaidOut (comprehension_inside c.context k) (comprehension_shape name) (suc k) scope → FirstFits m l w xs → EmissionFits c k l (v + w + 3) (comprehension awaited name xs scope)
+  comprehension_fits k m l v w awaited name [] r hand x lay y = refuse_fits (error.MalformedTree shape.NoGenerator) tt
+  comprehension_fits k m l v w awaited name (z ∷ zs) r hand x lay y = if_fits awaited (refuse_fits error.NotImplementedYet tt) (called_fits r name hand x lay y)

@@ -72,7 +72,7 @@ trees_fit uses t m level path h =
     let scopes = scopes_of t in
     let small = small_tree t m level h in
     let ready = ready_outermost level path scopes (few_everywhere uses t m level h) in
-    let x = mod_fits t m (access_outside (outermost level path scopes)) ready (stands_there t m level path scopes (tree_stands t m level h)) in
+    let x = mod_fits t m (access_outside (outermost level path scopes)) ready (stands_there t m level path scopes (tree_stands t m level h small)) in
     let i : 1 + 192 * size_of t < 2 ^ 30 = omega (arith, small) in
     go (emission_outcome t m (outermost level path scopes)) refl x.next (1 + 192 * size_of t) x.few i (whole_begins t m level path scopes x.next (192 * size_of t) x.fits i)
   where

@@ -1,5 +1,5 @@
 -- Where no name has a symbol, no scope has a free variable, and no cell is missing in what is emitted of a tree, whatever is wrong with it.
-use Rattle.std.proofs.Common.{◌≡◌, ◌≢◌, sym, ap, ◌∙◌, subst, ℕ, zero, suc, ◌+◌, ◌*◌, ◌<◌, ◌^◌, true, List, [], Option, arith}
+use Rattle.std.proofs.Common.{◌≡◌, ◌≢◌, refl, sym, ap, ◌∙◌, subst, ℕ, zero, suc, ◌+◌, ◌*◌, ◌<◌, ◌≤◌, ◌^◌, true, List, [], ◌∷◌, length, Option, arith}
 use Rattle.py_base.specs.declared.errors.CodegenErrorType.{CodegenErrorType}
 use Rattle.py_base.specs.declared.errors.CodegenErrorType.TheVariants as error
 use Rattle.py_base.specs.declared.location.SourceLocation.{SourceLocation}
@@ -8,7 +8,8 @@ use Rattle.py_tree.specs.declared.modules.Mode.{Mode}
 use Rattle.py_limits.specs.Size.{size_of}
 use Rattle.py_control.specs.Agree.{AllOf, form_of, head_of, kids}
 use Rattle.py_control.specs.Form.{Scope}
-use Rattle.py_emission_parts.specs.Context.{outermost}
+use Rattle.py_emission_parts.specs.Context.{frees_among, outermost, symbols_in}
+use Rattle.py_emission_proof.specs.Loads.{LoadsUpTo, loads}
 use Rattle.py_emission_parts.specs.Emitting.{Refused}
 use Rattle.py_emission_parts.specs.Refused.{unlaid}
 use Rattle.py_emission.specs.EmissionMods.{emission_outcome}
@@ -22,8 +23,26 @@ use Rattle.py_scope_proof.proofs.NodeScopes.OwnScopes.{all_as}
 use Rattle.py_emission_outcomes.proofs.Capacity.Fits.{FitsIn}
 use Rattle.py_emission_outcomes.proofs.Capacity.Accesses.{access_outside, ready_outermost}
 use Rattle.py_emission_outcomes.proofs.Capacity.FitMods.{mod_fits}
-use Rattle.py_emission_outcomes.proofs.Capacity.AvailableCellLemmas.{AvailableCellAllStand, deep_all}
+use Rattle.py_emission_outcomes.proofs.Capacity.AvailableCellLemmas.{AvailableCellAllStand, all_stand_so}
 use Rattle.py_emission_outcomes.proofs.Capacity.Whole.{another, whole_begins, stands_there}
+
+-- where there are no scopes, nothing is free
+none_free : (k : ℕ) → frees_among (symbols_in [] k) ≡ []
+none_free k = refl
+
+none_loads : (xs : List Scope) → loads [] xs ≡ 0
+none_loads [] = refl
+none_loads (x ∷ xs) = let e = ap (λ (ys : List (List ℕ)). length ys) (none_free (head_of x).number) in let h = none_loads xs in omega (arith, e, h)
+
+-- so no code loads a cell, at any depth
+mutual
+  none_loaded : (n : ℕ) (x : Scope) → LoadsUpTo [] (3 * 2 ^ 22) n x
+  none_loaded zero x = tt
+  none_loaded (suc n) x = (λ apart. let h = none_loads (kids (form_of x)) in omega (arith, h), none_loaded_all n (kids (form_of x)))
+
+  none_loaded_all : (n : ℕ) (xs : List Scope) → AllOf (LoadsUpTo [] (3 * 2 ^ 22) n) xs
+  none_loaded_all n [] = tt
+  none_loaded_all n (x ∷ xs) = (none_loaded n x, none_loaded_all n xs)
 
 module _ (t : tree.Mod) (m : Mode) where
   -- a scope that is its node's own has no free variable
@@ -41,8 +60,9 @@ module _ (t : tree.Mod) (m : Mode) where
   -- so each scope of the tree finds its cells
   all_stand : (level : ℕ) → AvailableCellAllStand [] 0 (kids (form_of (body [] t m level)))
   all_stand level =
-      deep_all (λ n s. StandUpTo [] 0 n s) (kids (form_of (body [] t m level)))
+      all_stand_so [] 0 (kids (form_of (body [] t m level)))
       (λ n. all_as (OwnUpTo [] (scope_nodes_of t m) 0 n) (StandUpTo [] 0 n) (λ s own. without_scope_down n 0 s own) (kids (form_of (body [] t m level))) (each_is_its_own [] t m level n))
+      (λ n. (none_loaded (suc n) (body [] t m level)).1)
 
   -- and a refusal says something else
   pub refused_without_scopes : (level : ℕ) (path : List ℕ) (e : CodegenErrorType) (at : Option SourceLocation) → size_of t < 2 ^ 22

@@ -38,6 +38,8 @@ use Rattle.py_emission_parts.specs.NestedScopes.{Shape}
 use Rattle.py_emission_parts.specs.Emitting.{Emission, State, Done, initial_state}
 use Rattle.py_emission_parts.specs.Listed.{items_in, steps_at}
 use Rattle.py_emission_parts.specs.Sealed.{Head, assembled_object, tables_in}
+use Rattle.py_emission_parts.specs.Laid.{has_layout}
+use Rattle.py_emit.proofs.Layouts.{fit_laid}
 use Rattle.py_emit.specs.Placed.{IsFit, IsPlaced, IsSealedOf, begun_in, blocks_in}
 use Rattle.py_emit.specs.Steps.{steps_in}
 use Rattle.py_emit.proofs.Chains.{chain_leads, chain_short}
@@ -83,7 +85,7 @@ pub record Emitted (c : Context) (at : SourceLocation) (k : ℕ) (s : Scope) (t 
   pub count : ℕ
   pub adds : Completes (initial_state c at k) t (body_code (exactly (λ x. x) s) (form_of s)) (labels (form_of s)) count
   pub looped : Looped false (form_of s)
-  pub small : (d : Scope → Object) → size_bound (body_code (exactly d s) (form_of s)) < 2 ^ 27
+  pub small : (d : Scope → Object) → size_bound (body_code (exactly d s) (form_of s)) < 2 ^ 29
   pub loading : LoadsFew c.scopes s
   pub says : CodeNameSays c s
 
@@ -238,6 +240,10 @@ module _ (c : Context) (at : SourceLocation) (k : ℕ) (s : Scope) (t : State) (
       few = let a = few_left tables level t.steps object_items (steps_read tables nested_begins) in let b = few_instructions in omega (arith, a, b);
     }
 
+    -- so it has a layout
+    pub nested_laid : has_layout level h t ≡ true
+    nested_laid = fit_laid level h t nested_fit
+
     of : IsSealedOf level h t bs (assembled_object level h t)
     of = sealed_runs level h t nested_fit
 
@@ -339,7 +345,7 @@ whole_completes inner body next count x w = record {
 -- so the code object of the scope is made from it, where it and those nested in it load few cells
 pub completed_makes : (c inner : Context) (h : Shape) (body : Emission) (k l : ℕ) (x : Scope) → code_number_of x ≡ k
     → inner.cells ≡ cells_among (symbols_in c.scopes k) → inner.frees ≡ frees_among (symbols_in c.scopes k) → inner.scopes ≡ c.scopes → inner.source ≡ c.source
-    → Settled inner → ((d : Scope → Object) → size_bound (body_code (exactly d x) (form_of x)) < 2 ^ 27) → Completing inner body (suc k) l x
+    → Settled inner → ((d : Scope → Object) → size_bound (body_code (exactly d x) (form_of x)) < 2 ^ 29) → Completing inner body (suc k) l x
     → Makes c inner h body k l x
 completed_makes c inner h body k l x number cells frees same source settled small completing = record {
   number = number;
@@ -360,7 +366,7 @@ completed_makes c inner h body k l x number cells frees same source settled smal
 
 pub scope_makes : (c inner : Context) (h : Shape) (body : Emission) (k l : ℕ) (x : Scope) → code_number_of x ≡ k
     → inner.cells ≡ cells_among (symbols_in c.scopes k) → inner.frees ≡ frees_among (symbols_in c.scopes k) → inner.scopes ≡ c.scopes → inner.source ≡ c.source
-    → Settled inner → ((d : Scope → Object) → size_bound (body_code (exactly d x) (form_of x)) < 2 ^ 27) → NestedWhole inner body (suc k) l x
+    → Settled inner → ((d : Scope → Object) → size_bound (body_code (exactly d x) (form_of x)) < 2 ^ 29) → NestedWhole inner body (suc k) l x
     → Makes c inner h body k l x
 scope_makes c inner h body k l x number cells frees same source settled small whole =
     completed_makes c inner h body k l x number cells frees same source settled small (whole_completes inner body (suc k) l x whole)

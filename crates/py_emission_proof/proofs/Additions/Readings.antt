@@ -28,7 +28,7 @@ pub record Read (d : Scope → Object) (t : Tables) (bs : List Blk) (s : Scope) 
   pub inside : AllInside (length bs) (steps_in bs)
   pub blocks : length bs ≡ 1 + labels (form_of s)
   pub looped : Looped false (form_of s)
-  pub small : size_bound (body_code (exactly d s) (form_of s)) < 2 ^ 27
+  pub small : size_bound (body_code (exactly d s) (form_of s)) < 2 ^ 29
   pub cells : cells_in (body_code (exactly d s) (form_of s)) ≤ 2 ^ 24
 
 module _ (d : Scope → Object) (t : Tables) (level : ℕ) (bs : List Blk) (s : Scope) (r : Read d t bs s) (cs : List ℕ) (chain : IsChain bs cs) where

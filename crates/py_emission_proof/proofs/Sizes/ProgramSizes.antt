@@ -163,23 +163,23 @@ module _ (i : Interp Object) (c : Context) where
       simp size_bound-append (omega (arith, p, q, r))
 
 -- a lambda has a small code of its own, whatever stands within it
-pub lambda_small : (d : Scope → Object) (c : Context) (n : ℕ) (e : tree.Expr) → expr_size e < 2 ^ 22
-    → size_bound (body_code (exactly d (MkScope (head_of c) (SReturn (expr_forms c n e).value))) (SReturn (expr_forms c n e).value)) < 2 ^ 27
+pub lambda_small : (d : Scope → Object) (c : Context) (n : ℕ) (e : tree.Expr) → expr_size e < 2 ^ 24
+    → size_bound (body_code (exactly d (MkScope (head_of c) (SReturn (expr_forms c n e).value))) (SReturn (expr_forms c n e).value)) < 2 ^ 29
 lambda_small d c n e small =
     let p = returned_small (exactly d (MkScope (head_of c) (SReturn (expr_forms c n e).value))) c n e in
     omega (arith, p, small)
 
 -- and a function
-pub function_small : (d : Scope → Object) (c : Context) (n : ℕ) (stmts : tree.Stmts) → stmts_size stmts < 2 ^ 22
-    → size_bound (body_code (exactly d (MkScope (head_of c) (function_body c n stmts))) (function_body c n stmts)) < 2 ^ 27
+pub function_small : (d : Scope → Object) (c : Context) (n : ℕ) (stmts : tree.Stmts) → stmts_size stmts < 2 ^ 24
+    → size_bound (body_code (exactly d (MkScope (head_of c) (function_body c n stmts))) (function_body c n stmts)) < 2 ^ 29
 function_small d c n stmts small =
     let p = run_small (exactly d (MkScope (head_of c) (function_body c n stmts))) c n stmts in
     omega (arith, p, small)
 
 -- and a class
 pub class_body_small : (d : Scope → Object) (c : Context) (path : List ℕ) (doc : Option (List ℕ)) (b : Bool) (n : ℕ) (stmts : tree.Stmts)
-    → stmts_size stmts < 2 ^ 22
-    → size_bound (body_code (exactly d (MkScope (head_of c) (class_form path doc b (rest_form c n stmts)))) (class_form path doc b (rest_form c n stmts))) < 2 ^ 27
+    → stmts_size stmts < 2 ^ 24
+    → size_bound (body_code (exactly d (MkScope (head_of c) (class_form path doc b (rest_form c n stmts)))) (class_form path doc b (rest_form c n stmts))) < 2 ^ 29
 class_body_small d c path doc b n stmts small =
     let p = class_run_small (exactly d (MkScope (head_of c) (class_form path doc b (rest_form c n stmts)))) c path doc b n stmts in
     omega (arith, p, small)
@@ -192,12 +192,12 @@ made_small i f m x =
 
 -- over any children, the code of this scope is small
 abbrev pub Light : (d : Scope → Object) → Context → SForm → Type 0
-Light d c f = size_bound (body_code (exactly d (MkScope (head_of c) f)) f) < 2 ^ 27
+Light d c f = size_bound (body_code (exactly d (MkScope (head_of c) f)) f) < 2 ^ 29
 
 -- of a function, whatever defaults it is handed
 pub type_param_scope_function_small : {A B : Type 0} (ps : List A) (ks : List B) (d : Scope → Object) (c : Context) (n m flags : ℕ)
     (generic : tree.TypeParams) (name : List ℕ) (params : tree.Arguments) (body : tree.Stmts) (returns : tree.OptExpr) (f : SForm)
-    → arguments_size params + opt_expr_size returns + type_params_size generic < 2 ^ 22
+    → arguments_size params + opt_expr_size returns + type_params_size generic < 2 ^ 24
     → Light d c (SReturn (function_value c m flags (handed_parts (passed_defaults ps ks) (VMore (params_form c n generic) VNone)) name params body returns f))
 type_param_scope_function_small ps ks d c n m flags generic name params body returns f small =
     let value = function_value c m flags (handed_parts (passed_defaults ps ks) (VMore (params_form c n generic) VNone)) name params body returns f in
@@ -208,7 +208,7 @@ type_param_scope_function_small ps ks d c n m flags generic name params body ret
 -- of a class
 pub type_param_scope_class_small : (d : Scope → Object) (c : Context) (path : List ℕ) (n m flags : ℕ) (generic : tree.TypeParams)
     (name : List ℕ) (bases : tree.Exprs) (keywords : tree.Keywords) (body : tree.Stmts) (f : SForm)
-    → exprs_size bases + keywords_size keywords + type_params_size generic < 2 ^ 22
+    → exprs_size bases + keywords_size keywords + type_params_size generic < 2 ^ 24
     → Light d c (SReturn (class_value c path m flags (VMore (params_form c n generic) VNone) name bases keywords body f))
 type_param_scope_class_small d c path n m flags generic name bases keywords body f small =
     let value = class_value c path m flags (VMore (params_form c n generic) VNone) name bases keywords body f in
@@ -218,7 +218,7 @@ type_param_scope_class_small d c path n m flags generic name bases keywords body
 
 -- and of an alias
 pub type_param_scope_alias_small : (d : Scope → Object) (c : Context) (n m : ℕ) (generic : tree.TypeParams) (name : List ℕ) (e : tree.Expr)
-    → type_params_size generic + expr_size e < 2 ^ 22
+    → type_params_size generic + expr_size e < 2 ^ 24
     → Light d c (SReturn (VSwap (operation op.TypeAlias Bare) (params_form c n generic) (expr_form c m e) (VMore (VConst (const.str name)) VNone)))
 type_param_scope_alias_small d c n m generic name e small =
     let value = VSwap (operation op.TypeAlias Bare) (params_form c n generic) (expr_form c m e) (VMore (VConst (const.str name)) VNone) in
@@ -282,24 +282,24 @@ module _ (i : Interp Object) (c : Context) where
 
 -- a comprehension that adds each element to a collection
 pub element_comp_small : (d : Scope → Object) (c : Context) (n m : ℕ) (build append : Instruction) (elt : tree.Expr) (gs : tree.Generators)
-    → expr_size elt + generators_size gs < 2 ^ 22
+    → expr_size elt + generators_size gs < 2 ^ 24
     → size_bound
     (body_code (exactly d (MkScope (head_of c)
     (gather_form build append (clause_forms c n gs) (VMore (expr_forms c m elt).value VNone))))
-    (gather_form build append (clause_forms c n gs) (VMore (expr_forms c m elt).value VNone))) < 2 ^ 27
+    (gather_form build append (clause_forms c n gs) (VMore (expr_forms c m elt).value VNone))) < 2 ^ 29
 element_comp_small d c n m build append elt gs small =
     let p = elements_small (exactly d (MkScope (head_of c) (gather_form build append (clause_forms c n gs) (VMore (expr_forms c m elt).value VNone)))) c n m build append elt gs in
     omega (arith, p, small)
 
 -- one that adds each value at its key
 pub dict_comp_small : (d : Scope → Object) (c : Context) (n m l : ℕ) (key value : tree.Expr) (gs : tree.Generators)
-    → expr_size key + expr_size value + generators_size gs < 2 ^ 22
+    → expr_size key + expr_size value + generators_size gs < 2 ^ 24
     → size_bound
     (body_code (exactly d (MkScope (head_of c)
     (gather_form op.BuildMap op.MapAdd (clause_forms c n gs)
     (VMore (expr_forms c m key).value (VMore (expr_forms c l value).value VNone)))))
     (gather_form op.BuildMap op.MapAdd (clause_forms c n gs)
-    (VMore (expr_forms c m key).value (VMore (expr_forms c l value).value VNone)))) < 2 ^ 27
+    (VMore (expr_forms c m key).value (VMore (expr_forms c l value).value VNone)))) < 2 ^ 29
 dict_comp_small d c n m l key value gs small =
     let p = pairs_small (exactly d
     (MkScope (head_of c) (gather_form op.BuildMap op.MapAdd (clause_forms c n gs)
@@ -307,9 +307,9 @@ dict_comp_small d c n m l key value gs small =
     omega (arith, p, small)
 
 -- and a generator
-pub generator_small : (d : Scope → Object) (c : Context) (n m : ℕ) (elt : tree.Expr) (gs : tree.Generators) → expr_size elt + generators_size gs < 2 ^ 22
+pub generator_small : (d : Scope → Object) (c : Context) (n m : ℕ) (elt : tree.Expr) (gs : tree.Generators) → expr_size elt + generators_size gs < 2 ^ 24
     → size_bound (body_code (exactly d (MkScope (head_of c) (generate_form (clause_forms c n gs) (expr_forms c m elt).value)))
-    (generate_form (clause_forms c n gs) (expr_forms c m elt).value)) < 2 ^ 27
+    (generate_form (clause_forms c n gs) (expr_forms c m elt).value)) < 2 ^ 29
 generator_small d c n m elt gs small =
     let p = given_small (exactly d (MkScope (head_of c) (generate_form (clause_forms c n gs) (expr_forms c m elt).value))) c n m elt gs in
     omega (arith, p, small)

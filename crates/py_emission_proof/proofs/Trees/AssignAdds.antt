@@ -110,15 +110,15 @@ module _ (c : NodeContext) where
   abbrev many_all : tree.Exprs → ℕ
   many_all es = scopes_in_all c.context.postponed es
 
-  value_adds : (k : ℕ) (e : tree.Expr) → expr_size e < 2 ^ 22 → ValueAdds assign_add_nested c k (many e) (emission e) (expr_form (table_context c) k e)
+  value_adds : (k : ℕ) (e : tree.Expr) → expr_size e < 2 ^ 24 → ValueAdds assign_add_nested c k (many e) (emission e) (expr_form (table_context c) k e)
   value_adds k e h = (expr_adds c k e h).value
 
-  store_adds : (k : ℕ) (e : tree.Expr) → expr_size e < 2 ^ 22 → TargetAdds assign_add_nested c k (many e) (emission_of_store e) (target_form (table_context c) k e)
+  store_adds : (k : ℕ) (e : tree.Expr) → expr_size e < 2 ^ 24 → TargetAdds assign_add_nested c k (many e) (emission_of_store e) (target_form (table_context c) k e)
   store_adds k e h = (target_adds c k e h).alone
 
   -- deletions
   mutual
-    delete_one : (k : ℕ) (t : tree.Expr) → expr_size t < 2 ^ 22 → ActAdds assign_add_nested c k (many t) (emission_of_delete t) (removal (table_context c) k t)
+    delete_one : (k : ℕ) (t : tree.Expr) → expr_size t < 2 ^ 24 → ActAdds assign_add_nested c k (many t) (emission_of_delete t) (removal (table_context c) k t)
     delete_one k (tree.Name at x) h b n = unless_debug_act assign_add_nested c k 0 no_deletion x (name_access Delete x)
         (removal (table_context c) k (tree.Name at x)) (λ b n. accessed_adds Delete x c n k) b n
     delete_one k (tree.Attribute at value x) h b n =
@@ -140,14 +140,14 @@ module _ (c : NodeContext) where
     delete_one k (tree.Tuple at elts) h b n = deletes_add k elts (omega (arith, h)) b n
     delete_one k other h b n = refused_act assign_add_nested c k (many other) (error.Delete (deletion_name other)) (removal (table_context c) k other) b n
 
-    pub deletes_add : (k : ℕ) (ts : tree.Exprs) → exprs_size ts < 2 ^ 22 → ActAdds assign_add_nested c k (many_all ts) (emission_of_deletes ts) (removals (table_context c) k ts)
+    pub deletes_add : (k : ℕ) (ts : tree.Exprs) → exprs_size ts < 2 ^ 24 → ActAdds assign_add_nested c k (many_all ts) (emission_of_deletes ts) (removals (table_context c) k ts)
     deletes_add k tree.no_exprs h = λ b n. keep_yields
     deletes_add k (tree.more_exprs t ts) h = both_act assign_add_nested c k (many t) (many_all ts) (emission_of_delete t)
         (emission_of_deletes ts) (removal (table_context c) k t) (removals (table_context c) (k + many t) ts)
         (delete_one k t (omega (arith, h))) (deletes_add (k + many t) ts (omega (arith, h)))
 
   -- a value is stored to the first target, and to the others
-  assigned_adds : (k x j : ℕ) (v : Emission) (g : VForm) (t : tree.Expr) (ts : tree.Exprs) → k + x ≡ j → expr_size t + exprs_size ts < 2 ^ 22
+  assigned_adds : (k x j : ℕ) (v : Emission) (g : VForm) (t : tree.Expr) (ts : tree.Exprs) → k + x ≡ j → expr_size t + exprs_size ts < 2 ^ 24
       → ValueAdds assign_add_nested c k x v g
       → ActAdds assign_add_nested c k (x + (many t + many_all ts)) (v ▸ emission_of_assign (tree.more_exprs t ts))
       (assigned_form g (target_form (table_context c) j t) (table_context c) (j + many t) ts)
@@ -160,7 +160,7 @@ module _ (c : NodeContext) where
       let rest = assigned_adds k (x + many t) (j + many t) (v ▸ twice ▸ emission_of_store t) (VKeep g None (target_form (table_context c) j t)) u us (omega (arith, e)) (omega (arith, few)) kept in
       scopes_as (omega arith) (regroup_late v twice (emission_of_store t) (emission_of_assign (tree.more_exprs u us)) (rest b n))
 
-  pub assign_adds : (k : ℕ) (value : tree.Expr) (ts : tree.Exprs) → exprs_size ts + expr_size value < 2 ^ 22
+  pub assign_adds : (k : ℕ) (value : tree.Expr) (ts : tree.Exprs) → exprs_size ts + expr_size value < 2 ^ 24
       → ActAdds assign_add_nested c k (many value + many_all ts) (emission value ▸ emission_of_assign ts) (assign_form (table_context c) (k + many value) (expr_form (table_context c) k value) ts)
   assign_adds k value tree.no_exprs few = refused_into assign_add_nested c k (many value) 0 (emission value)
       (expr_form (table_context c) k value) (error.MalformedTree shape.NoTarget) GDrop (value_adds k value (omega (arith, few)))
@@ -168,7 +168,7 @@ module _ (c : NodeContext) where
       assigned_adds k (many value) (k + many value) (emission value) (expr_form (table_context c) k value) t ts refl (omega (arith, few))
       (value_adds k value (omega (arith, few)))
 
-  pub augmented_adds : (k : ℕ) (t : tree.Expr) (x : Operator) (value : tree.Expr) → expr_size t + expr_size value < 2 ^ 22
+  pub augmented_adds : (k : ℕ) (t : tree.Expr) (x : Operator) (value : tree.Expr) → expr_size t + expr_size value < 2 ^ 24
       → ActAdds assign_add_nested c k (many t + many value) (emission_of_augment t x (emission value)) (augment_form (table_context c) k t x value)
   augmented_adds k (tree.Name at y) x value few b n =
       let change : Emission = emit op.BinaryOperationInplace (binary_case x) in
@@ -205,7 +205,7 @@ module _ (c : NodeContext) where
   augmented_adds k other x value few b n = refused_act assign_add_nested c k (many other + many value) (error.Assign (python_name other)) (augment_form (table_context c) k other x value) b n
 
   -- annotations
-  declared_adds : (k : ℕ) (t : tree.Expr) (value : tree.OptExpr) → expr_size t + opt_expr_size value < 2 ^ 22
+  declared_adds : (k : ℕ) (t : tree.Expr) (value : tree.OptExpr) → expr_size t + opt_expr_size value < 2 ^ 24
       → ActAdds assign_add_nested c k (scopes_in_opt c.context.postponed value + many t) (emission_of_declared t value) (declared_form (table_context c) k t value)
   declared_adds k t tree.no_expr few b n = scopes_as (omega arith) (passed_adds (λ p. scopes_in p t))
   declared_adds k t (tree.some_expr e) few b n = into_adds assign_add_nested c k (many e) (many t) (emission e) (emission_of_store t)
@@ -227,7 +227,7 @@ module _ (c : NodeContext) where
   annotation_adds k other n = drop_adds assign_add_nested c k n
 
   -- a function does nothing with an annotation
-  annotate_if : (b : Bool) (k : ℕ) (t annotation : tree.Expr) → expr_size annotation < 2 ^ 22
+  annotate_if : (b : Bool) (k : ℕ) (t annotation : tree.Expr) → expr_size annotation < 2 ^ 24
       → ActAdds assign_add_nested c k (scopes_in_annotation c.context.postponed annotation)
       (if b then pass_scopes (λ p. scopes_in_annotation p annotation) else emission_of_note annotation ▸ emission_of_annotation t)
       (if b then SSkip else SInto (note_form (table_context c) k annotation) (annotation_target (table_context c) t))
@@ -238,13 +238,13 @@ module _ (c : NodeContext) where
       (note_form (table_context c) k annotation) (annotation_target (table_context c) t) (note_value_adds c k annotation few)
       (annotation_adds (k + l) t) b n)
 
-  annotate_adds : (k : ℕ) (t annotation : tree.Expr) → expr_size annotation < 2 ^ 22
+  annotate_adds : (k : ℕ) (t annotation : tree.Expr) → expr_size annotation < 2 ^ 24
       → ActAdds assign_add_nested c k (scopes_in_annotation c.context.postponed annotation) (emission_of_annotated t annotation) (annotated_form (table_context c) k t annotation)
   annotate_adds k t annotation few b n = context_gives
       (λ d. if is_function d.typ then pass_scopes (λ p. scopes_in_annotation p annotation) else emission_of_note annotation
       ▸ emission_of_annotation t) (annotate_if (is_function c.context.typ) k t annotation few b n)
 
-  pub annotated_adds : (k : ℕ) (t annotation : tree.Expr) (value : tree.OptExpr) → expr_size t + expr_size annotation + opt_expr_size value < 2 ^ 22
+  pub annotated_adds : (k : ℕ) (t annotation : tree.Expr) (value : tree.OptExpr) → expr_size t + expr_size annotation + opt_expr_size value < 2 ^ 24
       → ActAdds assign_add_nested c k
       (scopes_in_opt c.context.postponed value + (many t + scopes_in_annotation c.context.postponed annotation))
       (emission_of_declared t value ▸ emission_of_annotated t annotation)

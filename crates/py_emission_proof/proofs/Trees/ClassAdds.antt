@@ -175,7 +175,7 @@ module _ (c : NodeContext) (k : ℕ) (path name : List ℕ) (body : tree.Stmts) 
     }
 
     -- the code object of the class is made from it
-    class_add_makes : stmts_size body < 2 ^ 22 → Makes c.context class_add_inner (class_shape name) (class_scope body v) k class_add_count class_of
+    class_add_makes : stmts_size body < 2 ^ 24 → Makes c.context class_add_inner (class_shape name) (class_scope body v) k class_add_count class_of
     unfolding inside with_path nested_in_class
     class_add_makes few =
         completed_makes c.context class_add_inner (class_shape name)
@@ -184,12 +184,12 @@ module _ (c : NodeContext) (k : ℕ) (path name : List ℕ) (body : tree.Stmts) 
         (λ d. class_body_small d (pathless class_add_inner) class_add_inner.path doc (any_annotates (after_doc body)) (suc k) body few) completing
 
     -- and the function is made of it
-    pub function_add : stmts_size body < 2 ^ 22 → ValueAdds (table_outer c) c k (suc class_add_count) (class_function path 0 name body v) (VMake 0 VNone class_of name VNone)
+    pub function_add : stmts_size body < 2 ^ 24 → ValueAdds (table_outer c) c k (suc class_add_count) (class_function path 0 name body v) (VMake 0 VNone class_of name VNone)
     unfolding inside with_path nested_in_class
     function_add few n = made_alone_adds (table_outer c) c (nested_class path name) (class_shape name) (class_scope body v) name class_of k class_add_count (class_add_makes few) refl refl n
 
     -- also after the parts that it is made of
-    pub function_after : stmts_size body < 2 ^ 22 → (j a flags : ℕ) (p : Emission) (fs : VForms) → j + a ≡ k → PartsAdd (table_outer c) c j a p fs
+    pub function_after : stmts_size body < 2 ^ 24 → (j a flags : ℕ) (p : Emission) (fs : VForms) → j + a ≡ k → PartsAdd (table_outer c) c j a p fs
         → Flagged flags (count_parts fs)
         → ValueAdds (table_outer c) c j (a + suc class_add_count) (p ▸ class_function path flags name body v) (VMake flags fs class_of name VNone)
     unfolding inside with_path nested_in_class
@@ -206,7 +206,7 @@ module _ (c : NodeContext) (k l j : ℕ) (after : k + l ≡ j) (name : List ℕ)
       (after_name (table.built_form op.BuildTuple) form (VConst (const.str name)) (table.elements (all_forms (table_context c) j bases)))
       (keyword_forms (table_context c) (j + scopes_in_all c.context.postponed bases) keywords)
 
-  pub class_call_adds : ValueAdds (table_outer c) c k l function form → exprs_size bases < 2 ^ 22 → keywords_size keywords < 2 ^ 22
+  pub class_call_adds : ValueAdds (table_outer c) c k l function form → exprs_size bases < 2 ^ 24 → keywords_size keywords < 2 ^ 24
       → ValueAdds (table_outer c) c k (l + scopes_in_all c.context.postponed bases + scopes_in_keywords c.context.postponed keywords) (class_call name function bases keywords) class_add_called
   class_call_adds own less least n =
       let p = c.context.postponed in
@@ -233,7 +233,7 @@ module _ (c : NodeContext) (k l j : ℕ) (after : k + l ≡ j) (name : List ℕ)
 
 -- a class without type parameters
 module _ (c : NodeContext) (k : ℕ) (name : List ℕ) (body : tree.Stmts) (v : Emission) (adds : BodyAdds c k (class_path c.context name) name body v) where
-  pub class_adds : (bases : tree.Exprs) (keywords : tree.Keywords) → stmts_size body < 2 ^ 22 → exprs_size bases < 2 ^ 22 → keywords_size keywords < 2 ^ 22
+  pub class_adds : (bases : tree.Exprs) (keywords : tree.Keywords) → stmts_size body < 2 ^ 24 → exprs_size bases < 2 ^ 24 → keywords_size keywords < 2 ^ 24
       → ValueAdds (table_outer c) c k
       (suc (scopes_in_stmts c.context.postponed body) + scopes_in_all c.context.postponed bases
       + scopes_in_keywords c.context.postponed keywords) (emission_of_class name bases keywords body v)

@@ -76,7 +76,7 @@ module _ (c : NodeContext) (k : ℕ) where
 
   -- which is small
   abbrev IsSmall : SForm → Type 0
-  IsSmall g = (d : Scope → Object) → size_bound (body_code (exactly d (comprehension_add_own g)) g) < 2 ^ 27
+  IsSmall g = (d : Scope → Object) → size_bound (body_code (exactly d (comprehension_add_own g)) g) < 2 ^ 29
 
   comprehension_add_makes : (name : List ℕ) (scope : Emission) (l : ℕ) (g : SForm) → IsSmall g
       → NestedWhole comprehension_add_inner scope (suc k) l (comprehension_add_own g)
@@ -128,7 +128,7 @@ module _ (c : NodeContext) (k : ℕ) where
 
   -- the scope of a collection
   pub gathered_whole : (build append : Instruction) (gs : tree.Generators) (element : Emission) (fs : VForms) (z : ℕ) → MakesEmpty build
-      → Appends append (count fs) → generators_size gs < 2 ^ 22 → ClausesHere gs
+      → Appends append (count fs) → generators_size gs < 2 ^ 24 → ClausesHere gs
       → PartsAdd (table_outer comprehension_add_here) comprehension_add_here (comprehension_add_after gs) z element fs
       → NestedWhole comprehension_add_inner (collection_scope build append (clause_emissions gs) element) (suc k)
       (but_iterable c.context.postponed gs + z)
@@ -169,7 +169,7 @@ module _ (c : NodeContext) (k : ℕ) where
 
   -- a list or a set of what an element is
   pub gathered_forms_add : (at : SourceLocation) (awaited : Bool) (name : List ℕ) (build append : Instruction) (elt : tree.Expr) (gs : tree.Generators)
-      → MakesEmpty build → Appends append 1 → expr_size elt + generators_size gs < 2 ^ 22 → ClausesHere gs
+      → MakesEmpty build → Appends append 1 → expr_size elt + generators_size gs < 2 ^ 24 → ClausesHere gs
       → AddsForms (table_outer comprehension_add_here) comprehension_add_here (comprehension_add_after gs)
       (scopes_in comprehension_add_inner.postponed elt) (emissions elt)
       (expr_forms (table_context comprehension_add_here) (comprehension_add_after gs) elt)
@@ -198,7 +198,7 @@ module _ (c : NodeContext) (k : ℕ) where
 
   -- a dict of what a key and a value are
   pub dict_forms_add : (at : SourceLocation) (awaited : Bool) (name : List ℕ) (key value : tree.Expr) (gs : tree.Generators)
-      → expr_size key + expr_size value + generators_size gs < 2 ^ 22 → ClausesHere gs
+      → expr_size key + expr_size value + generators_size gs < 2 ^ 24 → ClausesHere gs
       → AddsForms (table_outer comprehension_add_here) comprehension_add_here (comprehension_add_after gs)
       (scopes_in comprehension_add_inner.postponed key) (emissions key)
       (expr_forms (table_context comprehension_add_here) (comprehension_add_after gs) key)
@@ -237,7 +237,7 @@ module _ (c : NodeContext) (k : ℕ) where
 
   -- a generator of what an element is
   pub generated_forms_add : (at : SourceLocation) (awaited : Bool) (name : List ℕ) (elt : tree.Expr) (gs : tree.Generators)
-      → expr_size elt + generators_size gs < 2 ^ 22 → ClausesHere gs
+      → expr_size elt + generators_size gs < 2 ^ 24 → ClausesHere gs
       → AddsForms (table_outer comprehension_add_here) comprehension_add_here (comprehension_add_after gs)
       (scopes_in comprehension_add_inner.postponed elt) (emissions elt)
       (expr_forms (table_context comprehension_add_here) (comprehension_add_after gs) elt)

@@ -157,7 +157,7 @@ function_scopes p params body returns generic =
 
 -- a function, with type parameters or without
 function_adds : (name : List ℕ) (params : tree.Arguments) (body : tree.Stmts) (returns : tree.OptExpr) (generic : tree.TypeParams)
-    → arguments_size params + opt_expr_size returns + type_params_size generic + stmts_size body < 2 ^ 22 → RestAdd body → (c : NodeContext) (k : ℕ)
+    → arguments_size params + opt_expr_size returns + type_params_size generic + stmts_size body < 2 ^ 24 → RestAdd body → (c : NodeContext) (k : ℕ)
     → ValueAdds (table_outer c) c k (function_scopes c.context.postponed params body returns generic)
     (emission_of_function name params body returns generic (emission_of_rest body ▸ emission_of_end (after_doc body)))
     (def_form (table_context c) k name params body returns generic
@@ -178,7 +178,7 @@ function_adds name params body returns (tree.more_type_params t ts) few h c k n 
 
 -- with its decorators
 pub def_value_adds : (at : SourceLocation) (name : List ℕ) (params : tree.Arguments) (body : tree.Stmts) (decorators : tree.Exprs) (returns : tree.OptExpr) (generic : tree.TypeParams)
-    → head_size params decorators returns generic + stmts_size body < 2 ^ 22 → RestAdd body → (c : NodeContext) (k : ℕ)
+    → head_size params decorators returns generic + stmts_size body < 2 ^ 24 → RestAdd body → (c : NodeContext) (k : ℕ)
     → ValueAdds (table_outer c) c k (scopes_in_stmt c.context.postponed (tree.FunctionDef at name params body decorators returns generic))
     (decorated_value (emitting.values (all_emissions decorators))
     (emission_of_function name params body returns generic (emission_of_rest body ▸ emission_of_end (after_doc body))))
@@ -192,7 +192,7 @@ def_value_adds at name params body decorators returns generic few h c k n =
 
 -- is stored
 pub def_gives : (at : SourceLocation) (name : List ℕ) (params : tree.Arguments) (body : tree.Stmts) (decorators : tree.Exprs) (returns : tree.OptExpr) (generic : tree.TypeParams)
-    → head_size params decorators returns generic + stmts_size body < 2 ^ 22 → RestAdd body
+    → head_size params decorators returns generic + stmts_size body < 2 ^ 24 → RestAdd body
     → StmtAdds (tree.FunctionDef at name params body decorators returns generic)
 def_gives at name params body decorators returns generic few h c k b n w =
     stored_gives (decorated_function c k name params body decorators returns generic) c b n k _ at name
@@ -227,7 +227,7 @@ definition_add_decorated_class c k name bases keywords body decorators generic =
 
 -- a class, with type parameters or without
 class_adds_any : (name : List ℕ) (bases : tree.Exprs) (keywords : tree.Keywords) (body : tree.Stmts) (generic : tree.TypeParams)
-    → exprs_size bases + keywords_size keywords + type_params_size generic + stmts_size body < 2 ^ 22 → ClassRestAdd body → (c : NodeContext) (k : ℕ)
+    → exprs_size bases + keywords_size keywords + type_params_size generic + stmts_size body < 2 ^ 24 → ClassRestAdd body → (c : NodeContext) (k : ℕ)
     → ValueAdds (table_outer c) c k
     (type_param_scope generic + (scopes_in_params c.context.postponed generic
     + suc (scopes_in_stmts c.context.postponed body
@@ -251,7 +251,7 @@ class_adds_any name bases keywords body (tree.more_type_params t ts) few h c k n
 
 -- with its decorators
 pub class_value_adds : (at : SourceLocation) (name : List ℕ) (bases : tree.Exprs) (keywords : tree.Keywords) (body : tree.Stmts) (decorators : tree.Exprs) (generic : tree.TypeParams)
-    → class_head_size bases keywords decorators generic + stmts_size body < 2 ^ 22 → ClassRestAdd body → (c : NodeContext) (k : ℕ)
+    → class_head_size bases keywords decorators generic + stmts_size body < 2 ^ 24 → ClassRestAdd body → (c : NodeContext) (k : ℕ)
     → ValueAdds (table_outer c) c k (scopes_in_stmt c.context.postponed (tree.ClassDef at name bases keywords body decorators generic))
     (decorated_value (emitting.values (all_emissions decorators))
     (emission_of_built name bases keywords body generic (emission_of_rest body)))
@@ -265,14 +265,14 @@ class_value_adds at name bases keywords body decorators generic few h c k n =
 
 -- is stored
 pub class_gives : (at : SourceLocation) (name : List ℕ) (bases : tree.Exprs) (keywords : tree.Keywords) (body : tree.Stmts) (decorators : tree.Exprs) (generic : tree.TypeParams)
-    → class_head_size bases keywords decorators generic + stmts_size body < 2 ^ 22 → ClassRestAdd body
+    → class_head_size bases keywords decorators generic + stmts_size body < 2 ^ 24 → ClassRestAdd body
     → StmtAdds (tree.ClassDef at name bases keywords body decorators generic)
 class_gives at name bases keywords body decorators generic few h c k b n w =
     stored_gives (definition_add_decorated_class c k name bases keywords body decorators generic) c b n k _ at name
     (class_value_adds at name bases keywords body decorators generic few h c k)
 
 -- an alias, with type parameters or without
-alias_adds : (name : List ℕ) (generic : tree.TypeParams) (value : tree.Expr) → type_params_size generic + expr_size value < 2 ^ 22 → (c : NodeContext) (k : ℕ)
+alias_adds : (name : List ℕ) (generic : tree.TypeParams) (value : tree.Expr) → type_params_size generic + expr_size value < 2 ^ 24 → (c : NodeContext) (k : ℕ)
     → ValueAdds (table_outer c) c k
     (type_param_scope generic + (scopes_in_params c.context.postponed generic + scopes_in c.context.postponed value))
     (emitting_defs.alias_value name generic value) (alias_value (table_context c) k name generic value)
@@ -287,7 +287,7 @@ alias_adds name (tree.more_type_params t ts) value few c k n =
 
 -- it is stored where its target is a name
 pub alias_gives : (at : SourceLocation) (target : tree.Expr) (generic : tree.TypeParams) (value : tree.Expr)
-    → type_params_size generic + expr_size value < 2 ^ 22 → StmtAdds (tree.TypeAlias at target generic value)
+    → type_params_size generic + expr_size value < 2 ^ 24 → StmtAdds (tree.TypeAlias at target generic value)
 alias_gives at (tree.Name place id) generic value few c k b n w =
     scopes_as (omega arith) (stored_gives (alias_value (table_context c) k id generic value) c b n k _ at id
     (alias_adds id generic value few c k))

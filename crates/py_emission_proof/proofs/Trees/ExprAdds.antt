@@ -294,7 +294,7 @@ entries_add c k (tree.more_opts (tree.some_expr t) os) (tree.more_exprs e es) x 
     )
 
 mutual
-  pub expr_adds : (c : NodeContext) (k : ℕ) (t : tree.Expr) → expr_size t < 2 ^ 22 → AddsForms (table_outer c) c k (scopes_in c.context.postponed t) (emissions t) (expr_forms (table_context c) k t)
+  pub expr_adds : (c : NodeContext) (k : ℕ) (t : tree.Expr) → expr_size t < 2 ^ 24 → AddsForms (table_outer c) c k (scopes_in c.context.postponed t) (emissions t) (expr_forms (table_context c) k t)
   expr_adds c k (tree.BoolOp at o operands) z = bool_adds (table_outer c) c k (scopes_in_all c.context.postponed operands) at o
       (all_emissions operands) (all_forms (table_context c) k operands) (exprs_add c k operands (omega (arith, z)))
   expr_adds c k (tree.NamedExpr at target value) z =
@@ -450,7 +450,7 @@ mutual
       (opt_adds c (k + x + y) step (omega (arith, z))))
 
   -- positional defaults first, and then those by names
-  pub defaults_match : (c : NodeContext) (k : ℕ) (params : tree.Arguments) → arguments_size params < 2 ^ 22 → Defaulted c k params
+  pub defaults_match : (c : NodeContext) (k : ℕ) (params : tree.Arguments) → arguments_size params < 2 ^ 24 → Defaulted c k params
   defaults_match c k (tree.arguments posonly args vararg kwonly kwarg) x =
       let p = c.context.postponed in
       let a = scopes_in_args p posonly in
@@ -468,7 +468,7 @@ mutual
             (keywords_only_add c (k + a + b) kwonly (omega (arith, x)));
       }
 
-  positional_adds : (c : NodeContext) (k : ℕ) (args : tree.Args) → args_size args < 2 ^ 22
+  positional_adds : (c : NodeContext) (k : ℕ) (args : tree.Args) → args_size args < 2 ^ 24
       → AllValuesAdd (table_outer c) c k (scopes_in_args c.context.postponed args) (positional_emissions args) (positional_defaults (table_context c) k args)
   positional_adds c k tree.no_args x = refl
   positional_adds c k (tree.more_args a tree.no_expr rest) x =
@@ -482,7 +482,7 @@ mutual
     positional_adds c (k + scopes_in c.context.postponed e) rest (omega (arith, x)),
   )
 
-  keywords_only_add : (c : NodeContext) (k : ℕ) (args : tree.Args) → args_size args < 2 ^ 22
+  keywords_only_add : (c : NodeContext) (k : ℕ) (args : tree.Args) → args_size args < 2 ^ 24
       → Threaded (NamedAdds (table_outer c) c) k (scopes_in_args c.context.postponed args) (keyword_only_emissions args) (keyword_defaults (table_context c) k args)
   keywords_only_add c k tree.no_args x = refl
   keywords_only_add c k (tree.more_args a tree.no_expr rest) x =
@@ -497,7 +497,7 @@ mutual
   )
 
   -- the clauses of a comprehension, around what is within
-  pub clauses_add : (c : NodeContext) (k : ℕ) (gs : tree.Generators) → generators_size gs < 2 ^ 22
+  pub clauses_add : (c : NodeContext) (k : ℕ) (gs : tree.Generators) → generators_size gs < 2 ^ 24
       → ClausesAdd (table_outer c) c k (but_iterable c.context.postponed gs) (clause_emissions gs) (clause_forms (table_context c) k gs)
   clauses_add c k tree.no_generators z = no_clauses (table_outer c) c k
   clauses_add c k (tree.more_generators target iter ifs is_async gs) z =
@@ -509,7 +509,7 @@ mutual
       (filter_forms (table_context c) (k + y) ifs) (further_forms (table_context c) (k + y + w) gs)
       (λ n. handed_adds c n k) (target_adds c k target (omega (arith, z))).alone (conditions_add c (k + y) ifs (omega (arith, z))) (further_add c (k + y + w) gs (omega (arith, z)))
 
-  further_add : (c : NodeContext) (k : ℕ) (gs : tree.Generators) → generators_size gs < 2 ^ 22
+  further_add : (c : NodeContext) (k : ℕ) (gs : tree.Generators) → generators_size gs < 2 ^ 24
       → FurtherAdd (table_outer c) c k (scopes_in_clauses c.context.postponed gs) (clause_emissions gs) (further_forms (table_context c) k gs)
   further_add c k tree.no_generators z = no_further (table_outer c) c k
   further_add c k (tree.more_generators target iter ifs is_async gs) z =
@@ -523,7 +523,7 @@ mutual
       (expr_adds c k iter (omega (arith, z))).value (target_adds c (k + x) target (omega (arith, z))).alone
       (conditions_add c (k + x + y) ifs (omega (arith, z))) (further_add c (k + x + y + w) gs (omega (arith, z)))
 
-  conditions_add : (c : NodeContext) (k : ℕ) (ts : tree.Exprs) → exprs_size ts < 2 ^ 22
+  conditions_add : (c : NodeContext) (k : ℕ) (ts : tree.Exprs) → exprs_size ts < 2 ^ 24
       → ConditionsAdd (table_outer c) c k (scopes_in_all c.context.postponed ts) (all_emissions ts) (filter_forms (table_context c) k ts)
   conditions_add c k tree.no_exprs z = no_conditions (table_outer c) c k
   conditions_add c k (tree.more_exprs t ts) z =
@@ -532,11 +532,11 @@ mutual
       (expr_forms (table_context c) k t).test (filter_forms (table_context c) (k + a) ts) (expr_adds c k t (omega (arith, z))).test
       (conditions_add c (k + a) ts (omega (arith, z)))
 
-  iterable_adds : (c : NodeContext) (k : ℕ) (gs : tree.Generators) → generators_size gs < 2 ^ 22 → IterableAdds c k gs
+  iterable_adds : (c : NodeContext) (k : ℕ) (gs : tree.Generators) → generators_size gs < 2 ^ 24 → IterableAdds c k gs
   iterable_adds c k tree.no_generators z = tt
   iterable_adds c k (tree.more_generators target iter ifs is_async gs) z = (expr_adds c k iter (omega (arith, z))).value
 
-  pub exprs_add : (c : NodeContext) (k : ℕ) (ts : tree.Exprs) → exprs_size ts < 2 ^ 22
+  pub exprs_add : (c : NodeContext) (k : ℕ) (ts : tree.Exprs) → exprs_size ts < 2 ^ 24
       → AllAddForms (table_outer c) c k (scopes_in_all c.context.postponed ts) (all_emissions ts) (all_forms (table_context c) k ts)
   exprs_add c k tree.no_exprs z = refl
   exprs_add c k (tree.more_exprs t ts) z = (
@@ -547,27 +547,27 @@ mutual
     exprs_add c (k + scopes_in c.context.postponed t) ts (omega (arith, z)),
   )
 
-  pub opt_adds : (c : NodeContext) (k : ℕ) (t : tree.OptExpr) → opt_expr_size t < 2 ^ 22
+  pub opt_adds : (c : NodeContext) (k : ℕ) (t : tree.OptExpr) → opt_expr_size t < 2 ^ 24
       → OptionAdds (table_outer c) c k (scopes_in_opt c.context.postponed t) (opt_emission t) (opt_form (table_context c) k t)
   opt_adds c k tree.no_expr z = refl
   opt_adds c k (tree.some_expr t) z = (expr_adds c k t z).value
 
   -- the entries of a dict display, the keys and the values apart
-  keys_add : (c : NodeContext) (k : ℕ) (keys : tree.OptExprs) (others : tree.Exprs) → keys_size keys < 2 ^ 22 → KeysAdd c k keys others
+  keys_add : (c : NodeContext) (k : ℕ) (keys : tree.OptExprs) (others : tree.Exprs) → keys_size keys < 2 ^ 24 → KeysAdd c k keys others
   keys_add c k tree.no_opts others x = tt
   keys_add c k (tree.more_opts o os) tree.no_exprs x = tt
   keys_add c k (tree.more_opts tree.no_expr os) (tree.more_exprs e es) x = (tt, keys_add c (k + 0 + scopes_in c.context.postponed e) os es (omega (arith, x)))
   keys_add c k (tree.more_opts (tree.some_expr t) os) (tree.more_exprs e es) x =
       ((expr_adds c k t (omega (arith, x))).value, keys_add c (k + scopes_in c.context.postponed t + scopes_in c.context.postponed e) os es (omega (arith, x)))
 
-  others_add : (c : NodeContext) (k : ℕ) (keys : tree.OptExprs) (others : tree.Exprs) → exprs_size others < 2 ^ 22 → OthersAdd c k keys others
+  others_add : (c : NodeContext) (k : ℕ) (keys : tree.OptExprs) (others : tree.Exprs) → exprs_size others < 2 ^ 24 → OthersAdd c k keys others
   others_add c k tree.no_opts others y = tt
   others_add c k (tree.more_opts o os) tree.no_exprs y = tt
   others_add c k (tree.more_opts o os) (tree.more_exprs e es) y =
       let j = k + scopes_in_opt c.context.postponed o in
       ((expr_adds c j e (omega (arith, y))).value, others_add c (j + scopes_in c.context.postponed e) os es (omega (arith, y)))
 
-  pub keywords_add : (c : NodeContext) (k : ℕ) (ks : tree.Keywords) → keywords_size ks < 2 ^ 22
+  pub keywords_add : (c : NodeContext) (k : ℕ) (ks : tree.Keywords) → keywords_size ks < 2 ^ 24
       → KeywordsAdd (table_outer c) c k (scopes_in_keywords c.context.postponed ks) (keyword_emissions ks) (keyword_forms (table_context c) k ks)
   keywords_add c k tree.no_keywords z = refl
   keywords_add c k (tree.more_keywords None t ks) z = (
@@ -585,7 +585,7 @@ mutual
     keywords_add c (k + scopes_in c.context.postponed t) ks (omega (arith, z)),
   )
 
-  pub target_adds : (c : NodeContext) (k : ℕ) (t : tree.Expr) → expr_size t < 2 ^ 22 → AddsTarget (table_outer c) c k (scopes_in c.context.postponed t) (stores t) (target_forms (table_context c) k t)
+  pub target_adds : (c : NodeContext) (k : ℕ) (t : tree.Expr) → expr_size t < 2 ^ 24 → AddsTarget (table_outer c) c k (scopes_in c.context.postponed t) (stores t) (target_forms (table_context c) k t)
   target_adds c k (tree.Name at x) z = plain_adds
       (table_outer c) c k 0 _ _ (unless_debug_adds (table_outer c) c k 0 no_assignment x (name_access Store x)
       (GStore Resolved (mangled_by (table_context c) x)) (name_store_adds c k x))
@@ -622,7 +622,7 @@ mutual
       (scopes_in c.context.postponed other)
       _ _ (refused_adds (table_outer c) c k (scopes_in c.context.postponed other) (error.Assign (python_name other)) GDrop)
 
-  pub targets_add : (c : NodeContext) (k : ℕ) (ts : tree.Exprs) → exprs_size ts < 2 ^ 22
+  pub targets_add : (c : NodeContext) (k : ℕ) (ts : tree.Exprs) → exprs_size ts < 2 ^ 24
       → StoresAdd (table_outer c) c k (scopes_in_all c.context.postponed ts) (all_stores ts) (all_targets (table_context c) k ts)
   targets_add c k tree.no_exprs z = refl
   targets_add c k (tree.more_exprs t ts) z = (
@@ -633,6 +633,6 @@ mutual
     targets_add c (k + scopes_in c.context.postponed t) ts (omega (arith, z)),
   )
 
-pub defaults_add : (c : NodeContext) (k : ℕ) (params : tree.Arguments) → arguments_size params < 2 ^ 22
+pub defaults_add : (c : NodeContext) (k : ℕ) (params : tree.Arguments) → arguments_size params < 2 ^ 24
     → PartsAdd (table_outer c) c k (scopes_in_defaults c.context.postponed params) (emission_of_defaults (default_emissions params)) (default_parts (default_forms (table_context c) k params) VNone)
 defaults_add c k params x = defaulted_adds c k params (defaults_match c k params x)

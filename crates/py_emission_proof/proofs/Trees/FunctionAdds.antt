@@ -170,21 +170,21 @@ module _ (c : NodeContext) where
   abbrev Notes : (k l : ℕ) → List Emission → List (List ℕ × VForm) → Type 0
   Notes = Threaded (NoteAdds (table_outer c) c)
 
-  opt_note_adds : (k : ℕ) (name text : List ℕ) (e : tree.OptExpr) → mangled_by c.context name ≡ text → opt_expr_size e < 2 ^ 22
+  opt_note_adds : (k : ℕ) (name text : List ℕ) (e : tree.OptExpr) → mangled_by c.context name ≡ text → opt_expr_size e < 2 ^ 24
       → Notes k (scopes_in_returns c.context.postponed e) (emitting.opt_note name e) (notes_of.opt_note (table_context c) k text e)
   opt_note_adds k name text tree.no_expr same few = no_scopes c.context.postponed
   opt_note_adds k name text (tree.some_expr e) same few =
       let l = scopes_in_annotation c.context.postponed e in
       (l, 0, omega arith, note_adds (table_outer c) c k l name text (emission_of_note e) (note_form (table_context c) k e) same (note_value_adds c k e few), refl)
 
-  arg_note_adds : (k : ℕ) (a : tree.Arg) → arg_size a < 2 ^ 22 → Notes k (scopes_in_arg c.context.postponed a) (emitting.arg_note a) (notes_of.arg_note (table_context c) k a)
+  arg_note_adds : (k : ℕ) (a : tree.Arg) → arg_size a < 2 ^ 24 → Notes k (scopes_in_arg c.context.postponed a) (emitting.arg_note a) (notes_of.arg_note (table_context c) k a)
   arg_note_adds k (tree.arg at name annotation) few = opt_note_adds k name (mangled_by (table_context c) name) annotation refl (omega (arith, few))
 
-  opt_arg_note_adds : (k : ℕ) (a : tree.OptArg) → opt_arg_size a < 2 ^ 22 → Notes k (scopes_in_opt_arg c.context.postponed a) (emitting.opt_arg_note a) (notes_of.opt_arg_note (table_context c) k a)
+  opt_arg_note_adds : (k : ℕ) (a : tree.OptArg) → opt_arg_size a < 2 ^ 24 → Notes k (scopes_in_opt_arg c.context.postponed a) (emitting.opt_arg_note a) (notes_of.opt_arg_note (table_context c) k a)
   opt_arg_note_adds k tree.no_arg few = refl
   opt_arg_note_adds k (tree.some_arg a) few = arg_note_adds k a few
 
-  arg_notes_add : (k : ℕ) (args : tree.Args) → args_size args < 2 ^ 22 → Notes k (scopes_in_notes c.context.postponed args) (emitting.arg_notes args) (notes_of.arg_notes (table_context c) k args)
+  arg_notes_add : (k : ℕ) (args : tree.Args) → args_size args < 2 ^ 24 → Notes k (scopes_in_notes c.context.postponed args) (emitting.arg_notes args) (notes_of.arg_notes (table_context c) k args)
   arg_notes_add k tree.no_args few = refl
   arg_notes_add k (tree.more_args a default rest) few =
       let x = scopes_in_arg c.context.postponed a in
@@ -193,7 +193,7 @@ module _ (c : NodeContext) where
       (arg_note_adds k a (omega (arith, few))) (arg_notes_add (k + x) rest (omega (arith, few)))
 
   -- the annotations of all parameters, and before them that of what the function returns
-  all_notes_add : (k : ℕ) (params : tree.Arguments) (returns : tree.OptExpr) → arguments_size params + opt_expr_size returns < 2 ^ 22
+  all_notes_add : (k : ℕ) (params : tree.Arguments) (returns : tree.OptExpr) → arguments_size params + opt_expr_size returns < 2 ^ 24
       → Notes k (scopes_in_returns c.context.postponed returns + scopes_in_all_notes c.context.postponed params) (notes params returns) (note_forms (table_context c) k params returns)
   all_notes_add k (tree.arguments posonly args vararg kwonly kwarg) returns few =
       let p = c.context.postponed in
@@ -254,7 +254,7 @@ module _ (c : NodeContext) (k : ℕ) (name : List ℕ) where
   function_of body = MkScope (head_of (pathless function_add_inner)) (function_body (pathless function_add_inner) (suc k) body)
 
   -- is made from what they add
-  function_makes : (h : Shape) (params : List (List ℕ)) (v : Emission) (body : tree.Stmts) → stmts_size body < 2 ^ 22
+  function_makes : (h : Shape) (params : List (List ℕ)) (v : Emission) (body : tree.Stmts) → stmts_size body < 2 ^ 24
       → NestedWhole function_add_inner v (suc k) (scopes_in_stmts function_add_inner.postponed body) (function_of body)
       → Makes c.context function_add_inner h (function_scope params v) k (scopes_in_stmts c.context.postponed body) (function_of body)
   unfolding inside with_path
@@ -301,7 +301,7 @@ module _ (c : NodeContext) (k : ℕ) (name : List ℕ) (params : tree.Arguments)
     abbrev made_after : Emission → Object → Emission
     made_after v o = v ▸ by_context (λ d. made_function all_early (qualified_under d name) o)
 
-    module _ (same : early ≡ flags) (flagged : Flagged all_flags (count parts + count function_add_others)) (few : arguments_size params + opt_expr_size returns < 2 ^ 22) where
+    module _ (same : early ≡ flags) (flagged : Flagged all_flags (count parts + count function_add_others)) (few : arguments_size params + opt_expr_size returns < 2 ^ 24) where
       threaded : Notes c (k + suc own_count) note_count (notes params returns) note_values
       threaded = threaded_as (NoteAdds (table_outer c) c) (suc k + own_count) (k + suc own_count) note_count note_count
           (notes params returns) note_values (omega arith) refl (all_notes_add c (suc k + own_count) params returns few)
@@ -319,7 +319,7 @@ module _ (c : NodeContext) (k : ℕ) (name : List ℕ) (params : tree.Arguments)
           let there = in_context g h.0 r c (a.0.added.node_contexts_are ∙ sym z.node_context) h.2 in
           ap (λ q. on_done q (run (made_function all_flags text o))) h.1 ∙ subst (λ f. run (made_function f text o) h.0 ≡ Done r) function_add_flags_are there
 
-      module _ (less : stmts_size body < 2 ^ 22) (v : Emission)
+      module _ (less : stmts_size body < 2 ^ 24) (v : Emission)
           (whole : NestedWhole (function_add_inner c k name) v (suc k)
           (scopes_in_stmts (function_add_inner c k name).postponed body) own_scope) where
         -- what emits the function's scope, its annotations and the function
@@ -377,7 +377,7 @@ module _ (c : NodeContext) (k : ℕ) (name : List ℕ) (params : tree.Arguments)
       subst (Flagged (default_flags function_add_defaults + some_flag 0x02 zs)) (omega (arith, a, b)) (flags_say function_add_defaults.positional function_add_defaults.keyword zs)
 
   -- a function without type parameters
-  pub def_adds : arguments_size params + opt_expr_size returns < 2 ^ 22 → stmts_size body < 2 ^ 22 → (v : Emission)
+  pub def_adds : arguments_size params + opt_expr_size returns < 2 ^ 24 → stmts_size body < 2 ^ 24 → (v : Emission)
       → NestedWhole (function_add_inner c scope_here name) v (suc scope_here) (scopes_in_stmts (function_add_inner c scope_here name).postponed body) (function_of c scope_here name body)
       → ValueAdds (table_outer c) c k
       (scopes_in_defaults c.context.postponed params

@@ -93,8 +93,8 @@ module _ (c : NodeContext) where
 abbrev pub AfterAdds : (tree.Stmts → Emission) → (Context → tree.Stmts → SForm) → tree.Stmts → Type 0
 AfterAdds e form ts = (c : NodeContext) (b : Loops) (n : ℕ) → InLoop c.loops b n → (l : ℕ) × Controls c b n 1 l (e ts) (form (table_context c) ts)
 
-pub after_gives : (e : tree.Stmts → Emission) (form : Context → tree.Stmts → SForm) → ((ts : tree.Stmts) → stmts_size ts < 2 ^ 22 → AfterAdds e form ts)
-    → (ts : tree.Stmts) → stmts_size ts < 2 ^ 22 → AfterAdds (emission_after e) (after_futures form) ts
+pub after_gives : (e : tree.Stmts → Emission) (form : Context → tree.Stmts → SForm) → ((ts : tree.Stmts) → stmts_size ts < 2 ^ 24 → AfterAdds e form ts)
+    → (ts : tree.Stmts) → stmts_size ts < 2 ^ 24 → AfterAdds (emission_after e) (after_futures form) ts
 after_gives e form h tree.no_stmts few c b n w = h tree.no_stmts few c b n w
 after_gives e form h (tree.more_stmts s ss) few c b n w =
     go (future_of s) (h (tree.more_stmts s ss) few c b n w)

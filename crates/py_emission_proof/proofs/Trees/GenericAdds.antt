@@ -57,7 +57,7 @@ function_pushed c d k flags parts name params body returns f =
 generic_add_none_handed : (c : NodeContext) (k : ℕ) → PartsAdd (table_outer c) c k 0 (emission_of_defaults emitted.no_defaults) VNone
 generic_add_none_handed c k n = after_these keep_yields keep_yields
 
-module _ (c : NodeContext) (k : ℕ) (generic : tree.TypeParams) (few : type_params_size generic < 2 ^ 22) where
+module _ (c : NodeContext) (k : ℕ) (generic : tree.TypeParams) (few : type_params_size generic < 2 ^ 24) where
   -- how many scopes stand in the type parameters, and the number of what stands in the type-parameter scope after them
   abbrev pub bounds : ℕ
   bounds = scopes_in_params c.context.postponed generic
@@ -73,7 +73,7 @@ module _ (c : NodeContext) (k : ℕ) (generic : tree.TypeParams) (few : type_par
   unfolding inside
   tuple_adds = params_add (type_param_nested c k) (suc k) generic few
 
-  module _ (name : List ℕ) (params : tree.Arguments) (body : tree.Stmts) (returns : tree.OptExpr) (bound : arguments_size params + opt_expr_size returns < 2 ^ 22) where
+  module _ (name : List ℕ) (params : tree.Arguments) (body : tree.Stmts) (returns : tree.OptExpr) (bound : arguments_size params + opt_expr_size returns < 2 ^ 24) where
     -- the number after the type-parameter scope, where its defaults begin
     abbrev generic_add_after : ℕ
     generic_add_after = suc generic_add_own_here + (scopes_in_stmts c.context.postponed body + (scopes_in_returns c.context.postponed returns + scopes_in_all_notes c.context.postponed params))
@@ -109,7 +109,7 @@ module _ (c : NodeContext) (k : ℕ) (generic : tree.TypeParams) (few : type_par
     early = 0x10 + flags_of_defaults (default_emissions params)
 
     -- what makes it in the type-parameter scope
-    pub generic_function_adds : stmts_size body < 2 ^ 22 → (v : Emission)
+    pub generic_function_adds : stmts_size body < 2 ^ 24 → (v : Emission)
         → NestedWhole (function_inside name (type_param_nested c k).context generic_add_own_here) v (suc generic_add_own_here)
         (scopes_in_stmts (function_inside name (type_param_nested c k).context generic_add_own_here).postponed body)
         (function_of (type_param_nested c k) generic_add_own_here name body)
@@ -141,7 +141,7 @@ module _ (c : NodeContext) (k : ℕ) (generic : tree.TypeParams) (few : type_par
         (function_body (function_inside name (table_context (type_param_nested c k)) generic_add_own_here) (suc generic_add_own_here) body)
 
     -- a function with type parameters, whose defaults come after the type-parameter scope
-    pub generic_def_adds : stmts_size body < 2 ^ 22 → (v : Emission)
+    pub generic_def_adds : stmts_size body < 2 ^ 24 → (v : Emission)
         → NestedWhole (function_inside name (type_param_nested c k).context generic_add_own_here) v (suc generic_add_own_here)
         (scopes_in_stmts (function_inside name (type_param_nested c k).context generic_add_own_here).postponed body)
         (function_of (type_param_nested c k) generic_add_own_here name body)
@@ -168,8 +168,8 @@ module _ (c : NodeContext) (k : ℕ) (generic : tree.TypeParams) (few : type_par
         (rest_form (nested_class path name (table_context (type_param_nested c k)) generic_add_own_here) (suc generic_add_own_here) body)
 
     -- what builds it in the type-parameter scope
-    pub generic_built_adds : (v : Emission) → BodyAdds (type_param_nested c k) generic_add_own_here path name body v → stmts_size body < 2 ^ 22
-        → exprs_size bases < 2 ^ 22 → keywords_size keywords < 2 ^ 22
+    pub generic_built_adds : (v : Emission) → BodyAdds (type_param_nested c k) generic_add_own_here path name body v → stmts_size body < 2 ^ 24
+        → exprs_size bases < 2 ^ 24 → keywords_size keywords < 2 ^ 24
         → ValueAdds (table_outer (type_param_nested c k)) (type_param_nested c k) (suc k)
         (bounds + suc (scopes_in_stmts c.context.postponed body) + scopes_in_all c.context.postponed bases
         + scopes_in_keywords c.context.postponed keywords)
@@ -201,7 +201,7 @@ module _ (c : NodeContext) (k : ℕ) (generic : tree.TypeParams) (few : type_par
   -- its qualified name is asked around the type-parameter scope
   module _ (name : List ℕ) (body : tree.Stmts) (bases : tree.Exprs) (keywords : tree.Keywords) (v : Emission)
       (adds : BodyAdds (type_param_nested c k) generic_add_own_here (class_path c.context name) name body v) where
-    pub generic_class_adds : stmts_size body < 2 ^ 22 → exprs_size bases < 2 ^ 22 → keywords_size keywords < 2 ^ 22
+    pub generic_class_adds : stmts_size body < 2 ^ 24 → exprs_size bases < 2 ^ 24 → keywords_size keywords < 2 ^ 24
         → TypeParamScopeSmall c k (class_form (class_path c.context name) name body bases keywords)
         → ValueAdds (table_outer c) c k
         (suc (bounds + suc (scopes_in_stmts c.context.postponed body) + scopes_in_all c.context.postponed bases
@@ -224,7 +224,7 @@ module _ (c : NodeContext) (k : ℕ) (generic : tree.TypeParams) (few : type_par
     alias_form = VSwap (operation op.TypeAlias Bare) params_value (expr_form (table_context (type_param_nested c k)) generic_add_own_here value) (VMore (VConst (const.str name)) VNone)
 
     -- what makes it in the type-parameter scope
-    pub generic_alias_value_adds : expr_size value < 2 ^ 22
+    pub generic_alias_value_adds : expr_size value < 2 ^ 24
         → ValueAdds (table_outer (type_param_nested c k)) (type_param_nested c k) (suc k) (bounds + scopes_in c.context.postponed value)
         (generic_alias name (emission_of_params generic) (emission value)) alias_form
     unfolding inside
@@ -234,7 +234,7 @@ module _ (c : NodeContext) (k : ℕ) (generic : tree.TypeParams) (few : type_par
         (emission value) params_value (expr_form (table_context w) generic_add_own_here value) tuple_adds
         (expr_adds w generic_add_own_here value less).value)
 
-    pub generic_alias_adds_here : expr_size value < 2 ^ 22 → TypeParamScopeSmall c k alias_form
+    pub generic_alias_adds_here : expr_size value < 2 ^ 24 → TypeParamScopeSmall c k alias_form
         → ValueAdds (table_outer c) c k (suc (bounds + scopes_in c.context.postponed value) + 0)
         (in_type_param_scope name emitted.no_defaults (generic_alias name (emission_of_params generic) (emission value)))
         (type_param_scope_call (MkScope (head_of (type_param_scope_inside (table_context c) k)) (SReturn alias_form)) name no_defaults)

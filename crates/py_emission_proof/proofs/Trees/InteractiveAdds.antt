@@ -55,7 +55,7 @@ keeping_gives {v = v} {w = w} f t c n k l b h g =
 abbrev PromptAdds : (tree.Stmts → Emission) → (Context → ℕ → tree.Stmts → SForm) → tree.Stmts → Type 0
 PromptAdds e f ts = (c : NodeContext) (k : ℕ) (b : Loops) (n : ℕ) → InLoop c.loops b n → Controls c b n k (scopes_in_stmts c.context.postponed ts) (e ts) (f (table_context c) k ts)
 
-single_gives : (ts : tree.Stmts) → stmts_size ts < 2 ^ 22 → PromptAdds emission_of_single single_form ts
+single_gives : (ts : tree.Stmts) → stmts_size ts < 2 ^ 24 → PromptAdds emission_of_single single_form ts
 single_gives tree.no_stmts few c k b n w = return_adds const.none refl c n k
 single_gives (tree.more_stmts (tree.StmtExpr at value) tree.no_stmts) few c k b n w =
     let l = scopes_in c.context.postponed value in
@@ -80,7 +80,7 @@ kept_gives : {v : Emission} (f : VForm) (c : NodeContext) (n k l : ℕ) (b : Loo
     → Controls c b n k l (move at ▸ v ▸ stored_and_returned name) (SReturn (VKeep f None (GStore Resolved (mangled_by (table_context c) name))))
 kept_gives f c n k l b at name h = moved_gives at (keeping_gives f (GStore Resolved (mangled_by (table_context c) name)) c n k l b h (name_stored c name (k + l)))
 
-last_gives : (t : tree.Stmt) → stmt_size t < 2 ^ 22 → LastAdds t
+last_gives : (t : tree.Stmt) → stmt_size t < 2 ^ 24 → LastAdds t
 last_gives (tree.StmtExpr at value) few c k b n w = moved_gives at ((expr_adds c k value (omega (arith, few))).returned n)
 last_gives (tree.FunctionDef at name params body decorators returns generic) few c k b n w =
     kept_gives (decorated_function c k name params body decorators returns generic) c n k _ b at name
@@ -90,7 +90,7 @@ last_gives (tree.ClassDef at name bases keywords body decorators generic) few c 
     (class_value_adds at name bases keywords body decorators generic few (class_rest_give body (omega (arith, few))) c k)
 last_gives other few c k b n w = scopes_as (omega arith) (then_gives (stmt_gives other few c k b n w) (return_adds const.none refl c _ _))
 
-block_gives : (ts : tree.Stmts) → stmts_size ts < 2 ^ 22 → PromptAdds emission_of_block block_form ts
+block_gives : (ts : tree.Stmts) → stmts_size ts < 2 ^ 24 → PromptAdds emission_of_block block_form ts
 block_gives tree.no_stmts few c k b n w = return_adds const.none refl c n k
 block_gives (tree.more_stmts s tree.no_stmts) few c k b n w = scopes_as (omega arith) (last_gives s (omega (arith, few)) c k b n w)
 block_gives (tree.more_stmts s (tree.more_stmts t ts)) few c k b n w =
@@ -120,7 +120,7 @@ interactive_add_statement_or : (s : tree.Stmt) (ss : tree.Stmts) (c : NodeContex
 interactive_add_statement_or s ss c k b n None x y = x
 interactive_add_statement_or s ss c k b n (Some f) x y = let z = y f in (z.0, future_then c f b n k z.0 (emission_of_prompt ss) (λ d. prompt_form d k ss) z.1)
 
-prompt_gives : (ts : tree.Stmts) → stmts_size ts < 2 ^ 22 → (c : NodeContext) (k : ℕ) (b : Loops) (n : ℕ) → InLoop c.loops b n
+prompt_gives : (ts : tree.Stmts) → stmts_size ts < 2 ^ 24 → (c : NodeContext) (k : ℕ) (b : Loops) (n : ℕ) → InLoop c.loops b n
     → Opens c b n k (emission_of_prompt ts) (prompt_form (table_context c) k ts)
 prompt_gives tree.no_stmts few c k b n w = (0, return_adds const.none refl c n k)
 prompt_gives (tree.more_stmts (tree.StmtExpr at value) tree.no_stmts) few c k b n w =
@@ -138,7 +138,7 @@ prompt_gives (tree.more_stmts s ss) few c k b n w =
     (λ f. let m = n + labels (future_form (table_context c) f) in prompt_gives ss (omega (arith, few)) (node_context_after f c) k b m (in_more c.loops b n m (omega arith) w))
 
 -- in each mode, where the next scope is the first within
-pub interactive_gives : (m : Mode) (ts : tree.Stmts) → stmts_size ts < 2 ^ 22 → (c : NodeContext) (b : Loops) (n : ℕ) → InLoop c.loops b n
+pub interactive_gives : (m : Mode) (ts : tree.Stmts) → stmts_size ts < 2 ^ 24 → (c : NodeContext) (b : Loops) (n : ℕ) → InLoop c.loops b n
     → Opens c b n 1 (emission_of_interactive m ts) (interactive_form m (table_context c) ts)
 interactive_gives mode.Single ts few c b n w = prompt_gives ts few c 1 b n w
 interactive_gives other ts few c b n w = after_gives emission_of_block (λ d. block_form d 1) (λ us less d x m z. (scopes_in_stmts d.context.postponed us, block_gives us less d 1 x m z)) ts few c b n w

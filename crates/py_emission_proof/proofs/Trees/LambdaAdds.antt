@@ -45,7 +45,7 @@ unfolding inside
 lambda_whole c k l params body h = scope_gives (parameters params) (emissions body).returned (so (λ z. tt) (gives_as (sym (append-nil _)) refl refl (h.returned 1)))
 
 -- a lambda's scope is made from its body
-lambda_makes : (c : NodeContext) (k l : ℕ) (params : tree.Arguments) (body : tree.Expr) → expr_size body < 2 ^ 22
+lambda_makes : (c : NodeContext) (k l : ℕ) (params : tree.Arguments) (body : tree.Expr) → expr_size body < 2 ^ 24
     → AddsForms (table_outer (emission_sequence_outside (lambda_inside c.context k)))
     (emission_sequence_outside (lambda_inside c.context k)) (suc k) l (emissions body)
     (expr_forms (table_context (emission_sequence_outside (lambda_inside c.context k))) (suc k) body)
@@ -62,7 +62,7 @@ lambda_makes c k l params body small h =
     (lambda_whole c k l params body h)
 
 -- a lambda is a function of its scope, whose annotations are left out
-lambda_adds : (c : NodeContext) (k l : ℕ) (params : tree.Arguments) (body : tree.Expr) (flags others : ℕ) → expr_size body < 2 ^ 22
+lambda_adds : (c : NodeContext) (k l : ℕ) (params : tree.Arguments) (body : tree.Expr) (flags others : ℕ) → expr_size body < 2 ^ 24
     → AddsForms (table_outer (emission_sequence_outside (lambda_inside c.context k)))
     (emission_sequence_outside (lambda_inside c.context k)) (suc k) l (emissions body)
     (expr_forms (table_context (emission_sequence_outside (lambda_inside c.context k))) (suc k) body) → Flagged flags others → (n : ℕ)
@@ -111,7 +111,7 @@ unfolding inside
 same_postponed c m = refl
 
 -- a lambda, where its defaults and its body are so
-pub lambda_forms_add : (c : NodeContext) (k : ℕ) (at : SourceLocation) (params : tree.Arguments) (body : tree.Expr) → Defaulted c k params → expr_size body < 2 ^ 22
+pub lambda_forms_add : (c : NodeContext) (k : ℕ) (at : SourceLocation) (params : tree.Arguments) (body : tree.Expr) → Defaulted c k params → expr_size body < 2 ^ 24
     → AddsForms (table_outer (emission_sequence_outside (lambda_inside c.context (k + scopes_in_defaults c.context.postponed params))))
     (emission_sequence_outside (lambda_inside c.context (k + scopes_in_defaults c.context.postponed params)))
     (suc (k + scopes_in_defaults c.context.postponed params))

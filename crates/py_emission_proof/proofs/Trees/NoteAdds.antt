@@ -23,12 +23,12 @@ module _ (c : NodeContext) (k : ℕ) where
   text_adds None n = refused_gives error.NotImplementedYet
   text_adds (Some text) n = constant_adds (const.str text) refl c n k
 
-  note_add_told_or : (z : Bool) (e : tree.Expr) → expr_size e < 2 ^ 22
+  note_add_told_or : (z : Bool) (e : tree.Expr) → expr_size e < 2 ^ 24
       → ValueAdds (table_outer c) c k (if z then 0 else scopes_in c.context.postponed e)
       (if z then emission_of_text (annotation e) else emission e)
       (if z then text_form (annotation e) else expr_form (table_context c) k e)
   note_add_told_or true e few = text_adds (annotation e)
   note_add_told_or false e few = (expr_adds c k e few).value
 
-  pub note_value_adds : (e : tree.Expr) → expr_size e < 2 ^ 22 → ValueAdds (table_outer c) c k (scopes_in_annotation c.context.postponed e) (emission_of_note e) (note_form (table_context c) k e)
+  pub note_value_adds : (e : tree.Expr) → expr_size e < 2 ^ 24 → ValueAdds (table_outer c) c k (scopes_in_annotation c.context.postponed e) (emission_of_note e) (note_form (table_context c) k e)
   note_value_adds e few n = context_gives (λ d. if d.postponed then emission_of_text (annotation e) else emission e) (note_add_told_or c.context.postponed e few n)

@@ -56,7 +56,7 @@ unless_less None ss = omega arith
 unless_less (Some text) tree.no_stmts = omega arith
 unless_less (Some text) (tree.more_stmts s ss) = omega arith
 
-program_gives : (x : Context) (stmts : tree.Stmts) → stmts_size stmts < 2 ^ 22
+program_gives : (x : Context) (stmts : tree.Stmts) → stmts_size stmts < 2 ^ 24
     → (l : ℕ) × Gives (emission_sequence_outside x) 1 1 (emission_of_program stmts)
     (body_code (table_outer (emission_sequence_outside x)) (program_form (pathless x) stmts))
     (labels (program_form (pathless x) stmts)) l (Looped false (program_form (pathless x) stmts))
@@ -79,7 +79,7 @@ program_gives x stmts z =
     )
 
 -- what is entered at a prompt
-interactive_whole : (x : Context) (m : Mode) (stmts : tree.Stmts) → stmts_size stmts < 2 ^ 22
+interactive_whole : (x : Context) (m : Mode) (stmts : tree.Stmts) → stmts_size stmts < 2 ^ 24
     → (l : ℕ) × Gives (emission_sequence_outside x) 1 1 (emission_of_interactive m stmts)
     (body_code (table_outer (emission_sequence_outside x)) (interactive_form m (pathless x) stmts))
     (labels (interactive_form m (pathless x) stmts)) l (Looped false (interactive_form m (pathless x) stmts))
@@ -98,7 +98,7 @@ first_place = record { row = 1; column = 1 }
 
 module _ (x : Context) (settled : Settled x) where
   mod_adds : (t : tree.Mod) (m : Mode) → size_of t < 2 ^ 22
-      → ((d : Scope → Object) → size_bound (body_code (exactly d (program_scope_in x t m)) (form_of (program_scope_in x t m))) < 2 ^ 27)
+      → ((d : Scope → Object) → size_bound (body_code (exactly d (program_scope_in x t m)) (form_of (program_scope_in x t m))) < 2 ^ 29)
       → LoadsFew x.scopes (program_scope_in x t m) → (o : State) → emission_outcome t m x ≡ Done o → Emitted x first_place 1 (program_scope_in x t m) o
   mod_adds (tree.Module stmts) m z small few o e =
       let g = program_gives x stmts (omega (arith, z)) in
@@ -140,9 +140,9 @@ pub tree_adds : (t : tree.Mod) (m : Mode) (l : ℕ) (path : List ℕ) (scopes : 
     → Emitted (outermost l path scopes) first_place 1 (body scopes t m l) o
 tree_adds t m l path scopes o z few e =
     let x = outermost l path scopes in
-    let small : (d : Scope → Object) → size_bound (body_code (exactly d (body scopes t m l)) (form_of (body scopes t m l))) < 2 ^ 27 = λ d.
+    let small : (d : Scope → Object) → size_bound (body_code (exactly d (body scopes t m l)) (form_of (body scopes t m l))) < 2 ^ 29 = λ d.
     let b = body_small (exactly d (body scopes t m l)) scopes t m l in omega (arith, b, z) in
     let there : program_scope_in x t m ≡ body scopes t m l = ap (λ (c : Context). MkScope (head_of c) (mod_form c t m)) (pathless_is l path scopes) in
     let loads_there : LoadsFew x.scopes (program_scope_in x t m) = subst (λ s. LoadsFew x.scopes s) (sym there) (subst (λ es. LoadsFew es (body scopes t m l)) (sym (same_scopes l path scopes)) few) in
     subst (λ s. Emitted x first_place 1 s o) there
-    (mod_adds x (outermost_settled l path scopes) t m z (λ d. subst (λ s. size_bound (body_code (exactly d s) (form_of s)) < 2 ^ 27) (sym there) (small d)) loads_there o e)
+    (mod_adds x (outermost_settled l path scopes) t m z (λ d. subst (λ s. size_bound (body_code (exactly d s) (form_of s)) < 2 ^ 29) (sym there) (small d)) loads_there o e)

@@ -60,14 +60,14 @@ continue_gives : (c : NodeContext) (n k : ℕ) (x : Option LoopBlocks) (b : Loop
 continue_gives c n k None b e h = refused_gives e
 continue_gives c n k (Some x) b e h = subst (λ (z : Loops). Yields c n k (jump op.Continue x.on_continue) (Do (Continue z.on_continue) ∷ []) 0 0) h.0 (continue_adds x.on_continue c n k h.2)
 
-if_gives : (at : SourceLocation) (t : tree.Expr) (body : tree.Stmts) → expr_size t < 2 ^ 22 → StmtsAdd body → StmtAdds (tree.If at t body tree.no_stmts)
+if_gives : (at : SourceLocation) (t : tree.Expr) (body : tree.Stmts) → expr_size t < 2 ^ 24 → StmtsAdd body → StmtAdds (tree.If at t body tree.no_stmts)
 if_gives at t body few h c k b n w =
     let m = 1 + n + labels_t (test_form (table_context c) k t) false in
     scopes_as (omega arith) (moved_gives at
     (only_gives (emission_of_test t) (emission_of_stmts body) ((expr_adds c k t few).test false n (1 + n) (omega arith))
     (h c (k + scopes_in c.context.postponed t) b m (in_more c.loops b n m (omega arith) w))))
 
-else_gives : (at : SourceLocation) (t : tree.Expr) (body : tree.Stmts) (s : tree.Stmt) (ss : tree.Stmts) → expr_size t < 2 ^ 22 → StmtsAdd body
+else_gives : (at : SourceLocation) (t : tree.Expr) (body : tree.Stmts) (s : tree.Stmt) (ss : tree.Stmts) → expr_size t < 2 ^ 24 → StmtsAdd body
     → StmtsAdd (tree.more_stmts s ss) → StmtAdds (tree.If at t body (tree.more_stmts s ss))
 else_gives at t body s ss few h g c k b n w =
     let x = k + scopes_in c.context.postponed t in
@@ -78,7 +78,7 @@ else_gives at t body s ss few h g c k b n w =
     ((expr_adds c k t few).test false n (2 + n) (omega arith)) (h c x b m (in_more c.loops b n m (omega arith) w))
     (g c y b j (in_more c.loops b n j (omega arith) w)))
 
-loop_stmt_gives : (at : SourceLocation) (t : tree.Expr) (body orelse : tree.Stmts) → expr_size t < 2 ^ 22 → StmtsAdd body → StmtsAdd orelse → StmtAdds (tree.While at t body orelse)
+loop_stmt_gives : (at : SourceLocation) (t : tree.Expr) (body orelse : tree.Stmts) → expr_size t < 2 ^ 24 → StmtsAdd body → StmtsAdd orelse → StmtAdds (tree.While at t body orelse)
 loop_stmt_gives at t body orelse few h g c k b n w =
     let own : LoopBlocks = record { on_break = 2 + n; on_continue = n } in
     let x = k + scopes_in c.context.postponed t in
@@ -90,7 +90,7 @@ loop_stmt_gives at t body orelse few h g c k b n w =
     (h (emission_sequence_looping own c) x (labels_in own) m (refl, omega arith, omega arith))
     (g c y b j (in_more c.loops b n j (omega arith) w)))
 
-for_stmt_gives : (at : SourceLocation) (t iter : tree.Expr) (body orelse : tree.Stmts) → expr_size t < 2 ^ 22 → expr_size iter < 2 ^ 22 → StmtsAdd body
+for_stmt_gives : (at : SourceLocation) (t iter : tree.Expr) (body orelse : tree.Stmts) → expr_size t < 2 ^ 24 → expr_size iter < 2 ^ 24 → StmtsAdd body
     → StmtsAdd orelse → StmtAdds (tree.For at t iter body orelse)
 for_stmt_gives at t iter body orelse few less h g c k b n w =
     let own : LoopBlocks = record { on_break = 2 + n; on_continue = n } in
@@ -114,13 +114,13 @@ with_body_gives : (body : tree.Stmts) → StmtsAdd body → (c : NodeContext) (k
 with_body_gives tree.no_stmts h c k b n w = refused_gives error.EmptyWithBody
 with_body_gives (tree.more_stmts s ss) h c k b n w = h c k b n w
 
-item_adds : (c : NodeContext) (k : ℕ) (t : tree.OptExpr) → opt_expr_size t < 2 ^ 22
+item_adds : (c : NodeContext) (k : ℕ) (t : tree.OptExpr) → opt_expr_size t < 2 ^ 24
     → TargetAdds (table_outer c) c k (scopes_in_opt c.context.postponed t) (emission_of_item t) (item_target (table_context c) k t)
 item_adds c k tree.no_expr few n = drop_adds (table_outer c) c k n
 item_adds c k (tree.some_expr t) few n = moved_gives (tree.expr_location t) ((target_adds c k t few).alone n)
 
 items_give : (at : SourceLocation) (items : tree.WithItems) (v : Emission) (g : SForm) (c : NodeContext) (k j l : ℕ) (b : Loops) (n : ℕ)
-    → with_items_size items < 2 ^ 22 → k + scopes_in_items c.context.postponed items ≡ j → ((m : ℕ) → n ≤ m → Controls c b m j l v g)
+    → with_items_size items < 2 ^ 24 → k + scopes_in_items c.context.postponed items ≡ j → ((m : ℕ) → n ≤ m → Controls c b m j l v g)
     → Controls c b n k (scopes_in_items c.context.postponed items + l) (emission_of_items at items v) (with_form (table_context c) k items g)
 items_give at tree.no_items v g c k j l b n few e h = scopes_as (omega arith) (next_as (let f : j ≡ k = omega (arith, e) in f) (h n (omega arith)))
 items_give at (tree.more_items e t items) v g c k j l b n few f h =
@@ -133,7 +133,7 @@ items_give at (tree.more_items e t items) v g c k j l b n few f h =
     ((expr_adds c k e (omega (arith, few))).value (1 + n)) (item_adds c x t (omega (arith, few)) m)
     (items_give at items v g c y j l b i (omega (arith, few)) (omega (arith, f)) (λ q le. h q (omega (arith, le)))))
 
-with_gives : (at : SourceLocation) (items : tree.WithItems) (body : tree.Stmts) → with_items_size items < 2 ^ 22 → StmtsAdd body → StmtAdds (tree.With at items body)
+with_gives : (at : SourceLocation) (items : tree.WithItems) (body : tree.Stmts) → with_items_size items < 2 ^ 24 → StmtsAdd body → StmtAdds (tree.With at items body)
 with_gives at tree.no_items body few h c k b n w = moved_gives at (refused_gives error.EmptyWithItems)
 with_gives at (tree.more_items e t items) body few h c k b n w =
     let all = tree.more_items e t items in
@@ -168,7 +168,7 @@ named_body_gives (Some x) body h c k b n w =
     (finally_gives (emission_of_stmts body) (handler_name_removal x) (h c k b (1 + n) (in_more c.loops b n (1 + n) (omega arith) w))
     (after_these (constant_adds const.none refl c _ _) (after_these (accessed_adds Store x c _ _) (accessed_adds Delete x c _ _)))))
 
-typed_handler_gives : (e : tree.Expr) (name : Option (List ℕ)) (body : tree.Stmts) (rest : tree.Handlers) → expr_size e < 2 ^ 22 → StmtsAdd body
+typed_handler_gives : (e : tree.Expr) (name : Option (List ℕ)) (body : tree.Stmts) (rest : tree.Handlers) → expr_size e < 2 ^ 24 → StmtsAdd body
     → HandlersAdd rest → HandlersAdd (tree.more_handlers (tree.some_expr e) name body rest)
 typed_handler_gives e name body rest few h g c k b n end final lt w =
     let x = k + scopes_in c.context.postponed e in
@@ -207,7 +207,7 @@ try_last_gives at body hs orelse s ss x y z u c k b n w =
     (x c k b (3 + n) (in_more c.loops b n (3 + n) (omega arith) w)) (y c r b m (2 + n) true (omega arith) (in_more c.loops b n m (omega arith) w)) (z c t b j (in_more c.loops b n j (omega arith) w))
     (then_these (u c v b i (in_more c.loops b n i (omega arith) w)) (end_finally_adds c _ _)))
 
-raising_adds : (c : NodeContext) (k : ℕ) (exc cause : tree.OptExpr) → opt_expr_size exc + opt_expr_size cause < 2 ^ 22
+raising_adds : (c : NodeContext) (k : ℕ) (exc cause : tree.OptExpr) → opt_expr_size exc + opt_expr_size cause < 2 ^ 24
     → ActAdds (table_outer c) c k (scopes_in_raise c.context.postponed exc cause) (emission_of_raise exc cause) (raise_form (table_context c) k exc cause)
 raising_adds c k tree.no_expr cause few b n = reraise_adds c n k
 raising_adds c k (tree.some_expr e) tree.no_expr few b n =
@@ -227,7 +227,7 @@ raise_unlooped c k tree.no_expr cause b = tt
 raise_unlooped c k (tree.some_expr e) tree.no_expr b = tt
 raise_unlooped c k (tree.some_expr e) (tree.some_expr g) b = tt
 
-message_adds : (c : NodeContext) (k : ℕ) (msg : tree.OptExpr) → opt_expr_size msg < 2 ^ 22
+message_adds : (c : NodeContext) (k : ℕ) (msg : tree.OptExpr) → opt_expr_size msg < 2 ^ 24
     → PartsAdd (table_outer c) c k (scopes_in_opt c.context.postponed msg) (emission_of_message msg) (message_parts (table_context c) k msg)
 message_adds c k tree.no_expr few n = keep_yields
 message_adds c k (tree.some_expr e) few n = one_part (table_outer c) c k (scopes_in c.context.postponed e) (emission e) (expr_form (table_context c) k e) (expr_adds c k e few).value n
@@ -236,7 +236,7 @@ message_adds c k (tree.some_expr e) few n = one_part (table_outer c) c k (scopes
 abbrev asserted_form : Context → (next : ℕ) → tree.Expr → tree.OptExpr → SForm
 asserted_form c k t msg = SIf (TNot (test_form c k t)) (SDo (operation op.Raise (Number 0)) true (VMore (assertion c (k + scopes_in c.postponed t) msg) VNone))
 
-asserted_adds : (c : NodeContext) (k : ℕ) (t : tree.Expr) (msg : tree.OptExpr) → expr_size t + opt_expr_size msg < 2 ^ 22
+asserted_adds : (c : NodeContext) (k : ℕ) (t : tree.Expr) (msg : tree.OptExpr) → expr_size t + opt_expr_size msg < 2 ^ 24
     → ActAdds (table_outer c) c k (scopes_in c.context.postponed t + scopes_in_opt c.context.postponed msg)
     (assertion_of (emission_of_test t) (emission_of_message msg) (message_count msg)) (asserted_form (table_context c) k t msg)
 asserted_adds c k t tree.no_expr few b n =
@@ -253,14 +253,14 @@ asserted_adds c k t (tree.some_expr e) few b n =
     (let z : m + 0 ≡ m = omega arith in from_as z (message_adds c j (tree.some_expr e) (omega (arith, few)) (m + 0))))
 
 -- above level 0 the scopes of an assertion are passed over
-assert_if : (z : Bool) (c : NodeContext) (k : ℕ) (t : tree.Expr) (msg : tree.OptExpr) → expr_size t + opt_expr_size msg < 2 ^ 22
+assert_if : (z : Bool) (c : NodeContext) (k : ℕ) (t : tree.Expr) (msg : tree.OptExpr) → expr_size t + opt_expr_size msg < 2 ^ 24
     → ActAdds (table_outer c) c k (scopes_in c.context.postponed t + scopes_in_opt c.context.postponed msg)
     (if z then assertion_of (emission_of_test t) (emission_of_message msg) (message_count msg) else pass_scopes
     (λ p. scopes_in p t + scopes_in_opt p msg)) (if z then asserted_form (table_context c) k t msg else SSkip)
 assert_if true c k t msg few b n = asserted_adds c k t msg few b n
 assert_if false c k t msg few b n = passed_adds (λ p. scopes_in p t + scopes_in_opt p msg)
 
-assert_adds : (c : NodeContext) (k : ℕ) (t : tree.Expr) (msg : tree.OptExpr) → expr_size t + opt_expr_size msg < 2 ^ 22
+assert_adds : (c : NodeContext) (k : ℕ) (t : tree.Expr) (msg : tree.OptExpr) → expr_size t + opt_expr_size msg < 2 ^ 24
     → ActAdds (table_outer c) c k (scopes_in c.context.postponed t + scopes_in_opt c.context.postponed msg) (by_level (emission_of_assert t msg)) (assert_form (table_context c) k t msg)
 assert_adds c k t msg few b n = level_gives (emission_of_assert t msg) (assert_if (nat_eq c.context.level 0) c k t msg few b n)
 
@@ -273,12 +273,12 @@ in_function_gives : (z : Bool) (c : NodeContext) (k l : ℕ) (e : CodegenErrorTy
 in_function_gives true c k l e v g h b n = h b n
 in_function_gives false c k l e v g h b n = refused_gives e
 
-returned_adds : (c : NodeContext) (k : ℕ) (value : tree.OptExpr) → opt_expr_size value < 2 ^ 22
+returned_adds : (c : NodeContext) (k : ℕ) (value : tree.OptExpr) → opt_expr_size value < 2 ^ 24
     → ActAdds (table_outer c) c k (scopes_in_opt c.context.postponed value) (emission_of_returned value) (return_form (table_context c) k value)
 returned_adds c k tree.no_expr few b n = return_adds const.none refl c n k
 returned_adds c k (tree.some_expr e) few b n = (expr_adds c k e few).returned n
 
-return_gives : (c : NodeContext) (k : ℕ) (value : tree.OptExpr) → opt_expr_size value < 2 ^ 22
+return_gives : (c : NodeContext) (k : ℕ) (value : tree.OptExpr) → opt_expr_size value < 2 ^ 24
     → ActAdds (table_outer c) c k (scopes_in_opt c.context.postponed value) (only_in_function error.InvalidReturn (emission_of_returned value)) (return_form (table_context c) k value)
 return_gives c k value few b n =
     let v : Emission = emission_of_returned value in
@@ -287,7 +287,7 @@ return_gives c k value few b n =
     (return_form (table_context c) k value) (returned_adds c k value few) b n)
 
 mutual
-  pub stmt_gives : (t : tree.Stmt) → stmt_size t < 2 ^ 22 → StmtAdds t
+  pub stmt_gives : (t : tree.Stmt) → stmt_size t < 2 ^ 24 → StmtAdds t
   stmt_gives (tree.Return at value) few c k b n w =
       act_gives c b n k _ at _ (return_form (table_context c) k value) (return_gives c k value (omega (arith, few)))
       (return_unlooped (table_context c) k value)
@@ -345,13 +345,13 @@ mutual
   stmt_gives (tree.TypeAlias at name generic value) few c k b n w = alias_gives at name generic value (omega (arith, few)) c k b n w
   stmt_gives other few c k b n w = moved_refused (tree.stmt_location other) error.NotImplementedYet
 
-  stmts_give : (ts : tree.Stmts) → stmts_size ts < 2 ^ 22 → StmtsAdd ts
+  stmts_give : (ts : tree.Stmts) → stmts_size ts < 2 ^ 24 → StmtsAdd ts
   stmts_give tree.no_stmts few c k b n w = keep_yields
   stmts_give (tree.more_stmts t ts) few c k b n w =
       let m = n + labels (stmt_form (table_context c) k t) in
       then_gives (stmt_gives t (omega (arith, few)) c k b n w) (stmts_give ts (omega (arith, few)) c (k + scopes_in_stmt c.context.postponed t) b m (in_more c.loops b n m (omega arith) w))
 
-  handlers_give : (hs : tree.Handlers) → handlers_size hs < 2 ^ 22 → HandlersAdd hs
+  handlers_give : (hs : tree.Handlers) → handlers_size hs < 2 ^ 24 → HandlersAdd hs
   handlers_give tree.no_handlers few c k b n end final lt w = reraise_adds c n k
   handlers_give (tree.more_handlers tree.no_expr name body rest) few c k b n end final lt w =
       any_handler_gives name body rest (stmts_give body (omega (arith, few)))
@@ -359,18 +359,18 @@ mutual
   handlers_give (tree.more_handlers (tree.some_expr e) name body rest) few c k b n end final lt w =
       typed_handler_gives e name body rest (omega (arith, few)) (stmts_give body (omega (arith, few))) (handlers_give rest (omega (arith, few))) c k b n end final lt w
 
-  ended_give : (ts : tree.Stmts) → stmts_size ts < 2 ^ 22 → EndedAdd ts
+  ended_give : (ts : tree.Stmts) → stmts_size ts < 2 ^ 24 → EndedAdd ts
   ended_give tree.no_stmts few c k b n w = after_these keep_yields (return_adds const.none refl c n k)
   ended_give (tree.more_stmts s ss) few c k b n w = ended_more s ss (stmt_gives s (omega (arith, few))) (ended_give ss (omega (arith, few))) c k b n w
 
-  pub class_rest_give : (ts : tree.Stmts) → stmts_size ts < 2 ^ 22 → ClassRestAdd ts
+  pub class_rest_give : (ts : tree.Stmts) → stmts_size ts < 2 ^ 24 → ClassRestAdd ts
   class_rest_give tree.no_stmts few c k b n w = keep_yields
   class_rest_give (tree.more_stmts s ss) few c k b n w = class_rest_more s ss (stmt_gives s (omega (arith, few))) (stmts_give ss (omega (arith, few))) c k b n w
 
-  pub rest_give : (ts : tree.Stmts) → stmts_size ts < 2 ^ 22 → RestAdd ts
+  pub rest_give : (ts : tree.Stmts) → stmts_size ts < 2 ^ 24 → RestAdd ts
   rest_give tree.no_stmts few c k b n w = after_these keep_yields (return_adds const.none refl c n k)
   rest_give (tree.more_stmts s ss) few c k b n w = rest_more s ss (stmt_gives s (omega (arith, few))) (ended_give ss (omega (arith, few))) c k b n w
 
-pub stmts_add : (c : NodeContext) (k : ℕ) (ss : tree.Stmts) → stmts_size ss < 2 ^ 22 → (b : Loops) (n : ℕ) → InLoop c.loops b n
+pub stmts_add : (c : NodeContext) (k : ℕ) (ss : tree.Stmts) → stmts_size ss < 2 ^ 24 → (b : Loops) (n : ℕ) → InLoop c.loops b n
     → Controls c b n k (scopes_in_stmts c.context.postponed ss) (emission_of_stmts ss) (stmts_form (table_context c) k ss)
 stmts_add c k ss few b n w = stmts_give ss few c k b n w

@@ -50,7 +50,7 @@ pub name_stored : (c : NodeContext) (name : List ℕ) (k : ℕ) → TargetAdds (
 name_stored c name k i = unless_debug_gives no_assignment name (accessed_adds Store name c i k)
 
 -- a type parameter
-param_adds : (c : NodeContext) (k : ℕ) (t : tree.TypeParam) → type_param_size t < 2 ^ 22
+param_adds : (c : NodeContext) (k : ℕ) (t : tree.TypeParam) → type_param_size t < 2 ^ 24
     → ValueAdds (table_outer c) c k (scopes_in_param c.context.postponed t) (emission_of_param t) (param_form (table_context c) k t)
 param_adds c k (tree.TypeVar at name tree.no_expr) few n = plain_kept (table_outer c) c k name (GStore Resolved (mangled_by (table_context c) name)) (name_stored c name k) n
 param_adds c k (tree.TypeVar at name (tree.some_expr e)) few n =
@@ -60,7 +60,7 @@ param_adds c k (tree.TypeVar at name (tree.some_expr e)) few n =
 param_adds c k (tree.ParamSpec at name) few n = moved_refused at error.NotImplementedYet
 param_adds c k (tree.TypeVarTuple at name) few n = moved_refused at error.NotImplementedYet
 
-all_params_add : (c : NodeContext) (k : ℕ) (ts : tree.TypeParams) → type_params_size ts < 2 ^ 22
+all_params_add : (c : NodeContext) (k : ℕ) (ts : tree.TypeParams) → type_params_size ts < 2 ^ 24
     → AllValuesAdd (table_outer c) c k (scopes_in_params c.context.postponed ts) (param_emissions ts) (param_forms (table_context c) k ts)
 all_params_add c k tree.no_type_params few = refl
 all_params_add c k (tree.more_type_params t ts) few =
@@ -68,7 +68,7 @@ all_params_add c k (tree.more_type_params t ts) few =
     (l, scopes_in_params c.context.postponed ts, refl, param_adds c k t (omega (arith, few)), all_params_add c (k + l) ts (omega (arith, few)))
 
 -- the tuple of them
-pub params_add : (c : NodeContext) (k : ℕ) (ts : tree.TypeParams) → type_params_size ts < 2 ^ 22
+pub params_add : (c : NodeContext) (k : ℕ) (ts : tree.TypeParams) → type_params_size ts < 2 ^ 24
     → ValueAdds (table_outer c) c k (scopes_in_params c.context.postponed ts) (emission_of_params ts) (params_form (table_context c) k ts)
 params_add c k ts few = built_adds (table_outer c) c op.BuildTuple tuple_builds k (scopes_in_params c.context.postponed ts)
     (param_emissions ts) (param_forms (table_context c) k ts) (all_params_add c k ts few)
@@ -84,7 +84,7 @@ same_name R name k l [] (y ∷ ys) a = absurd a
 same_name R name k l (x ∷ xs) [] a = absurd a
 same_name R name k l (x ∷ xs) (y ∷ ys) a = refl
 
-pub same_handed : (c : NodeContext) (k : ℕ) (params : tree.Arguments) → arguments_size params < 2 ^ 22
+pub same_handed : (c : NodeContext) (k : ℕ) (params : tree.Arguments) → arguments_size params < 2 ^ 24
     → passed_defaults (default_emissions params).positional (default_emissions params).keyword
     ≡ passed_defaults (default_forms (table_context c) k params).positional (default_forms (table_context c) k params).keyword
 same_handed c k params few =
@@ -106,7 +106,7 @@ module _ (c : NodeContext) (k : ℕ) where
 
   -- has a small size bound
   abbrev pub TypeParamScopeSmall : VForm → Type 0
-  TypeParamScopeSmall f = (d : Scope → Object) → size_bound (body_code (exactly d (type_param_scope_of_value f)) (SReturn f)) < 2 ^ 27
+  TypeParamScopeSmall f = (d : Scope → Object) → size_bound (body_code (exactly d (type_param_scope_of_value f)) (SReturn f)) < 2 ^ 29
 
   -- it adds its whole code, where the value does
   pub type_param_scope_whole : (l : ℕ) (v : Emission) (f : VForm) → IsPushed (table_outer type_param_nested) type_param_nested f

@@ -1,4 +1,4 @@
--- No call reaches a cell that is not there, where the emitter is over the scopes of the tree's scan.
+-- No call reaches a cell that is not there, or a nested scope without a layout, where the emitter is over the scopes of the tree's scan.
 use Rattle.std.proofs.Common.{◌≡◌, refl, sym, ap, ◌∙◌, subst, ℕ, ◌+◌, ◌*◌, ◌<◌, ◌^◌, List, [], ◌∷◌}
 use Rattle.std.specs.Prelude.{Result, Ok, Err}
 use Rattle.py_tree.specs.Tree as tree
@@ -21,11 +21,10 @@ use Rattle.py_emission.specs.EmissionStmts.{emission_of_stmt}
 use Rattle.py_meaning.specs.Table.{expr_form}
 use Rattle.py_meaning.specs.StmtCounts.{scopes_in_stmt}
 use Rattle.py_meaning.specs.TableStmts.{stmt_form}
-use Rattle.py_scope_proof.specs.Cells.{StandUpTo}
 use Rattle.py_emission_outcomes.specs.Fitting.{HasShortTables}
 use Rattle.py_emission_outcomes.proofs.Capacity.Fits.{FitsIn, IsOfTree, FitStands, fit_taken}
 use Rattle.py_emission_outcomes.proofs.Capacity.Accesses.{AccessReady}
-use Rattle.py_emission_outcomes.proofs.Capacity.AvailableCellLemmas.{Here, deep_all}
+use Rattle.py_emission_outcomes.proofs.Capacity.AvailableCellLemmas.{Here, all_stand_so}
 use Rattle.py_emission_outcomes.proofs.Capacity.ShortTables.{IsShort}
 use Rattle.py_emission_outcomes.proofs.Capacity.FitExprs.{expr_fits, stores_fit}
 use Rattle.py_emission_outcomes.proofs.Capacity.FitStmts.{stmt_fits, stmts_fit}
@@ -41,7 +40,7 @@ other_error e = cc
 unlaid_other : unlaid ≡ error.OutOfMemory → ⊥
 unlaid_other e = cc
 
--- an emission that misses no cell is not refused for one
+-- an emission that misses no cell and no layout is not refused for one
 finds : {A : Type 0} (answer : Result A (LocatedError CodegenErrorType)) (after : State) (c : NodeContext) (l b : ℕ) (o : Outcome) → Goes answer after o → FitsIn c l b o → FindsCells answer
 finds (Ok a) after c l b o goes h = tt
 finds (Err e) after c l b o goes h = (
@@ -66,7 +65,7 @@ module _ (s : State) (within : List Scope) (w : ℕ) (p : IsPlaced s within w) w
   missing_ready = record { cells = p.cells; frees = p.frees; few = p.few }
 
   missing_here : AllOf (Here s.node_context) within
-  missing_here = deep_all (λ n x. StandUpTo s.node_context.context.scopes s.node_context.context.here n x) within p.stand
+  missing_here = all_stand_so s.node_context.context.scopes s.node_context.context.here within p.stand p.loads
 
   missing_stands : FitStands s.node_context s.next s
   missing_stands = record { node_context = refl; next = refl; short = short_of s.constants p.short }
