@@ -1,7 +1,7 @@
 -- What is emitted of a scope has a layout exactly where no refusal holds of its blocks but those of size.
 use Rattle.std.proofs.Common.{◌≡◌, ◌≢◌, ◌⊎◌, ℕ, zero, suc, ◌+◌, ◌-◌, ◌^◌, ◌<◌, ◌≤◌, List, [], ◌∷◌, ◌++◌, length, get_or, map, All, Contains, Bool, true, false, Option, Some, None}
 use Rattle.std.proofs.Common.{refl, sym, inl, inr, ap, ◌∙◌, subst, arith}
-use Rattle.std.specs.Prelude.{not, ◌&&◌, nat_eq}
+use Rattle.std.specs.Prelude.{not, ◌&&◌, nat_eq, slice_get}
 use Rattle.std.specs.Option.{option_map}
 use Rattle.std.specs.List.{list_any, range_with_len}
 use Rattle.std.proofs.lemmas.Bool.{cases_eq, cases_lt, eqb-true, eq-eqb, ne_eqb}
@@ -19,6 +19,7 @@ use Rattle.py_dataflow.specs.declared.known.Refused.{Refused as Walked}
 use Rattle.py_dataflow.specs.Flat.{is_jump, look_at, sees}
 use Rattle.py_dataflow.specs.Shown.{RefusalAt}
 use Rattle.py_dataflow.specs.Walks.{Sound}
+use Rattle.py_dataflow.proofs.InstructionViewLemmas.{Decodes}
 use Rattle.py_passing.specs.Passing.{SomeRefused, walks_pass}
 use Rattle.py_passing.proofs.Decided.{passing_decides}
 use Rattle.py_ir.specs.declared.checks.Check.{Check}
@@ -246,8 +247,11 @@ module _ (t : Tables) (level : ℕ) (bs : List Blk) (cs : List ℕ) (chain : IsC
     layout_sound : Sound (look_at layout_starts layout_items) 0 (2 ^ 32)
     layout_sound = layout_decides.0 (both (all_stand t cs layout_items) (walks_pass (look_at layout_starts layout_items) (length layout_items)) h).1
 
+    layout_linked : (j : ℕ) (x : InstructionInfo) → slice_get layout_items j ≡ Some x → is_jump x.instr ≡ true
+        → (x.target.0 ≢ 0xffff_ffff) × ((k : ℕ) × (k < length cs) × (get_or cs k 0 ≡ x.target.0))
     layout_linked = joining.linked t level bs cs layout_starts chain layout_short layout_at layout_inside layout_in_chain layout_marked layout_long layout_fine
 
+    layout_decoded : Decodes t layout_starts layout_items
     layout_decoded = joining.flat_block_decodes t level bs cs layout_starts chain layout_short layout_at layout_inside layout_in_chain layout_marked layout_long layout_fine
 
     none_of_checks : NoneBefore 7 t level bs

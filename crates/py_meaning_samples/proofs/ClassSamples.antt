@@ -16,6 +16,7 @@ use Rattle.py_emission_parts.specs.Comprehensions.{as_element, called_at_once}
 use Rattle.py_emission_parts.specs.Context.{inside, outermost, with_path, nested_in_class}
 use Rattle.py_emission_parts.specs.Emitting.{Refused, with_step, with_block, with_name, with_varname, with_constant, with_loops, with_location, refuse, emit, jump, emit_count, emit_name, emit_varname, emit_mangled, add_varname, add_constant, emit_constant, move, generator_mark, pass_over, by_context, by_level, by_loops, in_loop, one_block, two_blocks, three_blocks}
 use Rattle.py_emission_parts.specs.Running.{put_instruction}
+use Rattle.py_emission_parts.specs.Laid.{has_layout}
 use Rattle.py_emission_parts.specs.Sealed.{assembled_object}
 use Rattle.py_emission.specs.Emission.{lambda_value}
 use Rattle.py_emission.specs.EmissionDefs.{emission_of_class, emission_of_def}
@@ -42,7 +43,7 @@ abbrev handed_on_object : Object
 handed_on_object = (sealed_as 2 None 1 0 0 0 1 (codes "<module>") ((object_tool_unit op.LoadConst 0) ∷ (object_tool_unit op.LoadConst 1) ∷ (object_tool_unit op.MakeFunction 0) ∷ (object_tool_unit op.StoreLocal 0) ∷ (object_tool_unit op.ReturnConst 2) ∷ []) ((source_place 6 20) ∷ (source_place 6 20) ∷ (source_place 6 20) ∷ (source_place 6 20) ∷ (source_place 6 20) ∷ []) ((codes "f") ∷ []) [] [] [] ((const.code (sealed_as 4 (Some ((pos 0) ∷ [])) 33 0 1 0 1 (codes "f") ((object_tool_unit op.LoadBuildClass 0) ∷ (object_tool_unit op.LoadClosure 0) ∷ (object_tool_unit op.BuildTuple 1) ∷ (object_tool_unit op.LoadConst 1) ∷ (object_tool_unit op.LoadConst 2) ∷ (object_tool_unit op.MakeFunction 1) ∷ (object_tool_unit op.LoadConst 2) ∷ (object_tool_unit op.CallFunctionPositional 2) ∷ (object_tool_unit op.StoreFast 1) ∷ (object_tool_unit op.ReturnConst 0) ∷ []) ((source_place 2 5) ∷ (source_place 6 20) ∷ (source_place 6 20) ∷ (source_place 6 20) ∷ (source_place 6 20) ∷ (source_place 6 20) ∷ (source_place 6 20) ∷ (source_place 6 20) ∷ (source_place 6 20) ∷ (source_place 6 20) ∷ []) [] ((codes "y") ∷ (codes "A") ∷ []) ((codes "y") ∷ []) [] (const.none ∷ (const.code (sealed_as 3 None 0 0 0 0 2 (codes "A") ((object_tool_unit op.LoadGlobal 0) ∷ (object_tool_unit op.StoreLocal 1) ∷ (object_tool_unit op.LoadConst 0) ∷ (object_tool_unit op.StoreLocal 2) ∷ (object_tool_unit op.LoadConst 1) ∷ (object_tool_unit op.StoreLocal 3) ∷ (object_tool_unit op.LoadConst 2) ∷ (object_tool_unit op.StoreLocal 4) ∷ (object_tool_unit op.LoadClosure 0) ∷ (object_tool_unit op.LoadClosure 1) ∷ (object_tool_unit op.BuildTuple 2) ∷ (object_tool_unit op.LoadConst 3) ∷ (object_tool_unit op.LoadConst 4) ∷ (object_tool_unit op.MakeFunction 1) ∷ (object_tool_unit op.StoreLocal 5) ∷ (object_tool_unit op.LoadClosure 0) ∷ (object_tool_unit op.Duplicate 0) ∷ (object_tool_unit op.StoreLocal 6) ∷ (object_tool_unit op.ReturnValue 0) ∷ []) ((source_place 2 5) ∷ (source_place 2 5) ∷ (source_place 2 5) ∷ (source_place 2 5) ∷ (source_place 2 5) ∷ (source_place 2 5) ∷ (source_place 3 13) ∷ (source_place 3 13) ∷ (source_place 6 20) ∷ (source_place 6 20) ∷ (source_place 6 20) ∷ (source_place 6 20) ∷ (source_place 6 20) ∷ (source_place 6 20) ∷ (source_place 6 20) ∷ (source_place 6 20) ∷ (source_place 6 20) ∷ (source_place 6 20) ∷ (source_place 6 20) ∷ []) ((codes "__name__") ∷ (codes "__module__") ∷ (codes "__qualname__") ∷ (codes "__doc__") ∷ (codes "y") ∷ (codes "g") ∷ (codes "__classcell__") ∷ []) [] ((codes "__class__") ∷ []) ((codes "y") ∷ []) ((const.str (codes "f.<locals>.A")) ∷ const.none ∷ (const.integer (pos 1)) ∷ (const.code (sealed_as 1 None 33 0 1 0 4 (codes "g") ((object_tool_unit op.LoadGlobal 0) ∷ (object_tool_unit op.CallFunctionPositional 0) ∷ (object_tool_unit op.Pop 0) ∷ (object_tool_unit op.LoadDeref 1) ∷ (object_tool_unit op.ReturnValue 0) ∷ []) ((source_place 5 13) ∷ (source_place 5 13) ∷ (source_place 5 13) ∷ (source_place 6 20) ∷ (source_place 6 20) ∷ []) ((codes "super") ∷ []) ((codes "self") ∷ []) [] ((codes "__class__") ∷ (codes "y") ∷ []) (const.none ∷ []))) ∷ (const.str (codes "f.<locals>.A.g")) ∷ []))) ∷ (const.str (codes "A")) ∷ []))) ∷ (const.str (codes "f")) ∷ const.none ∷ []))
 
 handed_on_emitted : object_emitted handed_on_scopes handed_on 0 ≡ Some (handed_on_object, length handed_on_scopes)
-unfolding with_step with_block with_name with_varname with_constant with_loops with_location refuse emit jump one_block two_blocks three_blocks put_instruction emit_count emit_name emit_varname emit_mangled add_varname add_constant emit_constant move generator_mark pass_over by_context by_level by_loops in_loop name_access inside with_path nested_in_class child lambda_value emission_of_def emission_of_class load_cell assembled_object as_element called_at_once
+unfolding with_step with_block with_name with_varname with_constant with_loops with_location refuse emit jump one_block two_blocks three_blocks put_instruction emit_count emit_name emit_varname emit_mangled add_varname add_constant emit_constant move generator_mark pass_over by_context by_level by_loops in_loop name_access inside with_path nested_in_class child lambda_value emission_of_def emission_of_class load_cell assembled_object has_layout as_element called_at_once
 handed_on_emitted = refl
 
 handed_on_forms : codes_of_object 9 handed_on_object ≡ codes_of_scope 9 (body handed_on_scopes handed_on Exec 0)
@@ -67,7 +68,7 @@ abbrev documented_class_object : Object
 documented_class_object = (sealed_as 3 None 1 0 0 0 1 (codes "<module>") ((object_tool_unit op.LoadBuildClass 0) ∷ (object_tool_unit op.LoadConst 0) ∷ (object_tool_unit op.LoadConst 1) ∷ (object_tool_unit op.MakeFunction 0) ∷ (object_tool_unit op.LoadConst 1) ∷ (object_tool_unit op.CallFunctionPositional 2) ∷ (object_tool_unit op.StoreLocal 0) ∷ (object_tool_unit op.ReturnConst 2) ∷ []) ((source_place 1 1) ∷ (source_place 4 11) ∷ (source_place 4 11) ∷ (source_place 4 11) ∷ (source_place 4 11) ∷ (source_place 4 11) ∷ (source_place 4 11) ∷ (source_place 4 11) ∷ []) ((codes "A") ∷ []) [] [] [] ((const.code (sealed_as 3 None 0 0 0 0 1 (codes "A") ((object_tool_unit op.LoadGlobal 0) ∷ (object_tool_unit op.StoreLocal 1) ∷ (object_tool_unit op.LoadConst 0) ∷ (object_tool_unit op.StoreLocal 2) ∷ (object_tool_unit op.LoadConst 1) ∷ (object_tool_unit op.StoreLocal 3) ∷ (object_tool_unit op.LoadBuildClass 0) ∷ (object_tool_unit op.LoadConst 2) ∷ (object_tool_unit op.LoadConst 3) ∷ (object_tool_unit op.MakeFunction 0) ∷ (object_tool_unit op.LoadConst 3) ∷ (object_tool_unit op.CallFunctionPositional 2) ∷ (object_tool_unit op.StoreLocal 4) ∷ (object_tool_unit op.LoadNameAny 4) ∷ (object_tool_unit op.StoreLocal 5) ∷ (object_tool_unit op.ReturnConst 4) ∷ []) ((source_place 1 1) ∷ (source_place 1 1) ∷ (source_place 1 1) ∷ (source_place 1 1) ∷ (source_place 1 1) ∷ (source_place 1 1) ∷ (source_place 3 5) ∷ (source_place 3 16) ∷ (source_place 3 16) ∷ (source_place 3 16) ∷ (source_place 3 16) ∷ (source_place 3 16) ∷ (source_place 3 16) ∷ (source_place 4 11) ∷ (source_place 4 11) ∷ (source_place 4 11) ∷ []) ((codes "__name__") ∷ (codes "__module__") ∷ (codes "__qualname__") ∷ (codes "__doc__") ∷ (codes "_A__B") ∷ (codes "_A__x") ∷ []) [] [] [] ((const.str (codes "A")) ∷ (const.str (codes "doc")) ∷ (const.code (sealed_as 1 None 0 0 0 0 3 (codes "__B") ((object_tool_unit op.LoadGlobal 0) ∷ (object_tool_unit op.StoreLocal 1) ∷ (object_tool_unit op.LoadConst 0) ∷ (object_tool_unit op.StoreLocal 2) ∷ (object_tool_unit op.LoadConst 1) ∷ (object_tool_unit op.StoreLocal 3) ∷ (object_tool_unit op.ReturnConst 1) ∷ []) ((source_place 3 5) ∷ (source_place 3 5) ∷ (source_place 3 5) ∷ (source_place 3 5) ∷ (source_place 3 5) ∷ (source_place 3 5) ∷ (source_place 3 16) ∷ []) ((codes "__name__") ∷ (codes "__module__") ∷ (codes "__qualname__") ∷ (codes "__doc__") ∷ []) [] [] [] ((const.str (codes "A.__B")) ∷ const.none ∷ []))) ∷ (const.str (codes "__B")) ∷ const.none ∷ []))) ∷ (const.str (codes "A")) ∷ const.none ∷ []))
 
 documented_class_emitted : object_emitted documented_class_scopes documented_class 0 ≡ Some (documented_class_object, length documented_class_scopes)
-unfolding with_step with_block with_name with_varname with_constant with_loops with_location refuse emit jump one_block two_blocks three_blocks put_instruction emit_count emit_name emit_varname emit_mangled add_varname add_constant emit_constant move generator_mark pass_over by_context by_level by_loops in_loop name_access inside with_path nested_in_class child lambda_value emission_of_def emission_of_class load_cell assembled_object as_element called_at_once
+unfolding with_step with_block with_name with_varname with_constant with_loops with_location refuse emit jump one_block two_blocks three_blocks put_instruction emit_count emit_name emit_varname emit_mangled add_varname add_constant emit_constant move generator_mark pass_over by_context by_level by_loops in_loop name_access inside with_path nested_in_class child lambda_value emission_of_def emission_of_class load_cell assembled_object has_layout as_element called_at_once
 documented_class_emitted = refl
 
 documented_class_forms : codes_of_object 9 documented_class_object ≡ codes_of_scope 9 (body documented_class_scopes documented_class Exec 0)
@@ -93,7 +94,7 @@ abbrev undocumented_class_object : Object
 undocumented_class_object = (sealed_as 3 None 1 0 0 0 1 (codes "<module>") ((object_tool_unit op.LoadBuildClass 0) ∷ (object_tool_unit op.LoadConst 0) ∷ (object_tool_unit op.LoadConst 1) ∷ (object_tool_unit op.MakeFunction 0) ∷ (object_tool_unit op.LoadConst 1) ∷ (object_tool_unit op.CallFunctionPositional 2) ∷ (object_tool_unit op.StoreLocal 0) ∷ (object_tool_unit op.ReturnConst 2) ∷ []) ((source_place 1 1) ∷ (source_place 4 5) ∷ (source_place 4 5) ∷ (source_place 4 5) ∷ (source_place 4 5) ∷ (source_place 4 5) ∷ (source_place 4 5) ∷ (source_place 4 5) ∷ []) ((codes "A") ∷ []) [] [] [] ((const.code (sealed_as 2 None 0 0 0 0 1 (codes "A") ((object_tool_unit op.LoadGlobal 0) ∷ (object_tool_unit op.StoreLocal 1) ∷ (object_tool_unit op.LoadConst 0) ∷ (object_tool_unit op.StoreLocal 2) ∷ (object_tool_unit op.LoadConst 1) ∷ (object_tool_unit op.StoreLocal 3) ∷ (object_tool_unit op.LoadConst 2) ∷ (object_tool_unit op.LoadConst 3) ∷ (object_tool_unit op.MakeFunction 0) ∷ (object_tool_unit op.StoreLocal 4) ∷ (object_tool_unit op.ReturnConst 1) ∷ []) ((source_place 1 1) ∷ (source_place 1 1) ∷ (source_place 1 1) ∷ (source_place 1 1) ∷ (source_place 1 1) ∷ (source_place 1 1) ∷ (source_place 4 5) ∷ (source_place 4 5) ∷ (source_place 4 5) ∷ (source_place 4 5) ∷ (source_place 4 5) ∷ []) ((codes "__name__") ∷ (codes "__module__") ∷ (codes "__qualname__") ∷ (codes "__doc__") ∷ (codes "f") ∷ []) [] [] [] ((const.str (codes "A")) ∷ const.none ∷ (const.code (sealed_as 0 None 33 0 1 0 4 (codes "f") ((object_tool_unit op.ReturnConst 0) ∷ []) ((source_place 4 5) ∷ []) [] ((codes "self") ∷ []) [] [] (const.none ∷ []))) ∷ (const.str (codes "A.f")) ∷ []))) ∷ (const.str (codes "A")) ∷ const.none ∷ []))
 
 undocumented_class_emitted : object_emitted undocumented_class_scopes undocumented_class 2 ≡ Some (undocumented_class_object, length undocumented_class_scopes)
-unfolding with_step with_block with_name with_varname with_constant with_loops with_location refuse emit jump one_block two_blocks three_blocks put_instruction emit_count emit_name emit_varname emit_mangled add_varname add_constant emit_constant move generator_mark pass_over by_context by_level by_loops in_loop name_access inside with_path nested_in_class child lambda_value emission_of_def emission_of_class load_cell assembled_object as_element called_at_once
+unfolding with_step with_block with_name with_varname with_constant with_loops with_location refuse emit jump one_block two_blocks three_blocks put_instruction emit_count emit_name emit_varname emit_mangled add_varname add_constant emit_constant move generator_mark pass_over by_context by_level by_loops in_loop name_access inside with_path nested_in_class child lambda_value emission_of_def emission_of_class load_cell assembled_object has_layout as_element called_at_once
 undocumented_class_emitted = refl
 
 undocumented_class_forms : codes_of_object 9 undocumented_class_object ≡ codes_of_scope 9 (body undocumented_class_scopes undocumented_class Exec 2)
@@ -119,7 +120,7 @@ abbrev annotated_class_object : Object
 annotated_class_object = (sealed_as 3 None 1 0 0 0 1 (codes "<module>") ((object_tool_unit op.LoadBuildClass 0) ∷ (object_tool_unit op.LoadConst 0) ∷ (object_tool_unit op.LoadConst 1) ∷ (object_tool_unit op.MakeFunction 0) ∷ (object_tool_unit op.LoadConst 1) ∷ (object_tool_unit op.CallFunctionPositional 2) ∷ (object_tool_unit op.StoreLocal 0) ∷ (object_tool_unit op.ReturnConst 2) ∷ []) ((source_place 1 1) ∷ (source_place 5 12) ∷ (source_place 5 12) ∷ (source_place 5 12) ∷ (source_place 5 12) ∷ (source_place 5 12) ∷ (source_place 5 12) ∷ (source_place 5 12) ∷ []) ((codes "A") ∷ []) [] [] [] ((const.code (sealed_as 3 None 0 0 0 0 1 (codes "A") ((object_tool_unit op.LoadGlobal 0) ∷ (object_tool_unit op.StoreLocal 1) ∷ (object_tool_unit op.LoadConst 0) ∷ (object_tool_unit op.StoreLocal 2) ∷ (object_tool_unit op.LoadConst 1) ∷ (object_tool_unit op.StoreLocal 3) ∷ (object_tool_unit op.SetupAnnotation 0) ∷ (object_tool_unit op.LoadNameAny 4) ∷ (object_tool_unit op.LoadNameAny 5) ∷ (object_tool_unit op.LoadConst 2) ∷ (object_tool_unit op.StoreSubscript 0) ∷ (object_tool_unit op.LoadNameAny 6) ∷ (object_tool_unit op.JumpIfFalse 20) ∷ (object_tool_unit op.LoadConst 3) ∷ (object_tool_unit op.StoreLocal 7) ∷ (object_tool_unit op.LoadNameAny 8) ∷ (object_tool_unit op.LoadAttr 9) ∷ (object_tool_unit op.LoadNameAny 5) ∷ (object_tool_unit op.LoadConst 4) ∷ (object_tool_unit op.StoreSubscript 0) ∷ (object_tool_unit op.LoadNameAny 10) ∷ (object_tool_unit op.LoadNameAny 6) ∷ (object_tool_unit op.CallFunctionPositional 1) ∷ (object_tool_unit op.LoadNameAny 5) ∷ (object_tool_unit op.LoadConst 5) ∷ (object_tool_unit op.StoreSubscript 0) ∷ (object_tool_unit op.ReturnConst 1) ∷ []) ((source_place 1 1) ∷ (source_place 1 1) ∷ (source_place 1 1) ∷ (source_place 1 1) ∷ (source_place 1 1) ∷ (source_place 1 1) ∷ (source_place 1 1) ∷ (source_place 2 8) ∷ (source_place 2 8) ∷ (source_place 2 8) ∷ (source_place 2 8) ∷ (source_place 3 8) ∷ (source_place 3 8) ∷ (source_place 4 20) ∷ (source_place 4 20) ∷ (source_place 4 14) ∷ (source_place 4 14) ∷ (source_place 4 14) ∷ (source_place 4 14) ∷ (source_place 4 14) ∷ (source_place 5 10) ∷ (source_place 5 12) ∷ (source_place 5 12) ∷ (source_place 5 12) ∷ (source_place 5 12) ∷ (source_place 5 12) ∷ (source_place 5 12) ∷ []) ((codes "__name__") ∷ (codes "__module__") ∷ (codes "__qualname__") ∷ (codes "__doc__") ∷ (codes "int") ∷ (codes "__annotations__") ∷ (codes "x") ∷ (codes "_A__y") ∷ (codes "A") ∷ (codes "b") ∷ (codes "f") ∷ []) [] [] [] ((const.str (codes "A")) ∷ const.none ∷ (const.str (codes "x")) ∷ (const.integer (pos 1)) ∷ (const.str (codes "_A__y")) ∷ (const.str (codes "z")) ∷ []))) ∷ (const.str (codes "A")) ∷ const.none ∷ []))
 
 annotated_class_emitted : object_emitted annotated_class_scopes annotated_class 0 ≡ Some (annotated_class_object, length annotated_class_scopes)
-unfolding with_step with_block with_name with_varname with_constant with_loops with_location refuse emit jump one_block two_blocks three_blocks put_instruction emit_count emit_name emit_varname emit_mangled add_varname add_constant emit_constant move generator_mark pass_over by_context by_level by_loops in_loop name_access inside with_path nested_in_class child lambda_value emission_of_def emission_of_class load_cell assembled_object as_element called_at_once
+unfolding with_step with_block with_name with_varname with_constant with_loops with_location refuse emit jump one_block two_blocks three_blocks put_instruction emit_count emit_name emit_varname emit_mangled add_varname add_constant emit_constant move generator_mark pass_over by_context by_level by_loops in_loop name_access inside with_path nested_in_class child lambda_value emission_of_def emission_of_class load_cell assembled_object has_layout as_element called_at_once
 annotated_class_emitted = refl
 
 annotated_class_forms : codes_of_object 9 annotated_class_object ≡ codes_of_scope 9 (body annotated_class_scopes annotated_class Exec 0)
@@ -147,7 +148,7 @@ abbrev not_annotated_object : Object
 not_annotated_object = (sealed_as 3 None 1 0 0 0 1 (codes "<module>") ((object_tool_unit op.LoadBuildClass 0) ∷ (object_tool_unit op.LoadConst 0) ∷ (object_tool_unit op.LoadConst 1) ∷ (object_tool_unit op.MakeFunction 0) ∷ (object_tool_unit op.LoadConst 1) ∷ (object_tool_unit op.CallFunctionPositional 2) ∷ (object_tool_unit op.StoreLocal 0) ∷ (object_tool_unit op.ReturnConst 2) ∷ []) ((source_place 1 1) ∷ (source_place 7 18) ∷ (source_place 7 18) ∷ (source_place 7 18) ∷ (source_place 7 18) ∷ (source_place 7 18) ∷ (source_place 7 18) ∷ (source_place 7 18) ∷ []) ((codes "A") ∷ []) [] [] [] ((const.code (sealed_as 3 None 0 0 0 0 1 (codes "A") ((object_tool_unit op.LoadGlobal 0) ∷ (object_tool_unit op.StoreLocal 1) ∷ (object_tool_unit op.LoadConst 0) ∷ (object_tool_unit op.StoreLocal 2) ∷ (object_tool_unit op.LoadConst 1) ∷ (object_tool_unit op.StoreLocal 3) ∷ (object_tool_unit op.LoadBuildClass 0) ∷ (object_tool_unit op.LoadConst 2) ∷ (object_tool_unit op.LoadConst 3) ∷ (object_tool_unit op.MakeFunction 0) ∷ (object_tool_unit op.LoadConst 3) ∷ (object_tool_unit op.CallFunctionPositional 2) ∷ (object_tool_unit op.StoreLocal 4) ∷ (object_tool_unit op.LoadConst 4) ∷ (object_tool_unit op.LoadConst 5) ∷ (object_tool_unit op.MakeFunction 0) ∷ (object_tool_unit op.StoreLocal 5) ∷ (object_tool_unit op.SetupExcept 20) ∷ (object_tool_unit op.PopBlock 0) ∷ (object_tool_unit op.Jump 32) ∷ (object_tool_unit op.Duplicate 0) ∷ (object_tool_unit op.LoadNameAny 6) ∷ (object_tool_unit op.TestOperation 4) ∷ (object_tool_unit op.JumpIfFalse 31) ∷ (object_tool_unit op.Pop 0) ∷ (object_tool_unit op.LoadNameAny 7) ∷ (object_tool_unit op.LoadNameAny 8) ∷ (object_tool_unit op.LoadConst 6) ∷ (object_tool_unit op.StoreSubscript 0) ∷ (object_tool_unit op.PopException 0) ∷ (object_tool_unit op.Jump 32) ∷ (object_tool_unit op.Raise 2) ∷ (object_tool_unit op.ReturnConst 1) ∷ []) ((source_place 1 1) ∷ (source_place 1 1) ∷ (source_place 1 1) ∷ (source_place 1 1) ∷ (source_place 1 1) ∷ (source_place 1 1) ∷ (source_place 2 5) ∷ (source_place 3 12) ∷ (source_place 3 12) ∷ (source_place 3 12) ∷ (source_place 3 12) ∷ (source_place 3 12) ∷ (source_place 3 12) ∷ (source_place 5 18) ∷ (source_place 5 18) ∷ (source_place 5 18) ∷ (source_place 5 18) ∷ (source_place 6 5) ∷ (source_place 6 10) ∷ (source_place 6 10) ∷ (source_place 6 10) ∷ (source_place 7 12) ∷ (source_place 7 12) ∷ (source_place 7 12) ∷ (source_place 7 12) ∷ (source_place 7 18) ∷ (source_place 7 18) ∷ (source_place 7 18) ∷ (source_place 7 18) ∷ (source_place 7 18) ∷ (source_place 7 18) ∷ (source_place 7 18) ∷ (source_place 7 18) ∷ []) ((codes "__name__") ∷ (codes "__module__") ∷ (codes "__qualname__") ∷ (codes "__doc__") ∷ (codes "B") ∷ (codes "f") ∷ (codes "e") ∷ (codes "int") ∷ (codes "__annotations__") ∷ []) [] [] [] ((const.str (codes "A")) ∷ const.none ∷ (const.code (sealed_as 3 None 0 0 0 0 2 (codes "B") ((object_tool_unit op.LoadGlobal 0) ∷ (object_tool_unit op.StoreLocal 1) ∷ (object_tool_unit op.LoadConst 0) ∷ (object_tool_unit op.StoreLocal 2) ∷ (object_tool_unit op.LoadConst 1) ∷ (object_tool_unit op.StoreLocal 3) ∷ (object_tool_unit op.SetupAnnotation 0) ∷ (object_tool_unit op.LoadNameAny 4) ∷ (object_tool_unit op.LoadNameAny 5) ∷ (object_tool_unit op.LoadConst 2) ∷ (object_tool_unit op.StoreSubscript 0) ∷ (object_tool_unit op.ReturnConst 1) ∷ []) ((source_place 2 5) ∷ (source_place 2 5) ∷ (source_place 2 5) ∷ (source_place 2 5) ∷ (source_place 2 5) ∷ (source_place 2 5) ∷ (source_place 2 5) ∷ (source_place 3 12) ∷ (source_place 3 12) ∷ (source_place 3 12) ∷ (source_place 3 12) ∷ (source_place 3 12) ∷ []) ((codes "__name__") ∷ (codes "__module__") ∷ (codes "__qualname__") ∷ (codes "__doc__") ∷ (codes "int") ∷ (codes "__annotations__") ∷ []) [] [] [] ((const.str (codes "A.B")) ∷ const.none ∷ (const.str (codes "x")) ∷ []))) ∷ (const.str (codes "B")) ∷ (const.code (sealed_as 1 None 33 0 1 0 4 (codes "f") ((object_tool_unit op.LoadConst 1) ∷ (object_tool_unit op.StoreFast 1) ∷ (object_tool_unit op.ReturnConst 0) ∷ []) ((source_place 5 18) ∷ (source_place 5 18) ∷ (source_place 5 18) ∷ []) [] ((codes "self") ∷ (codes "y") ∷ []) [] [] (const.none ∷ (const.integer (pos 1)) ∷ []))) ∷ (const.str (codes "A.f")) ∷ (const.str (codes "z")) ∷ []))) ∷ (const.str (codes "A")) ∷ const.none ∷ []))
 
 not_annotated_emitted : object_emitted not_annotated_scopes not_annotated 0 ≡ Some (not_annotated_object, length not_annotated_scopes)
-unfolding with_step with_block with_name with_varname with_constant with_loops with_location refuse emit jump one_block two_blocks three_blocks put_instruction emit_count emit_name emit_varname emit_mangled add_varname add_constant emit_constant move generator_mark pass_over by_context by_level by_loops in_loop name_access inside with_path nested_in_class child lambda_value emission_of_def emission_of_class load_cell assembled_object as_element called_at_once
+unfolding with_step with_block with_name with_varname with_constant with_loops with_location refuse emit jump one_block two_blocks three_blocks put_instruction emit_count emit_name emit_varname emit_mangled add_varname add_constant emit_constant move generator_mark pass_over by_context by_level by_loops in_loop name_access inside with_path nested_in_class child lambda_value emission_of_def emission_of_class load_cell assembled_object has_layout as_element called_at_once
 not_annotated_emitted = refl
 
 not_annotated_forms : codes_of_object 9 not_annotated_object ≡ codes_of_scope 9 (body not_annotated_scopes not_annotated Exec 0)
@@ -170,7 +171,7 @@ abbrev built_with_object : Object
 built_with_object = (sealed_as 8 None 1 0 0 0 1 (codes "<module>") ((object_tool_unit op.LoadBuildClass 0) ∷ (object_tool_unit op.LoadConst 0) ∷ (object_tool_unit op.LoadConst 1) ∷ (object_tool_unit op.MakeFunction 0) ∷ (object_tool_unit op.LoadConst 1) ∷ (object_tool_unit op.LoadNameAny 0) ∷ (object_tool_unit op.LoadConst 2) ∷ (object_tool_unit op.LoadConst 3) ∷ (object_tool_unit op.MakeFunction 0) ∷ (object_tool_unit op.LoadNameAny 1) ∷ (object_tool_unit op.LoadConst 4) ∷ (object_tool_unit op.LoadConst 5) ∷ (object_tool_unit op.MakeFunction 0) ∷ (object_tool_unit op.LoadNameAny 2) ∷ (object_tool_unit op.GetIter 0) ∷ (object_tool_unit op.CallFunctionPositional 1) ∷ (object_tool_unit op.LoadConst 6) ∷ (object_tool_unit op.CallFunctionKeyword 6) ∷ (object_tool_unit op.StoreLocal 3) ∷ (object_tool_unit op.ReturnConst 7) ∷ []) ((source_place 1 1) ∷ (source_place 2 17) ∷ (source_place 2 17) ∷ (source_place 2 17) ∷ (source_place 2 17) ∷ (source_place 1 9) ∷ (source_place 1 20) ∷ (source_place 1 20) ∷ (source_place 1 20) ∷ (source_place 1 33) ∷ (source_place 1 39) ∷ (source_place 1 39) ∷ (source_place 1 39) ∷ (source_place 1 50) ∷ (source_place 1 50) ∷ (source_place 1 50) ∷ (source_place 1 50) ∷ (source_place 1 50) ∷ (source_place 1 50) ∷ (source_place 1 50) ∷ []) ((codes "B") ∷ (codes "M") ∷ (codes "d") ∷ (codes "A") ∷ []) [] [] [] ((const.code (sealed_as 2 None 0 0 0 0 1 (codes "A") ((object_tool_unit op.LoadGlobal 0) ∷ (object_tool_unit op.StoreLocal 1) ∷ (object_tool_unit op.LoadConst 0) ∷ (object_tool_unit op.StoreLocal 2) ∷ (object_tool_unit op.LoadConst 1) ∷ (object_tool_unit op.StoreLocal 3) ∷ (object_tool_unit op.LoadConst 2) ∷ (object_tool_unit op.LoadConst 3) ∷ (object_tool_unit op.MakeFunction 0) ∷ (object_tool_unit op.StoreLocal 4) ∷ (object_tool_unit op.ReturnConst 1) ∷ []) ((source_place 1 1) ∷ (source_place 1 1) ∷ (source_place 1 1) ∷ (source_place 1 1) ∷ (source_place 1 1) ∷ (source_place 1 1) ∷ (source_place 2 17) ∷ (source_place 2 17) ∷ (source_place 2 17) ∷ (source_place 2 17) ∷ (source_place 2 17) ∷ []) ((codes "__name__") ∷ (codes "__module__") ∷ (codes "__qualname__") ∷ (codes "__doc__") ∷ (codes "y") ∷ []) [] [] [] ((const.str (codes "A")) ∷ const.none ∷ (const.code (sealed_as 1 None 33 0 0 0 2 (codes "<lambda>") ((object_tool_unit op.LoadGlobal 0) ∷ (object_tool_unit op.ReturnValue 0) ∷ []) ((source_place 2 17) ∷ (source_place 2 17) ∷ []) ((codes "z") ∷ []) [] [] [] (const.none ∷ []))) ∷ (const.str (codes "<lambda>")) ∷ []))) ∷ (const.str (codes "A")) ∷ (const.code (sealed_as 1 None 33 0 0 0 1 (codes "<lambda>") ((object_tool_unit op.LoadGlobal 0) ∷ (object_tool_unit op.ReturnValue 0) ∷ []) ((source_place 1 20) ∷ (source_place 1 20) ∷ []) ((codes "x") ∷ []) [] [] [] (const.none ∷ []))) ∷ (const.str (codes "<lambda>")) ∷ (const.code (sealed_as 3 None 33 1 1 0 1 (codes "<listcomp>") ((object_tool_unit op.BuildList 0) ∷ (object_tool_unit op.LoadFast 0) ∷ (object_tool_unit op.ForIter 7) ∷ (object_tool_unit op.StoreFast 1) ∷ (object_tool_unit op.LoadFast 1) ∷ (object_tool_unit op.ListAppend 1) ∷ (object_tool_unit op.Jump 2) ∷ (object_tool_unit op.ReturnValue 0) ∷ []) ((source_place 1 38) ∷ (source_place 1 38) ∷ (source_place 1 38) ∷ (source_place 1 38) ∷ (source_place 1 39) ∷ (source_place 1 39) ∷ (source_place 1 39) ∷ (source_place 1 39) ∷ []) [] ((codes ".0") ∷ (codes "c") ∷ []) [] [] [])) ∷ (const.str (codes "<listcomp>")) ∷ (const.tuple (const.more_consts (const.str (codes "metaclass")) (const.more_consts (const.str (codes "k")) const.no_consts))) ∷ const.none ∷ []))
 
 built_with_emitted : object_emitted built_with_scopes built_with 0 ≡ Some (built_with_object, length built_with_scopes)
-unfolding with_step with_block with_name with_varname with_constant with_loops with_location refuse emit jump one_block two_blocks three_blocks put_instruction emit_count emit_name emit_varname emit_mangled add_varname add_constant emit_constant move generator_mark pass_over by_context by_level by_loops in_loop name_access inside with_path nested_in_class child lambda_value emission_of_def emission_of_class load_cell assembled_object as_element called_at_once
+unfolding with_step with_block with_name with_varname with_constant with_loops with_location refuse emit jump one_block two_blocks three_blocks put_instruction emit_count emit_name emit_varname emit_mangled add_varname add_constant emit_constant move generator_mark pass_over by_context by_level by_loops in_loop name_access inside with_path nested_in_class child lambda_value emission_of_def emission_of_class load_cell assembled_object has_layout as_element called_at_once
 built_with_emitted = refl
 
 built_with_forms : codes_of_object 9 built_with_object ≡ codes_of_scope 9 (body built_with_scopes built_with Exec 0)
@@ -193,7 +194,7 @@ abbrev built_starred_object : Object
 built_starred_object = (sealed_as 5 None 1 0 0 0 1 (codes "<module>") ((object_tool_unit op.LoadBuildClass 0) ∷ (object_tool_unit op.LoadConst 0) ∷ (object_tool_unit op.LoadConst 1) ∷ (object_tool_unit op.MakeFunction 0) ∷ (object_tool_unit op.LoadConst 1) ∷ (object_tool_unit op.BuildTuple 2) ∷ (object_tool_unit op.LoadNameAny 0) ∷ (object_tool_unit op.BuildTuple 1) ∷ (object_tool_unit op.LoadNameAny 1) ∷ (object_tool_unit op.LoadNameAny 2) ∷ (object_tool_unit op.BuildTuple 1) ∷ (object_tool_unit op.BuildTupleUnpack 4) ∷ (object_tool_unit op.LoadConst 2) ∷ (object_tool_unit op.LoadConst 3) ∷ (object_tool_unit op.BuildMap 1) ∷ (object_tool_unit op.LoadNameAny 3) ∷ (object_tool_unit op.BuildMapForCall 2) ∷ (object_tool_unit op.CallFunctionEx 1) ∷ (object_tool_unit op.StoreLocal 4) ∷ (object_tool_unit op.LoadBuildClass 0) ∷ (object_tool_unit op.LoadConst 4) ∷ (object_tool_unit op.LoadConst 5) ∷ (object_tool_unit op.MakeFunction 0) ∷ (object_tool_unit op.LoadConst 5) ∷ (object_tool_unit op.BuildTuple 2) ∷ (object_tool_unit op.LoadNameAny 5) ∷ (object_tool_unit op.CallFunctionEx 1) ∷ (object_tool_unit op.StoreLocal 6) ∷ (object_tool_unit op.ReturnConst 6) ∷ []) ((source_place 1 1) ∷ (source_place 1 30) ∷ (source_place 1 30) ∷ (source_place 1 30) ∷ (source_place 1 30) ∷ (source_place 1 30) ∷ (source_place 1 9) ∷ (source_place 1 9) ∷ (source_place 1 13) ∷ (source_place 1 16) ∷ (source_place 1 16) ∷ (source_place 1 16) ∷ (source_place 1 16) ∷ (source_place 1 21) ∷ (source_place 1 21) ∷ (source_place 1 26) ∷ (source_place 1 26) ∷ (source_place 1 26) ∷ (source_place 1 26) ∷ (source_place 2 1) ∷ (source_place 2 15) ∷ (source_place 2 15) ∷ (source_place 2 15) ∷ (source_place 2 15) ∷ (source_place 2 15) ∷ (source_place 2 11) ∷ (source_place 2 11) ∷ (source_place 2 11) ∷ (source_place 2 11) ∷ []) ((codes "B") ∷ (codes "C") ∷ (codes "D") ∷ (codes "E") ∷ (codes "A") ∷ (codes "G") ∷ (codes "F") ∷ []) [] [] [] ((const.code (sealed_as 1 None 0 0 0 0 1 (codes "A") ((object_tool_unit op.LoadGlobal 0) ∷ (object_tool_unit op.StoreLocal 1) ∷ (object_tool_unit op.LoadConst 0) ∷ (object_tool_unit op.StoreLocal 2) ∷ (object_tool_unit op.LoadConst 1) ∷ (object_tool_unit op.StoreLocal 3) ∷ (object_tool_unit op.ReturnConst 1) ∷ []) ((source_place 1 1) ∷ (source_place 1 1) ∷ (source_place 1 1) ∷ (source_place 1 1) ∷ (source_place 1 1) ∷ (source_place 1 1) ∷ (source_place 1 30) ∷ []) ((codes "__name__") ∷ (codes "__module__") ∷ (codes "__qualname__") ∷ (codes "__doc__") ∷ []) [] [] [] ((const.str (codes "A")) ∷ const.none ∷ []))) ∷ (const.str (codes "A")) ∷ (const.str (codes "k")) ∷ (const.integer (pos 1)) ∷ (const.code (sealed_as 1 None 0 0 0 0 2 (codes "F") ((object_tool_unit op.LoadGlobal 0) ∷ (object_tool_unit op.StoreLocal 1) ∷ (object_tool_unit op.LoadConst 0) ∷ (object_tool_unit op.StoreLocal 2) ∷ (object_tool_unit op.LoadConst 1) ∷ (object_tool_unit op.StoreLocal 3) ∷ (object_tool_unit op.ReturnConst 1) ∷ []) ((source_place 2 1) ∷ (source_place 2 1) ∷ (source_place 2 1) ∷ (source_place 2 1) ∷ (source_place 2 1) ∷ (source_place 2 1) ∷ (source_place 2 15) ∷ []) ((codes "__name__") ∷ (codes "__module__") ∷ (codes "__qualname__") ∷ (codes "__doc__") ∷ []) [] [] [] ((const.str (codes "F")) ∷ const.none ∷ []))) ∷ (const.str (codes "F")) ∷ const.none ∷ []))
 
 built_starred_emitted : object_emitted built_starred_scopes built_starred 0 ≡ Some (built_starred_object, length built_starred_scopes)
-unfolding with_step with_block with_name with_varname with_constant with_loops with_location refuse emit jump one_block two_blocks three_blocks put_instruction emit_count emit_name emit_varname emit_mangled add_varname add_constant emit_constant move generator_mark pass_over by_context by_level by_loops in_loop name_access inside with_path nested_in_class child lambda_value emission_of_def emission_of_class load_cell assembled_object as_element called_at_once
+unfolding with_step with_block with_name with_varname with_constant with_loops with_location refuse emit jump one_block two_blocks three_blocks put_instruction emit_count emit_name emit_varname emit_mangled add_varname add_constant emit_constant move generator_mark pass_over by_context by_level by_loops in_loop name_access inside with_path nested_in_class child lambda_value emission_of_def emission_of_class load_cell assembled_object has_layout as_element called_at_once
 built_starred_emitted = refl
 
 built_starred_forms : codes_of_object 9 built_starred_object ≡ codes_of_scope 9 (body built_starred_scopes built_starred Exec 0)
@@ -219,7 +220,7 @@ abbrev decorated_class_object : Object
 decorated_class_object = (sealed_as 6 None 1 0 0 0 1 (codes "<module>") ((object_tool_unit op.LoadNameAny 0) ∷ (object_tool_unit op.LoadNameAny 1) ∷ (object_tool_unit op.LoadConst 0) ∷ (object_tool_unit op.LoadConst 1) ∷ (object_tool_unit op.MakeFunction 0) ∷ (object_tool_unit op.CallFunctionPositional 1) ∷ (object_tool_unit op.LoadBuildClass 0) ∷ (object_tool_unit op.LoadConst 2) ∷ (object_tool_unit op.LoadConst 3) ∷ (object_tool_unit op.MakeFunction 0) ∷ (object_tool_unit op.LoadConst 3) ∷ (object_tool_unit op.LoadNameAny 2) ∷ (object_tool_unit op.CallFunctionPositional 3) ∷ (object_tool_unit op.CallFunctionPositional 1) ∷ (object_tool_unit op.CallFunctionPositional 1) ∷ (object_tool_unit op.StoreLocal 3) ∷ (object_tool_unit op.ReturnConst 4) ∷ []) ((source_place 1 2) ∷ (source_place 2 2) ∷ (source_place 2 12) ∷ (source_place 2 12) ∷ (source_place 2 12) ∷ (source_place 2 12) ∷ (source_place 2 12) ∷ (source_place 5 14) ∷ (source_place 5 14) ∷ (source_place 5 14) ∷ (source_place 5 14) ∷ (source_place 3 9) ∷ (source_place 3 9) ∷ (source_place 3 9) ∷ (source_place 3 9) ∷ (source_place 3 9) ∷ (source_place 3 9) ∷ []) ((codes "d") ∷ (codes "e") ∷ (codes "B") ∷ (codes "A") ∷ []) [] [] [] ((const.code (sealed_as 0 None 33 0 0 0 2 (codes "<lambda>") ((object_tool_unit op.ReturnConst 1) ∷ []) ((source_place 2 12) ∷ []) [] [] [] [] (const.none ∷ (const.integer (pos 1)) ∷ []))) ∷ (const.str (codes "<lambda>")) ∷ (const.code (sealed_as 3 None 0 0 0 0 2 (codes "A") ((object_tool_unit op.LoadGlobal 0) ∷ (object_tool_unit op.StoreLocal 1) ∷ (object_tool_unit op.LoadConst 0) ∷ (object_tool_unit op.StoreLocal 2) ∷ (object_tool_unit op.LoadConst 1) ∷ (object_tool_unit op.StoreLocal 3) ∷ (object_tool_unit op.LoadNameAny 4) ∷ (object_tool_unit op.LoadAttr 5) ∷ (object_tool_unit op.LoadConst 2) ∷ (object_tool_unit op.LoadConst 3) ∷ (object_tool_unit op.MakeFunction 0) ∷ (object_tool_unit op.CallFunctionPositional 1) ∷ (object_tool_unit op.StoreLocal 6) ∷ (object_tool_unit op.ReturnConst 1) ∷ []) ((source_place 2 12) ∷ (source_place 2 12) ∷ (source_place 2 12) ∷ (source_place 2 12) ∷ (source_place 2 12) ∷ (source_place 2 12) ∷ (source_place 4 6) ∷ (source_place 4 6) ∷ (source_place 5 14) ∷ (source_place 5 14) ∷ (source_place 5 14) ∷ (source_place 5 14) ∷ (source_place 5 14) ∷ (source_place 5 14) ∷ []) ((codes "__name__") ∷ (codes "__module__") ∷ (codes "__qualname__") ∷ (codes "__doc__") ∷ (codes "A") ∷ (codes "f") ∷ (codes "g") ∷ []) [] [] [] ((const.str (codes "A")) ∷ const.none ∷ (const.code (sealed_as 0 None 33 0 0 0 4 (codes "g") ((object_tool_unit op.ReturnConst 0) ∷ []) ((source_place 5 14) ∷ []) [] [] [] [] (const.none ∷ []))) ∷ (const.str (codes "A.g")) ∷ []))) ∷ (const.str (codes "A")) ∷ const.none ∷ []))
 
 decorated_class_emitted : object_emitted decorated_class_scopes class_sample_decorated_class 0 ≡ Some (decorated_class_object, length decorated_class_scopes)
-unfolding with_step with_block with_name with_varname with_constant with_loops with_location refuse emit jump one_block two_blocks three_blocks put_instruction emit_count emit_name emit_varname emit_mangled add_varname add_constant emit_constant move generator_mark pass_over by_context by_level by_loops in_loop name_access inside with_path nested_in_class child lambda_value emission_of_def emission_of_class load_cell assembled_object as_element called_at_once
+unfolding with_step with_block with_name with_varname with_constant with_loops with_location refuse emit jump one_block two_blocks three_blocks put_instruction emit_count emit_name emit_varname emit_mangled add_varname add_constant emit_constant move generator_mark pass_over by_context by_level by_loops in_loop name_access inside with_path nested_in_class child lambda_value emission_of_def emission_of_class load_cell assembled_object has_layout as_element called_at_once
 decorated_class_emitted = refl
 
 decorated_class_forms : codes_of_object 9 decorated_class_object ≡ codes_of_scope 9 (body decorated_class_scopes class_sample_decorated_class Exec 0)
@@ -247,7 +248,7 @@ abbrev passed_through_object : Object
 passed_through_object = (sealed_as 2 None 1 0 0 0 1 (codes "<module>") ((object_tool_unit op.LoadConst 0) ∷ (object_tool_unit op.LoadConst 1) ∷ (object_tool_unit op.MakeFunction 0) ∷ (object_tool_unit op.StoreLocal 0) ∷ (object_tool_unit op.ReturnConst 2) ∷ []) ((source_place 7 17) ∷ (source_place 7 17) ∷ (source_place 7 17) ∷ (source_place 7 17) ∷ (source_place 7 17) ∷ []) ((codes "f") ∷ []) [] [] [] ((const.code (sealed_as 4 (Some ((pos 0) ∷ [])) 33 0 1 0 1 (codes "f") ((object_tool_unit op.LoadBuildClass 0) ∷ (object_tool_unit op.LoadClosure 0) ∷ (object_tool_unit op.BuildTuple 1) ∷ (object_tool_unit op.LoadConst 1) ∷ (object_tool_unit op.LoadConst 2) ∷ (object_tool_unit op.MakeFunction 1) ∷ (object_tool_unit op.LoadConst 2) ∷ (object_tool_unit op.CallFunctionPositional 2) ∷ (object_tool_unit op.StoreFast 1) ∷ (object_tool_unit op.ReturnConst 0) ∷ []) ((source_place 2 5) ∷ (source_place 7 17) ∷ (source_place 7 17) ∷ (source_place 7 17) ∷ (source_place 7 17) ∷ (source_place 7 17) ∷ (source_place 7 17) ∷ (source_place 7 17) ∷ (source_place 7 17) ∷ (source_place 7 17) ∷ []) [] ((codes "x") ∷ (codes "A") ∷ []) ((codes "x") ∷ []) [] (const.none ∷ (const.code (sealed_as 4 None 0 0 0 0 2 (codes "A") ((object_tool_unit op.LoadGlobal 0) ∷ (object_tool_unit op.StoreLocal 1) ∷ (object_tool_unit op.LoadConst 0) ∷ (object_tool_unit op.StoreLocal 2) ∷ (object_tool_unit op.LoadConst 1) ∷ (object_tool_unit op.StoreLocal 3) ∷ (object_tool_unit op.LoadNameAny 4) ∷ (object_tool_unit op.StoreLocal 4) ∷ (object_tool_unit op.LoadClosure 0) ∷ (object_tool_unit op.BuildTuple 1) ∷ (object_tool_unit op.LoadConst 2) ∷ (object_tool_unit op.LoadConst 3) ∷ (object_tool_unit op.MakeFunction 1) ∷ (object_tool_unit op.StoreLocal 5) ∷ (object_tool_unit op.LoadBuildClass 0) ∷ (object_tool_unit op.LoadClosure 0) ∷ (object_tool_unit op.BuildTuple 1) ∷ (object_tool_unit op.LoadConst 4) ∷ (object_tool_unit op.LoadConst 5) ∷ (object_tool_unit op.MakeFunction 1) ∷ (object_tool_unit op.LoadConst 5) ∷ (object_tool_unit op.CallFunctionPositional 2) ∷ (object_tool_unit op.StoreLocal 6) ∷ (object_tool_unit op.ReturnConst 1) ∷ []) ((source_place 2 5) ∷ (source_place 2 5) ∷ (source_place 2 5) ∷ (source_place 2 5) ∷ (source_place 2 5) ∷ (source_place 2 5) ∷ (source_place 3 13) ∷ (source_place 3 13) ∷ (source_place 5 20) ∷ (source_place 5 20) ∷ (source_place 5 20) ∷ (source_place 5 20) ∷ (source_place 5 20) ∷ (source_place 5 20) ∷ (source_place 6 9) ∷ (source_place 7 17) ∷ (source_place 7 17) ∷ (source_place 7 17) ∷ (source_place 7 17) ∷ (source_place 7 17) ∷ (source_place 7 17) ∷ (source_place 7 17) ∷ (source_place 7 17) ∷ (source_place 7 17) ∷ []) ((codes "__name__") ∷ (codes "__module__") ∷ (codes "__qualname__") ∷ (codes "__doc__") ∷ (codes "x") ∷ (codes "g") ∷ (codes "B") ∷ []) [] [] ((codes "x") ∷ []) ((const.str (codes "f.<locals>.A")) ∷ const.none ∷ (const.code (sealed_as 1 None 33 0 1 0 4 (codes "g") ((object_tool_unit op.LoadDeref 0) ∷ (object_tool_unit op.ReturnValue 0) ∷ []) ((source_place 5 20) ∷ (source_place 5 20) ∷ []) [] ((codes "self") ∷ []) [] ((codes "x") ∷ []) (const.none ∷ []))) ∷ (const.str (codes "f.<locals>.A.g")) ∷ (const.code (sealed_as 1 None 0 0 0 0 6 (codes "B") ((object_tool_unit op.LoadGlobal 0) ∷ (object_tool_unit op.StoreLocal 1) ∷ (object_tool_unit op.LoadConst 0) ∷ (object_tool_unit op.StoreLocal 2) ∷ (object_tool_unit op.LoadConst 1) ∷ (object_tool_unit op.StoreLocal 3) ∷ (object_tool_unit op.LoadClassDeref 0) ∷ (object_tool_unit op.StoreLocal 4) ∷ (object_tool_unit op.ReturnConst 1) ∷ []) ((source_place 6 9) ∷ (source_place 6 9) ∷ (source_place 6 9) ∷ (source_place 6 9) ∷ (source_place 6 9) ∷ (source_place 6 9) ∷ (source_place 7 17) ∷ (source_place 7 17) ∷ (source_place 7 17) ∷ []) ((codes "__name__") ∷ (codes "__module__") ∷ (codes "__qualname__") ∷ (codes "__doc__") ∷ (codes "z") ∷ []) [] [] ((codes "x") ∷ []) ((const.str (codes "f.<locals>.A.B")) ∷ const.none ∷ []))) ∷ (const.str (codes "B")) ∷ []))) ∷ (const.str (codes "A")) ∷ []))) ∷ (const.str (codes "f")) ∷ const.none ∷ []))
 
 passed_through_emitted : object_emitted passed_through_scopes passed_through 0 ≡ Some (passed_through_object, length passed_through_scopes)
-unfolding with_step with_block with_name with_varname with_constant with_loops with_location refuse emit jump one_block two_blocks three_blocks put_instruction emit_count emit_name emit_varname emit_mangled add_varname add_constant emit_constant move generator_mark pass_over by_context by_level by_loops in_loop name_access inside with_path nested_in_class child lambda_value emission_of_def emission_of_class load_cell assembled_object as_element called_at_once
+unfolding with_step with_block with_name with_varname with_constant with_loops with_location refuse emit jump one_block two_blocks three_blocks put_instruction emit_count emit_name emit_varname emit_mangled add_varname add_constant emit_constant move generator_mark pass_over by_context by_level by_loops in_loop name_access inside with_path nested_in_class child lambda_value emission_of_def emission_of_class load_cell assembled_object has_layout as_element called_at_once
 passed_through_emitted = refl
 
 passed_through_forms : codes_of_object 9 passed_through_object ≡ codes_of_scope 9 (body passed_through_scopes passed_through Exec 0)
@@ -274,7 +275,7 @@ abbrev begins_anew_object : Object
 begins_anew_object = (sealed_as 2 None 1 0 0 0 1 (codes "<module>") ((object_tool_unit op.LoadConst 0) ∷ (object_tool_unit op.LoadConst 1) ∷ (object_tool_unit op.MakeFunction 0) ∷ (object_tool_unit op.StoreLocal 0) ∷ (object_tool_unit op.ReturnConst 2) ∷ []) ((source_place 6 14) ∷ (source_place 6 14) ∷ (source_place 6 14) ∷ (source_place 6 14) ∷ (source_place 6 14) ∷ []) ((codes "f") ∷ []) [] [] [] ((const.code (sealed_as 3 None 33 0 0 0 1 (codes "f") ((object_tool_unit op.LoadBuildClass 0) ∷ (object_tool_unit op.LoadConst 1) ∷ (object_tool_unit op.LoadConst 2) ∷ (object_tool_unit op.MakeFunction 0) ∷ (object_tool_unit op.LoadConst 2) ∷ (object_tool_unit op.CallFunctionPositional 2) ∷ (object_tool_unit op.StoreGlobal 0) ∷ (object_tool_unit op.LoadConst 3) ∷ (object_tool_unit op.LoadConst 4) ∷ (object_tool_unit op.MakeFunction 0) ∷ (object_tool_unit op.StoreGlobal 1) ∷ (object_tool_unit op.ReturnConst 0) ∷ []) ((source_place 3 5) ∷ (source_place 5 22) ∷ (source_place 5 22) ∷ (source_place 5 22) ∷ (source_place 5 22) ∷ (source_place 5 22) ∷ (source_place 5 22) ∷ (source_place 6 14) ∷ (source_place 6 14) ∷ (source_place 6 14) ∷ (source_place 6 14) ∷ (source_place 6 14) ∷ []) ((codes "A") ∷ (codes "g") ∷ []) [] [] [] (const.none ∷ (const.code (sealed_as 3 None 0 0 0 0 3 (codes "A") ((object_tool_unit op.LoadGlobal 0) ∷ (object_tool_unit op.StoreLocal 1) ∷ (object_tool_unit op.LoadConst 0) ∷ (object_tool_unit op.StoreLocal 2) ∷ (object_tool_unit op.LoadConst 1) ∷ (object_tool_unit op.StoreLocal 3) ∷ (object_tool_unit op.LoadBuildClass 0) ∷ (object_tool_unit op.LoadConst 2) ∷ (object_tool_unit op.LoadConst 3) ∷ (object_tool_unit op.MakeFunction 0) ∷ (object_tool_unit op.LoadConst 3) ∷ (object_tool_unit op.CallFunctionPositional 2) ∷ (object_tool_unit op.StoreLocal 4) ∷ (object_tool_unit op.LoadConst 4) ∷ (object_tool_unit op.LoadConst 5) ∷ (object_tool_unit op.MakeFunction 0) ∷ (object_tool_unit op.StoreLocal 5) ∷ (object_tool_unit op.ReturnConst 1) ∷ []) ((source_place 3 5) ∷ (source_place 3 5) ∷ (source_place 3 5) ∷ (source_place 3 5) ∷ (source_place 3 5) ∷ (source_place 3 5) ∷ (source_place 4 9) ∷ (source_place 4 18) ∷ (source_place 4 18) ∷ (source_place 4 18) ∷ (source_place 4 18) ∷ (source_place 4 18) ∷ (source_place 4 18) ∷ (source_place 5 22) ∷ (source_place 5 22) ∷ (source_place 5 22) ∷ (source_place 5 22) ∷ (source_place 5 22) ∷ []) ((codes "__name__") ∷ (codes "__module__") ∷ (codes "__qualname__") ∷ (codes "__doc__") ∷ (codes "B") ∷ (codes "g") ∷ []) [] [] [] ((const.str (codes "A")) ∷ const.none ∷ (const.code (sealed_as 1 None 0 0 0 0 4 (codes "B") ((object_tool_unit op.LoadGlobal 0) ∷ (object_tool_unit op.StoreLocal 1) ∷ (object_tool_unit op.LoadConst 0) ∷ (object_tool_unit op.StoreLocal 2) ∷ (object_tool_unit op.LoadConst 1) ∷ (object_tool_unit op.StoreLocal 3) ∷ (object_tool_unit op.ReturnConst 1) ∷ []) ((source_place 4 9) ∷ (source_place 4 9) ∷ (source_place 4 9) ∷ (source_place 4 9) ∷ (source_place 4 9) ∷ (source_place 4 9) ∷ (source_place 4 18) ∷ []) ((codes "__name__") ∷ (codes "__module__") ∷ (codes "__qualname__") ∷ (codes "__doc__") ∷ []) [] [] [] ((const.str (codes "A.B")) ∷ const.none ∷ []))) ∷ (const.str (codes "B")) ∷ (const.code (sealed_as 0 None 33 0 1 0 5 (codes "g") ((object_tool_unit op.ReturnConst 0) ∷ []) ((source_place 5 22) ∷ []) [] ((codes "self") ∷ []) [] [] (const.none ∷ []))) ∷ (const.str (codes "A.g")) ∷ []))) ∷ (const.str (codes "A")) ∷ (const.code (sealed_as 0 None 33 0 0 0 6 (codes "g") ((object_tool_unit op.ReturnConst 0) ∷ []) ((source_place 6 14) ∷ []) [] [] [] [] (const.none ∷ []))) ∷ (const.str (codes "f.<locals>.g")) ∷ []))) ∷ (const.str (codes "f")) ∷ const.none ∷ []))
 
 begins_anew_emitted : object_emitted begins_anew_scopes begins_anew 0 ≡ Some (begins_anew_object, length begins_anew_scopes)
-unfolding with_step with_block with_name with_varname with_constant with_loops with_location refuse emit jump one_block two_blocks three_blocks put_instruction emit_count emit_name emit_varname emit_mangled add_varname add_constant emit_constant move generator_mark pass_over by_context by_level by_loops in_loop name_access inside with_path nested_in_class child lambda_value emission_of_def emission_of_class load_cell assembled_object as_element called_at_once
+unfolding with_step with_block with_name with_varname with_constant with_loops with_location refuse emit jump one_block two_blocks three_blocks put_instruction emit_count emit_name emit_varname emit_mangled add_varname add_constant emit_constant move generator_mark pass_over by_context by_level by_loops in_loop name_access inside with_path nested_in_class child lambda_value emission_of_def emission_of_class load_cell assembled_object has_layout as_element called_at_once
 begins_anew_emitted = refl
 
 begins_anew_forms : codes_of_object 9 begins_anew_object ≡ codes_of_scope 9 (body begins_anew_scopes begins_anew Exec 0)
@@ -302,7 +303,7 @@ abbrev private_names_object : Object
 private_names_object = (sealed_as 3 None 1 0 0 0 1 (codes "<module>") ((object_tool_unit op.LoadBuildClass 0) ∷ (object_tool_unit op.LoadConst 0) ∷ (object_tool_unit op.LoadConst 1) ∷ (object_tool_unit op.MakeFunction 0) ∷ (object_tool_unit op.LoadConst 1) ∷ (object_tool_unit op.CallFunctionPositional 2) ∷ (object_tool_unit op.StoreLocal 0) ∷ (object_tool_unit op.ReturnConst 2) ∷ []) ((source_place 1 1) ∷ (source_place 7 32) ∷ (source_place 7 32) ∷ (source_place 7 32) ∷ (source_place 7 32) ∷ (source_place 7 32) ∷ (source_place 7 32) ∷ (source_place 7 32) ∷ []) ((codes "_A") ∷ []) [] [] [] ((const.code (sealed_as 3 None 0 0 0 0 1 (codes "_A") ((object_tool_unit op.LoadGlobal 0) ∷ (object_tool_unit op.StoreLocal 1) ∷ (object_tool_unit op.LoadConst 0) ∷ (object_tool_unit op.StoreLocal 2) ∷ (object_tool_unit op.LoadConst 1) ∷ (object_tool_unit op.StoreLocal 3) ∷ (object_tool_unit op.LoadConst 2) ∷ (object_tool_unit op.LoadConst 1) ∷ (object_tool_unit op.ImportName 4) ∷ (object_tool_unit op.StoreLocal 4) ∷ (object_tool_unit op.LoadConst 3) ∷ (object_tool_unit op.LoadConst 4) ∷ (object_tool_unit op.BuildMap 1) ∷ (object_tool_unit op.LoadConst 5) ∷ (object_tool_unit op.LoadConst 6) ∷ (object_tool_unit op.MakeFunction 4) ∷ (object_tool_unit op.StoreLocal 5) ∷ (object_tool_unit op.ReturnConst 1) ∷ []) ((source_place 1 1) ∷ (source_place 1 1) ∷ (source_place 1 1) ∷ (source_place 1 1) ∷ (source_place 1 1) ∷ (source_place 1 1) ∷ (source_place 2 5) ∷ (source_place 2 5) ∷ (source_place 2 5) ∷ (source_place 2 5) ∷ (source_place 3 5) ∷ (source_place 3 34) ∷ (source_place 3 34) ∷ (source_place 7 32) ∷ (source_place 7 32) ∷ (source_place 7 32) ∷ (source_place 7 32) ∷ (source_place 7 32) ∷ []) ((codes "__name__") ∷ (codes "__module__") ∷ (codes "__qualname__") ∷ (codes "__doc__") ∷ (codes "_A__b") ∷ (codes "_A__f") ∷ []) [] [] [] ((const.str (codes "_A")) ∷ const.none ∷ (const.integer (pos 0)) ∷ (const.str (codes "__z")) ∷ (const.integer (pos 1)) ∷ (const.code (sealed_as 3 (Some ((pos 2) ∷ [])) 41 0 2 1 3 (codes "__f") ((object_tool_unit op.LoadFast 1) ∷ (object_tool_unit op.LoadAttr 0) ∷ (object_tool_unit op.LoadAttr 1) ∷ (object_tool_unit op.LoadFast 0) ∷ (object_tool_unit op.StoreAttr 2) ∷ (object_tool_unit op.LoadFast 0) ∷ (object_tool_unit op.DeleteAttr 3) ∷ (object_tool_unit op.LoadFast 1) ∷ (object_tool_unit op.LoadFast 3) ∷ (object_tool_unit op.LoadConst 1) ∷ (object_tool_unit op.CallFunctionKeyword 1) ∷ (object_tool_unit op.Pop 0) ∷ (object_tool_unit op.LoadClosure 0) ∷ (object_tool_unit op.BuildTuple 1) ∷ (object_tool_unit op.LoadConst 2) ∷ (object_tool_unit op.LoadConst 3) ∷ (object_tool_unit op.MakeFunction 1) ∷ (object_tool_unit op.ReturnValue 0) ∷ []) ((source_place 4 20) ∷ (source_place 4 20) ∷ (source_place 4 20) ∷ (source_place 4 9) ∷ (source_place 4 9) ∷ (source_place 5 13) ∷ (source_place 5 13) ∷ (source_place 6 9) ∷ (source_place 6 17) ∷ (source_place 6 17) ∷ (source_place 6 17) ∷ (source_place 6 17) ∷ (source_place 7 32) ∷ (source_place 7 32) ∷ (source_place 7 32) ∷ (source_place 7 32) ∷ (source_place 7 32) ∷ (source_place 7 32) ∷ []) ((codes "_A__y") ∷ (codes "__z__") ∷ (codes "_A__x") ∷ (codes "_A__c") ∷ []) ((codes "self") ∷ (codes "_A__x") ∷ (codes "_A__z") ∷ (codes "_A__y") ∷ []) ((codes "_A__z") ∷ []) [] (const.none ∷ (const.tuple (const.more_consts (const.str (codes "__k")) const.no_consts)) ∷ (const.code (sealed_as 2 None 33 0 1 0 7 (codes "<lambda>") ((object_tool_unit op.LoadFast 0) ∷ (object_tool_unit op.LoadDeref 0) ∷ (object_tool_unit op.Subscript 0) ∷ (object_tool_unit op.ReturnValue 0) ∷ []) ((source_place 7 28) ∷ (source_place 7 32) ∷ (source_place 7 32) ∷ (source_place 7 32) ∷ []) [] ((codes "_A__w") ∷ []) [] ((codes "_A__z") ∷ []) (const.none ∷ []))) ∷ (const.str (codes "<lambda>")) ∷ []))) ∷ (const.str (codes "_A.__f")) ∷ []))) ∷ (const.str (codes "_A")) ∷ const.none ∷ []))
 
 private_names_emitted : object_emitted private_names_scopes private_names 0 ≡ Some (private_names_object, length private_names_scopes)
-unfolding with_step with_block with_name with_varname with_constant with_loops with_location refuse emit jump one_block two_blocks three_blocks put_instruction emit_count emit_name emit_varname emit_mangled add_varname add_constant emit_constant move generator_mark pass_over by_context by_level by_loops in_loop name_access inside with_path nested_in_class child lambda_value emission_of_def emission_of_class load_cell assembled_object as_element called_at_once
+unfolding with_step with_block with_name with_varname with_constant with_loops with_location refuse emit jump one_block two_blocks three_blocks put_instruction emit_count emit_name emit_varname emit_mangled add_varname add_constant emit_constant move generator_mark pass_over by_context by_level by_loops in_loop name_access inside with_path nested_in_class child lambda_value emission_of_def emission_of_class load_cell assembled_object has_layout as_element called_at_once
 private_names_emitted = refl
 
 private_names_forms : codes_of_object 9 private_names_object ≡ codes_of_scope 9 (body private_names_scopes private_names Exec 0)
@@ -328,7 +329,7 @@ abbrev class_cell_object : Object
 class_cell_object = (sealed_as 3 None 1 0 0 0 1 (codes "<module>") ((object_tool_unit op.LoadBuildClass 0) ∷ (object_tool_unit op.LoadConst 0) ∷ (object_tool_unit op.LoadConst 1) ∷ (object_tool_unit op.MakeFunction 0) ∷ (object_tool_unit op.LoadConst 1) ∷ (object_tool_unit op.CallFunctionPositional 2) ∷ (object_tool_unit op.StoreLocal 0) ∷ (object_tool_unit op.ReturnConst 2) ∷ []) ((source_place 1 1) ∷ (source_place 5 13) ∷ (source_place 5 13) ∷ (source_place 5 13) ∷ (source_place 5 13) ∷ (source_place 5 13) ∷ (source_place 5 13) ∷ (source_place 5 13) ∷ []) ((codes "A") ∷ []) [] [] [] ((const.code (sealed_as 3 None 0 0 0 0 1 (codes "A") ((object_tool_unit op.LoadGlobal 0) ∷ (object_tool_unit op.StoreLocal 1) ∷ (object_tool_unit op.LoadConst 0) ∷ (object_tool_unit op.StoreLocal 2) ∷ (object_tool_unit op.LoadConst 1) ∷ (object_tool_unit op.StoreLocal 3) ∷ (object_tool_unit op.LoadClosure 0) ∷ (object_tool_unit op.BuildTuple 1) ∷ (object_tool_unit op.LoadConst 2) ∷ (object_tool_unit op.LoadConst 3) ∷ (object_tool_unit op.MakeFunction 1) ∷ (object_tool_unit op.StoreLocal 4) ∷ (object_tool_unit op.LoadBuildClass 0) ∷ (object_tool_unit op.LoadConst 4) ∷ (object_tool_unit op.LoadConst 5) ∷ (object_tool_unit op.MakeFunction 0) ∷ (object_tool_unit op.LoadConst 5) ∷ (object_tool_unit op.CallFunctionPositional 2) ∷ (object_tool_unit op.StoreLocal 5) ∷ (object_tool_unit op.LoadClosure 0) ∷ (object_tool_unit op.Duplicate 0) ∷ (object_tool_unit op.StoreLocal 6) ∷ (object_tool_unit op.ReturnValue 0) ∷ []) ((source_place 1 1) ∷ (source_place 1 1) ∷ (source_place 1 1) ∷ (source_place 1 1) ∷ (source_place 1 1) ∷ (source_place 1 1) ∷ (source_place 3 24) ∷ (source_place 3 24) ∷ (source_place 3 24) ∷ (source_place 3 24) ∷ (source_place 3 24) ∷ (source_place 3 24) ∷ (source_place 4 5) ∷ (source_place 5 13) ∷ (source_place 5 13) ∷ (source_place 5 13) ∷ (source_place 5 13) ∷ (source_place 5 13) ∷ (source_place 5 13) ∷ (source_place 5 13) ∷ (source_place 5 13) ∷ (source_place 5 13) ∷ (source_place 5 13) ∷ []) ((codes "__name__") ∷ (codes "__module__") ∷ (codes "__qualname__") ∷ (codes "__doc__") ∷ (codes "f") ∷ (codes "B") ∷ (codes "__classcell__") ∷ []) [] ((codes "__class__") ∷ []) [] ((const.str (codes "A")) ∷ const.none ∷ (const.code (sealed_as 3 None 33 0 1 0 2 (codes "f") ((object_tool_unit op.LoadClosure 0) ∷ (object_tool_unit op.BuildTuple 1) ∷ (object_tool_unit op.LoadConst 1) ∷ (object_tool_unit op.LoadConst 2) ∷ (object_tool_unit op.MakeFunction 1) ∷ (object_tool_unit op.ReturnValue 0) ∷ []) ((source_place 3 24) ∷ (source_place 3 24) ∷ (source_place 3 24) ∷ (source_place 3 24) ∷ (source_place 3 24) ∷ (source_place 3 24) ∷ []) [] ((codes "self") ∷ []) [] ((codes "__class__") ∷ []) (const.none ∷ (const.code (sealed_as 1 None 33 0 0 0 3 (codes "<lambda>") ((object_tool_unit op.LoadDeref 0) ∷ (object_tool_unit op.ReturnValue 0) ∷ []) ((source_place 3 24) ∷ (source_place 3 24) ∷ []) [] [] [] ((codes "__class__") ∷ []) (const.none ∷ []))) ∷ (const.str (codes "<lambda>")) ∷ []))) ∷ (const.str (codes "A.f")) ∷ (const.code (sealed_as 1 None 0 0 0 0 4 (codes "B") ((object_tool_unit op.LoadGlobal 0) ∷ (object_tool_unit op.StoreLocal 1) ∷ (object_tool_unit op.LoadConst 0) ∷ (object_tool_unit op.StoreLocal 2) ∷ (object_tool_unit op.LoadConst 1) ∷ (object_tool_unit op.StoreLocal 3) ∷ (object_tool_unit op.LoadNameAny 4) ∷ (object_tool_unit op.StoreLocal 5) ∷ (object_tool_unit op.ReturnConst 1) ∷ []) ((source_place 4 5) ∷ (source_place 4 5) ∷ (source_place 4 5) ∷ (source_place 4 5) ∷ (source_place 4 5) ∷ (source_place 4 5) ∷ (source_place 5 13) ∷ (source_place 5 13) ∷ (source_place 5 13) ∷ []) ((codes "__name__") ∷ (codes "__module__") ∷ (codes "__qualname__") ∷ (codes "__doc__") ∷ (codes "__class__") ∷ (codes "x") ∷ []) [] [] [] ((const.str (codes "A.B")) ∷ const.none ∷ []))) ∷ (const.str (codes "B")) ∷ []))) ∷ (const.str (codes "A")) ∷ const.none ∷ []))
 
 class_cell_emitted : object_emitted class_cell_scopes class_cell 0 ≡ Some (class_cell_object, length class_cell_scopes)
-unfolding with_step with_block with_name with_varname with_constant with_loops with_location refuse emit jump one_block two_blocks three_blocks put_instruction emit_count emit_name emit_varname emit_mangled add_varname add_constant emit_constant move generator_mark pass_over by_context by_level by_loops in_loop name_access inside with_path nested_in_class child lambda_value emission_of_def emission_of_class load_cell assembled_object as_element called_at_once
+unfolding with_step with_block with_name with_varname with_constant with_loops with_location refuse emit jump one_block two_blocks three_blocks put_instruction emit_count emit_name emit_varname emit_mangled add_varname add_constant emit_constant move generator_mark pass_over by_context by_level by_loops in_loop name_access inside with_path nested_in_class child lambda_value emission_of_def emission_of_class load_cell assembled_object has_layout as_element called_at_once
 class_cell_emitted = refl
 
 class_cell_forms : codes_of_object 9 class_cell_object ≡ codes_of_scope 9 (body class_cell_scopes class_cell Exec 0)
@@ -352,7 +353,7 @@ abbrev returning_scopes : List ScopeEntry
 returning_scopes = ((entry kinds.Module ((object_tool_symbol (codes "f") symbols.Local 2) ∷ []) 5) ∷ (entry kinds.Function ((object_tool_symbol (codes "A") symbols.Local 2) ∷ (object_tool_symbol (codes "x") symbols.GlobalImplicit 1) ∷ (object_tool_symbol (codes "B") symbols.Local 2) ∷ []) 5) ∷ (entry kinds.Class ((object_tool_symbol (codes "__module__") symbols.Local 2) ∷ (object_tool_symbol (codes "__qualname__") symbols.Local 2) ∷ (object_tool_symbol (codes "__doc__") symbols.Local 2) ∷ (object_tool_symbol (codes "__class__") symbols.Local 2) ∷ (object_tool_symbol (codes "x") symbols.GlobalImplicit 1) ∷ []) 3) ∷ (entry kinds.Function [] 4) ∷ (entry kinds.Class ((object_tool_symbol (codes "__module__") symbols.Local 2) ∷ (object_tool_symbol (codes "__qualname__") symbols.Local 2) ∷ (object_tool_symbol (codes "__doc__") symbols.Local 2) ∷ (object_tool_symbol (codes "__class__") symbols.Local 2) ∷ []) 5) ∷ [])
 
 returning_refused : emission_outcome returning Exec (outermost 0 (codes "m.py") returning_scopes) ≡ Refused error.InvalidReturn (Some (source_place 3 9))
-unfolding with_step with_block with_name with_varname with_constant with_loops with_location refuse emit jump one_block two_blocks three_blocks put_instruction emit_count emit_name emit_varname emit_mangled add_varname add_constant emit_constant move generator_mark pass_over by_context by_level by_loops in_loop name_access inside with_path nested_in_class child lambda_value emission_of_def emission_of_class load_cell assembled_object as_element called_at_once
+unfolding with_step with_block with_name with_varname with_constant with_loops with_location refuse emit jump one_block two_blocks three_blocks put_instruction emit_count emit_name emit_varname emit_mangled add_varname add_constant emit_constant move generator_mark pass_over by_context by_level by_loops in_loop name_access inside with_path nested_in_class child lambda_value emission_of_def emission_of_class load_cell assembled_object has_layout as_element called_at_once
 returning_refused = refl
 
 returning_faults : sample_tool_faults (compile_faults Exec 0 returning) ≡ (((codes "'return' outside function"), Some (source_place 3 9)) ∷ ((codes "'yield' outside function"), Some (source_place 4 9)) ∷ ((codes "'break' outside loop"), Some (source_place 6 18)) ∷ [])
@@ -369,7 +370,7 @@ abbrev keyword_debug_scopes : List ScopeEntry
 keyword_debug_scopes = ((entry kinds.Module ((object_tool_symbol (codes "d") symbols.Unknown 1) ∷ (object_tool_symbol (codes "x") symbols.Unknown 1) ∷ (object_tool_symbol (codes "B") symbols.Unknown 1) ∷ (object_tool_symbol (codes "f") symbols.Unknown 1) ∷ (object_tool_symbol (codes "c") symbols.Unknown 1) ∷ (object_tool_symbol (codes "A") symbols.Local 2) ∷ []) 2) ∷ (entry kinds.Class ((object_tool_symbol (codes "__module__") symbols.Local 2) ∷ (object_tool_symbol (codes "__qualname__") symbols.Local 2) ∷ (object_tool_symbol (codes "__doc__") symbols.Local 2) ∷ (object_tool_symbol (codes "__class__") symbols.Local 2) ∷ []) 2) ∷ [])
 
 keyword_debug_refused : emission_outcome keyword_debug Exec (outermost 0 (codes "m.py") keyword_debug_scopes) ≡ Refused error.InvalidContinue (Some (source_place 3 5))
-unfolding with_step with_block with_name with_varname with_constant with_loops with_location refuse emit jump one_block two_blocks three_blocks put_instruction emit_count emit_name emit_varname emit_mangled add_varname add_constant emit_constant move generator_mark pass_over by_context by_level by_loops in_loop name_access inside with_path nested_in_class child lambda_value emission_of_def emission_of_class load_cell assembled_object as_element called_at_once
+unfolding with_step with_block with_name with_varname with_constant with_loops with_location refuse emit jump one_block two_blocks three_blocks put_instruction emit_count emit_name emit_varname emit_mangled add_varname add_constant emit_constant move generator_mark pass_over by_context by_level by_loops in_loop name_access inside with_path nested_in_class child lambda_value emission_of_def emission_of_class load_cell assembled_object has_layout as_element called_at_once
 keyword_debug_refused = refl
 
 keyword_debug_faults : sample_tool_faults (compile_faults Exec 0 keyword_debug) ≡ (((codes "'continue' outside loop"), Some (source_place 3 5)) ∷ ((codes "cannot assign to __debug__"), Some (source_place 2 16)) ∷ ((codes "cannot assign to __debug__"), Some (source_place 2 35)) ∷ [])
@@ -387,7 +388,7 @@ abbrev named_debug_scopes : List ScopeEntry
 named_debug_scopes = ((entry kinds.Module ((object_tool_symbol (codes "B") symbols.Unknown 1) ∷ (object_tool_symbol (codes "c") symbols.Unknown 1) ∷ (object_tool_symbol (codes "__debug__") symbols.Local 2) ∷ []) 3) ∷ (entry kinds.Class ((object_tool_symbol (codes "__module__") symbols.Local 2) ∷ (object_tool_symbol (codes "__qualname__") symbols.Local 2) ∷ (object_tool_symbol (codes "__doc__") symbols.Local 2) ∷ (object_tool_symbol (codes "__class__") symbols.Local 2) ∷ (object_tool_symbol (codes "__debug__") symbols.Local 2) ∷ (object_tool_symbol (codes "x") symbols.GlobalImplicit 1) ∷ []) 3) ∷ (entry kinds.Function [] 3) ∷ [])
 
 named_debug_refused : emission_outcome named_debug Exec (outermost 0 (codes "m.py") named_debug_scopes) ≡ Refused (error.SyntaxError (codes "cannot assign to __debug__")) (Some (source_place 3 22))
-unfolding with_step with_block with_name with_varname with_constant with_loops with_location refuse emit jump one_block two_blocks three_blocks put_instruction emit_count emit_name emit_varname emit_mangled add_varname add_constant emit_constant move generator_mark pass_over by_context by_level by_loops in_loop name_access inside with_path nested_in_class child lambda_value emission_of_def emission_of_class load_cell assembled_object as_element called_at_once
+unfolding with_step with_block with_name with_varname with_constant with_loops with_location refuse emit jump one_block two_blocks three_blocks put_instruction emit_count emit_name emit_varname emit_mangled add_varname add_constant emit_constant move generator_mark pass_over by_context by_level by_loops in_loop name_access inside with_path nested_in_class child lambda_value emission_of_def emission_of_class load_cell assembled_object has_layout as_element called_at_once
 named_debug_refused = refl
 
 named_debug_faults : sample_tool_faults (compile_faults Exec 0 named_debug) ≡ (((codes "cannot assign to __debug__"), Some (source_place 3 22)) ∷ ((codes "cannot assign to __debug__"), Some (source_place 2 11)) ∷ [])

@@ -19,6 +19,7 @@ use Rattle.py_emission_parts.specs.Comprehensions.{as_element, called_at_once}
 use Rattle.py_emission_parts.specs.Context.{inside, outermost, with_path}
 use Rattle.py_emission_parts.specs.Emitting.{Refused, with_step, with_block, with_name, with_varname, with_constant, with_loops, with_location, refuse, emit, jump, emit_count, emit_name, emit_varname, emit_mangled, add_varname, add_constant, emit_constant, move, generator_mark, pass_over, by_context, by_level, by_loops, in_loop, one_block, two_blocks, three_blocks}
 use Rattle.py_emission_parts.specs.Running.{put_instruction}
+use Rattle.py_emission_parts.specs.Laid.{has_layout}
 use Rattle.py_emission_parts.specs.Sealed.{assembled_object}
 use Rattle.py_emission.specs.Emission.{lambda_value}
 use Rattle.py_emission.specs.EmissionDefs.{emission_of_def}
@@ -42,7 +43,7 @@ abbrev displays_object : Object
 displays_object = (sealed_as 2 None 1 0 0 0 1 (codes "<module>") ((object_tool_unit op.LoadConst 0) ∷ (object_tool_unit op.LoadConst 1) ∷ (object_tool_unit op.MakeFunction 0) ∷ (object_tool_unit op.LoadNameAny 0) ∷ (object_tool_unit op.GetIter 0) ∷ (object_tool_unit op.CallFunctionPositional 1) ∷ (object_tool_unit op.StoreLocal 1) ∷ (object_tool_unit op.LoadConst 2) ∷ (object_tool_unit op.LoadConst 3) ∷ (object_tool_unit op.MakeFunction 0) ∷ (object_tool_unit op.LoadNameAny 0) ∷ (object_tool_unit op.GetIter 0) ∷ (object_tool_unit op.CallFunctionPositional 1) ∷ (object_tool_unit op.StoreLocal 2) ∷ (object_tool_unit op.LoadConst 4) ∷ (object_tool_unit op.LoadConst 5) ∷ (object_tool_unit op.MakeFunction 0) ∷ (object_tool_unit op.LoadNameAny 3) ∷ (object_tool_unit op.GetIter 0) ∷ (object_tool_unit op.CallFunctionPositional 1) ∷ (object_tool_unit op.StoreLocal 4) ∷ (object_tool_unit op.ReturnConst 6) ∷ []) ((source_place 1 10) ∷ (source_place 1 10) ∷ (source_place 1 10) ∷ (source_place 1 21) ∷ (source_place 1 21) ∷ (source_place 1 21) ∷ (source_place 1 21) ∷ (source_place 2 6) ∷ (source_place 2 6) ∷ (source_place 2 6) ∷ (source_place 2 21) ∷ (source_place 2 21) ∷ (source_place 2 21) ∷ (source_place 2 21) ∷ (source_place 3 9) ∷ (source_place 3 9) ∷ (source_place 3 9) ∷ (source_place 3 29) ∷ (source_place 3 29) ∷ (source_place 3 29) ∷ (source_place 3 29) ∷ (source_place 3 29) ∷ []) ((codes "b") ∷ (codes "x") ∷ (codes "y") ∷ (codes "d") ∷ (codes "z") ∷ []) [] [] [] ((const.code (sealed_as 4 None 33 1 1 0 1 (codes "<listcomp>") ((object_tool_unit op.BuildList 0) ∷ (object_tool_unit op.LoadFast 0) ∷ (object_tool_unit op.ForIter 9) ∷ (object_tool_unit op.StoreFast 1) ∷ (object_tool_unit op.LoadFast 1) ∷ (object_tool_unit op.LoadConst 0) ∷ (object_tool_unit op.BinaryOperation 0) ∷ (object_tool_unit op.ListAppend 1) ∷ (object_tool_unit op.Jump 2) ∷ (object_tool_unit op.ReturnValue 0) ∷ []) ((source_place 1 5) ∷ (source_place 1 5) ∷ (source_place 1 5) ∷ (source_place 1 5) ∷ (source_place 1 6) ∷ (source_place 1 10) ∷ (source_place 1 10) ∷ (source_place 1 10) ∷ (source_place 1 10) ∷ (source_place 1 10) ∷ []) [] ((codes ".0") ∷ (codes "a") ∷ []) [] [] ((const.integer (pos 1)) ∷ []))) ∷ (const.str (codes "<listcomp>")) ∷ (const.code (sealed_as 4 None 33 1 1 0 2 (codes "<setcomp>") ((object_tool_unit op.BuildSet 0) ∷ (object_tool_unit op.LoadFast 0) ∷ (object_tool_unit op.ForIter 9) ∷ (object_tool_unit op.UnpackEx 1) ∷ (object_tool_unit op.StoreFast 1) ∷ (object_tool_unit op.StoreFast 2) ∷ (object_tool_unit op.LoadFast 1) ∷ (object_tool_unit op.SetAdd 1) ∷ (object_tool_unit op.Jump 2) ∷ (object_tool_unit op.ReturnValue 0) ∷ []) ((source_place 2 5) ∷ (source_place 2 5) ∷ (source_place 2 5) ∷ (source_place 2 5) ∷ (source_place 2 5) ∷ (source_place 2 5) ∷ (source_place 2 6) ∷ (source_place 2 6) ∷ (source_place 2 6) ∷ (source_place 2 6) ∷ []) [] ((codes ".0") ∷ (codes "a") ∷ (codes "c") ∷ []) [] [] [])) ∷ (const.str (codes "<setcomp>")) ∷ (const.code (sealed_as 4 None 33 1 1 0 3 (codes "<dictcomp>") ((object_tool_unit op.BuildMap 0) ∷ (object_tool_unit op.LoadFast 0) ∷ (object_tool_unit op.ForIter 12) ∷ (object_tool_unit op.UnpackSequence 2) ∷ (object_tool_unit op.StoreFast 1) ∷ (object_tool_unit op.UnpackSequence 1) ∷ (object_tool_unit op.StoreFast 2) ∷ (object_tool_unit op.LoadFast 1) ∷ (object_tool_unit op.LoadFast 2) ∷ (object_tool_unit op.LoadAttr 0) ∷ (object_tool_unit op.MapAdd 1) ∷ (object_tool_unit op.Jump 2) ∷ (object_tool_unit op.ReturnValue 0) ∷ []) ((source_place 3 5) ∷ (source_place 3 5) ∷ (source_place 3 5) ∷ (source_place 3 5) ∷ (source_place 3 5) ∷ (source_place 3 5) ∷ (source_place 3 5) ∷ (source_place 3 6) ∷ (source_place 3 9) ∷ (source_place 3 9) ∷ (source_place 3 9) ∷ (source_place 3 9) ∷ (source_place 3 9) ∷ []) ((codes "w") ∷ []) ((codes ".0") ∷ (codes "k") ∷ (codes "v") ∷ []) [] [] [])) ∷ (const.str (codes "<dictcomp>")) ∷ const.none ∷ []))
 
 displays_emitted : object_emitted displays_scopes displays 0 ≡ Some (displays_object, length displays_scopes)
-unfolding with_step with_block with_name with_varname with_constant with_loops with_location refuse emit jump one_block two_blocks three_blocks put_instruction emit_count emit_name emit_varname emit_mangled add_varname add_constant emit_constant move generator_mark pass_over by_context by_level by_loops in_loop name_access inside with_path child lambda_value emission_of_def load_cell assembled_object as_element called_at_once
+unfolding with_step with_block with_name with_varname with_constant with_loops with_location refuse emit jump one_block two_blocks three_blocks put_instruction emit_count emit_name emit_varname emit_mangled add_varname add_constant emit_constant move generator_mark pass_over by_context by_level by_loops in_loop name_access inside with_path child lambda_value emission_of_def load_cell assembled_object has_layout as_element called_at_once
 displays_emitted = refl
 
 displays_forms : codes_of_object 9 displays_object ≡ codes_of_scope 9 (body displays_scopes displays Exec 0)
@@ -64,7 +65,7 @@ abbrev generator_object : Object
 generator_object = (sealed_as 3 None 1 0 0 0 1 (codes "<module>") ((object_tool_unit op.LoadNameAny 0) ∷ (object_tool_unit op.LoadConst 0) ∷ (object_tool_unit op.LoadConst 1) ∷ (object_tool_unit op.MakeFunction 0) ∷ (object_tool_unit op.LoadNameAny 1) ∷ (object_tool_unit op.LoadAttr 2) ∷ (object_tool_unit op.GetIter 0) ∷ (object_tool_unit op.CallFunctionPositional 1) ∷ (object_tool_unit op.CallFunctionPositional 1) ∷ (object_tool_unit op.StoreLocal 3) ∷ (object_tool_unit op.ReturnConst 2) ∷ []) ((source_place 1 5) ∷ (source_place 1 7) ∷ (source_place 1 7) ∷ (source_place 1 7) ∷ (source_place 1 18) ∷ (source_place 1 18) ∷ (source_place 1 18) ∷ (source_place 1 18) ∷ (source_place 1 18) ∷ (source_place 1 18) ∷ (source_place 1 18) ∷ []) ((codes "f") ∷ (codes "b") ∷ (codes "c") ∷ (codes "x") ∷ []) [] [] [] ((const.code (sealed_as 2 None 35 1 1 0 1 (codes "<genexpr>") ((object_tool_unit op.LoadFast 0) ∷ (object_tool_unit op.ForIter 9) ∷ (object_tool_unit op.StoreFast 1) ∷ (object_tool_unit op.LoadFast 1) ∷ (object_tool_unit op.JumpIfFalse 1) ∷ (object_tool_unit op.LoadFast 1) ∷ (object_tool_unit op.YieldValue 0) ∷ (object_tool_unit op.Pop 0) ∷ (object_tool_unit op.Jump 1) ∷ (object_tool_unit op.ReturnConst 0) ∷ []) ((source_place 1 6) ∷ (source_place 1 6) ∷ (source_place 1 6) ∷ (source_place 1 25) ∷ (source_place 1 25) ∷ (source_place 1 7) ∷ (source_place 1 7) ∷ (source_place 1 7) ∷ (source_place 1 7) ∷ (source_place 1 7) ∷ []) [] ((codes ".0") ∷ (codes "a") ∷ []) [] [] (const.none ∷ []))) ∷ (const.str (codes "<genexpr>")) ∷ const.none ∷ []))
 
 generator_emitted : object_emitted generator_scopes comprehension_sample_generator 0 ≡ Some (generator_object, length generator_scopes)
-unfolding with_step with_block with_name with_varname with_constant with_loops with_location refuse emit jump one_block two_blocks three_blocks put_instruction emit_count emit_name emit_varname emit_mangled add_varname add_constant emit_constant move generator_mark pass_over by_context by_level by_loops in_loop name_access inside with_path child lambda_value emission_of_def load_cell assembled_object as_element called_at_once
+unfolding with_step with_block with_name with_varname with_constant with_loops with_location refuse emit jump one_block two_blocks three_blocks put_instruction emit_count emit_name emit_varname emit_mangled add_varname add_constant emit_constant move generator_mark pass_over by_context by_level by_loops in_loop name_access inside with_path child lambda_value emission_of_def load_cell assembled_object has_layout as_element called_at_once
 generator_emitted = refl
 
 generator_forms : codes_of_object 9 generator_object ≡ codes_of_scope 9 (body generator_scopes comprehension_sample_generator Exec 0)
@@ -86,7 +87,7 @@ abbrev two_clauses_object : Object
 two_clauses_object = (sealed_as 2 None 1 0 0 0 1 (codes "<module>") ((object_tool_unit op.LoadConst 0) ∷ (object_tool_unit op.LoadConst 1) ∷ (object_tool_unit op.MakeFunction 0) ∷ (object_tool_unit op.LoadNameAny 0) ∷ (object_tool_unit op.GetIter 0) ∷ (object_tool_unit op.CallFunctionPositional 1) ∷ (object_tool_unit op.Pop 0) ∷ (object_tool_unit op.ReturnConst 2) ∷ []) ((source_place 1 6) ∷ (source_place 1 6) ∷ (source_place 1 6) ∷ (source_place 1 17) ∷ (source_place 1 17) ∷ (source_place 1 17) ∷ (source_place 1 17) ∷ (source_place 1 17) ∷ []) ((codes "b") ∷ []) [] [] [] ((const.code (sealed_as 5 None 33 1 1 0 1 (codes "<listcomp>") ((object_tool_unit op.BuildList 0) ∷ (object_tool_unit op.LoadFast 0) ∷ (object_tool_unit op.ForIter 27) ∷ (object_tool_unit op.StoreFast 1) ∷ (object_tool_unit op.LoadFast 1) ∷ (object_tool_unit op.JumpIfFalse 2) ∷ (object_tool_unit op.LoadFast 1) ∷ (object_tool_unit op.LoadAttr 0) ∷ (object_tool_unit op.JumpIfTrue 2) ∷ (object_tool_unit op.LoadFast 1) ∷ (object_tool_unit op.LoadConst 0) ∷ (object_tool_unit op.Subscript 0) ∷ (object_tool_unit op.GetIter 0) ∷ (object_tool_unit op.ForIter 26) ∷ (object_tool_unit op.StoreFast 2) ∷ (object_tool_unit op.LoadFast 2) ∷ (object_tool_unit op.JumpIfFalse 13) ∷ (object_tool_unit op.LoadFast 1) ∷ (object_tool_unit op.JumpIfTrue 21) ∷ (object_tool_unit op.LoadGlobal 0) ∷ (object_tool_unit op.JumpIfFalse 13) ∷ (object_tool_unit op.LoadFast 1) ∷ (object_tool_unit op.LoadFast 2) ∷ (object_tool_unit op.BinaryOperation 0) ∷ (object_tool_unit op.ListAppend 2) ∷ (object_tool_unit op.Jump 13) ∷ (object_tool_unit op.Jump 2) ∷ (object_tool_unit op.ReturnValue 0) ∷ []) ((source_place 1 1) ∷ (source_place 1 1) ∷ (source_place 1 1) ∷ (source_place 1 1) ∷ (source_place 1 22) ∷ (source_place 1 22) ∷ (source_place 1 31) ∷ (source_place 1 31) ∷ (source_place 1 31) ∷ (source_place 1 44) ∷ (source_place 1 46) ∷ (source_place 1 46) ∷ (source_place 1 46) ∷ (source_place 1 46) ∷ (source_place 1 46) ∷ (source_place 1 52) ∷ (source_place 1 52) ∷ (source_place 1 59) ∷ (source_place 1 59) ∷ (source_place 1 64) ∷ (source_place 1 64) ∷ (source_place 1 2) ∷ (source_place 1 6) ∷ (source_place 1 6) ∷ (source_place 1 6) ∷ (source_place 1 6) ∷ (source_place 1 6) ∷ (source_place 1 6) ∷ []) ((codes "d") ∷ []) ((codes ".0") ∷ (codes "a") ∷ (codes "c") ∷ []) [] [] ((const.integer (pos 0)) ∷ []))) ∷ (const.str (codes "<listcomp>")) ∷ const.none ∷ []))
 
 two_clauses_emitted : object_emitted two_clauses_scopes two_clauses 0 ≡ Some (two_clauses_object, length two_clauses_scopes)
-unfolding with_step with_block with_name with_varname with_constant with_loops with_location refuse emit jump one_block two_blocks three_blocks put_instruction emit_count emit_name emit_varname emit_mangled add_varname add_constant emit_constant move generator_mark pass_over by_context by_level by_loops in_loop name_access inside with_path child lambda_value emission_of_def load_cell assembled_object as_element called_at_once
+unfolding with_step with_block with_name with_varname with_constant with_loops with_location refuse emit jump one_block two_blocks three_blocks put_instruction emit_count emit_name emit_varname emit_mangled add_varname add_constant emit_constant move generator_mark pass_over by_context by_level by_loops in_loop name_access inside with_path child lambda_value emission_of_def load_cell assembled_object has_layout as_element called_at_once
 two_clauses_emitted = refl
 
 two_clauses_forms : codes_of_object 9 two_clauses_object ≡ codes_of_scope 9 (body two_clauses_scopes two_clauses Exec 0)
@@ -108,7 +109,7 @@ abbrev walrus_nested_object : Object
 walrus_nested_object = (sealed_as 2 None 1 0 0 0 1 (codes "<module>") ((object_tool_unit op.LoadConst 0) ∷ (object_tool_unit op.LoadConst 1) ∷ (object_tool_unit op.MakeFunction 0) ∷ (object_tool_unit op.StoreLocal 0) ∷ (object_tool_unit op.ReturnConst 2) ∷ []) ((source_place 1 34) ∷ (source_place 1 34) ∷ (source_place 1 34) ∷ (source_place 1 34) ∷ (source_place 1 34) ∷ []) ((codes "f") ∷ []) [] [] [] ((const.code (sealed_as 3 None 33 0 0 0 1 (codes "f") ((object_tool_unit op.LoadClosure 0) ∷ (object_tool_unit op.BuildTuple 1) ∷ (object_tool_unit op.LoadConst 1) ∷ (object_tool_unit op.LoadConst 2) ∷ (object_tool_unit op.MakeFunction 1) ∷ (object_tool_unit op.LoadGlobal 0) ∷ (object_tool_unit op.GetIter 0) ∷ (object_tool_unit op.CallFunctionPositional 1) ∷ (object_tool_unit op.ReturnValue 0) ∷ []) ((source_place 1 23) ∷ (source_place 1 23) ∷ (source_place 1 23) ∷ (source_place 1 23) ∷ (source_place 1 23) ∷ (source_place 1 34) ∷ (source_place 1 34) ∷ (source_place 1 34) ∷ (source_place 1 34) ∷ []) ((codes "z") ∷ []) [] ((codes "y") ∷ []) [] (const.none ∷ (const.code (sealed_as 4 None 33 1 1 0 1 (codes "<listcomp>") ((object_tool_unit op.BuildList 0) ∷ (object_tool_unit op.LoadFast 0) ∷ (object_tool_unit op.ForIter 9) ∷ (object_tool_unit op.StoreFast 1) ∷ (object_tool_unit op.LoadFast 1) ∷ (object_tool_unit op.Duplicate 0) ∷ (object_tool_unit op.StoreDeref 0) ∷ (object_tool_unit op.ListAppend 1) ∷ (object_tool_unit op.Jump 2) ∷ (object_tool_unit op.ReturnValue 0) ∷ []) ((source_place 1 17) ∷ (source_place 1 17) ∷ (source_place 1 17) ∷ (source_place 1 17) ∷ (source_place 1 23) ∷ (source_place 1 23) ∷ (source_place 1 23) ∷ (source_place 1 23) ∷ (source_place 1 23) ∷ (source_place 1 23) ∷ []) [] ((codes ".0") ∷ (codes "v") ∷ []) [] ((codes "y") ∷ []) [])) ∷ (const.str (codes "<listcomp>")) ∷ []))) ∷ (const.str (codes "f")) ∷ const.none ∷ []))
 
 walrus_nested_emitted : object_emitted walrus_nested_scopes walrus_nested 0 ≡ Some (walrus_nested_object, length walrus_nested_scopes)
-unfolding with_step with_block with_name with_varname with_constant with_loops with_location refuse emit jump one_block two_blocks three_blocks put_instruction emit_count emit_name emit_varname emit_mangled add_varname add_constant emit_constant move generator_mark pass_over by_context by_level by_loops in_loop name_access inside with_path child lambda_value emission_of_def load_cell assembled_object as_element called_at_once
+unfolding with_step with_block with_name with_varname with_constant with_loops with_location refuse emit jump one_block two_blocks three_blocks put_instruction emit_count emit_name emit_varname emit_mangled add_varname add_constant emit_constant move generator_mark pass_over by_context by_level by_loops in_loop name_access inside with_path child lambda_value emission_of_def load_cell assembled_object has_layout as_element called_at_once
 walrus_nested_emitted = refl
 
 walrus_nested_forms : codes_of_object 9 walrus_nested_object ≡ codes_of_scope 9 (body walrus_nested_scopes walrus_nested Exec 0)
@@ -130,7 +131,7 @@ abbrev walrus_of_module_object : Object
 walrus_of_module_object = (sealed_as 2 None 1 0 0 0 1 (codes "<module>") ((object_tool_unit op.LoadConst 0) ∷ (object_tool_unit op.LoadConst 1) ∷ (object_tool_unit op.MakeFunction 0) ∷ (object_tool_unit op.LoadNameAny 0) ∷ (object_tool_unit op.GetIter 0) ∷ (object_tool_unit op.CallFunctionPositional 1) ∷ (object_tool_unit op.Pop 0) ∷ (object_tool_unit op.ReturnConst 2) ∷ []) ((source_place 1 11) ∷ (source_place 1 11) ∷ (source_place 1 11) ∷ (source_place 1 23) ∷ (source_place 1 23) ∷ (source_place 1 23) ∷ (source_place 1 23) ∷ (source_place 1 23) ∷ []) ((codes "z") ∷ []) [] [] [] ((const.code (sealed_as 4 None 33 1 1 0 1 (codes "<listcomp>") ((object_tool_unit op.BuildList 0) ∷ (object_tool_unit op.LoadFast 0) ∷ (object_tool_unit op.ForIter 13) ∷ (object_tool_unit op.StoreFast 1) ∷ (object_tool_unit op.LoadFast 1) ∷ (object_tool_unit op.Duplicate 0) ∷ (object_tool_unit op.StoreGlobal 0) ∷ (object_tool_unit op.JumpIfFalse 2) ∷ (object_tool_unit op.LoadConst 0) ∷ (object_tool_unit op.LoadConst 1) ∷ (object_tool_unit op.MakeFunction 0) ∷ (object_tool_unit op.ListAppend 1) ∷ (object_tool_unit op.Jump 2) ∷ (object_tool_unit op.ReturnValue 0) ∷ []) ((source_place 1 1) ∷ (source_place 1 1) ∷ (source_place 1 1) ∷ (source_place 1 1) ∷ (source_place 1 34) ∷ (source_place 1 34) ∷ (source_place 1 34) ∷ (source_place 1 34) ∷ (source_place 1 11) ∷ (source_place 1 11) ∷ (source_place 1 11) ∷ (source_place 1 11) ∷ (source_place 1 11) ∷ (source_place 1 11) ∷ []) ((codes "y") ∷ []) ((codes ".0") ∷ (codes "v") ∷ []) [] [] ((const.code (sealed_as 1 None 33 0 0 0 1 (codes "<lambda>") ((object_tool_unit op.LoadGlobal 0) ∷ (object_tool_unit op.ReturnValue 0) ∷ []) ((source_place 1 11) ∷ (source_place 1 11) ∷ []) ((codes "y") ∷ []) [] [] [] (const.none ∷ []))) ∷ (const.str (codes "<lambda>")) ∷ []))) ∷ (const.str (codes "<listcomp>")) ∷ const.none ∷ []))
 
 walrus_of_module_emitted : object_emitted walrus_of_module_scopes walrus_of_module 0 ≡ Some (walrus_of_module_object, length walrus_of_module_scopes)
-unfolding with_step with_block with_name with_varname with_constant with_loops with_location refuse emit jump one_block two_blocks three_blocks put_instruction emit_count emit_name emit_varname emit_mangled add_varname add_constant emit_constant move generator_mark pass_over by_context by_level by_loops in_loop name_access inside with_path child lambda_value emission_of_def load_cell assembled_object as_element called_at_once
+unfolding with_step with_block with_name with_varname with_constant with_loops with_location refuse emit jump one_block two_blocks three_blocks put_instruction emit_count emit_name emit_varname emit_mangled add_varname add_constant emit_constant move generator_mark pass_over by_context by_level by_loops in_loop name_access inside with_path child lambda_value emission_of_def load_cell assembled_object has_layout as_element called_at_once
 walrus_of_module_emitted = refl
 
 walrus_of_module_forms : codes_of_object 9 walrus_of_module_object ≡ codes_of_scope 9 (body walrus_of_module_scopes walrus_of_module Exec 0)
@@ -152,7 +153,7 @@ abbrev stored_into_object : Object
 stored_into_object = (sealed_as 4 None 1 0 0 0 1 (codes "<module>") ((object_tool_unit op.LoadConst 0) ∷ (object_tool_unit op.LoadConst 1) ∷ (object_tool_unit op.MakeFunction 0) ∷ (object_tool_unit op.LoadNameAny 0) ∷ (object_tool_unit op.GetIter 0) ∷ (object_tool_unit op.CallFunctionPositional 1) ∷ (object_tool_unit op.LoadNameAny 1) ∷ (object_tool_unit op.LoadConst 2) ∷ (object_tool_unit op.LoadConst 3) ∷ (object_tool_unit op.MakeFunction 0) ∷ (object_tool_unit op.CallFunctionPositional 0) ∷ (object_tool_unit op.StoreSubscript 0) ∷ (object_tool_unit op.ReturnConst 4) ∷ []) ((source_place 1 21) ∷ (source_place 1 21) ∷ (source_place 1 21) ∷ (source_place 1 32) ∷ (source_place 1 32) ∷ (source_place 1 32) ∷ (source_place 1 1) ∷ (source_place 1 12) ∷ (source_place 1 12) ∷ (source_place 1 12) ∷ (source_place 1 12) ∷ (source_place 1 12) ∷ (source_place 1 12) ∷ []) ((codes "y") ∷ (codes "d") ∷ []) [] [] [] ((const.code (sealed_as 3 None 33 1 1 0 1 (codes "<listcomp>") ((object_tool_unit op.BuildList 0) ∷ (object_tool_unit op.LoadFast 0) ∷ (object_tool_unit op.ForIter 7) ∷ (object_tool_unit op.StoreFast 1) ∷ (object_tool_unit op.LoadFast 1) ∷ (object_tool_unit op.ListAppend 1) ∷ (object_tool_unit op.Jump 2) ∷ (object_tool_unit op.ReturnValue 0) ∷ []) ((source_place 1 20) ∷ (source_place 1 20) ∷ (source_place 1 20) ∷ (source_place 1 20) ∷ (source_place 1 21) ∷ (source_place 1 21) ∷ (source_place 1 21) ∷ (source_place 1 21) ∷ []) [] ((codes ".0") ∷ (codes "x") ∷ []) [] [] [])) ∷ (const.str (codes "<listcomp>")) ∷ (const.code (sealed_as 1 None 33 0 0 0 1 (codes "<lambda>") ((object_tool_unit op.LoadGlobal 0) ∷ (object_tool_unit op.ReturnValue 0) ∷ []) ((source_place 1 12) ∷ (source_place 1 12) ∷ []) ((codes "k") ∷ []) [] [] [] (const.none ∷ []))) ∷ (const.str (codes "<lambda>")) ∷ const.none ∷ []))
 
 stored_into_emitted : object_emitted stored_into_scopes stored_into 0 ≡ Some (stored_into_object, length stored_into_scopes)
-unfolding with_step with_block with_name with_varname with_constant with_loops with_location refuse emit jump one_block two_blocks three_blocks put_instruction emit_count emit_name emit_varname emit_mangled add_varname add_constant emit_constant move generator_mark pass_over by_context by_level by_loops in_loop name_access inside with_path child lambda_value emission_of_def load_cell assembled_object as_element called_at_once
+unfolding with_step with_block with_name with_varname with_constant with_loops with_location refuse emit jump one_block two_blocks three_blocks put_instruction emit_count emit_name emit_varname emit_mangled add_varname add_constant emit_constant move generator_mark pass_over by_context by_level by_loops in_loop name_access inside with_path child lambda_value emission_of_def load_cell assembled_object has_layout as_element called_at_once
 stored_into_emitted = refl
 
 stored_into_forms : codes_of_object 9 stored_into_object ≡ codes_of_scope 9 (body stored_into_scopes stored_into Exec 0)
@@ -175,7 +176,7 @@ abbrev nested_object : Object
 nested_object = (sealed_as 2 None 1 0 0 0 1 (codes "<module>") ((object_tool_unit op.LoadConst 0) ∷ (object_tool_unit op.LoadConst 1) ∷ (object_tool_unit op.MakeFunction 0) ∷ (object_tool_unit op.StoreLocal 0) ∷ (object_tool_unit op.ReturnConst 2) ∷ []) ((source_place 2 58) ∷ (source_place 2 58) ∷ (source_place 2 58) ∷ (source_place 2 58) ∷ (source_place 2 58) ∷ []) ((codes "f") ∷ []) [] [] [] ((const.code (sealed_as 3 (Some ((pos 0) ∷ (pos 1) ∷ [])) 33 0 2 0 1 (codes "f") ((object_tool_unit op.LoadClosure 0) ∷ (object_tool_unit op.LoadClosure 1) ∷ (object_tool_unit op.BuildTuple 2) ∷ (object_tool_unit op.LoadConst 1) ∷ (object_tool_unit op.LoadConst 2) ∷ (object_tool_unit op.MakeFunction 1) ∷ (object_tool_unit op.LoadConst 3) ∷ (object_tool_unit op.LoadConst 4) ∷ (object_tool_unit op.MakeFunction 0) ∷ (object_tool_unit op.LoadDeref 0) ∷ (object_tool_unit op.GetIter 0) ∷ (object_tool_unit op.CallFunctionPositional 1) ∷ (object_tool_unit op.GetIter 0) ∷ (object_tool_unit op.CallFunctionPositional 1) ∷ (object_tool_unit op.ReturnValue 0) ∷ []) ((source_place 2 29) ∷ (source_place 2 29) ∷ (source_place 2 29) ∷ (source_place 2 29) ∷ (source_place 2 29) ∷ (source_place 2 29) ∷ (source_place 2 47) ∷ (source_place 2 47) ∷ (source_place 2 47) ∷ (source_place 2 58) ∷ (source_place 2 58) ∷ (source_place 2 58) ∷ (source_place 2 58) ∷ (source_place 2 58) ∷ (source_place 2 58) ∷ []) [] ((codes "m") ∷ (codes "n") ∷ []) ((codes "m") ∷ (codes "n") ∷ []) [] (const.none ∷ (const.code (sealed_as 8 None 33 1 1 0 2 (codes "<listcomp>") ((object_tool_unit op.BuildList 0) ∷ (object_tool_unit op.LoadFast 0) ∷ (object_tool_unit op.ForIter 46) ∷ (object_tool_unit op.StoreDeref 0) ∷ (object_tool_unit op.LoadClosure 0) ∷ (object_tool_unit op.BuildTuple 1) ∷ (object_tool_unit op.LoadConst 0) ∷ (object_tool_unit op.LoadConst 1) ∷ (object_tool_unit op.MakeFunction 1) ∷ (object_tool_unit op.LoadDeref 0) ∷ (object_tool_unit op.GetIter 0) ∷ (object_tool_unit op.CallFunctionPositional 1) ∷ (object_tool_unit op.GetIter 0) ∷ (object_tool_unit op.ForIter 45) ∷ (object_tool_unit op.LoadGlobal 0) ∷ (object_tool_unit op.LoadClosure 2) ∷ (object_tool_unit op.BuildTuple 1) ∷ (object_tool_unit op.LoadConst 2) ∷ (object_tool_unit op.LoadConst 1) ∷ (object_tool_unit op.MakeFunction 1) ∷ (object_tool_unit op.LoadDeref 0) ∷ (object_tool_unit op.GetIter 0) ∷ (object_tool_unit op.CallFunctionPositional 1) ∷ (object_tool_unit op.LoadConst 3) ∷ (object_tool_unit op.Subscript 0) ∷ (object_tool_unit op.StoreSubscript 0) ∷ (object_tool_unit op.LoadClosure 1) ∷ (object_tool_unit op.BuildTuple 1) ∷ (object_tool_unit op.LoadConst 4) ∷ (object_tool_unit op.LoadConst 1) ∷ (object_tool_unit op.MakeFunction 1) ∷ (object_tool_unit op.LoadDeref 1) ∷ (object_tool_unit op.GetIter 0) ∷ (object_tool_unit op.CallFunctionPositional 1) ∷ (object_tool_unit op.JumpIfFalse 13) ∷ (object_tool_unit op.LoadClosure 2) ∷ (object_tool_unit op.BuildTuple 1) ∷ (object_tool_unit op.LoadConst 5) ∷ (object_tool_unit op.LoadConst 6) ∷ (object_tool_unit op.MakeFunction 1) ∷ (object_tool_unit op.LoadDeref 0) ∷ (object_tool_unit op.GetIter 0) ∷ (object_tool_unit op.CallFunctionPositional 1) ∷ (object_tool_unit op.ListAppend 2) ∷ (object_tool_unit op.Jump 13) ∷ (object_tool_unit op.Jump 2) ∷ (object_tool_unit op.ReturnValue 0) ∷ []) ((source_place 2 12) ∷ (source_place 2 12) ∷ (source_place 2 12) ∷ (source_place 2 12) ∷ (source_place 2 90) ∷ (source_place 2 90) ∷ (source_place 2 90) ∷ (source_place 2 90) ∷ (source_place 2 90) ∷ (source_place 2 101) ∷ (source_place 2 101) ∷ (source_place 2 101) ∷ (source_place 2 101) ∷ (source_place 2 101) ∷ (source_place 2 65) ∷ (source_place 2 68) ∷ (source_place 2 68) ∷ (source_place 2 68) ∷ (source_place 2 68) ∷ (source_place 2 68) ∷ (source_place 2 79) ∷ (source_place 2 79) ∷ (source_place 2 79) ∷ (source_place 2 82) ∷ (source_place 2 82) ∷ (source_place 2 82) ∷ (source_place 2 108) ∷ (source_place 2 108) ∷ (source_place 2 108) ∷ (source_place 2 108) ∷ (source_place 2 108) ∷ (source_place 2 119) ∷ (source_place 2 119) ∷ (source_place 2 119) ∷ (source_place 2 119) ∷ (source_place 2 18) ∷ (source_place 2 18) ∷ (source_place 2 18) ∷ (source_place 2 18) ∷ (source_place 2 18) ∷ (source_place 2 29) ∷ (source_place 2 29) ∷ (source_place 2 29) ∷ (source_place 2 29) ∷ (source_place 2 29) ∷ (source_place 2 29) ∷ (source_place 2 29) ∷ []) ((codes "a") ∷ []) ((codes ".0") ∷ []) ((codes "r") ∷ []) ((codes "m") ∷ (codes "n") ∷ []) ((const.code (sealed_as 3 None 33 1 1 0 2 (codes "<listcomp>") ((object_tool_unit op.BuildList 0) ∷ (object_tool_unit op.LoadFast 0) ∷ (object_tool_unit op.ForIter 7) ∷ (object_tool_unit op.StoreFast 1) ∷ (object_tool_unit op.LoadDeref 0) ∷ (object_tool_unit op.ListAppend 1) ∷ (object_tool_unit op.Jump 2) ∷ (object_tool_unit op.ReturnValue 0) ∷ []) ((source_place 2 89) ∷ (source_place 2 89) ∷ (source_place 2 89) ∷ (source_place 2 89) ∷ (source_place 2 90) ∷ (source_place 2 90) ∷ (source_place 2 90) ∷ (source_place 2 90) ∷ []) [] ((codes ".0") ∷ (codes "m") ∷ []) [] ((codes "r") ∷ []) [])) ∷ (const.str (codes "<listcomp>")) ∷ (const.code (sealed_as 3 None 33 1 1 0 2 (codes "<listcomp>") ((object_tool_unit op.BuildList 0) ∷ (object_tool_unit op.LoadFast 0) ∷ (object_tool_unit op.ForIter 7) ∷ (object_tool_unit op.StoreFast 1) ∷ (object_tool_unit op.LoadDeref 0) ∷ (object_tool_unit op.ListAppend 1) ∷ (object_tool_unit op.Jump 2) ∷ (object_tool_unit op.ReturnValue 0) ∷ []) ((source_place 2 67) ∷ (source_place 2 67) ∷ (source_place 2 67) ∷ (source_place 2 67) ∷ (source_place 2 68) ∷ (source_place 2 68) ∷ (source_place 2 68) ∷ (source_place 2 68) ∷ []) [] ((codes ".0") ∷ (codes "i") ∷ []) [] ((codes "n") ∷ []) [])) ∷ (const.integer (pos 0)) ∷ (const.code (sealed_as 3 None 33 1 1 0 2 (codes "<listcomp>") ((object_tool_unit op.BuildList 0) ∷ (object_tool_unit op.LoadFast 0) ∷ (object_tool_unit op.ForIter 7) ∷ (object_tool_unit op.StoreFast 1) ∷ (object_tool_unit op.LoadDeref 0) ∷ (object_tool_unit op.ListAppend 1) ∷ (object_tool_unit op.Jump 2) ∷ (object_tool_unit op.ReturnValue 0) ∷ []) ((source_place 2 107) ∷ (source_place 2 107) ∷ (source_place 2 107) ∷ (source_place 2 107) ∷ (source_place 2 108) ∷ (source_place 2 108) ∷ (source_place 2 108) ∷ (source_place 2 108) ∷ []) [] ((codes ".0") ∷ (codes "j") ∷ []) [] ((codes "m") ∷ []) [])) ∷ (const.code (sealed_as 4 None 33 1 1 0 2 (codes "<setcomp>") ((object_tool_unit op.BuildSet 0) ∷ (object_tool_unit op.LoadFast 0) ∷ (object_tool_unit op.ForIter 11) ∷ (object_tool_unit op.StoreFast 1) ∷ (object_tool_unit op.LoadDeref 0) ∷ (object_tool_unit op.JumpIfFalse 2) ∷ (object_tool_unit op.LoadFast 1) ∷ (object_tool_unit op.LoadDeref 0) ∷ (object_tool_unit op.BinaryOperation 2) ∷ (object_tool_unit op.SetAdd 1) ∷ (object_tool_unit op.Jump 2) ∷ (object_tool_unit op.ReturnValue 0) ∷ []) ((source_place 2 13) ∷ (source_place 2 13) ∷ (source_place 2 13) ∷ (source_place 2 13) ∷ (source_place 2 34) ∷ (source_place 2 34) ∷ (source_place 2 14) ∷ (source_place 2 18) ∷ (source_place 2 18) ∷ (source_place 2 18) ∷ (source_place 2 18) ∷ (source_place 2 18) ∷ []) [] ((codes ".0") ∷ (codes "c") ∷ []) [] ((codes "n") ∷ []) [])) ∷ (const.str (codes "<setcomp>")) ∷ []))) ∷ (const.str (codes "<listcomp>")) ∷ (const.code (sealed_as 2 None 35 1 1 0 2 (codes "<genexpr>") ((object_tool_unit op.LoadFast 0) ∷ (object_tool_unit op.ForIter 7) ∷ (object_tool_unit op.StoreFast 1) ∷ (object_tool_unit op.LoadFast 1) ∷ (object_tool_unit op.YieldValue 0) ∷ (object_tool_unit op.Pop 0) ∷ (object_tool_unit op.Jump 1) ∷ (object_tool_unit op.ReturnConst 0) ∷ []) ((source_place 2 46) ∷ (source_place 2 46) ∷ (source_place 2 46) ∷ (source_place 2 47) ∷ (source_place 2 47) ∷ (source_place 2 47) ∷ (source_place 2 47) ∷ (source_place 2 47) ∷ []) [] ((codes ".0") ∷ (codes "q") ∷ []) [] [] (const.none ∷ []))) ∷ (const.str (codes "<genexpr>")) ∷ []))) ∷ (const.str (codes "f")) ∷ const.none ∷ []))
 
 nested_emitted : object_emitted nested_scopes comprehension_sample_nested 0 ≡ Some (nested_object, length nested_scopes)
-unfolding with_step with_block with_name with_varname with_constant with_loops with_location refuse emit jump one_block two_blocks three_blocks put_instruction emit_count emit_name emit_varname emit_mangled add_varname add_constant emit_constant move generator_mark pass_over by_context by_level by_loops in_loop name_access inside with_path child lambda_value emission_of_def load_cell assembled_object as_element called_at_once
+unfolding with_step with_block with_name with_varname with_constant with_loops with_location refuse emit jump one_block two_blocks three_blocks put_instruction emit_count emit_name emit_varname emit_mangled add_varname add_constant emit_constant move generator_mark pass_over by_context by_level by_loops in_loop name_access inside with_path child lambda_value emission_of_def load_cell assembled_object has_layout as_element called_at_once
 nested_emitted = refl
 
 nested_forms : codes_of_object 9 nested_object ≡ codes_of_scope 9 (body nested_scopes comprehension_sample_nested Exec 0)
@@ -200,7 +201,7 @@ abbrev lifted_object : Object
 lifted_object = (sealed_as 2 None 1 0 0 0 1 (codes "<module>") ((object_tool_unit op.LoadConst 0) ∷ (object_tool_unit op.LoadConst 1) ∷ (object_tool_unit op.MakeFunction 0) ∷ (object_tool_unit op.StoreLocal 0) ∷ (object_tool_unit op.ReturnConst 2) ∷ []) ((source_place 4 68) ∷ (source_place 4 68) ∷ (source_place 4 68) ∷ (source_place 4 68) ∷ (source_place 4 68) ∷ []) ((codes "f") ∷ []) [] [] [] ((const.code (sealed_as 3 (Some ((pos 0) ∷ (negsuc 0) ∷ [])) 33 0 1 0 1 (codes "f") ((object_tool_unit op.LoadConst 1) ∷ (object_tool_unit op.StoreDeref 1) ∷ (object_tool_unit op.LoadClosure 0) ∷ (object_tool_unit op.LoadClosure 1) ∷ (object_tool_unit op.BuildTuple 2) ∷ (object_tool_unit op.LoadConst 2) ∷ (object_tool_unit op.LoadConst 3) ∷ (object_tool_unit op.MakeFunction 1) ∷ (object_tool_unit op.ReturnValue 0) ∷ []) ((source_place 3 9) ∷ (source_place 3 9) ∷ (source_place 4 68) ∷ (source_place 4 68) ∷ (source_place 4 68) ∷ (source_place 4 68) ∷ (source_place 4 68) ∷ (source_place 4 68) ∷ (source_place 4 68) ∷ []) [] ((codes "b") ∷ []) ((codes "b") ∷ (codes "h") ∷ []) [] (const.none ∷ (const.integer (pos 0)) ∷ (const.code (sealed_as 3 None 33 0 0 0 4 (codes "<lambda>") ((object_tool_unit op.LoadClosure 1) ∷ (object_tool_unit op.LoadClosure 0) ∷ (object_tool_unit op.LoadClosure 3) ∷ (object_tool_unit op.BuildTuple 3) ∷ (object_tool_unit op.LoadConst 1) ∷ (object_tool_unit op.LoadConst 2) ∷ (object_tool_unit op.MakeFunction 1) ∷ (object_tool_unit op.LoadDeref 2) ∷ (object_tool_unit op.GetIter 0) ∷ (object_tool_unit op.CallFunctionPositional 1) ∷ (object_tool_unit op.LoadDeref 0) ∷ (object_tool_unit op.BuildTuple 2) ∷ (object_tool_unit op.ReturnValue 0) ∷ []) ((source_place 4 52) ∷ (source_place 4 52) ∷ (source_place 4 52) ∷ (source_place 4 52) ∷ (source_place 4 52) ∷ (source_place 4 52) ∷ (source_place 4 52) ∷ (source_place 4 64) ∷ (source_place 4 64) ∷ (source_place 4 64) ∷ (source_place 4 68) ∷ (source_place 4 68) ∷ (source_place 4 68) ∷ []) [] [] ((codes "k") ∷ (codes "g") ∷ []) ((codes "b") ∷ (codes "h") ∷ []) (const.none ∷ (const.code (sealed_as 5 None 33 1 1 0 4 (codes "<listcomp>") ((object_tool_unit op.BuildList 0) ∷ (object_tool_unit op.LoadFast 0) ∷ (object_tool_unit op.ForIter 16) ∷ (object_tool_unit op.StoreFast 1) ∷ (object_tool_unit op.LoadClosure 0) ∷ (object_tool_unit op.LoadClosure 2) ∷ (object_tool_unit op.LoadClosure 1) ∷ (object_tool_unit op.BuildTuple 3) ∷ (object_tool_unit op.LoadConst 0) ∷ (object_tool_unit op.LoadConst 1) ∷ (object_tool_unit op.MakeFunction 1) ∷ (object_tool_unit op.LoadFast 1) ∷ (object_tool_unit op.GetIter 0) ∷ (object_tool_unit op.CallFunctionPositional 1) ∷ (object_tool_unit op.ListAppend 1) ∷ (object_tool_unit op.Jump 2) ∷ (object_tool_unit op.ReturnValue 0) ∷ []) ((source_place 4 21) ∷ (source_place 4 21) ∷ (source_place 4 21) ∷ (source_place 4 21) ∷ (source_place 4 40) ∷ (source_place 4 40) ∷ (source_place 4 40) ∷ (source_place 4 40) ∷ (source_place 4 40) ∷ (source_place 4 40) ∷ (source_place 4 40) ∷ (source_place 4 52) ∷ (source_place 4 52) ∷ (source_place 4 52) ∷ (source_place 4 52) ∷ (source_place 4 52) ∷ (source_place 4 52) ∷ []) [] ((codes ".0") ∷ (codes "c") ∷ []) [] ((codes "g") ∷ (codes "k") ∷ (codes "h") ∷ []) ((const.code (sealed_as 6 None 33 1 1 0 4 (codes "<listcomp>") ((object_tool_unit op.BuildList 0) ∷ (object_tool_unit op.LoadFast 0) ∷ (object_tool_unit op.ForIter 14) ∷ (object_tool_unit op.StoreFast 1) ∷ (object_tool_unit op.LoadFast 1) ∷ (object_tool_unit op.Duplicate 0) ∷ (object_tool_unit op.StoreDeref 0) ∷ (object_tool_unit op.LoadDeref 1) ∷ (object_tool_unit op.LoadFast 1) ∷ (object_tool_unit op.Duplicate 0) ∷ (object_tool_unit op.StoreDeref 2) ∷ (object_tool_unit op.BuildTuple 3) ∷ (object_tool_unit op.ListAppend 1) ∷ (object_tool_unit op.Jump 2) ∷ (object_tool_unit op.ReturnValue 0) ∷ []) ((source_place 4 22) ∷ (source_place 4 22) ∷ (source_place 4 22) ∷ (source_place 4 22) ∷ (source_place 4 29) ∷ (source_place 4 29) ∷ (source_place 4 29) ∷ (source_place 4 32) ∷ (source_place 4 40) ∷ (source_place 4 40) ∷ (source_place 4 40) ∷ (source_place 4 40) ∷ (source_place 4 40) ∷ (source_place 4 40) ∷ (source_place 4 40) ∷ []) [] ((codes ".0") ∷ (codes "a") ∷ []) [] ((codes "g") ∷ (codes "h") ∷ (codes "k") ∷ []) [])) ∷ (const.str (codes "<listcomp>")) ∷ []))) ∷ (const.str (codes "<listcomp>")) ∷ []))) ∷ (const.str (codes "<lambda>")) ∷ []))) ∷ (const.str (codes "f")) ∷ const.none ∷ []))
 
 lifted_emitted : object_emitted lifted_scopes lifted 0 ≡ Some (lifted_object, length lifted_scopes)
-unfolding with_step with_block with_name with_varname with_constant with_loops with_location refuse emit jump one_block two_blocks three_blocks put_instruction emit_count emit_name emit_varname emit_mangled add_varname add_constant emit_constant move generator_mark pass_over by_context by_level by_loops in_loop name_access inside with_path child lambda_value emission_of_def load_cell assembled_object as_element called_at_once
+unfolding with_step with_block with_name with_varname with_constant with_loops with_location refuse emit jump one_block two_blocks three_blocks put_instruction emit_count emit_name emit_varname emit_mangled add_varname add_constant emit_constant move generator_mark pass_over by_context by_level by_loops in_loop name_access inside with_path child lambda_value emission_of_def load_cell assembled_object has_layout as_element called_at_once
 lifted_emitted = refl
 
 lifted_forms : codes_of_object 9 lifted_object ≡ codes_of_scope 9 (body lifted_scopes lifted Exec 0)
@@ -225,7 +226,7 @@ abbrev numbered_object : Object
 numbered_object = (sealed_as 8 None 1 0 0 0 1 (codes "<module>") ((object_tool_unit op.LoadNameAny 0) ∷ (object_tool_unit op.LoadConst 0) ∷ (object_tool_unit op.LoadConst 1) ∷ (object_tool_unit op.MakeFunction 0) ∷ (object_tool_unit op.LoadNameAny 1) ∷ (object_tool_unit op.GetIter 0) ∷ (object_tool_unit op.CallFunctionPositional 1) ∷ (object_tool_unit op.CallFunctionPositional 1) ∷ (object_tool_unit op.LoadConst 2) ∷ (object_tool_unit op.LoadConst 3) ∷ (object_tool_unit op.MakeFunction 0) ∷ (object_tool_unit op.LoadNameAny 2) ∷ (object_tool_unit op.GetIter 0) ∷ (object_tool_unit op.CallFunctionPositional 1) ∷ (object_tool_unit op.BuildTuple 1) ∷ (object_tool_unit op.LoadConst 4) ∷ (object_tool_unit op.LoadConst 5) ∷ (object_tool_unit op.LoadConst 6) ∷ (object_tool_unit op.MakeFunction 0) ∷ (object_tool_unit op.LoadNameAny 3) ∷ (object_tool_unit op.GetIter 0) ∷ (object_tool_unit op.CallFunctionPositional 1) ∷ (object_tool_unit op.BuildMap 1) ∷ (object_tool_unit op.LoadConst 7) ∷ (object_tool_unit op.LoadConst 8) ∷ (object_tool_unit op.LoadConst 9) ∷ (object_tool_unit op.MakeFunction 0) ∷ (object_tool_unit op.LoadNameAny 4) ∷ (object_tool_unit op.GetIter 0) ∷ (object_tool_unit op.CallFunctionPositional 1) ∷ (object_tool_unit op.LoadConst 10) ∷ (object_tool_unit op.LoadConst 11) ∷ (object_tool_unit op.LoadConst 1) ∷ (object_tool_unit op.MakeFunction 0) ∷ (object_tool_unit op.LoadNameAny 5) ∷ (object_tool_unit op.GetIter 0) ∷ (object_tool_unit op.CallFunctionPositional 1) ∷ (object_tool_unit op.BuildMap 2) ∷ (object_tool_unit op.LoadConst 12) ∷ (object_tool_unit op.LoadConst 13) ∷ (object_tool_unit op.MakeFunction 14) ∷ (object_tool_unit op.CallFunctionPositional 1) ∷ (object_tool_unit op.StoreLocal 6) ∷ (object_tool_unit op.LoadNameAny 7) ∷ (object_tool_unit op.LoadConst 14) ∷ (object_tool_unit op.LoadConst 1) ∷ (object_tool_unit op.MakeFunction 0) ∷ (object_tool_unit op.LoadNameAny 8) ∷ (object_tool_unit op.GetIter 0) ∷ (object_tool_unit op.CallFunctionPositional 1) ∷ (object_tool_unit op.BuildTupleUnpack 1) ∷ (object_tool_unit op.LoadConst 15) ∷ (object_tool_unit op.LoadConst 16) ∷ (object_tool_unit op.LoadConst 1) ∷ (object_tool_unit op.MakeFunction 0) ∷ (object_tool_unit op.LoadNameAny 9) ∷ (object_tool_unit op.GetIter 0) ∷ (object_tool_unit op.CallFunctionPositional 1) ∷ (object_tool_unit op.BuildMap 1) ∷ (object_tool_unit op.CallFunctionEx 1) ∷ (object_tool_unit op.Pop 0) ∷ (object_tool_unit op.ReturnConst 17) ∷ []) ((source_place 1 2) ∷ (source_place 1 5) ∷ (source_place 1 5) ∷ (source_place 1 5) ∷ (source_place 1 16) ∷ (source_place 1 16) ∷ (source_place 1 16) ∷ (source_place 1 16) ∷ (source_place 2 28) ∷ (source_place 2 28) ∷ (source_place 2 28) ∷ (source_place 2 39) ∷ (source_place 2 39) ∷ (source_place 2 39) ∷ (source_place 2 39) ∷ (source_place 2 39) ∷ (source_place 2 49) ∷ (source_place 2 49) ∷ (source_place 2 49) ∷ (source_place 2 60) ∷ (source_place 2 60) ∷ (source_place 2 60) ∷ (source_place 2 60) ∷ (source_place 3 49) ∷ (source_place 2 71) ∷ (source_place 2 71) ∷ (source_place 2 71) ∷ (source_place 2 82) ∷ (source_place 2 82) ∷ (source_place 2 82) ∷ (source_place 2 82) ∷ (source_place 2 11) ∷ (source_place 2 11) ∷ (source_place 2 11) ∷ (source_place 2 22) ∷ (source_place 2 22) ∷ (source_place 2 22) ∷ (source_place 2 22) ∷ (source_place 2 22) ∷ (source_place 2 22) ∷ (source_place 2 22) ∷ (source_place 2 22) ∷ (source_place 2 22) ∷ (source_place 4 1) ∷ (source_place 4 5) ∷ (source_place 4 5) ∷ (source_place 4 5) ∷ (source_place 4 16) ∷ (source_place 4 16) ∷ (source_place 4 16) ∷ (source_place 4 16) ∷ (source_place 4 16) ∷ (source_place 4 23) ∷ (source_place 4 23) ∷ (source_place 4 23) ∷ (source_place 4 34) ∷ (source_place 4 34) ∷ (source_place 4 34) ∷ (source_place 4 34) ∷ (source_place 4 34) ∷ (source_place 4 34) ∷ (source_place 4 34) ∷ []) ((codes "d") ∷ (codes "j") ∷ (codes "n") ∷ (codes "p") ∷ (codes "r") ∷ (codes "l") ∷ (codes "f") ∷ (codes "g") ∷ (codes "t") ∷ (codes "v") ∷ []) [] [] [] ((const.code (sealed_as 3 None 33 1 1 0 1 (codes "<listcomp>") ((object_tool_unit op.BuildList 0) ∷ (object_tool_unit op.LoadFast 0) ∷ (object_tool_unit op.ForIter 7) ∷ (object_tool_unit op.StoreFast 1) ∷ (object_tool_unit op.LoadFast 1) ∷ (object_tool_unit op.ListAppend 1) ∷ (object_tool_unit op.Jump 2) ∷ (object_tool_unit op.ReturnValue 0) ∷ []) ((source_place 1 4) ∷ (source_place 1 4) ∷ (source_place 1 4) ∷ (source_place 1 4) ∷ (source_place 1 5) ∷ (source_place 1 5) ∷ (source_place 1 5) ∷ (source_place 1 5) ∷ []) [] ((codes ".0") ∷ (codes "i") ∷ []) [] [] [])) ∷ (const.str (codes "<listcomp>")) ∷ (const.code (sealed_as 3 None 33 1 1 0 2 (codes "<setcomp>") ((object_tool_unit op.BuildSet 0) ∷ (object_tool_unit op.LoadFast 0) ∷ (object_tool_unit op.ForIter 7) ∷ (object_tool_unit op.StoreFast 1) ∷ (object_tool_unit op.LoadFast 1) ∷ (object_tool_unit op.SetAdd 1) ∷ (object_tool_unit op.Jump 2) ∷ (object_tool_unit op.ReturnValue 0) ∷ []) ((source_place 2 27) ∷ (source_place 2 27) ∷ (source_place 2 27) ∷ (source_place 2 27) ∷ (source_place 2 28) ∷ (source_place 2 28) ∷ (source_place 2 28) ∷ (source_place 2 28) ∷ []) [] ((codes ".0") ∷ (codes "m") ∷ []) [] [] [])) ∷ (const.str (codes "<setcomp>")) ∷ (const.str (codes "b")) ∷ (const.code (sealed_as 2 None 35 1 1 0 2 (codes "<genexpr>") ((object_tool_unit op.LoadFast 0) ∷ (object_tool_unit op.ForIter 7) ∷ (object_tool_unit op.StoreFast 1) ∷ (object_tool_unit op.LoadFast 1) ∷ (object_tool_unit op.YieldValue 0) ∷ (object_tool_unit op.Pop 0) ∷ (object_tool_unit op.Jump 1) ∷ (object_tool_unit op.ReturnConst 0) ∷ []) ((source_place 2 48) ∷ (source_place 2 48) ∷ (source_place 2 48) ∷ (source_place 2 49) ∷ (source_place 2 49) ∷ (source_place 2 49) ∷ (source_place 2 49) ∷ (source_place 2 49) ∷ []) [] ((codes ".0") ∷ (codes "o") ∷ []) [] [] (const.none ∷ []))) ∷ (const.str (codes "<genexpr>")) ∷ (const.str (codes "return")) ∷ (const.code (sealed_as 4 None 33 1 1 0 2 (codes "<dictcomp>") ((object_tool_unit op.BuildMap 0) ∷ (object_tool_unit op.LoadFast 0) ∷ (object_tool_unit op.ForIter 8) ∷ (object_tool_unit op.StoreFast 1) ∷ (object_tool_unit op.LoadFast 1) ∷ (object_tool_unit op.LoadFast 1) ∷ (object_tool_unit op.MapAdd 1) ∷ (object_tool_unit op.Jump 2) ∷ (object_tool_unit op.ReturnValue 0) ∷ []) ((source_place 2 67) ∷ (source_place 2 67) ∷ (source_place 2 67) ∷ (source_place 2 67) ∷ (source_place 2 68) ∷ (source_place 2 71) ∷ (source_place 2 71) ∷ (source_place 2 71) ∷ (source_place 2 71) ∷ []) [] ((codes ".0") ∷ (codes "q") ∷ []) [] [] [])) ∷ (const.str (codes "<dictcomp>")) ∷ (const.str (codes "a")) ∷ (const.code (sealed_as 3 None 33 1 1 0 2 (codes "<listcomp>") ((object_tool_unit op.BuildList 0) ∷ (object_tool_unit op.LoadFast 0) ∷ (object_tool_unit op.ForIter 7) ∷ (object_tool_unit op.StoreFast 1) ∷ (object_tool_unit op.LoadFast 1) ∷ (object_tool_unit op.ListAppend 1) ∷ (object_tool_unit op.Jump 2) ∷ (object_tool_unit op.ReturnValue 0) ∷ []) ((source_place 2 10) ∷ (source_place 2 10) ∷ (source_place 2 10) ∷ (source_place 2 10) ∷ (source_place 2 11) ∷ (source_place 2 11) ∷ (source_place 2 11) ∷ (source_place 2 11) ∷ []) [] ((codes ".0") ∷ (codes "k") ∷ []) [] [] [])) ∷ (const.code (sealed_as 3 None 33 0 1 1 2 (codes "f") ((object_tool_unit op.LoadGlobal 0) ∷ (object_tool_unit op.LoadConst 1) ∷ (object_tool_unit op.LoadConst 2) ∷ (object_tool_unit op.MakeFunction 0) ∷ (object_tool_unit op.LoadGlobal 0) ∷ (object_tool_unit op.GetIter 0) ∷ (object_tool_unit op.CallFunctionPositional 1) ∷ (object_tool_unit op.BuildMap 1) ∷ (object_tool_unit op.LoadConst 3) ∷ (object_tool_unit op.LoadConst 4) ∷ (object_tool_unit op.MakeFunction 0) ∷ (object_tool_unit op.LoadGlobal 1) ∷ (object_tool_unit op.GetIter 0) ∷ (object_tool_unit op.CallFunctionPositional 1) ∷ (object_tool_unit op.DictUpdate 0) ∷ (object_tool_unit op.ReturnValue 0) ∷ []) ((source_place 3 13) ∷ (source_place 3 17) ∷ (source_place 3 17) ∷ (source_place 3 17) ∷ (source_place 3 28) ∷ (source_place 3 28) ∷ (source_place 3 28) ∷ (source_place 3 28) ∷ (source_place 3 38) ∷ (source_place 3 38) ∷ (source_place 3 38) ∷ (source_place 3 49) ∷ (source_place 3 49) ∷ (source_place 3 49) ∷ (source_place 3 49) ∷ (source_place 3 49) ∷ []) ((codes "x") ∷ (codes "y") ∷ []) ((codes "a") ∷ (codes "b") ∷ []) [] [] (const.none ∷ (const.code (sealed_as 3 None 33 1 1 0 3 (codes "<listcomp>") ((object_tool_unit op.BuildList 0) ∷ (object_tool_unit op.LoadFast 0) ∷ (object_tool_unit op.ForIter 7) ∷ (object_tool_unit op.StoreFast 1) ∷ (object_tool_unit op.LoadFast 1) ∷ (object_tool_unit op.ListAppend 1) ∷ (object_tool_unit op.Jump 2) ∷ (object_tool_unit op.ReturnValue 0) ∷ []) ((source_place 3 16) ∷ (source_place 3 16) ∷ (source_place 3 16) ∷ (source_place 3 16) ∷ (source_place 3 17) ∷ (source_place 3 17) ∷ (source_place 3 17) ∷ (source_place 3 17) ∷ []) [] ((codes ".0") ∷ (codes "x") ∷ []) [] [] [])) ∷ (const.str (codes "<listcomp>")) ∷ (const.code (sealed_as 4 None 33 1 1 0 3 (codes "<dictcomp>") ((object_tool_unit op.BuildMap 0) ∷ (object_tool_unit op.LoadFast 0) ∷ (object_tool_unit op.ForIter 8) ∷ (object_tool_unit op.StoreFast 1) ∷ (object_tool_unit op.LoadFast 1) ∷ (object_tool_unit op.LoadFast 1) ∷ (object_tool_unit op.MapAdd 1) ∷ (object_tool_unit op.Jump 2) ∷ (object_tool_unit op.ReturnValue 0) ∷ []) ((source_place 3 34) ∷ (source_place 3 34) ∷ (source_place 3 34) ∷ (source_place 3 34) ∷ (source_place 3 35) ∷ (source_place 3 38) ∷ (source_place 3 38) ∷ (source_place 3 38) ∷ (source_place 3 38) ∷ []) [] ((codes ".0") ∷ (codes "y") ∷ []) [] [] [])) ∷ (const.str (codes "<dictcomp>")) ∷ []))) ∷ (const.str (codes "f")) ∷ (const.code (sealed_as 3 None 33 1 1 0 4 (codes "<listcomp>") ((object_tool_unit op.BuildList 0) ∷ (object_tool_unit op.LoadFast 0) ∷ (object_tool_unit op.ForIter 7) ∷ (object_tool_unit op.StoreFast 1) ∷ (object_tool_unit op.LoadFast 1) ∷ (object_tool_unit op.ListAppend 1) ∷ (object_tool_unit op.Jump 2) ∷ (object_tool_unit op.ReturnValue 0) ∷ []) ((source_place 4 4) ∷ (source_place 4 4) ∷ (source_place 4 4) ∷ (source_place 4 4) ∷ (source_place 4 5) ∷ (source_place 4 5) ∷ (source_place 4 5) ∷ (source_place 4 5) ∷ []) [] ((codes ".0") ∷ (codes "s") ∷ []) [] [] [])) ∷ (const.str (codes "k")) ∷ (const.code (sealed_as 3 None 33 1 1 0 4 (codes "<listcomp>") ((object_tool_unit op.BuildList 0) ∷ (object_tool_unit op.LoadFast 0) ∷ (object_tool_unit op.ForIter 7) ∷ (object_tool_unit op.StoreFast 1) ∷ (object_tool_unit op.LoadFast 1) ∷ (object_tool_unit op.ListAppend 1) ∷ (object_tool_unit op.Jump 2) ∷ (object_tool_unit op.ReturnValue 0) ∷ []) ((source_place 4 22) ∷ (source_place 4 22) ∷ (source_place 4 22) ∷ (source_place 4 22) ∷ (source_place 4 23) ∷ (source_place 4 23) ∷ (source_place 4 23) ∷ (source_place 4 23) ∷ []) [] ((codes ".0") ∷ (codes "u") ∷ []) [] [] [])) ∷ const.none ∷ []))
 
 numbered_emitted : object_emitted numbered_scopes comprehension_sample_numbered 0 ≡ Some (numbered_object, length numbered_scopes)
-unfolding with_step with_block with_name with_varname with_constant with_loops with_location refuse emit jump one_block two_blocks three_blocks put_instruction emit_count emit_name emit_varname emit_mangled add_varname add_constant emit_constant move generator_mark pass_over by_context by_level by_loops in_loop name_access inside with_path child lambda_value emission_of_def load_cell assembled_object as_element called_at_once
+unfolding with_step with_block with_name with_varname with_constant with_loops with_location refuse emit jump one_block two_blocks three_blocks put_instruction emit_count emit_name emit_varname emit_mangled add_varname add_constant emit_constant move generator_mark pass_over by_context by_level by_loops in_loop name_access inside with_path child lambda_value emission_of_def load_cell assembled_object has_layout as_element called_at_once
 numbered_emitted = refl
 
 numbered_forms : codes_of_object 9 numbered_object ≡ codes_of_scope 9 (body numbered_scopes comprehension_sample_numbered Exec 0)
@@ -249,7 +250,7 @@ abbrev yields_object : Object
 yields_object = (sealed_as 2 None 1 0 0 0 1 (codes "<module>") ((object_tool_unit op.LoadConst 0) ∷ (object_tool_unit op.LoadConst 1) ∷ (object_tool_unit op.MakeFunction 0) ∷ (object_tool_unit op.StoreLocal 0) ∷ (object_tool_unit op.ReturnConst 2) ∷ []) ((source_place 3 38) ∷ (source_place 3 38) ∷ (source_place 3 38) ∷ (source_place 3 38) ∷ (source_place 3 38) ∷ []) ((codes "f") ∷ []) [] [] [] ((const.code (sealed_as 2 None 35 0 1 0 1 (codes "f") ((object_tool_unit op.LoadConst 1) ∷ (object_tool_unit op.LoadConst 2) ∷ (object_tool_unit op.MakeFunction 0) ∷ (object_tool_unit op.LoadFast 0) ∷ (object_tool_unit op.GetIter 0) ∷ (object_tool_unit op.CallFunctionPositional 1) ∷ (object_tool_unit op.StoreFast 1) ∷ (object_tool_unit op.LoadConst 3) ∷ (object_tool_unit op.LoadConst 4) ∷ (object_tool_unit op.MakeFunction 0) ∷ (object_tool_unit op.LoadConst 0) ∷ (object_tool_unit op.YieldValue 0) ∷ (object_tool_unit op.GetIter 0) ∷ (object_tool_unit op.CallFunctionPositional 1) ∷ (object_tool_unit op.ReturnValue 0) ∷ []) ((source_place 2 17) ∷ (source_place 2 17) ∷ (source_place 2 17) ∷ (source_place 2 29) ∷ (source_place 2 29) ∷ (source_place 2 29) ∷ (source_place 2 29) ∷ (source_place 3 25) ∷ (source_place 3 25) ∷ (source_place 3 25) ∷ (source_place 3 38) ∷ (source_place 3 38) ∷ (source_place 3 38) ∷ (source_place 3 38) ∷ (source_place 3 38) ∷ []) [] ((codes "b") ∷ (codes "x") ∷ []) [] [] (const.none ∷ (const.code (sealed_as 3 None 35 1 1 0 2 (codes "<listcomp>") ((object_tool_unit op.BuildList 0) ∷ (object_tool_unit op.LoadFast 0) ∷ (object_tool_unit op.ForIter 8) ∷ (object_tool_unit op.StoreFast 1) ∷ (object_tool_unit op.LoadFast 1) ∷ (object_tool_unit op.YieldValue 0) ∷ (object_tool_unit op.ListAppend 1) ∷ (object_tool_unit op.Jump 2) ∷ (object_tool_unit op.ReturnValue 0) ∷ []) ((source_place 2 9) ∷ (source_place 2 9) ∷ (source_place 2 9) ∷ (source_place 2 9) ∷ (source_place 2 17) ∷ (source_place 2 17) ∷ (source_place 2 17) ∷ (source_place 2 17) ∷ (source_place 2 17) ∷ []) [] ((codes ".0") ∷ (codes "a") ∷ []) [] [] [])) ∷ (const.str (codes "<listcomp>")) ∷ (const.code (sealed_as 3 None 35 1 1 0 3 (codes "<genexpr>") ((object_tool_unit op.LoadFast 0) ∷ (object_tool_unit op.ForIter 10) ∷ (object_tool_unit op.StoreFast 1) ∷ (object_tool_unit op.LoadFast 1) ∷ (object_tool_unit op.GetIter 0) ∷ (object_tool_unit op.LoadConst 0) ∷ (object_tool_unit op.YieldFrom 0) ∷ (object_tool_unit op.YieldValue 0) ∷ (object_tool_unit op.Pop 0) ∷ (object_tool_unit op.Jump 1) ∷ (object_tool_unit op.ReturnConst 0) ∷ []) ((source_place 3 12) ∷ (source_place 3 12) ∷ (source_place 3 12) ∷ (source_place 3 25) ∷ (source_place 3 25) ∷ (source_place 3 25) ∷ (source_place 3 25) ∷ (source_place 3 25) ∷ (source_place 3 25) ∷ (source_place 3 25) ∷ (source_place 3 25) ∷ []) [] ((codes ".0") ∷ (codes "a") ∷ []) [] [] (const.none ∷ []))) ∷ (const.str (codes "<genexpr>")) ∷ []))) ∷ (const.str (codes "f")) ∷ const.none ∷ []))
 
 yields_emitted : object_emitted yields_scopes comprehension_sample_yields 0 ≡ Some (yields_object, length yields_scopes)
-unfolding with_step with_block with_name with_varname with_constant with_loops with_location refuse emit jump one_block two_blocks three_blocks put_instruction emit_count emit_name emit_varname emit_mangled add_varname add_constant emit_constant move generator_mark pass_over by_context by_level by_loops in_loop name_access inside with_path child lambda_value emission_of_def load_cell assembled_object as_element called_at_once
+unfolding with_step with_block with_name with_varname with_constant with_loops with_location refuse emit jump one_block two_blocks three_blocks put_instruction emit_count emit_name emit_varname emit_mangled add_varname add_constant emit_constant move generator_mark pass_over by_context by_level by_loops in_loop name_access inside with_path child lambda_value emission_of_def load_cell assembled_object has_layout as_element called_at_once
 yields_emitted = refl
 
 yields_forms : codes_of_object 9 yields_object ≡ codes_of_scope 9 (body yields_scopes comprehension_sample_yields Exec 0)
@@ -271,7 +272,7 @@ abbrev stars_scopes : List ScopeEntry
 stars_scopes = ((entry kinds.Module ((object_tool_symbol (codes "b") symbols.Unknown 1) ∷ (object_tool_symbol (codes "x") symbols.Local 2) ∷ (object_tool_symbol (codes "y") symbols.Local 2) ∷ (object_tool_symbol (codes "z") symbols.Local 2) ∷ []) 7) ∷ (entry kinds.Comprehension ((object_tool_symbol (codes ".0") symbols.Local 4) ∷ (object_tool_symbol (codes "a") symbols.Local 129) ∷ []) 2) ∷ (entry kinds.Comprehension ((object_tool_symbol (codes ".0") symbols.Local 4) ∷ (object_tool_symbol (codes "a") symbols.Cell 128) ∷ (object_tool_symbol (codes "f") symbols.GlobalImplicit 1) ∷ []) 4) ∷ (entry kinds.Function ((object_tool_symbol (codes "a") symbols.Free 1) ∷ []) 4) ∷ (entry kinds.Comprehension ((object_tool_symbol (codes ".0") symbols.Local 4) ∷ (object_tool_symbol (codes "a") symbols.Local 128) ∷ (object_tool_symbol (codes "b") symbols.GlobalImplicit 1) ∷ []) 6) ∷ (entry kinds.Comprehension ((object_tool_symbol (codes ".0") symbols.Local 4) ∷ (object_tool_symbol (codes "a") symbols.Local 129) ∷ (object_tool_symbol (codes "c") symbols.GlobalImplicit 1) ∷ []) 6) ∷ (entry kinds.Comprehension ((object_tool_symbol (codes ".0") symbols.Local 4) ∷ (object_tool_symbol (codes "a") symbols.Local 129) ∷ (object_tool_symbol (codes "c") symbols.GlobalImplicit 1) ∷ []) 7) ∷ [])
 
 stars_refused : emission_outcome stars Exec (outermost 0 (codes "m.py") stars_scopes) ≡ Refused (error.SyntaxError (codes "iterable unpacking cannot be used in comprehension")) (Some (source_place 1 6))
-unfolding with_step with_block with_name with_varname with_constant with_loops with_location refuse emit jump one_block two_blocks three_blocks put_instruction emit_count emit_name emit_varname emit_mangled add_varname add_constant emit_constant move generator_mark pass_over by_context by_level by_loops in_loop name_access inside with_path child lambda_value emission_of_def load_cell assembled_object as_element called_at_once
+unfolding with_step with_block with_name with_varname with_constant with_loops with_location refuse emit jump one_block two_blocks three_blocks put_instruction emit_count emit_name emit_varname emit_mangled add_varname add_constant emit_constant move generator_mark pass_over by_context by_level by_loops in_loop name_access inside with_path child lambda_value emission_of_def load_cell assembled_object has_layout as_element called_at_once
 stars_refused = refl
 
 stars_faults : sample_tool_faults (compile_faults Exec 0 stars) ≡ (((codes "iterable unpacking cannot be used in comprehension"), Some (source_place 1 6)) ∷ ((codes "iterable unpacking cannot be used in comprehension"), Some (source_place 2 16)) ∷ ((codes "iterable unpacking cannot be used in comprehension"), Some (source_place 3 7)) ∷ ((codes "iterable unpacking cannot be used in comprehension"), Some (source_place 3 11)) ∷ ((codes "iterable unpacking cannot be used in comprehension"), Some (source_place 3 23)) ∷ ((codes "cannot use starred expression here"), Some (source_place 4 2)) ∷ ((codes "cannot use starred expression here"), Some (source_place 4 17)) ∷ [])
@@ -289,7 +290,7 @@ abbrev asynchronous_scopes : List ScopeEntry
 asynchronous_scopes = ((entry kinds.Module ((object_tool_symbol (codes "b") symbols.Unknown 1) ∷ (object_tool_symbol (codes "x") symbols.Local 2) ∷ (object_tool_symbol (codes "y") symbols.Local 2) ∷ (object_tool_symbol (codes "z") symbols.Local 2) ∷ []) 5) ∷ (entry kinds.Comprehension ((object_tool_symbol (codes ".0") symbols.Local 4) ∷ (object_tool_symbol (codes "a") symbols.Local 129) ∷ []) 2) ∷ (entry kinds.Comprehension ((object_tool_symbol (codes ".0") symbols.Local 4) ∷ (object_tool_symbol (codes "a") symbols.Local 129) ∷ (object_tool_symbol (codes "c") symbols.GlobalImplicit 1) ∷ []) 3) ∷ (entry kinds.Comprehension ((object_tool_symbol (codes ".0") symbols.Local 4) ∷ (object_tool_symbol (codes "a") symbols.Local 129) ∷ (object_tool_symbol (codes "b") symbols.GlobalImplicit 1) ∷ (object_tool_symbol (codes "c") symbols.Local 128) ∷ (object_tool_symbol (codes "e") symbols.GlobalImplicit 1) ∷ (object_tool_symbol (codes "d") symbols.Local 128) ∷ (object_tool_symbol (codes "f") symbols.GlobalImplicit 1) ∷ []) 4) ∷ (entry kinds.Comprehension ((object_tool_symbol (codes ".0") symbols.Local 4) ∷ (object_tool_symbol (codes "a") symbols.Local 129) ∷ []) 5) ∷ [])
 
 asynchronous_refused : emission_outcome asynchronous Exec (outermost 0 (codes "m.py") asynchronous_scopes) ≡ Refused error.NotImplementedYet (Some (source_place 2 5))
-unfolding with_step with_block with_name with_varname with_constant with_loops with_location refuse emit jump one_block two_blocks three_blocks put_instruction emit_count emit_name emit_varname emit_mangled add_varname add_constant emit_constant move generator_mark pass_over by_context by_level by_loops in_loop name_access inside with_path child lambda_value emission_of_def load_cell assembled_object as_element called_at_once
+unfolding with_step with_block with_name with_varname with_constant with_loops with_location refuse emit jump one_block two_blocks three_blocks put_instruction emit_count emit_name emit_varname emit_mangled add_varname add_constant emit_constant move generator_mark pass_over by_context by_level by_loops in_loop name_access inside with_path child lambda_value emission_of_def load_cell assembled_object has_layout as_element called_at_once
 asynchronous_refused = refl
 
 asynchronous_faults : sample_tool_faults (compile_faults Exec 0 asynchronous) ≡ (((codes "RustPython does not implement this feature yet"), Some (source_place 2 5)) ∷ ((codes "RustPython does not implement this feature yet"), Some (source_place 3 5)) ∷ ((codes "cannot use starred expression here"), Some (source_place 3 37)) ∷ ((codes "'await' outside async function"), Some (source_place 3 8)) ∷ ((codes "'await' outside async function"), Some (source_place 4 2)) ∷ [])
@@ -306,7 +307,7 @@ abbrev awaits_nested_scopes : List ScopeEntry
 awaits_nested_scopes = ((entry kinds.Module ((object_tool_symbol (codes "b") symbols.Unknown 1) ∷ (object_tool_symbol (codes "x") symbols.Local 2) ∷ (object_tool_symbol (codes "y") symbols.Local 2) ∷ (object_tool_symbol (codes "z") symbols.Local 2) ∷ []) 7) ∷ (entry kinds.Comprehension ((object_tool_symbol (codes ".0") symbols.Local 4) ∷ (object_tool_symbol (codes "a") symbols.Cell 128) ∷ []) 3) ∷ (entry kinds.Function ((object_tool_symbol (codes "a") symbols.Free 1) ∷ []) 3) ∷ (entry kinds.Comprehension ((object_tool_symbol (codes ".0") symbols.Local 4) ∷ (object_tool_symbol (codes "a") symbols.Local 129) ∷ []) 5) ∷ (entry kinds.Function ((object_tool_symbol (codes "c") symbols.Local 5) ∷ []) 5) ∷ (entry kinds.Comprehension ((object_tool_symbol (codes ".0") symbols.Local 4) ∷ (object_tool_symbol (codes "a") symbols.Cell 129) ∷ []) 7) ∷ (entry kinds.Comprehension ((object_tool_symbol (codes ".0") symbols.Local 4) ∷ (object_tool_symbol (codes "c") symbols.Local 128) ∷ (object_tool_symbol (codes "a") symbols.Free 1) ∷ []) 7) ∷ [])
 
 awaits_nested_refused : emission_outcome awaits_nested Exec (outermost 0 (codes "m.py") awaits_nested_scopes) ≡ Refused error.NotImplementedYet (Some (source_place 1 5))
-unfolding with_step with_block with_name with_varname with_constant with_loops with_location refuse emit jump one_block two_blocks three_blocks put_instruction emit_count emit_name emit_varname emit_mangled add_varname add_constant emit_constant move generator_mark pass_over by_context by_level by_loops in_loop name_access inside with_path child lambda_value emission_of_def load_cell assembled_object as_element called_at_once
+unfolding with_step with_block with_name with_varname with_constant with_loops with_location refuse emit jump one_block two_blocks three_blocks put_instruction emit_count emit_name emit_varname emit_mangled add_varname add_constant emit_constant move generator_mark pass_over by_context by_level by_loops in_loop name_access inside with_path child lambda_value emission_of_def load_cell assembled_object has_layout as_element called_at_once
 awaits_nested_refused = refl
 
 awaits_nested_faults : sample_tool_faults (compile_faults Exec 0 awaits_nested) ≡ (((codes "RustPython does not implement this feature yet"), Some (source_place 1 5)) ∷ ((codes "'await' outside async function"), Some (source_place 1 15)) ∷ ((codes "'await' outside async function"), Some (source_place 2 16)) ∷ ((codes "RustPython does not implement this feature yet"), Some (source_place 3 5)) ∷ ((codes "'await' outside async function"), Some (source_place 3 18)) ∷ [])
@@ -322,7 +323,7 @@ abbrev further_scopes : List ScopeEntry
 further_scopes = ((entry kinds.Module ((object_tool_symbol (codes "b") symbols.Unknown 1) ∷ (object_tool_symbol (codes "x") symbols.Local 2) ∷ []) 3) ∷ (entry kinds.Comprehension ((object_tool_symbol (codes ".0") symbols.Local 4) ∷ (object_tool_symbol (codes "a") symbols.Local 129) ∷ (object_tool_symbol (codes "c") symbols.GlobalImplicit 1) ∷ (object_tool_symbol (codes "f") symbols.GlobalImplicit 1) ∷ (object_tool_symbol (codes "d") symbols.GlobalImplicit 1) ∷ []) 2) ∷ (entry kinds.Comprehension ((object_tool_symbol (codes ".0") symbols.Local 4) ∷ (object_tool_symbol (codes "a") symbols.Local 129) ∷ (object_tool_symbol (codes "c") symbols.Local 129) ∷ (object_tool_symbol (codes "d") symbols.Local 129) ∷ (object_tool_symbol (codes "e") symbols.Local 128) ∷ (object_tool_symbol (codes "h") symbols.GlobalImplicit 1) ∷ (object_tool_symbol (codes "__debug__") symbols.Local 128) ∷ []) 3) ∷ [])
 
 further_refused : emission_outcome comprehension_sample_further Exec (outermost 0 (codes "m.py") further_scopes) ≡ Refused error.InvalidStarExpr (Some (source_place 1 43))
-unfolding with_step with_block with_name with_varname with_constant with_loops with_location refuse emit jump one_block two_blocks three_blocks put_instruction emit_count emit_name emit_varname emit_mangled add_varname add_constant emit_constant move generator_mark pass_over by_context by_level by_loops in_loop name_access inside with_path child lambda_value emission_of_def load_cell assembled_object as_element called_at_once
+unfolding with_step with_block with_name with_varname with_constant with_loops with_location refuse emit jump one_block two_blocks three_blocks put_instruction emit_count emit_name emit_varname emit_mangled add_varname add_constant emit_constant move generator_mark pass_over by_context by_level by_loops in_loop name_access inside with_path child lambda_value emission_of_def load_cell assembled_object has_layout as_element called_at_once
 further_refused = refl
 
 further_faults : sample_tool_faults (compile_faults Exec 0 comprehension_sample_further) ≡ (((codes "cannot use starred expression here"), Some (source_place 1 43)) ∷ ((codes "cannot assign to __debug__"), Some (source_place 1 44)) ∷ ((codes "cannot use starred expression here"), Some (source_place 1 49)) ∷ ((codes "two starred expressions in assignment"), Some (source_place 2 35)) ∷ ((codes "cannot assign to __debug__"), Some (source_place 2 67)) ∷ ((codes "cannot use starred expression here"), Some (source_place 2 13)) ∷ [])
@@ -339,7 +340,7 @@ abbrev outside_scopes : List ScopeEntry
 outside_scopes = ((entry kinds.Module ((object_tool_symbol (codes "b") symbols.Unknown 1) ∷ (object_tool_symbol (codes "x") symbols.Local 2) ∷ (object_tool_symbol (codes "y") symbols.Local 2) ∷ []) 4) ∷ (entry kinds.Comprehension ((object_tool_symbol (codes ".0") symbols.Local 4) ∷ (object_tool_symbol (codes "a") symbols.Local 128) ∷ (object_tool_symbol (codes "c") symbols.Local 129) ∷ []) 2) ∷ (entry kinds.Comprehension ((object_tool_symbol (codes ".0") symbols.Local 4) ∷ (object_tool_symbol (codes "a") symbols.Local 129) ∷ []) 3) ∷ (entry kinds.Comprehension ((object_tool_symbol (codes ".0") symbols.Local 4) ∷ (object_tool_symbol (codes "a") symbols.Local 129) ∷ (object_tool_symbol (codes "c") symbols.GlobalImplicit 1) ∷ []) 4) ∷ [])
 
 outside_refused : emission_outcome comprehension_sample_outside Exec (outermost 0 (codes "m.py") outside_scopes) ≡ Refused error.InvalidYield (Some (source_place 2 18))
-unfolding with_step with_block with_name with_varname with_constant with_loops with_location refuse emit jump one_block two_blocks three_blocks put_instruction emit_count emit_name emit_varname emit_mangled add_varname add_constant emit_constant move generator_mark pass_over by_context by_level by_loops in_loop name_access inside with_path child lambda_value emission_of_def load_cell assembled_object as_element called_at_once
+unfolding with_step with_block with_name with_varname with_constant with_loops with_location refuse emit jump one_block two_blocks three_blocks put_instruction emit_count emit_name emit_varname emit_mangled add_varname add_constant emit_constant move generator_mark pass_over by_context by_level by_loops in_loop name_access inside with_path child lambda_value emission_of_def load_cell assembled_object has_layout as_element called_at_once
 outside_refused = refl
 
 outside_faults : sample_tool_faults (compile_faults Exec 0 comprehension_sample_outside) ≡ (((codes "'yield' outside function"), Some (source_place 2 18)) ∷ ((codes "'yield from' outside function"), Some (source_place 3 17)) ∷ [])
@@ -357,7 +358,7 @@ abbrev in_loops_scopes : List ScopeEntry
 in_loops_scopes = ((entry kinds.Module ((object_tool_symbol (codes "a") symbols.Unknown 1) ∷ (object_tool_symbol (codes "c") symbols.Unknown 1) ∷ []) 2) ∷ (entry kinds.Comprehension ((object_tool_symbol (codes ".0") symbols.Local 4) ∷ (object_tool_symbol (codes "b") symbols.Local 129) ∷ []) 2) ∷ [])
 
 in_loops_refused : emission_outcome in_loops Exec (outermost 0 (codes "m.py") in_loops_scopes) ≡ Refused error.InvalidContinue (Some (source_place 4 1))
-unfolding with_step with_block with_name with_varname with_constant with_loops with_location refuse emit jump one_block two_blocks three_blocks put_instruction emit_count emit_name emit_varname emit_mangled add_varname add_constant emit_constant move generator_mark pass_over by_context by_level by_loops in_loop name_access inside with_path child lambda_value emission_of_def load_cell assembled_object as_element called_at_once
+unfolding with_step with_block with_name with_varname with_constant with_loops with_location refuse emit jump one_block two_blocks three_blocks put_instruction emit_count emit_name emit_varname emit_mangled add_varname add_constant emit_constant move generator_mark pass_over by_context by_level by_loops in_loop name_access inside with_path child lambda_value emission_of_def load_cell assembled_object has_layout as_element called_at_once
 in_loops_refused = refl
 
 in_loops_faults : sample_tool_faults (compile_faults Exec 0 in_loops) ≡ (((codes "'continue' outside loop"), Some (source_place 4 1)) ∷ [])

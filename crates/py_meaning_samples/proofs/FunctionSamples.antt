@@ -16,6 +16,7 @@ use Rattle.py_emission_parts.specs.Children.{child, load_cell}
 use Rattle.py_emission_parts.specs.Context.{inside, outermost, with_path}
 use Rattle.py_emission_parts.specs.Emitting.{Refused, with_step, with_block, with_name, with_varname, with_constant, with_loops, with_location, refuse, emit, jump, emit_count, emit_name, emit_varname, emit_mangled, add_varname, add_constant, emit_constant, move, generator_mark, pass_over, by_context, by_level, by_loops, in_loop, one_block, two_blocks, three_blocks}
 use Rattle.py_emission_parts.specs.Running.{put_instruction}
+use Rattle.py_emission_parts.specs.Laid.{has_layout}
 use Rattle.py_emission_parts.specs.Sealed.{assembled_object}
 use Rattle.py_emission.specs.Emission.{lambda_value}
 use Rattle.py_emission.specs.EmissionDefs.{emission_of_def}
@@ -37,7 +38,7 @@ abbrev nested_lambda_object : Object
 nested_lambda_object = (sealed_as 3 None 1 0 0 0 1 (codes "<module>") ((object_tool_unit op.LoadConst 0) ∷ (object_tool_unit op.BuildTuple 1) ∷ (object_tool_unit op.LoadConst 1) ∷ (object_tool_unit op.LoadConst 2) ∷ (object_tool_unit op.MakeFunction 8) ∷ (object_tool_unit op.StoreLocal 0) ∷ (object_tool_unit op.ReturnConst 3) ∷ []) ((source_place 1 17) ∷ (source_place 1 17) ∷ (source_place 1 32) ∷ (source_place 1 32) ∷ (source_place 1 32) ∷ (source_place 1 32) ∷ (source_place 1 32) ∷ []) ((codes "f") ∷ []) [] [] [] ((const.integer (pos 1)) ∷ (const.code (sealed_as 3 (Some ((pos 0) ∷ (pos 1) ∷ [])) 33 0 2 0 1 (codes "<lambda>") ((object_tool_unit op.LoadClosure 0) ∷ (object_tool_unit op.LoadClosure 1) ∷ (object_tool_unit op.BuildTuple 2) ∷ (object_tool_unit op.LoadConst 1) ∷ (object_tool_unit op.LoadConst 2) ∷ (object_tool_unit op.MakeFunction 1) ∷ (object_tool_unit op.ReturnValue 0) ∷ []) ((source_place 1 32) ∷ (source_place 1 32) ∷ (source_place 1 32) ∷ (source_place 1 32) ∷ (source_place 1 32) ∷ (source_place 1 32) ∷ (source_place 1 32) ∷ []) [] ((codes "x") ∷ (codes "y") ∷ []) ((codes "x") ∷ (codes "y") ∷ []) [] (const.none ∷ (const.code (sealed_as 2 None 33 0 0 0 1 (codes "<lambda>") ((object_tool_unit op.LoadDeref 0) ∷ (object_tool_unit op.LoadDeref 1) ∷ (object_tool_unit op.BinaryOperation 0) ∷ (object_tool_unit op.ReturnValue 0) ∷ []) ((source_place 1 28) ∷ (source_place 1 32) ∷ (source_place 1 32) ∷ (source_place 1 32) ∷ []) [] [] [] ((codes "x") ∷ (codes "y") ∷ []) (const.none ∷ []))) ∷ (const.str (codes "<lambda>")) ∷ []))) ∷ (const.str (codes "<lambda>")) ∷ const.none ∷ []))
 
 nested_lambda_emitted : object_emitted nested_lambda_scopes nested_lambda 0 ≡ Some (nested_lambda_object, length nested_lambda_scopes)
-unfolding with_step with_block with_name with_varname with_constant with_loops with_location refuse emit jump one_block two_blocks three_blocks put_instruction emit_count emit_name emit_varname emit_mangled add_varname add_constant emit_constant move generator_mark pass_over by_context by_level by_loops in_loop name_access inside with_path child lambda_value emission_of_def load_cell assembled_object
+unfolding with_step with_block with_name with_varname with_constant with_loops with_location refuse emit jump one_block two_blocks three_blocks put_instruction emit_count emit_name emit_varname emit_mangled add_varname add_constant emit_constant move generator_mark pass_over by_context by_level by_loops in_loop name_access inside with_path child lambda_value emission_of_def load_cell assembled_object has_layout
 nested_lambda_emitted = refl
 
 nested_lambda_forms : codes_of_object 9 nested_lambda_object ≡ codes_of_scope 9 (body nested_lambda_scopes nested_lambda Exec 0)
@@ -64,7 +65,7 @@ abbrev closures_object : Object
 closures_object = (sealed_as 2 None 1 0 0 0 1 (codes "<module>") ((object_tool_unit op.LoadConst 0) ∷ (object_tool_unit op.LoadConst 1) ∷ (object_tool_unit op.MakeFunction 0) ∷ (object_tool_unit op.StoreLocal 0) ∷ (object_tool_unit op.ReturnConst 2) ∷ []) ((source_place 6 12) ∷ (source_place 6 12) ∷ (source_place 6 12) ∷ (source_place 6 12) ∷ (source_place 6 12) ∷ []) ((codes "f") ∷ []) [] [] [] ((const.code (sealed_as 3 (Some ((pos 0) ∷ [])) 33 0 1 0 1 (codes "f") ((object_tool_unit op.LoadClosure 0) ∷ (object_tool_unit op.BuildTuple 1) ∷ (object_tool_unit op.LoadConst 1) ∷ (object_tool_unit op.LoadConst 2) ∷ (object_tool_unit op.MakeFunction 1) ∷ (object_tool_unit op.StoreFast 1) ∷ (object_tool_unit op.LoadFast 1) ∷ (object_tool_unit op.ReturnValue 0) ∷ []) ((source_place 5 16) ∷ (source_place 5 16) ∷ (source_place 5 16) ∷ (source_place 5 16) ∷ (source_place 5 16) ∷ (source_place 5 16) ∷ (source_place 6 12) ∷ (source_place 6 12) ∷ []) [] ((codes "a") ∷ (codes "g") ∷ []) ((codes "a") ∷ []) [] (const.none ∷ (const.code (sealed_as 3 None 33 0 0 0 2 (codes "g") ((object_tool_unit op.LoadClosure 0) ∷ (object_tool_unit op.BuildTuple 1) ∷ (object_tool_unit op.LoadConst 1) ∷ (object_tool_unit op.LoadConst 2) ∷ (object_tool_unit op.MakeFunction 1) ∷ (object_tool_unit op.StoreFast 0) ∷ (object_tool_unit op.LoadFast 0) ∷ (object_tool_unit op.ReturnValue 0) ∷ []) ((source_place 4 20) ∷ (source_place 4 20) ∷ (source_place 4 20) ∷ (source_place 4 20) ∷ (source_place 4 20) ∷ (source_place 4 20) ∷ (source_place 5 16) ∷ (source_place 5 16) ∷ []) [] ((codes "h") ∷ []) [] ((codes "a") ∷ []) (const.none ∷ (const.code (sealed_as 1 None 33 0 0 0 3 (codes "h") ((object_tool_unit op.LoadDeref 0) ∷ (object_tool_unit op.ReturnValue 0) ∷ []) ((source_place 4 20) ∷ (source_place 4 20) ∷ []) [] [] [] ((codes "a") ∷ []) (const.none ∷ []))) ∷ (const.str (codes "f.<locals>.g.<locals>.h")) ∷ []))) ∷ (const.str (codes "f.<locals>.g")) ∷ []))) ∷ (const.str (codes "f")) ∷ const.none ∷ []))
 
 closures_emitted : object_emitted closures_scopes closures 0 ≡ Some (closures_object, length closures_scopes)
-unfolding with_step with_block with_name with_varname with_constant with_loops with_location refuse emit jump one_block two_blocks three_blocks put_instruction emit_count emit_name emit_varname emit_mangled add_varname add_constant emit_constant move generator_mark pass_over by_context by_level by_loops in_loop name_access inside with_path child lambda_value emission_of_def load_cell assembled_object
+unfolding with_step with_block with_name with_varname with_constant with_loops with_location refuse emit jump one_block two_blocks three_blocks put_instruction emit_count emit_name emit_varname emit_mangled add_varname add_constant emit_constant move generator_mark pass_over by_context by_level by_loops in_loop name_access inside with_path child lambda_value emission_of_def load_cell assembled_object has_layout
 closures_emitted = refl
 
 closures_forms : codes_of_object 9 closures_object ≡ codes_of_scope 9 (body closures_scopes closures Exec 0)
@@ -89,7 +90,7 @@ abbrev generator_object : Object
 generator_object = (sealed_as 2 None 1 0 0 0 1 (codes "<module>") ((object_tool_unit op.LoadConst 0) ∷ (object_tool_unit op.LoadConst 1) ∷ (object_tool_unit op.MakeFunction 0) ∷ (object_tool_unit op.StoreLocal 0) ∷ (object_tool_unit op.ReturnConst 2) ∷ []) ((source_place 4 14) ∷ (source_place 4 14) ∷ (source_place 4 14) ∷ (source_place 4 14) ∷ (source_place 4 14) ∷ []) ((codes "f") ∷ []) [] [] [] ((const.code (sealed_as 2 None 43 0 1 0 1 (codes "f") ((object_tool_unit op.LoadConst 0) ∷ (object_tool_unit op.YieldValue 0) ∷ (object_tool_unit op.StoreFast 2) ∷ (object_tool_unit op.LoadFast 1) ∷ (object_tool_unit op.GetIter 0) ∷ (object_tool_unit op.LoadConst 0) ∷ (object_tool_unit op.YieldFrom 0) ∷ (object_tool_unit op.Pop 0) ∷ (object_tool_unit op.LoadFast 2) ∷ (object_tool_unit op.LoadFast 0) ∷ (object_tool_unit op.BuildTuple 2) ∷ (object_tool_unit op.YieldValue 0) ∷ (object_tool_unit op.Pop 0) ∷ (object_tool_unit op.ReturnConst 0) ∷ []) ((source_place 2 9) ∷ (source_place 2 9) ∷ (source_place 2 9) ∷ (source_place 3 16) ∷ (source_place 3 16) ∷ (source_place 3 16) ∷ (source_place 3 16) ∷ (source_place 3 16) ∷ (source_place 4 11) ∷ (source_place 4 14) ∷ (source_place 4 14) ∷ (source_place 4 14) ∷ (source_place 4 14) ∷ (source_place 4 14) ∷ []) [] ((codes "a") ∷ (codes "b") ∷ (codes "x") ∷ []) [] [] (const.none ∷ []))) ∷ (const.str (codes "f")) ∷ const.none ∷ []))
 
 generator_emitted : object_emitted generator_scopes function_sample_generator 0 ≡ Some (generator_object, length generator_scopes)
-unfolding with_step with_block with_name with_varname with_constant with_loops with_location refuse emit jump one_block two_blocks three_blocks put_instruction emit_count emit_name emit_varname emit_mangled add_varname add_constant emit_constant move generator_mark pass_over by_context by_level by_loops in_loop name_access inside with_path child lambda_value emission_of_def load_cell assembled_object
+unfolding with_step with_block with_name with_varname with_constant with_loops with_location refuse emit jump one_block two_blocks three_blocks put_instruction emit_count emit_name emit_varname emit_mangled add_varname add_constant emit_constant move generator_mark pass_over by_context by_level by_loops in_loop name_access inside with_path child lambda_value emission_of_def load_cell assembled_object has_layout
 generator_emitted = refl
 
 generator_forms : codes_of_object 9 generator_object ≡ codes_of_scope 9 (body generator_scopes function_sample_generator Exec 0)
@@ -117,7 +118,7 @@ abbrev counting_object : Object
 counting_object = (sealed_as 2 None 1 0 0 0 1 (codes "<module>") ((object_tool_unit op.LoadConst 0) ∷ (object_tool_unit op.LoadConst 1) ∷ (object_tool_unit op.MakeFunction 0) ∷ (object_tool_unit op.StoreLocal 0) ∷ (object_tool_unit op.ReturnConst 2) ∷ []) ((source_place 7 12) ∷ (source_place 7 12) ∷ (source_place 7 12) ∷ (source_place 7 12) ∷ (source_place 7 12) ∷ []) ((codes "f") ∷ []) [] [] [] ((const.code (sealed_as 3 None 33 0 0 0 1 (codes "f") ((object_tool_unit op.LoadConst 1) ∷ (object_tool_unit op.StoreDeref 0) ∷ (object_tool_unit op.LoadClosure 0) ∷ (object_tool_unit op.BuildTuple 1) ∷ (object_tool_unit op.LoadConst 2) ∷ (object_tool_unit op.LoadConst 3) ∷ (object_tool_unit op.MakeFunction 1) ∷ (object_tool_unit op.StoreFast 0) ∷ (object_tool_unit op.LoadFast 0) ∷ (object_tool_unit op.ReturnValue 0) ∷ []) ((source_place 2 9) ∷ (source_place 2 9) ∷ (source_place 6 16) ∷ (source_place 6 16) ∷ (source_place 6 16) ∷ (source_place 6 16) ∷ (source_place 6 16) ∷ (source_place 6 16) ∷ (source_place 7 12) ∷ (source_place 7 12) ∷ []) [] ((codes "g") ∷ []) ((codes "n") ∷ []) [] (const.none ∷ (const.integer (pos 0)) ∷ (const.code (sealed_as 2 None 33 0 0 0 3 (codes "g") ((object_tool_unit op.LoadDeref 0) ∷ (object_tool_unit op.LoadConst 1) ∷ (object_tool_unit op.BinaryOperationInplace 0) ∷ (object_tool_unit op.StoreDeref 0) ∷ (object_tool_unit op.LoadDeref 0) ∷ (object_tool_unit op.ReturnValue 0) ∷ []) ((source_place 5 9) ∷ (source_place 5 14) ∷ (source_place 5 14) ∷ (source_place 5 14) ∷ (source_place 6 16) ∷ (source_place 6 16) ∷ []) [] [] [] ((codes "n") ∷ []) (const.none ∷ (const.integer (pos 1)) ∷ []))) ∷ (const.str (codes "f.<locals>.g")) ∷ []))) ∷ (const.str (codes "f")) ∷ const.none ∷ []))
 
 counting_emitted : object_emitted counting_scopes function_sample_counting 0 ≡ Some (counting_object, length counting_scopes)
-unfolding with_step with_block with_name with_varname with_constant with_loops with_location refuse emit jump one_block two_blocks three_blocks put_instruction emit_count emit_name emit_varname emit_mangled add_varname add_constant emit_constant move generator_mark pass_over by_context by_level by_loops in_loop name_access inside with_path child lambda_value emission_of_def load_cell assembled_object
+unfolding with_step with_block with_name with_varname with_constant with_loops with_location refuse emit jump one_block two_blocks three_blocks put_instruction emit_count emit_name emit_varname emit_mangled add_varname add_constant emit_constant move generator_mark pass_over by_context by_level by_loops in_loop name_access inside with_path child lambda_value emission_of_def load_cell assembled_object has_layout
 counting_emitted = refl
 
 counting_forms : codes_of_object 9 counting_object ≡ codes_of_scope 9 (body counting_scopes function_sample_counting Exec 0)
@@ -142,7 +143,7 @@ abbrev decorated_def_object : Object
 decorated_def_object = (sealed_as 10 None 1 0 0 0 1 (codes "<module>") ((object_tool_unit op.LoadNameAny 0) ∷ (object_tool_unit op.LoadNameAny 1) ∷ (object_tool_unit op.LoadConst 0) ∷ (object_tool_unit op.CallFunctionPositional 1) ∷ (object_tool_unit op.LoadConst 1) ∷ (object_tool_unit op.BuildTuple 1) ∷ (object_tool_unit op.LoadConst 2) ∷ (object_tool_unit op.LoadConst 3) ∷ (object_tool_unit op.BuildMap 1) ∷ (object_tool_unit op.LoadConst 4) ∷ (object_tool_unit op.LoadNameAny 2) ∷ (object_tool_unit op.LoadConst 5) ∷ (object_tool_unit op.LoadNameAny 3) ∷ (object_tool_unit op.LoadConst 6) ∷ (object_tool_unit op.LoadNameAny 4) ∷ (object_tool_unit op.BuildMap 3) ∷ (object_tool_unit op.LoadConst 7) ∷ (object_tool_unit op.LoadConst 8) ∷ (object_tool_unit op.MakeFunction 14) ∷ (object_tool_unit op.CallFunctionPositional 1) ∷ (object_tool_unit op.CallFunctionPositional 1) ∷ (object_tool_unit op.StoreLocal 5) ∷ (object_tool_unit op.ReturnConst 9) ∷ []) ((source_place 1 2) ∷ (source_place 2 2) ∷ (source_place 2 4) ∷ (source_place 2 4) ∷ (source_place 3 20) ∷ (source_place 3 20) ∷ (source_place 3 20) ∷ (source_place 3 32) ∷ (source_place 3 32) ∷ (source_place 4 5) ∷ (source_place 3 46) ∷ (source_place 3 46) ∷ (source_place 3 16) ∷ (source_place 3 16) ∷ (source_place 3 27) ∷ (source_place 3 27) ∷ (source_place 3 27) ∷ (source_place 3 27) ∷ (source_place 3 27) ∷ (source_place 3 27) ∷ (source_place 3 27) ∷ (source_place 3 27) ∷ (source_place 3 27) ∷ []) ((codes "d") ∷ (codes "e") ∷ (codes "R") ∷ (codes "A") ∷ (codes "B") ∷ (codes "f") ∷ []) [] [] [] ((const.integer (pos 1)) ∷ (const.integer (pos 2)) ∷ (const.str (codes "k")) ∷ (const.integer (pos 3)) ∷ (const.str (codes "return")) ∷ (const.str (codes "b")) ∷ (const.str (codes "c")) ∷ (const.code (sealed_as 0 None 57 1 2 2 3 (codes "f") ((object_tool_unit op.ReturnConst 0) ∷ []) ((source_place 4 5) ∷ []) [] ((codes "a") ∷ (codes "b") ∷ (codes "j") ∷ (codes "k") ∷ (codes "c") ∷ (codes "m") ∷ []) [] [] (const.none ∷ []))) ∷ (const.str (codes "f")) ∷ const.none ∷ []))
 
 decorated_def_emitted : object_emitted decorated_def_scopes decorated_def 0 ≡ Some (decorated_def_object, length decorated_def_scopes)
-unfolding with_step with_block with_name with_varname with_constant with_loops with_location refuse emit jump one_block two_blocks three_blocks put_instruction emit_count emit_name emit_varname emit_mangled add_varname add_constant emit_constant move generator_mark pass_over by_context by_level by_loops in_loop name_access inside with_path child lambda_value emission_of_def load_cell assembled_object
+unfolding with_step with_block with_name with_varname with_constant with_loops with_location refuse emit jump one_block two_blocks three_blocks put_instruction emit_count emit_name emit_varname emit_mangled add_varname add_constant emit_constant move generator_mark pass_over by_context by_level by_loops in_loop name_access inside with_path child lambda_value emission_of_def load_cell assembled_object has_layout
 decorated_def_emitted = refl
 
 decorated_def_forms : codes_of_object 9 decorated_def_object ≡ codes_of_scope 9 (body decorated_def_scopes decorated_def Exec 0)
@@ -167,7 +168,7 @@ abbrev documented_def_object : Object
 documented_def_object = (sealed_as 3 None 1 0 0 0 1 (codes "<module>") ((object_tool_unit op.LoadConst 0) ∷ (object_tool_unit op.LoadConst 1) ∷ (object_tool_unit op.MakeFunction 0) ∷ (object_tool_unit op.Duplicate 0) ∷ (object_tool_unit op.LoadConst 2) ∷ (object_tool_unit op.Rotate2 0) ∷ (object_tool_unit op.StoreAttr 0) ∷ (object_tool_unit op.StoreLocal 1) ∷ (object_tool_unit op.ReturnConst 3) ∷ []) ((source_place 4 5) ∷ (source_place 4 5) ∷ (source_place 4 5) ∷ (source_place 4 5) ∷ (source_place 4 5) ∷ (source_place 4 5) ∷ (source_place 4 5) ∷ (source_place 4 5) ∷ (source_place 4 5) ∷ []) ((codes "__doc__") ∷ (codes "f") ∷ []) [] [] [] ((const.code (sealed_as 2 None 33 0 0 0 1 (codes "f") ((object_tool_unit op.LoadConst 1) ∷ (object_tool_unit op.LoadConst 2) ∷ (object_tool_unit op.MakeFunction 0) ∷ (object_tool_unit op.StoreFast 0) ∷ (object_tool_unit op.DeleteFast 0) ∷ (object_tool_unit op.ReturnConst 0) ∷ []) ((source_place 3 30) ∷ (source_place 3 30) ∷ (source_place 3 30) ∷ (source_place 3 30) ∷ (source_place 4 5) ∷ (source_place 4 5) ∷ []) [] ((codes "x") ∷ []) [] [] (const.none ∷ (const.code (sealed_as 0 None 33 0 0 0 3 (codes "<lambda>") ((object_tool_unit op.ReturnConst 1) ∷ []) ((source_place 3 30) ∷ []) [] [] [] [] (const.none ∷ (const.integer (pos 2)) ∷ []))) ∷ (const.str (codes "<lambda>")) ∷ []))) ∷ (const.str (codes "f")) ∷ (const.str (codes "doc")) ∷ const.none ∷ []))
 
 documented_def_emitted : object_emitted documented_def_scopes documented_def 0 ≡ Some (documented_def_object, length documented_def_scopes)
-unfolding with_step with_block with_name with_varname with_constant with_loops with_location refuse emit jump one_block two_blocks three_blocks put_instruction emit_count emit_name emit_varname emit_mangled add_varname add_constant emit_constant move generator_mark pass_over by_context by_level by_loops in_loop name_access inside with_path child lambda_value emission_of_def load_cell assembled_object
+unfolding with_step with_block with_name with_varname with_constant with_loops with_location refuse emit jump one_block two_blocks three_blocks put_instruction emit_count emit_name emit_varname emit_mangled add_varname add_constant emit_constant move generator_mark pass_over by_context by_level by_loops in_loop name_access inside with_path child lambda_value emission_of_def load_cell assembled_object has_layout
 documented_def_emitted = refl
 
 documented_def_forms : codes_of_object 9 documented_def_object ≡ codes_of_scope 9 (body documented_def_scopes documented_def Exec 0)
@@ -193,7 +194,7 @@ abbrev undocumented_object : Object
 undocumented_object = (sealed_as 2 None 1 0 0 0 1 (codes "<module>") ((object_tool_unit op.LoadConst 0) ∷ (object_tool_unit op.LoadConst 1) ∷ (object_tool_unit op.MakeFunction 0) ∷ (object_tool_unit op.StoreLocal 0) ∷ (object_tool_unit op.ReturnConst 2) ∷ []) ((source_place 5 12) ∷ (source_place 5 12) ∷ (source_place 5 12) ∷ (source_place 5 12) ∷ (source_place 5 12) ∷ []) ((codes "f") ∷ []) [] [] [] ((const.code (sealed_as 2 (Some ((pos 0) ∷ [])) 33 0 1 0 1 (codes "f") ((object_tool_unit op.LoadConst 1) ∷ (object_tool_unit op.LoadConst 2) ∷ (object_tool_unit op.MakeFunction 0) ∷ (object_tool_unit op.StoreFast 1) ∷ (object_tool_unit op.LoadFast 1) ∷ (object_tool_unit op.ReturnValue 0) ∷ []) ((source_place 4 28) ∷ (source_place 4 28) ∷ (source_place 4 28) ∷ (source_place 4 28) ∷ (source_place 5 12) ∷ (source_place 5 12) ∷ []) [] ((codes "a") ∷ (codes "g") ∷ []) ((codes "a") ∷ []) [] (const.none ∷ (const.code (sealed_as 3 (Some ((pos 0) ∷ [])) 33 0 1 0 4 (codes "<lambda>") ((object_tool_unit op.LoadClosure 0) ∷ (object_tool_unit op.BuildTuple 1) ∷ (object_tool_unit op.LoadConst 1) ∷ (object_tool_unit op.LoadConst 2) ∷ (object_tool_unit op.MakeFunction 1) ∷ (object_tool_unit op.ReturnValue 0) ∷ []) ((source_place 4 28) ∷ (source_place 4 28) ∷ (source_place 4 28) ∷ (source_place 4 28) ∷ (source_place 4 28) ∷ (source_place 4 28) ∷ []) [] ((codes "b") ∷ []) ((codes "b") ∷ []) [] (const.none ∷ (const.code (sealed_as 1 None 33 0 0 0 4 (codes "<lambda>") ((object_tool_unit op.LoadDeref 0) ∷ (object_tool_unit op.ReturnValue 0) ∷ []) ((source_place 4 28) ∷ (source_place 4 28) ∷ []) [] [] [] ((codes "b") ∷ []) (const.none ∷ []))) ∷ (const.str (codes "<lambda>")) ∷ []))) ∷ (const.str (codes "<lambda>")) ∷ []))) ∷ (const.str (codes "f")) ∷ const.none ∷ []))
 
 undocumented_emitted : object_emitted undocumented_scopes undocumented 2 ≡ Some (undocumented_object, length undocumented_scopes)
-unfolding with_step with_block with_name with_varname with_constant with_loops with_location refuse emit jump one_block two_blocks three_blocks put_instruction emit_count emit_name emit_varname emit_mangled add_varname add_constant emit_constant move generator_mark pass_over by_context by_level by_loops in_loop name_access inside with_path child lambda_value emission_of_def load_cell assembled_object
+unfolding with_step with_block with_name with_varname with_constant with_loops with_location refuse emit jump one_block two_blocks three_blocks put_instruction emit_count emit_name emit_varname emit_mangled add_varname add_constant emit_constant move generator_mark pass_over by_context by_level by_loops in_loop name_access inside with_path child lambda_value emission_of_def load_cell assembled_object has_layout
 undocumented_emitted = refl
 
 undocumented_faults : sample_tool_faults (compile_faults Exec 2 undocumented) ≡ []
@@ -218,7 +219,7 @@ abbrev global_def_object : Object
 global_def_object = (sealed_as 3 None 1 0 0 0 1 (codes "<module>") ((object_tool_unit op.SetupLoop 0) ∷ (object_tool_unit op.LoadNameAny 0) ∷ (object_tool_unit op.GetIter 0) ∷ (object_tool_unit op.ForIter 11) ∷ (object_tool_unit op.StoreGlobal 1) ∷ (object_tool_unit op.LoadConst 0) ∷ (object_tool_unit op.LoadConst 1) ∷ (object_tool_unit op.MakeFunction 0) ∷ (object_tool_unit op.StoreLocal 2) ∷ (object_tool_unit op.Continue 3) ∷ (object_tool_unit op.Jump 3) ∷ (object_tool_unit op.PopBlock 0) ∷ (object_tool_unit op.ReturnConst 2) ∷ []) ((source_place 1 1) ∷ (source_place 1 10) ∷ (source_place 1 10) ∷ (source_place 1 10) ∷ (source_place 1 10) ∷ (source_place 7 16) ∷ (source_place 7 16) ∷ (source_place 7 16) ∷ (source_place 7 16) ∷ (source_place 8 5) ∷ (source_place 8 5) ∷ (source_place 8 5) ∷ (source_place 8 5) ∷ []) ((codes "y") ∷ (codes "x") ∷ (codes "f") ∷ []) [] [] [] ((const.code (sealed_as 2 None 33 0 0 0 2 (codes "f") ((object_tool_unit op.LoadConst 1) ∷ (object_tool_unit op.StoreGlobal 0) ∷ (object_tool_unit op.SetupLoop 0) ∷ (object_tool_unit op.LoadGlobal 0) ∷ (object_tool_unit op.GetIter 0) ∷ (object_tool_unit op.ForIter 11) ∷ (object_tool_unit op.StoreFast 0) ∷ (object_tool_unit op.LoadFast 0) ∷ (object_tool_unit op.JumpIfFalse 10) ∷ (object_tool_unit op.Break 12) ∷ (object_tool_unit op.Jump 5) ∷ (object_tool_unit op.PopBlock 0) ∷ (object_tool_unit op.LoadGlobal 0) ∷ (object_tool_unit op.ReturnValue 0) ∷ []) ((source_place 4 13) ∷ (source_place 4 13) ∷ (source_place 5 9) ∷ (source_place 5 18) ∷ (source_place 5 18) ∷ (source_place 5 18) ∷ (source_place 5 18) ∷ (source_place 6 16) ∷ (source_place 6 16) ∷ (source_place 6 19) ∷ (source_place 6 19) ∷ (source_place 6 19) ∷ (source_place 7 16) ∷ (source_place 7 16) ∷ []) ((codes "x") ∷ []) ((codes "z") ∷ []) [] [] (const.none ∷ (const.integer (pos 1)) ∷ []))) ∷ (const.str (codes "f")) ∷ const.none ∷ []))
 
 global_def_emitted : object_emitted global_def_scopes global_def 0 ≡ Some (global_def_object, length global_def_scopes)
-unfolding with_step with_block with_name with_varname with_constant with_loops with_location refuse emit jump one_block two_blocks three_blocks put_instruction emit_count emit_name emit_varname emit_mangled add_varname add_constant emit_constant move generator_mark pass_over by_context by_level by_loops in_loop name_access inside with_path child lambda_value emission_of_def load_cell assembled_object
+unfolding with_step with_block with_name with_varname with_constant with_loops with_location refuse emit jump one_block two_blocks three_blocks put_instruction emit_count emit_name emit_varname emit_mangled add_varname add_constant emit_constant move generator_mark pass_over by_context by_level by_loops in_loop name_access inside with_path child lambda_value emission_of_def load_cell assembled_object has_layout
 global_def_emitted = refl
 
 global_def_forms : codes_of_object 9 global_def_object ≡ codes_of_scope 9 (body global_def_scopes global_def Exec 0)
@@ -242,7 +243,7 @@ abbrev annotated_lambda_object : Object
 annotated_lambda_object = (sealed_as 7 None 1 0 0 0 1 (codes "<module>") ((object_tool_unit op.LoadConst 0) ∷ (object_tool_unit op.LoadConst 1) ∷ (object_tool_unit op.LoadConst 2) ∷ (object_tool_unit op.MakeFunction 0) ∷ (object_tool_unit op.LoadConst 3) ∷ (object_tool_unit op.LoadConst 4) ∷ (object_tool_unit op.LoadConst 2) ∷ (object_tool_unit op.MakeFunction 0) ∷ (object_tool_unit op.LoadConst 5) ∷ (object_tool_unit op.LoadConst 6) ∷ (object_tool_unit op.LoadConst 2) ∷ (object_tool_unit op.MakeFunction 0) ∷ (object_tool_unit op.BuildMap 3) ∷ (object_tool_unit op.LoadConst 7) ∷ (object_tool_unit op.LoadConst 8) ∷ (object_tool_unit op.MakeFunction 2) ∷ (object_tool_unit op.StoreLocal 0) ∷ (object_tool_unit op.ReturnConst 9) ∷ []) ((source_place 3 32) ∷ (source_place 1 48) ∷ (source_place 1 48) ∷ (source_place 1 48) ∷ (source_place 1 48) ∷ (source_place 1 18) ∷ (source_place 1 18) ∷ (source_place 1 18) ∷ (source_place 1 18) ∷ (source_place 1 33) ∷ (source_place 1 33) ∷ (source_place 1 33) ∷ (source_place 1 33) ∷ (source_place 1 33) ∷ (source_place 1 33) ∷ (source_place 1 33) ∷ (source_place 1 33) ∷ (source_place 1 33) ∷ []) ((codes "f") ∷ []) [] [] [] ((const.str (codes "return")) ∷ (const.code (sealed_as 0 None 33 0 0 0 1 (codes "<lambda>") ((object_tool_unit op.ReturnConst 1) ∷ []) ((source_place 1 48) ∷ []) [] [] [] [] (const.none ∷ (const.integer (pos 3)) ∷ []))) ∷ (const.str (codes "<lambda>")) ∷ (const.str (codes "a")) ∷ (const.code (sealed_as 0 None 33 0 0 0 1 (codes "<lambda>") ((object_tool_unit op.ReturnConst 1) ∷ []) ((source_place 1 18) ∷ []) [] [] [] [] (const.none ∷ (const.integer (pos 1)) ∷ []))) ∷ (const.str (codes "b")) ∷ (const.code (sealed_as 0 None 33 0 0 0 1 (codes "<lambda>") ((object_tool_unit op.ReturnConst 1) ∷ []) ((source_place 1 33) ∷ []) [] [] [] [] (const.none ∷ (const.integer (pos 2)) ∷ []))) ∷ (const.code (sealed_as 3 None 41 0 1 0 1 (codes "f") ((object_tool_unit op.LoadConst 1) ∷ (object_tool_unit op.LoadConst 2) ∷ (object_tool_unit op.MakeFunction 0) ∷ (object_tool_unit op.BuildTuple 1) ∷ (object_tool_unit op.LoadConst 3) ∷ (object_tool_unit op.LoadConst 2) ∷ (object_tool_unit op.MakeFunction 8) ∷ (object_tool_unit op.ReturnValue 0) ∷ []) ((source_place 3 29) ∷ (source_place 3 29) ∷ (source_place 3 29) ∷ (source_place 3 29) ∷ (source_place 3 32) ∷ (source_place 3 32) ∷ (source_place 3 32) ∷ (source_place 3 32) ∷ []) [] ((codes "a") ∷ (codes "b") ∷ []) [] [] (const.none ∷ (const.code (sealed_as 0 None 33 0 0 0 3 (codes "<lambda>") ((object_tool_unit op.ReturnConst 1) ∷ []) ((source_place 3 29) ∷ []) [] [] [] [] (const.none ∷ (const.integer (pos 6)) ∷ []))) ∷ (const.str (codes "<lambda>")) ∷ (const.code (sealed_as 1 None 33 0 1 0 3 (codes "<lambda>") ((object_tool_unit op.LoadFast 0) ∷ (object_tool_unit op.ReturnValue 0) ∷ []) ((source_place 3 32) ∷ (source_place 3 32) ∷ []) [] ((codes "c") ∷ []) [] [] (const.none ∷ []))) ∷ []))) ∷ (const.str (codes "f")) ∷ const.none ∷ []))
 
 annotated_lambda_emitted : object_emitted annotated_lambda_scopes annotated_lambda 0 ≡ Some (annotated_lambda_object, length annotated_lambda_scopes)
-unfolding with_step with_block with_name with_varname with_constant with_loops with_location refuse emit jump one_block two_blocks three_blocks put_instruction emit_count emit_name emit_varname emit_mangled add_varname add_constant emit_constant move generator_mark pass_over by_context by_level by_loops in_loop name_access inside with_path child lambda_value emission_of_def load_cell assembled_object
+unfolding with_step with_block with_name with_varname with_constant with_loops with_location refuse emit jump one_block two_blocks three_blocks put_instruction emit_count emit_name emit_varname emit_mangled add_varname add_constant emit_constant move generator_mark pass_over by_context by_level by_loops in_loop name_access inside with_path child lambda_value emission_of_def load_cell assembled_object has_layout
 annotated_lambda_emitted = refl
 
 annotated_lambda_forms : codes_of_object 9 annotated_lambda_object ≡ codes_of_scope 9 (body annotated_lambda_scopes annotated_lambda Exec 0)
@@ -261,7 +262,7 @@ abbrev yields_outside_scopes : List ScopeEntry
 yields_outside_scopes = ((entry kinds.Module ((object_tool_symbol (codes "x") symbols.Local 2) ∷ []) 1) ∷ [])
 
 yields_outside_refused : emission_outcome yields_outside Exec (outermost 0 (codes "m.py") yields_outside_scopes) ≡ Refused error.InvalidYield (Some (source_place 1 5))
-unfolding with_step with_block with_name with_varname with_constant with_loops with_location refuse emit jump one_block two_blocks three_blocks put_instruction emit_count emit_name emit_varname emit_mangled add_varname add_constant emit_constant move generator_mark pass_over by_context by_level by_loops in_loop name_access inside with_path child lambda_value emission_of_def load_cell assembled_object
+unfolding with_step with_block with_name with_varname with_constant with_loops with_location refuse emit jump one_block two_blocks three_blocks put_instruction emit_count emit_name emit_varname emit_mangled add_varname add_constant emit_constant move generator_mark pass_over by_context by_level by_loops in_loop name_access inside with_path child lambda_value emission_of_def load_cell assembled_object has_layout
 yields_outside_refused = refl
 
 yields_outside_faults : sample_tool_faults (compile_faults Exec 0 yields_outside) ≡ (((codes "'yield' outside function"), Some (source_place 1 5)) ∷ [])
@@ -277,7 +278,7 @@ abbrev yields_from_outside_scopes : List ScopeEntry
 yields_from_outside_scopes = ((entry kinds.Module ((object_tool_symbol (codes "a") symbols.Unknown 1) ∷ (object_tool_symbol (codes "b") symbols.Unknown 1) ∷ (object_tool_symbol (codes "x") symbols.Local 2) ∷ []) 2) ∷ (entry kinds.Function ((object_tool_symbol (codes "a") symbols.GlobalImplicit 1) ∷ []) 2) ∷ [])
 
 yields_from_outside_refused : emission_outcome yields_from_outside Exec (outermost 0 (codes "m.py") yields_from_outside_scopes) ≡ Refused error.InvalidYieldFrom (Some (source_place 2 10))
-unfolding with_step with_block with_name with_varname with_constant with_loops with_location refuse emit jump one_block two_blocks three_blocks put_instruction emit_count emit_name emit_varname emit_mangled add_varname add_constant emit_constant move generator_mark pass_over by_context by_level by_loops in_loop name_access inside with_path child lambda_value emission_of_def load_cell assembled_object
+unfolding with_step with_block with_name with_varname with_constant with_loops with_location refuse emit jump one_block two_blocks three_blocks put_instruction emit_count emit_name emit_varname emit_mangled add_varname add_constant emit_constant move generator_mark pass_over by_context by_level by_loops in_loop name_access inside with_path child lambda_value emission_of_def load_cell assembled_object has_layout
 yields_from_outside_refused = refl
 
 yields_from_outside_faults : sample_tool_faults (compile_faults Exec 0 yields_from_outside) ≡ (((codes "'yield from' outside function"), Some (source_place 2 10)) ∷ [])
@@ -294,7 +295,7 @@ abbrev returns_outside_scopes : List ScopeEntry
 returns_outside_scopes = ((entry kinds.Module ((object_tool_symbol (codes "f") symbols.Local 3) ∷ (object_tool_symbol (codes "a") symbols.Unknown 1) ∷ []) 2) ∷ (entry kinds.Function [] 2) ∷ [])
 
 returns_outside_refused : emission_outcome returns_outside Exec (outermost 0 (codes "m.py") returns_outside_scopes) ≡ Refused error.InvalidReturn (Some (source_place 3 5))
-unfolding with_step with_block with_name with_varname with_constant with_loops with_location refuse emit jump one_block two_blocks three_blocks put_instruction emit_count emit_name emit_varname emit_mangled add_varname add_constant emit_constant move generator_mark pass_over by_context by_level by_loops in_loop name_access inside with_path child lambda_value emission_of_def load_cell assembled_object
+unfolding with_step with_block with_name with_varname with_constant with_loops with_location refuse emit jump one_block two_blocks three_blocks put_instruction emit_count emit_name emit_varname emit_mangled add_varname add_constant emit_constant move generator_mark pass_over by_context by_level by_loops in_loop name_access inside with_path child lambda_value emission_of_def load_cell assembled_object has_layout
 returns_outside_refused = refl
 
 returns_outside_faults : sample_tool_faults (compile_faults Exec 0 returns_outside) ≡ (((codes "'return' outside function"), Some (source_place 3 5)) ∷ [])
@@ -311,7 +312,7 @@ abbrev awaits_scopes : List ScopeEntry
 awaits_scopes = ((entry kinds.Module ((object_tool_symbol (codes "f") symbols.Local 3) ∷ (object_tool_symbol (codes "a") symbols.Unknown 1) ∷ (object_tool_symbol (codes "b") symbols.Unknown 1) ∷ []) 3) ∷ (entry kinds.Function ((object_tool_symbol (codes "__debug__") symbols.Local 4) ∷ []) 2) ∷ (entry kinds.Function ((object_tool_symbol (codes "x") symbols.Local 4) ∷ (object_tool_symbol (codes "__debug__") symbols.Local 12) ∷ []) 3) ∷ [])
 
 awaits_refused : emission_outcome awaits Exec (outermost 0 (codes "m.py") awaits_scopes) ≡ Refused (error.SyntaxError (codes "cannot assign to __debug__")) (Some (source_place 2 13))
-unfolding with_step with_block with_name with_varname with_constant with_loops with_location refuse emit jump one_block two_blocks three_blocks put_instruction emit_count emit_name emit_varname emit_mangled add_varname add_constant emit_constant move generator_mark pass_over by_context by_level by_loops in_loop name_access inside with_path child lambda_value emission_of_def load_cell assembled_object
+unfolding with_step with_block with_name with_varname with_constant with_loops with_location refuse emit jump one_block two_blocks three_blocks put_instruction emit_count emit_name emit_varname emit_mangled add_varname add_constant emit_constant move generator_mark pass_over by_context by_level by_loops in_loop name_access inside with_path child lambda_value emission_of_def load_cell assembled_object has_layout
 awaits_refused = refl
 
 awaits_faults : sample_tool_faults (compile_faults Exec 0 awaits) ≡ (((codes "cannot assign to __debug__"), Some (source_place 2 13)) ∷ ((codes "cannot assign to __debug__"), Some (source_place 2 31)) ∷ ((codes "'break' outside loop"), Some (source_place 2 52)) ∷ ((codes "'await' outside async function"), Some (source_place 3 1)) ∷ [])

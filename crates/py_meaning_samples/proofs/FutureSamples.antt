@@ -17,6 +17,7 @@ use Rattle.py_emission_parts.specs.Children.{child, load_cell}
 use Rattle.py_emission_parts.specs.Context.{inside, outermost, with_path, nested_in_class}
 use Rattle.py_emission_parts.specs.Emitting.{Refused, with_step, with_block, with_name, with_varname, with_constant, with_loops, with_postponed, with_location, refuse, emit, jump, emit_count, emit_name, emit_varname, emit_mangled, add_varname, add_constant, emit_constant, move, generator_mark, pass_over, by_context, by_level, by_loops, in_loop, postponed_part, one_block, two_blocks, three_blocks}
 use Rattle.py_emission_parts.specs.Running.{put_instruction}
+use Rattle.py_emission_parts.specs.Laid.{has_layout}
 use Rattle.py_emission_parts.specs.Sealed.{assembled_object}
 use Rattle.py_emission.specs.Emission.{lambda_value}
 use Rattle.py_emission.specs.EmissionDefs.{emission_of_class, emission_of_def}
@@ -45,7 +46,7 @@ abbrev several_object : Object
 several_object = (sealed_as 3 None 1 0 0 0 1 (codes "<module>") ((object_tool_unit op.LoadConst 0) ∷ (object_tool_unit op.StoreGlobal 0) ∷ (object_tool_unit op.SetupAnnotation 0) ∷ (object_tool_unit op.LoadConst 1) ∷ (object_tool_unit op.LoadConst 2) ∷ (object_tool_unit op.ImportName 1) ∷ (object_tool_unit op.ImportFrom 2) ∷ (object_tool_unit op.StoreLocal 2) ∷ (object_tool_unit op.Pop 0) ∷ (object_tool_unit op.LoadConst 3) ∷ (object_tool_unit op.LoadConst 4) ∷ (object_tool_unit op.ImportName 1) ∷ (object_tool_unit op.ImportFrom 3) ∷ (object_tool_unit op.StoreLocal 4) ∷ (object_tool_unit op.ImportFrom 5) ∷ (object_tool_unit op.StoreLocal 5) ∷ (object_tool_unit op.Pop 0) ∷ (object_tool_unit op.LoadConst 3) ∷ (object_tool_unit op.StoreLocal 6) ∷ (object_tool_unit op.LoadConst 5) ∷ (object_tool_unit op.LoadNameAny 7) ∷ (object_tool_unit op.LoadConst 6) ∷ (object_tool_unit op.StoreSubscript 0) ∷ (object_tool_unit op.LoadConst 7) ∷ (object_tool_unit op.LoadNameAny 7) ∷ (object_tool_unit op.LoadConst 8) ∷ (object_tool_unit op.StoreSubscript 0) ∷ (object_tool_unit op.ReturnConst 9) ∷ []) ((source_place 1 1) ∷ (source_place 1 1) ∷ (source_place 1 1) ∷ (source_place 2 1) ∷ (source_place 2 1) ∷ (source_place 2 1) ∷ (source_place 2 1) ∷ (source_place 2 1) ∷ (source_place 2 1) ∷ (source_place 3 1) ∷ (source_place 3 1) ∷ (source_place 3 1) ∷ (source_place 3 1) ∷ (source_place 3 1) ∷ (source_place 3 1) ∷ (source_place 3 1) ∷ (source_place 3 1) ∷ (source_place 4 11) ∷ (source_place 4 11) ∷ (source_place 4 11) ∷ (source_place 4 11) ∷ (source_place 4 11) ∷ (source_place 4 11) ∷ (source_place 5 1) ∷ (source_place 5 1) ∷ (source_place 5 1) ∷ (source_place 5 1) ∷ (source_place 5 1) ∷ []) ((codes "__doc__") ∷ (codes "__future__") ∷ (codes "division") ∷ (codes "annotations") ∷ (codes "a") ∷ (codes "generators") ∷ (codes "x") ∷ (codes "__annotations__") ∷ []) [] [] [] ((const.str (codes "doc")) ∷ (const.integer (pos 0)) ∷ (const.tuple (const.more_consts (const.str (codes "division")) const.no_consts)) ∷ (const.integer (pos 1)) ∷ (const.tuple (const.more_consts (const.str (codes "annotations")) (const.more_consts (const.str (codes "generators")) const.no_consts))) ∷ (const.str (codes "f[y]")) ∷ (const.str (codes "x")) ∷ (const.str (codes "lambda: w")) ∷ (const.str (codes "z")) ∷ const.none ∷ []))
 
 several_emitted : object_in_mode several_scopes several Exec 0 ≡ Some (several_object, length several_scopes)
-unfolding with_step with_block with_name with_varname with_constant with_loops with_postponed with_location refuse emit jump one_block two_blocks three_blocks put_instruction emit_count emit_name emit_varname emit_mangled add_varname add_constant emit_constant move generator_mark pass_over by_context by_level by_loops in_loop postponed_part name_access inside with_path nested_in_class child lambda_value emission_of_def emission_of_class load_cell assembled_object
+unfolding with_step with_block with_name with_varname with_constant with_loops with_postponed with_location refuse emit jump one_block two_blocks three_blocks put_instruction emit_count emit_name emit_varname emit_mangled add_varname add_constant emit_constant move generator_mark pass_over by_context by_level by_loops in_loop postponed_part name_access inside with_path nested_in_class child lambda_value emission_of_def emission_of_class load_cell assembled_object has_layout
 several_emitted = refl
 
 several_forms : codes_of_object 9 several_object ≡ codes_of_scope 9 (body several_scopes several Exec 0)
@@ -70,7 +71,7 @@ abbrev function_object : Object
 function_object = (sealed_as 6 None 1 0 0 0 1 (codes "<module>") ((object_tool_unit op.LoadConst 0) ∷ (object_tool_unit op.LoadConst 1) ∷ (object_tool_unit op.ImportName 0) ∷ (object_tool_unit op.ImportFrom 1) ∷ (object_tool_unit op.StoreLocal 1) ∷ (object_tool_unit op.Pop 0) ∷ (object_tool_unit op.LoadConst 2) ∷ (object_tool_unit op.LoadConst 3) ∷ (object_tool_unit op.LoadConst 4) ∷ (object_tool_unit op.LoadConst 5) ∷ (object_tool_unit op.LoadConst 6) ∷ (object_tool_unit op.LoadConst 7) ∷ (object_tool_unit op.BuildMap 3) ∷ (object_tool_unit op.LoadConst 8) ∷ (object_tool_unit op.LoadConst 9) ∷ (object_tool_unit op.MakeFunction 2) ∷ (object_tool_unit op.StoreLocal 2) ∷ (object_tool_unit op.ReturnConst 10) ∷ []) ((source_place 1 1) ∷ (source_place 1 1) ∷ (source_place 1 1) ∷ (source_place 1 1) ∷ (source_place 1 1) ∷ (source_place 1 1) ∷ (source_place 4 20) ∷ (source_place 4 20) ∷ (source_place 4 20) ∷ (source_place 4 20) ∷ (source_place 4 20) ∷ (source_place 4 20) ∷ (source_place 4 20) ∷ (source_place 4 20) ∷ (source_place 4 20) ∷ (source_place 4 20) ∷ (source_place 4 20) ∷ (source_place 4 20) ∷ []) ((codes "__future__") ∷ (codes "annotations") ∷ (codes "f") ∷ []) [] [] [] ((const.integer (pos 0)) ∷ (const.tuple (const.more_consts (const.str (codes "annotations")) const.no_consts)) ∷ (const.str (codes "return")) ∷ (const.str (codes "c")) ∷ (const.str (codes "a")) ∷ (const.str (codes "int")) ∷ (const.str (codes "b")) ∷ (const.str (codes "lambda: g")) ∷ (const.code (sealed_as 3 (Some ((pos 0) ∷ [])) 41 0 1 0 2 (codes "f") ((object_tool_unit op.LoadClosure 0) ∷ (object_tool_unit op.BuildTuple 1) ∷ (object_tool_unit op.LoadConst 1) ∷ (object_tool_unit op.LoadConst 2) ∷ (object_tool_unit op.MakeFunction 1) ∷ (object_tool_unit op.ReturnValue 0) ∷ []) ((source_place 4 20) ∷ (source_place 4 20) ∷ (source_place 4 20) ∷ (source_place 4 20) ∷ (source_place 4 20) ∷ (source_place 4 20) ∷ []) [] ((codes "a") ∷ (codes "b") ∷ []) ((codes "a") ∷ []) [] (const.none ∷ (const.code (sealed_as 1 None 33 0 0 0 4 (codes "<lambda>") ((object_tool_unit op.LoadDeref 0) ∷ (object_tool_unit op.ReturnValue 0) ∷ []) ((source_place 4 20) ∷ (source_place 4 20) ∷ []) [] [] [] ((codes "a") ∷ []) (const.none ∷ []))) ∷ (const.str (codes "<lambda>")) ∷ []))) ∷ (const.str (codes "f")) ∷ const.none ∷ []))
 
 function_emitted : object_in_mode function_scopes future_sample_function Exec 0 ≡ Some (function_object, length function_scopes)
-unfolding with_step with_block with_name with_varname with_constant with_loops with_postponed with_location refuse emit jump one_block two_blocks three_blocks put_instruction emit_count emit_name emit_varname emit_mangled add_varname add_constant emit_constant move generator_mark pass_over by_context by_level by_loops in_loop postponed_part name_access inside with_path nested_in_class child lambda_value emission_of_def emission_of_class load_cell assembled_object
+unfolding with_step with_block with_name with_varname with_constant with_loops with_postponed with_location refuse emit jump one_block two_blocks three_blocks put_instruction emit_count emit_name emit_varname emit_mangled add_varname add_constant emit_constant move generator_mark pass_over by_context by_level by_loops in_loop postponed_part name_access inside with_path nested_in_class child lambda_value emission_of_def emission_of_class load_cell assembled_object has_layout
 function_emitted = refl
 
 function_forms : codes_of_object 9 function_object ≡ codes_of_scope 9 (body function_scopes future_sample_function Exec 0)
@@ -93,7 +94,7 @@ abbrev present_object : Object
 present_object = (sealed_as 3 None 1 0 0 0 1 (codes "<module>") ((object_tool_unit op.LoadConst 0) ∷ (object_tool_unit op.LoadConst 1) ∷ (object_tool_unit op.ImportName 0) ∷ (object_tool_unit op.ImportFrom 1) ∷ (object_tool_unit op.StoreLocal 1) ∷ (object_tool_unit op.Pop 0) ∷ (object_tool_unit op.LoadConst 2) ∷ (object_tool_unit op.LoadNameAny 2) ∷ (object_tool_unit op.BuildMap 1) ∷ (object_tool_unit op.LoadConst 3) ∷ (object_tool_unit op.LoadConst 4) ∷ (object_tool_unit op.MakeFunction 2) ∷ (object_tool_unit op.StoreLocal 3) ∷ (object_tool_unit op.ReturnConst 5) ∷ []) ((source_place 1 1) ∷ (source_place 1 1) ∷ (source_place 1 1) ∷ (source_place 1 1) ∷ (source_place 1 1) ∷ (source_place 1 1) ∷ (source_place 2 14) ∷ (source_place 2 10) ∷ (source_place 2 10) ∷ (source_place 2 10) ∷ (source_place 2 10) ∷ (source_place 2 10) ∷ (source_place 2 10) ∷ (source_place 2 10) ∷ []) ((codes "__future__") ∷ (codes "division") ∷ (codes "b") ∷ (codes "f") ∷ []) [] [] [] ((const.integer (pos 0)) ∷ (const.tuple (const.more_consts (const.str (codes "division")) const.no_consts)) ∷ (const.str (codes "a")) ∷ (const.code (sealed_as 0 None 33 0 1 0 2 (codes "f") ((object_tool_unit op.ReturnConst 0) ∷ []) ((source_place 2 14) ∷ []) [] ((codes "a") ∷ []) [] [] (const.none ∷ []))) ∷ (const.str (codes "f")) ∷ const.none ∷ []))
 
 present_emitted : object_in_mode present_scopes present Exec 0 ≡ Some (present_object, length present_scopes)
-unfolding with_step with_block with_name with_varname with_constant with_loops with_postponed with_location refuse emit jump one_block two_blocks three_blocks put_instruction emit_count emit_name emit_varname emit_mangled add_varname add_constant emit_constant move generator_mark pass_over by_context by_level by_loops in_loop postponed_part name_access inside with_path nested_in_class child lambda_value emission_of_def emission_of_class load_cell assembled_object
+unfolding with_step with_block with_name with_varname with_constant with_loops with_postponed with_location refuse emit jump one_block two_blocks three_blocks put_instruction emit_count emit_name emit_varname emit_mangled add_varname add_constant emit_constant move generator_mark pass_over by_context by_level by_loops in_loop postponed_part name_access inside with_path nested_in_class child lambda_value emission_of_def emission_of_class load_cell assembled_object has_layout
 present_emitted = refl
 
 present_forms : codes_of_object 9 present_object ≡ codes_of_scope 9 (body present_scopes present Exec 0)
@@ -120,7 +121,7 @@ abbrev prompt_object : Object
 prompt_object = (sealed_as 3 None 1 0 0 0 1 (codes "<module>") ((object_tool_unit op.LoadConst 0) ∷ (object_tool_unit op.PrintExpr 0) ∷ (object_tool_unit op.LoadConst 1) ∷ (object_tool_unit op.LoadConst 2) ∷ (object_tool_unit op.ImportName 0) ∷ (object_tool_unit op.ImportFrom 1) ∷ (object_tool_unit op.StoreLocal 1) ∷ (object_tool_unit op.Pop 0) ∷ (object_tool_unit op.LoadConst 3) ∷ (object_tool_unit op.PrintExpr 0) ∷ (object_tool_unit op.LoadConst 1) ∷ (object_tool_unit op.LoadConst 4) ∷ (object_tool_unit op.ImportName 0) ∷ (object_tool_unit op.ImportFrom 2) ∷ (object_tool_unit op.StoreLocal 2) ∷ (object_tool_unit op.Pop 0) ∷ (object_tool_unit op.LoadConst 5) ∷ (object_tool_unit op.PrintExpr 0) ∷ (object_tool_unit op.LoadConst 6) ∷ (object_tool_unit op.LoadNameAny 3) ∷ (object_tool_unit op.LoadConst 7) ∷ (object_tool_unit op.StoreSubscript 0) ∷ (object_tool_unit op.ReturnConst 8) ∷ []) ((source_place 1 1) ∷ (source_place 1 1) ∷ (source_place 2 1) ∷ (source_place 2 1) ∷ (source_place 2 1) ∷ (source_place 2 1) ∷ (source_place 2 1) ∷ (source_place 2 1) ∷ (source_place 3 1) ∷ (source_place 3 1) ∷ (source_place 4 1) ∷ (source_place 4 1) ∷ (source_place 4 1) ∷ (source_place 4 1) ∷ (source_place 4 1) ∷ (source_place 4 1) ∷ (source_place 5 1) ∷ (source_place 5 1) ∷ (source_place 6 1) ∷ (source_place 6 1) ∷ (source_place 6 1) ∷ (source_place 6 1) ∷ (source_place 6 1) ∷ []) ((codes "__future__") ∷ (codes "division") ∷ (codes "annotations") ∷ (codes "__annotations__") ∷ []) [] [] [] ((const.integer (pos 1)) ∷ (const.integer (pos 0)) ∷ (const.tuple (const.more_consts (const.str (codes "division")) const.no_consts)) ∷ (const.integer (pos 2)) ∷ (const.tuple (const.more_consts (const.str (codes "annotations")) const.no_consts)) ∷ (const.integer (pos 3)) ∷ (const.str (codes "y")) ∷ (const.str (codes "x")) ∷ const.none ∷ []))
 
 prompt_emitted : object_in_mode prompt_scopes prompt Single 0 ≡ Some (prompt_object, length prompt_scopes)
-unfolding with_step with_block with_name with_varname with_constant with_loops with_postponed with_location refuse emit jump one_block two_blocks three_blocks put_instruction emit_count emit_name emit_varname emit_mangled add_varname add_constant emit_constant move generator_mark pass_over by_context by_level by_loops in_loop postponed_part name_access inside with_path nested_in_class child lambda_value emission_of_def emission_of_class load_cell assembled_object
+unfolding with_step with_block with_name with_varname with_constant with_loops with_postponed with_location refuse emit jump one_block two_blocks three_blocks put_instruction emit_count emit_name emit_varname emit_mangled add_varname add_constant emit_constant move generator_mark pass_over by_context by_level by_loops in_loop postponed_part name_access inside with_path nested_in_class child lambda_value emission_of_def emission_of_class load_cell assembled_object has_layout
 prompt_emitted = refl
 
 prompt_forms : codes_of_object 9 prompt_object ≡ codes_of_scope 9 (body prompt_scopes prompt Single 0)
@@ -144,7 +145,7 @@ abbrev block_object : Object
 block_object = (sealed_as 3 None 1 0 0 0 1 (codes "<module>") ((object_tool_unit op.LoadConst 0) ∷ (object_tool_unit op.LoadConst 1) ∷ (object_tool_unit op.ImportName 0) ∷ (object_tool_unit op.ImportFrom 1) ∷ (object_tool_unit op.StoreLocal 1) ∷ (object_tool_unit op.Pop 0) ∷ (object_tool_unit op.LoadBuildClass 0) ∷ (object_tool_unit op.LoadConst 2) ∷ (object_tool_unit op.LoadConst 3) ∷ (object_tool_unit op.MakeFunction 0) ∷ (object_tool_unit op.LoadConst 3) ∷ (object_tool_unit op.CallFunctionPositional 2) ∷ (object_tool_unit op.Duplicate 0) ∷ (object_tool_unit op.StoreLocal 2) ∷ (object_tool_unit op.ReturnValue 0) ∷ []) ((source_place 1 1) ∷ (source_place 1 1) ∷ (source_place 1 1) ∷ (source_place 1 1) ∷ (source_place 1 1) ∷ (source_place 1 1) ∷ (source_place 2 1) ∷ (source_place 3 5) ∷ (source_place 3 5) ∷ (source_place 3 5) ∷ (source_place 3 5) ∷ (source_place 3 5) ∷ (source_place 3 5) ∷ (source_place 3 5) ∷ (source_place 3 5) ∷ []) ((codes "__future__") ∷ (codes "annotations") ∷ (codes "A") ∷ []) [] [] [] ((const.integer (pos 0)) ∷ (const.tuple (const.more_consts (const.str (codes "annotations")) const.no_consts)) ∷ (const.code (sealed_as 3 None 0 0 0 0 2 (codes "A") ((object_tool_unit op.LoadGlobal 0) ∷ (object_tool_unit op.StoreLocal 1) ∷ (object_tool_unit op.LoadConst 0) ∷ (object_tool_unit op.StoreLocal 2) ∷ (object_tool_unit op.LoadConst 1) ∷ (object_tool_unit op.StoreLocal 3) ∷ (object_tool_unit op.SetupAnnotation 0) ∷ (object_tool_unit op.LoadConst 2) ∷ (object_tool_unit op.LoadNameAny 4) ∷ (object_tool_unit op.LoadConst 3) ∷ (object_tool_unit op.StoreSubscript 0) ∷ (object_tool_unit op.ReturnConst 1) ∷ []) ((source_place 2 1) ∷ (source_place 2 1) ∷ (source_place 2 1) ∷ (source_place 2 1) ∷ (source_place 2 1) ∷ (source_place 2 1) ∷ (source_place 2 1) ∷ (source_place 3 5) ∷ (source_place 3 5) ∷ (source_place 3 5) ∷ (source_place 3 5) ∷ (source_place 3 5) ∷ []) ((codes "__name__") ∷ (codes "__module__") ∷ (codes "__qualname__") ∷ (codes "__doc__") ∷ (codes "__annotations__") ∷ []) [] [] [] ((const.str (codes "A")) ∷ const.none ∷ (const.str (codes "y")) ∷ (const.str (codes "x")) ∷ []))) ∷ (const.str (codes "A")) ∷ []))
 
 block_emitted : object_in_mode block_scopes block BlockExpr 0 ≡ Some (block_object, length block_scopes)
-unfolding with_step with_block with_name with_varname with_constant with_loops with_postponed with_location refuse emit jump one_block two_blocks three_blocks put_instruction emit_count emit_name emit_varname emit_mangled add_varname add_constant emit_constant move generator_mark pass_over by_context by_level by_loops in_loop postponed_part name_access inside with_path nested_in_class child lambda_value emission_of_def emission_of_class load_cell assembled_object
+unfolding with_step with_block with_name with_varname with_constant with_loops with_postponed with_location refuse emit jump one_block two_blocks three_blocks put_instruction emit_count emit_name emit_varname emit_mangled add_varname add_constant emit_constant move generator_mark pass_over by_context by_level by_loops in_loop postponed_part name_access inside with_path nested_in_class child lambda_value emission_of_def emission_of_class load_cell assembled_object has_layout
 block_emitted = refl
 
 block_forms : codes_of_object 9 block_object ≡ codes_of_scope 9 (body block_scopes block BlockExpr 0)
@@ -166,7 +167,7 @@ abbrev last_object : Object
 last_object = (sealed_as 2 None 1 0 0 0 1 (codes "<module>") ((object_tool_unit op.LoadConst 0) ∷ (object_tool_unit op.LoadConst 1) ∷ (object_tool_unit op.ImportName 0) ∷ (object_tool_unit op.ImportFrom 1) ∷ (object_tool_unit op.StoreLocal 1) ∷ (object_tool_unit op.Pop 0) ∷ (object_tool_unit op.ReturnConst 2) ∷ []) ((source_place 1 1) ∷ (source_place 1 1) ∷ (source_place 1 1) ∷ (source_place 1 1) ∷ (source_place 1 1) ∷ (source_place 1 1) ∷ (source_place 1 1) ∷ []) ((codes "__future__") ∷ (codes "annotations") ∷ []) [] [] [] ((const.integer (pos 0)) ∷ (const.tuple (const.more_consts (const.str (codes "annotations")) const.no_consts)) ∷ const.none ∷ []))
 
 last_emitted : object_in_mode last_scopes future_sample_last BlockExpr 0 ≡ Some (last_object, length last_scopes)
-unfolding with_step with_block with_name with_varname with_constant with_loops with_postponed with_location refuse emit jump one_block two_blocks three_blocks put_instruction emit_count emit_name emit_varname emit_mangled add_varname add_constant emit_constant move generator_mark pass_over by_context by_level by_loops in_loop postponed_part name_access inside with_path nested_in_class child lambda_value emission_of_def emission_of_class load_cell assembled_object
+unfolding with_step with_block with_name with_varname with_constant with_loops with_postponed with_location refuse emit jump one_block two_blocks three_blocks put_instruction emit_count emit_name emit_varname emit_mangled add_varname add_constant emit_constant move generator_mark pass_over by_context by_level by_loops in_loop postponed_part name_access inside with_path nested_in_class child lambda_value emission_of_def emission_of_class load_cell assembled_object has_layout
 last_emitted = refl
 
 last_forms : codes_of_object 9 last_object ≡ codes_of_scope 9 (body last_scopes future_sample_last BlockExpr 0)
@@ -186,7 +187,7 @@ abbrev after_pass_scopes : List ScopeEntry
 after_pass_scopes = ((entry kinds.Module ((object_tool_symbol (codes "division") symbols.Local 18) ∷ []) 1) ∷ [])
 
 after_pass_refused : emission_outcome after_pass Exec (outermost 0 (codes "m.py") after_pass_scopes) ≡ Refused error.InvalidFuturePlacement (Some (source_place 2 1))
-unfolding with_step with_block with_name with_varname with_constant with_loops with_postponed with_location refuse emit jump one_block two_blocks three_blocks put_instruction emit_count emit_name emit_varname emit_mangled add_varname add_constant emit_constant move generator_mark pass_over by_context by_level by_loops in_loop postponed_part name_access inside with_path nested_in_class child lambda_value emission_of_def emission_of_class load_cell assembled_object
+unfolding with_step with_block with_name with_varname with_constant with_loops with_postponed with_location refuse emit jump one_block two_blocks three_blocks put_instruction emit_count emit_name emit_varname emit_mangled add_varname add_constant emit_constant move generator_mark pass_over by_context by_level by_loops in_loop postponed_part name_access inside with_path nested_in_class child lambda_value emission_of_def emission_of_class load_cell assembled_object has_layout
 after_pass_refused = refl
 
 after_pass_faults : sample_tool_faults (compile_faults Exec 0 after_pass) ≡ (((codes "from __future__ imports must occur at the beginning of the file"), Some (source_place 2 1)) ∷ [])
@@ -202,7 +203,7 @@ abbrev future_nested_scopes : List ScopeEntry
 future_nested_scopes = ((entry kinds.Module ((object_tool_symbol (codes "f") symbols.Local 2) ∷ []) 2) ∷ (entry kinds.Function ((object_tool_symbol (codes "*") symbols.Local 18) ∷ []) 2) ∷ [])
 
 future_nested_refused : emission_outcome future_sample_nested Exec (outermost 0 (codes "m.py") future_nested_scopes) ≡ Refused error.InvalidFuturePlacement (Some (source_place 2 5))
-unfolding with_step with_block with_name with_varname with_constant with_loops with_postponed with_location refuse emit jump one_block two_blocks three_blocks put_instruction emit_count emit_name emit_varname emit_mangled add_varname add_constant emit_constant move generator_mark pass_over by_context by_level by_loops in_loop postponed_part name_access inside with_path nested_in_class child lambda_value emission_of_def emission_of_class load_cell assembled_object
+unfolding with_step with_block with_name with_varname with_constant with_loops with_postponed with_location refuse emit jump one_block two_blocks three_blocks put_instruction emit_count emit_name emit_varname emit_mangled add_varname add_constant emit_constant move generator_mark pass_over by_context by_level by_loops in_loop postponed_part name_access inside with_path nested_in_class child lambda_value emission_of_def emission_of_class load_cell assembled_object has_layout
 future_nested_refused = refl
 
 future_nested_faults : sample_tool_faults (compile_faults Exec 0 future_sample_nested) ≡ (((codes "from __future__ imports must occur at the beginning of the file"), Some (source_place 2 5)) ∷ ((codes "future feature * is not defined"), Some (source_place 2 5)) ∷ ((codes "import * only allowed at module level"), Some (source_place 2 5)) ∷ [])
@@ -218,7 +219,7 @@ abbrev in_class_scopes : List ScopeEntry
 in_class_scopes = ((entry kinds.Module ((object_tool_symbol (codes "A") symbols.Local 2) ∷ []) 2) ∷ (entry kinds.Class ((object_tool_symbol (codes "__module__") symbols.Local 2) ∷ (object_tool_symbol (codes "__qualname__") symbols.Local 2) ∷ (object_tool_symbol (codes "__doc__") symbols.Local 2) ∷ (object_tool_symbol (codes "__class__") symbols.Local 2) ∷ (object_tool_symbol (codes "division") symbols.Local 18) ∷ []) 2) ∷ [])
 
 in_class_refused : emission_outcome future_sample_in_class Exec (outermost 0 (codes "m.py") in_class_scopes) ≡ Refused error.InvalidFuturePlacement (Some (source_place 2 5))
-unfolding with_step with_block with_name with_varname with_constant with_loops with_postponed with_location refuse emit jump one_block two_blocks three_blocks put_instruction emit_count emit_name emit_varname emit_mangled add_varname add_constant emit_constant move generator_mark pass_over by_context by_level by_loops in_loop postponed_part name_access inside with_path nested_in_class child lambda_value emission_of_def emission_of_class load_cell assembled_object
+unfolding with_step with_block with_name with_varname with_constant with_loops with_postponed with_location refuse emit jump one_block two_blocks three_blocks put_instruction emit_count emit_name emit_varname emit_mangled add_varname add_constant emit_constant move generator_mark pass_over by_context by_level by_loops in_loop postponed_part name_access inside with_path nested_in_class child lambda_value emission_of_def emission_of_class load_cell assembled_object has_layout
 in_class_refused = refl
 
 in_class_faults : sample_tool_faults (compile_faults Exec 0 future_sample_in_class) ≡ (((codes "from __future__ imports must occur at the beginning of the file"), Some (source_place 2 5)) ∷ [])
@@ -235,7 +236,7 @@ abbrev second_text_scopes : List ScopeEntry
 second_text_scopes = ((entry kinds.Module ((object_tool_symbol (codes "division") symbols.Local 18) ∷ []) 1) ∷ [])
 
 second_text_refused : emission_outcome second_text Exec (outermost 0 (codes "m.py") second_text_scopes) ≡ Refused error.InvalidFuturePlacement (Some (source_place 3 1))
-unfolding with_step with_block with_name with_varname with_constant with_loops with_postponed with_location refuse emit jump one_block two_blocks three_blocks put_instruction emit_count emit_name emit_varname emit_mangled add_varname add_constant emit_constant move generator_mark pass_over by_context by_level by_loops in_loop postponed_part name_access inside with_path nested_in_class child lambda_value emission_of_def emission_of_class load_cell assembled_object
+unfolding with_step with_block with_name with_varname with_constant with_loops with_postponed with_location refuse emit jump one_block two_blocks three_blocks put_instruction emit_count emit_name emit_varname emit_mangled add_varname add_constant emit_constant move generator_mark pass_over by_context by_level by_loops in_loop postponed_part name_access inside with_path nested_in_class child lambda_value emission_of_def emission_of_class load_cell assembled_object has_layout
 second_text_refused = refl
 
 second_text_faults : sample_tool_faults (compile_faults Exec 0 second_text) ≡ (((codes "from __future__ imports must occur at the beginning of the file"), Some (source_place 3 1)) ∷ [])
@@ -250,7 +251,7 @@ abbrev unknown_scopes : List ScopeEntry
 unknown_scopes = ((entry kinds.Module ((object_tool_symbol (codes "__debug__") symbols.Local 18) ∷ (object_tool_symbol (codes "a") symbols.Local 18) ∷ (object_tool_symbol (codes "annotations") symbols.Local 18) ∷ []) 1) ∷ [])
 
 unknown_refused : emission_outcome unknown Exec (outermost 0 (codes "m.py") unknown_scopes) ≡ Refused (error.InvalidFutureFeature (codes "a")) (Some (source_place 1 1))
-unfolding with_step with_block with_name with_varname with_constant with_loops with_postponed with_location refuse emit jump one_block two_blocks three_blocks put_instruction emit_count emit_name emit_varname emit_mangled add_varname add_constant emit_constant move generator_mark pass_over by_context by_level by_loops in_loop postponed_part name_access inside with_path nested_in_class child lambda_value emission_of_def emission_of_class load_cell assembled_object
+unfolding with_step with_block with_name with_varname with_constant with_loops with_postponed with_location refuse emit jump one_block two_blocks three_blocks put_instruction emit_count emit_name emit_varname emit_mangled add_varname add_constant emit_constant move generator_mark pass_over by_context by_level by_loops in_loop postponed_part name_access inside with_path nested_in_class child lambda_value emission_of_def emission_of_class load_cell assembled_object has_layout
 unknown_refused = refl
 
 unknown_faults : sample_tool_faults (compile_faults Exec 0 unknown) ≡ (((codes "future feature a is not defined"), Some (source_place 1 1)) ∷ ((codes "cannot assign to __debug__"), Some (source_place 1 1)) ∷ [])
@@ -265,7 +266,7 @@ abbrev stored_scopes : List ScopeEntry
 stored_scopes = ((entry kinds.Module ((object_tool_symbol (codes "__debug__") symbols.Local 18) ∷ []) 1) ∷ [])
 
 stored_refused : emission_outcome stored Exec (outermost 0 (codes "m.py") stored_scopes) ≡ Refused (error.SyntaxError (codes "cannot assign to __debug__")) (Some (source_place 1 1))
-unfolding with_step with_block with_name with_varname with_constant with_loops with_postponed with_location refuse emit jump one_block two_blocks three_blocks put_instruction emit_count emit_name emit_varname emit_mangled add_varname add_constant emit_constant move generator_mark pass_over by_context by_level by_loops in_loop postponed_part name_access inside with_path nested_in_class child lambda_value emission_of_def emission_of_class load_cell assembled_object
+unfolding with_step with_block with_name with_varname with_constant with_loops with_postponed with_location refuse emit jump one_block two_blocks three_blocks put_instruction emit_count emit_name emit_varname emit_mangled add_varname add_constant emit_constant move generator_mark pass_over by_context by_level by_loops in_loop postponed_part name_access inside with_path nested_in_class child lambda_value emission_of_def emission_of_class load_cell assembled_object has_layout
 stored_refused = refl
 
 stored_faults : sample_tool_faults (compile_faults Exec 0 stored) ≡ (((codes "cannot assign to __debug__"), Some (source_place 1 1)) ∷ [])
@@ -281,7 +282,7 @@ abbrev assigned_scopes : List ScopeEntry
 assigned_scopes = ((entry kinds.Module ((object_tool_symbol (codes "x") symbols.Local 2) ∷ (object_tool_symbol (codes "division") symbols.Local 18) ∷ []) 1) ∷ [])
 
 assigned_refused : emission_outcome future_sample_assigned Single (outermost 0 (codes "m.py") assigned_scopes) ≡ Refused error.InvalidFuturePlacement (Some (source_place 2 1))
-unfolding with_step with_block with_name with_varname with_constant with_loops with_postponed with_location refuse emit jump one_block two_blocks three_blocks put_instruction emit_count emit_name emit_varname emit_mangled add_varname add_constant emit_constant move generator_mark pass_over by_context by_level by_loops in_loop postponed_part name_access inside with_path nested_in_class child lambda_value emission_of_def emission_of_class load_cell assembled_object
+unfolding with_step with_block with_name with_varname with_constant with_loops with_postponed with_location refuse emit jump one_block two_blocks three_blocks put_instruction emit_count emit_name emit_varname emit_mangled add_varname add_constant emit_constant move generator_mark pass_over by_context by_level by_loops in_loop postponed_part name_access inside with_path nested_in_class child lambda_value emission_of_def emission_of_class load_cell assembled_object has_layout
 assigned_refused = refl
 
 assigned_faults : sample_tool_faults (compile_faults Single 0 future_sample_assigned) ≡ (((codes "from __future__ imports must occur at the beginning of the file"), Some (source_place 2 1)) ∷ [])
@@ -297,7 +298,7 @@ abbrev text_before_scopes : List ScopeEntry
 text_before_scopes = ((entry kinds.Module ((object_tool_symbol (codes "division") symbols.Local 18) ∷ []) 1) ∷ [])
 
 text_before_refused : emission_outcome text_before BlockExpr (outermost 0 (codes "m.py") text_before_scopes) ≡ Refused error.InvalidFuturePlacement (Some (source_place 2 1))
-unfolding with_step with_block with_name with_varname with_constant with_loops with_postponed with_location refuse emit jump one_block two_blocks three_blocks put_instruction emit_count emit_name emit_varname emit_mangled add_varname add_constant emit_constant move generator_mark pass_over by_context by_level by_loops in_loop postponed_part name_access inside with_path nested_in_class child lambda_value emission_of_def emission_of_class load_cell assembled_object
+unfolding with_step with_block with_name with_varname with_constant with_loops with_postponed with_location refuse emit jump one_block two_blocks three_blocks put_instruction emit_count emit_name emit_varname emit_mangled add_varname add_constant emit_constant move generator_mark pass_over by_context by_level by_loops in_loop postponed_part name_access inside with_path nested_in_class child lambda_value emission_of_def emission_of_class load_cell assembled_object has_layout
 text_before_refused = refl
 
 text_before_faults : sample_tool_faults (compile_faults BlockExpr 0 text_before) ≡ (((codes "from __future__ imports must occur at the beginning of the file"), Some (source_place 2 1)) ∷ [])
@@ -314,7 +315,7 @@ abbrev formatted_scopes : List ScopeEntry
 formatted_scopes = ((entry kinds.Module ((object_tool_symbol (codes "annotations") symbols.Local 18) ∷ (object_tool_symbol (codes "f") symbols.Local 2) ∷ []) 2) ∷ (entry kinds.Function ((object_tool_symbol (codes "a") symbols.Local 12) ∷ (object_tool_symbol (codes "c") symbols.Local 12) ∷ []) 2) ∷ [])
 
 formatted_refused : emission_outcome future_sample_formatted Exec (outermost 0 (codes "m.py") formatted_scopes) ≡ Refused error.NotImplementedYet (Some (source_place 3 12))
-unfolding with_step with_block with_name with_varname with_constant with_loops with_postponed with_location refuse emit jump one_block two_blocks three_blocks put_instruction emit_count emit_name emit_varname emit_mangled add_varname add_constant emit_constant move generator_mark pass_over by_context by_level by_loops in_loop postponed_part name_access inside with_path nested_in_class child lambda_value emission_of_def emission_of_class load_cell assembled_object
+unfolding with_step with_block with_name with_varname with_constant with_loops with_postponed with_location refuse emit jump one_block two_blocks three_blocks put_instruction emit_count emit_name emit_varname emit_mangled add_varname add_constant emit_constant move generator_mark pass_over by_context by_level by_loops in_loop postponed_part name_access inside with_path nested_in_class child lambda_value emission_of_def emission_of_class load_cell assembled_object has_layout
 formatted_refused = refl
 
 formatted_faults : sample_tool_faults (compile_faults Exec 0 future_sample_formatted) ≡ (((codes "RustPython does not implement this feature yet"), Some (source_place 3 12)) ∷ ((codes "RustPython does not implement this feature yet"), Some (source_place 3 12)) ∷ [])
@@ -330,7 +331,7 @@ abbrev formatted_name_scopes : List ScopeEntry
 formatted_name_scopes = ((entry kinds.Module ((object_tool_symbol (codes "annotations") symbols.Local 18) ∷ (object_tool_symbol (codes "y") symbols.Unknown 1) ∷ (object_tool_symbol (codes "x") symbols.Local 10) ∷ []) 1) ∷ [])
 
 formatted_name_refused : emission_outcome formatted_name Exec (outermost 0 (codes "m.py") formatted_name_scopes) ≡ Refused error.NotImplementedYet (Some (source_place 2 13))
-unfolding with_step with_block with_name with_varname with_constant with_loops with_postponed with_location refuse emit jump one_block two_blocks three_blocks put_instruction emit_count emit_name emit_varname emit_mangled add_varname add_constant emit_constant move generator_mark pass_over by_context by_level by_loops in_loop postponed_part name_access inside with_path nested_in_class child lambda_value emission_of_def emission_of_class load_cell assembled_object
+unfolding with_step with_block with_name with_varname with_constant with_loops with_postponed with_location refuse emit jump one_block two_blocks three_blocks put_instruction emit_count emit_name emit_varname emit_mangled add_varname add_constant emit_constant move generator_mark pass_over by_context by_level by_loops in_loop postponed_part name_access inside with_path nested_in_class child lambda_value emission_of_def emission_of_class load_cell assembled_object has_layout
 formatted_name_refused = refl
 
 formatted_name_faults : sample_tool_faults (compile_faults Exec 0 formatted_name) ≡ (((codes "RustPython does not implement this feature yet"), Some (source_place 2 13)) ∷ [])

@@ -15,6 +15,7 @@ use Rattle.py_emission_parts.specs.Children.{child, load_cell}
 use Rattle.py_emission_parts.specs.Context.{inside, outermost, with_path}
 use Rattle.py_emission_parts.specs.Emitting.{Refused, with_step, with_block, with_name, with_varname, with_constant, with_loops, with_location, refuse, emit, jump, emit_count, emit_name, emit_varname, emit_mangled, add_varname, add_constant, emit_constant, move, generator_mark, pass_over, by_context, by_level, by_loops, in_loop, one_block, two_blocks, three_blocks}
 use Rattle.py_emission_parts.specs.Running.{put_instruction}
+use Rattle.py_emission_parts.specs.Laid.{has_layout}
 use Rattle.py_emission_parts.specs.Sealed.{assembled_object}
 use Rattle.py_emission.specs.Emission.{lambda_value}
 use Rattle.py_emission.specs.EmissionDefs.{emission_of_def}
@@ -40,7 +41,7 @@ abbrev modules_object : Object
 modules_object = (sealed_as 2 None 1 0 0 0 1 (codes "<module>") ((object_tool_unit op.LoadConst 0) ∷ (object_tool_unit op.LoadConst 1) ∷ (object_tool_unit op.ImportName 0) ∷ (object_tool_unit op.StoreLocal 0) ∷ (object_tool_unit op.LoadConst 0) ∷ (object_tool_unit op.LoadConst 1) ∷ (object_tool_unit op.ImportName 1) ∷ (object_tool_unit op.StoreLocal 2) ∷ (object_tool_unit op.LoadConst 0) ∷ (object_tool_unit op.LoadConst 1) ∷ (object_tool_unit op.ImportName 3) ∷ (object_tool_unit op.LoadAttr 4) ∷ (object_tool_unit op.LoadAttr 5) ∷ (object_tool_unit op.StoreLocal 6) ∷ (object_tool_unit op.LoadConst 0) ∷ (object_tool_unit op.LoadConst 1) ∷ (object_tool_unit op.ImportName 7) ∷ (object_tool_unit op.StoreLocal 8) ∷ (object_tool_unit op.LoadConst 0) ∷ (object_tool_unit op.LoadConst 1) ∷ (object_tool_unit op.ImportName 9) ∷ (object_tool_unit op.StoreLocal 2) ∷ (object_tool_unit op.ReturnConst 1) ∷ []) ((source_place 1 1) ∷ (source_place 1 1) ∷ (source_place 1 1) ∷ (source_place 1 1) ∷ (source_place 1 1) ∷ (source_place 1 1) ∷ (source_place 1 1) ∷ (source_place 1 1) ∷ (source_place 1 1) ∷ (source_place 1 1) ∷ (source_place 1 1) ∷ (source_place 1 1) ∷ (source_place 1 1) ∷ (source_place 1 1) ∷ (source_place 1 1) ∷ (source_place 1 1) ∷ (source_place 1 1) ∷ (source_place 1 1) ∷ (source_place 2 1) ∷ (source_place 2 1) ∷ (source_place 2 1) ∷ (source_place 2 1) ∷ (source_place 2 1) ∷ []) ((codes "a") ∷ (codes "b.c") ∷ (codes "b") ∷ (codes "d.e.f") ∷ (codes "e") ∷ (codes "f") ∷ (codes "g") ∷ (codes "h") ∷ (codes "i") ∷ (codes "b.x") ∷ []) [] [] [] ((const.integer (pos 0)) ∷ const.none ∷ []))
 
 modules_emitted : object_emitted modules_scopes modules 0 ≡ Some (modules_object, length modules_scopes)
-unfolding with_step with_block with_name with_varname with_constant with_loops with_location refuse emit jump one_block two_blocks three_blocks put_instruction emit_count emit_name emit_varname emit_mangled add_varname add_constant emit_constant move generator_mark pass_over by_context by_level by_loops in_loop name_access inside with_path child lambda_value emission_of_def load_cell assembled_object
+unfolding with_step with_block with_name with_varname with_constant with_loops with_location refuse emit jump one_block two_blocks three_blocks put_instruction emit_count emit_name emit_varname emit_mangled add_varname add_constant emit_constant move generator_mark pass_over by_context by_level by_loops in_loop name_access inside with_path child lambda_value emission_of_def load_cell assembled_object has_layout
 modules_emitted = refl
 
 modules_forms : codes_of_object 9 modules_object ≡ codes_of_scope 9 (body modules_scopes modules Exec 0)
@@ -65,7 +66,7 @@ abbrev names_object : Object
 names_object = (sealed_as 2 None 1 0 0 0 1 (codes "<module>") ((object_tool_unit op.LoadConst 0) ∷ (object_tool_unit op.LoadConst 1) ∷ (object_tool_unit op.ImportName 0) ∷ (object_tool_unit op.ImportFrom 1) ∷ (object_tool_unit op.StoreLocal 1) ∷ (object_tool_unit op.ImportFrom 2) ∷ (object_tool_unit op.StoreLocal 3) ∷ (object_tool_unit op.Pop 0) ∷ (object_tool_unit op.LoadConst 2) ∷ (object_tool_unit op.LoadConst 3) ∷ (object_tool_unit op.ImportNameless 0) ∷ (object_tool_unit op.ImportFrom 4) ∷ (object_tool_unit op.StoreLocal 4) ∷ (object_tool_unit op.Pop 0) ∷ (object_tool_unit op.LoadConst 4) ∷ (object_tool_unit op.LoadConst 5) ∷ (object_tool_unit op.ImportName 5) ∷ (object_tool_unit op.ImportFrom 6) ∷ (object_tool_unit op.StoreLocal 6) ∷ (object_tool_unit op.Pop 0) ∷ (object_tool_unit op.LoadConst 0) ∷ (object_tool_unit op.LoadConst 6) ∷ (object_tool_unit op.ImportName 7) ∷ (object_tool_unit op.ImportStar 0) ∷ (object_tool_unit op.ReturnConst 7) ∷ []) ((source_place 1 1) ∷ (source_place 1 1) ∷ (source_place 1 1) ∷ (source_place 1 1) ∷ (source_place 1 1) ∷ (source_place 1 1) ∷ (source_place 1 1) ∷ (source_place 1 1) ∷ (source_place 2 1) ∷ (source_place 2 1) ∷ (source_place 2 1) ∷ (source_place 2 1) ∷ (source_place 2 1) ∷ (source_place 2 1) ∷ (source_place 3 1) ∷ (source_place 3 1) ∷ (source_place 3 1) ∷ (source_place 3 1) ∷ (source_place 3 1) ∷ (source_place 3 1) ∷ (source_place 4 1) ∷ (source_place 4 1) ∷ (source_place 4 1) ∷ (source_place 4 1) ∷ (source_place 4 1) ∷ []) ((codes "a.b") ∷ (codes "c") ∷ (codes "d") ∷ (codes "e") ∷ (codes "x") ∷ (codes "y") ∷ (codes "z") ∷ (codes "a") ∷ []) [] [] [] ((const.integer (pos 0)) ∷ (const.tuple (const.more_consts (const.str (codes "c")) (const.more_consts (const.str (codes "d")) const.no_consts))) ∷ (const.integer (pos 1)) ∷ (const.tuple (const.more_consts (const.str (codes "x")) const.no_consts)) ∷ (const.integer (pos 2)) ∷ (const.tuple (const.more_consts (const.str (codes "z")) const.no_consts)) ∷ (const.tuple (const.more_consts (const.str (codes "*")) const.no_consts)) ∷ const.none ∷ []))
 
 names_emitted : object_emitted names_scopes import_sample_names 0 ≡ Some (names_object, length names_scopes)
-unfolding with_step with_block with_name with_varname with_constant with_loops with_location refuse emit jump one_block two_blocks three_blocks put_instruction emit_count emit_name emit_varname emit_mangled add_varname add_constant emit_constant move generator_mark pass_over by_context by_level by_loops in_loop name_access inside with_path child lambda_value emission_of_def load_cell assembled_object
+unfolding with_step with_block with_name with_varname with_constant with_loops with_location refuse emit jump one_block two_blocks three_blocks put_instruction emit_count emit_name emit_varname emit_mangled add_varname add_constant emit_constant move generator_mark pass_over by_context by_level by_loops in_loop name_access inside with_path child lambda_value emission_of_def load_cell assembled_object has_layout
 names_emitted = refl
 
 names_forms : codes_of_object 9 names_object ≡ codes_of_scope 9 (body names_scopes import_sample_names Exec 0)
@@ -92,7 +93,7 @@ abbrev import_nested_object : Object
 import_nested_object = (sealed_as 2 None 1 0 0 0 1 (codes "<module>") ((object_tool_unit op.LoadConst 0) ∷ (object_tool_unit op.LoadConst 1) ∷ (object_tool_unit op.MakeFunction 0) ∷ (object_tool_unit op.StoreLocal 0) ∷ (object_tool_unit op.ReturnConst 2) ∷ []) ((source_place 6 24) ∷ (source_place 6 24) ∷ (source_place 6 24) ∷ (source_place 6 24) ∷ (source_place 6 24) ∷ []) ((codes "f") ∷ []) [] [] [] ((const.code (sealed_as 3 None 33 0 0 0 1 (codes "f") ((object_tool_unit op.LoadConst 1) ∷ (object_tool_unit op.LoadConst 0) ∷ (object_tool_unit op.ImportName 0) ∷ (object_tool_unit op.StoreDeref 0) ∷ (object_tool_unit op.LoadConst 1) ∷ (object_tool_unit op.LoadConst 0) ∷ (object_tool_unit op.ImportName 1) ∷ (object_tool_unit op.StoreGlobal 2) ∷ (object_tool_unit op.LoadConst 1) ∷ (object_tool_unit op.LoadConst 2) ∷ (object_tool_unit op.ImportName 3) ∷ (object_tool_unit op.ImportFrom 4) ∷ (object_tool_unit op.StoreDeref 1) ∷ (object_tool_unit op.ImportFrom 5) ∷ (object_tool_unit op.StoreFast 0) ∷ (object_tool_unit op.Pop 0) ∷ (object_tool_unit op.LoadClosure 1) ∷ (object_tool_unit op.LoadClosure 0) ∷ (object_tool_unit op.BuildTuple 2) ∷ (object_tool_unit op.LoadConst 3) ∷ (object_tool_unit op.LoadConst 4) ∷ (object_tool_unit op.MakeFunction 1) ∷ (object_tool_unit op.ReturnValue 0) ∷ []) ((source_place 3 5) ∷ (source_place 3 5) ∷ (source_place 3 5) ∷ (source_place 3 5) ∷ (source_place 4 5) ∷ (source_place 4 5) ∷ (source_place 4 5) ∷ (source_place 4 5) ∷ (source_place 5 5) ∷ (source_place 5 5) ∷ (source_place 5 5) ∷ (source_place 5 5) ∷ (source_place 5 5) ∷ (source_place 5 5) ∷ (source_place 5 5) ∷ (source_place 5 5) ∷ (source_place 6 24) ∷ (source_place 6 24) ∷ (source_place 6 24) ∷ (source_place 6 24) ∷ (source_place 6 24) ∷ (source_place 6 24) ∷ (source_place 6 24) ∷ []) ((codes "a.b") ∷ (codes "c") ∷ (codes "g") ∷ (codes "m") ∷ (codes "x") ∷ (codes "z") ∷ []) ((codes "z") ∷ []) ((codes "a") ∷ (codes "y") ∷ []) [] (const.none ∷ (const.integer (pos 0)) ∷ (const.tuple (const.more_consts (const.str (codes "x")) (const.more_consts (const.str (codes "z")) const.no_consts))) ∷ (const.code (sealed_as 2 None 33 0 0 0 6 (codes "<lambda>") ((object_tool_unit op.LoadDeref 0) ∷ (object_tool_unit op.LoadDeref 1) ∷ (object_tool_unit op.BuildTuple 2) ∷ (object_tool_unit op.ReturnValue 0) ∷ []) ((source_place 6 21) ∷ (source_place 6 24) ∷ (source_place 6 24) ∷ (source_place 6 24) ∷ []) [] [] [] ((codes "y") ∷ (codes "a") ∷ []) (const.none ∷ []))) ∷ (const.str (codes "<lambda>")) ∷ []))) ∷ (const.str (codes "f")) ∷ const.none ∷ []))
 
 import_nested_emitted : object_emitted import_nested_scopes import_sample_nested 0 ≡ Some (import_nested_object, length import_nested_scopes)
-unfolding with_step with_block with_name with_varname with_constant with_loops with_location refuse emit jump one_block two_blocks three_blocks put_instruction emit_count emit_name emit_varname emit_mangled add_varname add_constant emit_constant move generator_mark pass_over by_context by_level by_loops in_loop name_access inside with_path child lambda_value emission_of_def load_cell assembled_object
+unfolding with_step with_block with_name with_varname with_constant with_loops with_location refuse emit jump one_block two_blocks three_blocks put_instruction emit_count emit_name emit_varname emit_mangled add_varname add_constant emit_constant move generator_mark pass_over by_context by_level by_loops in_loop name_access inside with_path child lambda_value emission_of_def load_cell assembled_object has_layout
 import_nested_emitted = refl
 
 import_nested_forms : codes_of_object 9 import_nested_object ≡ codes_of_scope 9 (body import_nested_scopes import_sample_nested Exec 0)
@@ -114,7 +115,7 @@ abbrev all_and_more_object : Object
 all_and_more_object = (sealed_as 2 None 1 0 0 0 1 (codes "<module>") ((object_tool_unit op.LoadConst 0) ∷ (object_tool_unit op.LoadConst 1) ∷ (object_tool_unit op.ImportName 0) ∷ (object_tool_unit op.ImportStar 0) ∷ (object_tool_unit op.ReturnConst 2) ∷ []) ((source_place 1 1) ∷ (source_place 1 1) ∷ (source_place 1 1) ∷ (source_place 1 1) ∷ (source_place 1 1) ∷ []) ((codes "m") ∷ []) [] [] [] ((const.integer (pos 0)) ∷ (const.tuple (const.more_consts (const.str (codes "*")) const.no_consts)) ∷ const.none ∷ []))
 
 all_and_more_emitted : object_emitted all_and_more_scopes all_and_more 0 ≡ Some (all_and_more_object, length all_and_more_scopes)
-unfolding with_step with_block with_name with_varname with_constant with_loops with_location refuse emit jump one_block two_blocks three_blocks put_instruction emit_count emit_name emit_varname emit_mangled add_varname add_constant emit_constant move generator_mark pass_over by_context by_level by_loops in_loop name_access inside with_path child lambda_value emission_of_def load_cell assembled_object
+unfolding with_step with_block with_name with_varname with_constant with_loops with_location refuse emit jump one_block two_blocks three_blocks put_instruction emit_count emit_name emit_varname emit_mangled add_varname add_constant emit_constant move generator_mark pass_over by_context by_level by_loops in_loop name_access inside with_path child lambda_value emission_of_def load_cell assembled_object has_layout
 all_and_more_emitted = refl
 
 all_and_more_forms : codes_of_object 9 all_and_more_object ≡ codes_of_scope 9 (body all_and_more_scopes all_and_more Exec 0)
@@ -135,7 +136,7 @@ abbrev no_names_object : Object
 no_names_object = (sealed_as 2 None 1 0 0 0 1 (codes "<module>") ((object_tool_unit op.LoadConst 0) ∷ (object_tool_unit op.LoadConst 1) ∷ (object_tool_unit op.ImportName 0) ∷ (object_tool_unit op.Pop 0) ∷ (object_tool_unit op.ReturnConst 2) ∷ []) ((source_place 2 1) ∷ (source_place 2 1) ∷ (source_place 2 1) ∷ (source_place 2 1) ∷ (source_place 2 1) ∷ []) ((codes "m") ∷ []) [] [] [] ((const.integer (pos 0)) ∷ (const.tuple const.no_consts) ∷ const.none ∷ []))
 
 no_names_emitted : object_emitted no_names_scopes no_names 0 ≡ Some (no_names_object, length no_names_scopes)
-unfolding with_step with_block with_name with_varname with_constant with_loops with_location refuse emit jump one_block two_blocks three_blocks put_instruction emit_count emit_name emit_varname emit_mangled add_varname add_constant emit_constant move generator_mark pass_over by_context by_level by_loops in_loop name_access inside with_path child lambda_value emission_of_def load_cell assembled_object
+unfolding with_step with_block with_name with_varname with_constant with_loops with_location refuse emit jump one_block two_blocks three_blocks put_instruction emit_count emit_name emit_varname emit_mangled add_varname add_constant emit_constant move generator_mark pass_over by_context by_level by_loops in_loop name_access inside with_path child lambda_value emission_of_def load_cell assembled_object has_layout
 no_names_emitted = refl
 
 no_names_forms : codes_of_object 9 no_names_object ≡ codes_of_scope 9 (body no_names_scopes no_names Exec 0)
@@ -157,7 +158,7 @@ abbrev star_in_function_scopes : List ScopeEntry
 star_in_function_scopes = ((entry kinds.Module ((object_tool_symbol (codes "f") symbols.Local 2) ∷ []) 2) ∷ (entry kinds.Function ((object_tool_symbol (codes "x") symbols.GlobalImplicit 1) ∷ (object_tool_symbol (codes "a") symbols.Local 18) ∷ (object_tool_symbol (codes "*") symbols.Local 18) ∷ []) 2) ∷ [])
 
 star_in_function_refused : emission_outcome star_in_function Exec (outermost 0 (codes "m.py") star_in_function_scopes) ≡ Refused error.FunctionImportStar (Some (source_place 3 5))
-unfolding with_step with_block with_name with_varname with_constant with_loops with_location refuse emit jump one_block two_blocks three_blocks put_instruction emit_count emit_name emit_varname emit_mangled add_varname add_constant emit_constant move generator_mark pass_over by_context by_level by_loops in_loop name_access inside with_path child lambda_value emission_of_def load_cell assembled_object
+unfolding with_step with_block with_name with_varname with_constant with_loops with_location refuse emit jump one_block two_blocks three_blocks put_instruction emit_count emit_name emit_varname emit_mangled add_varname add_constant emit_constant move generator_mark pass_over by_context by_level by_loops in_loop name_access inside with_path child lambda_value emission_of_def load_cell assembled_object has_layout
 star_in_function_refused = refl
 
 star_in_function_faults : sample_tool_faults (compile_faults Exec 0 star_in_function) ≡ (((codes "import * only allowed at module level"), Some (source_place 3 5)) ∷ ((codes "import * only allowed at module level"), Some (source_place 4 5)) ∷ [])
@@ -173,7 +174,7 @@ abbrev first_segment_scopes : List ScopeEntry
 first_segment_scopes = ((entry kinds.Module ((object_tool_symbol (codes "b") symbols.Local 18) ∷ (object_tool_symbol (codes "__debug__") symbols.Local 18) ∷ (object_tool_symbol (codes "f") symbols.Local 18) ∷ (object_tool_symbol (codes "g") symbols.Local 18) ∷ []) 1) ∷ [])
 
 first_segment_refused : emission_outcome first_segment Exec (outermost 0 (codes "m.py") first_segment_scopes) ≡ Refused (error.SyntaxError (codes "cannot assign to __debug__")) (Some (source_place 1 1))
-unfolding with_step with_block with_name with_varname with_constant with_loops with_location refuse emit jump one_block two_blocks three_blocks put_instruction emit_count emit_name emit_varname emit_mangled add_varname add_constant emit_constant move generator_mark pass_over by_context by_level by_loops in_loop name_access inside with_path child lambda_value emission_of_def load_cell assembled_object
+unfolding with_step with_block with_name with_varname with_constant with_loops with_location refuse emit jump one_block two_blocks three_blocks put_instruction emit_count emit_name emit_varname emit_mangled add_varname add_constant emit_constant move generator_mark pass_over by_context by_level by_loops in_loop name_access inside with_path child lambda_value emission_of_def load_cell assembled_object has_layout
 first_segment_refused = refl
 
 first_segment_faults : sample_tool_faults (compile_faults Exec 0 first_segment) ≡ (((codes "cannot assign to __debug__"), Some (source_place 1 1)) ∷ ((codes "cannot assign to __debug__"), Some (source_place 1 1)) ∷ [])
@@ -188,7 +189,7 @@ abbrev taken_scopes : List ScopeEntry
 taken_scopes = ((entry kinds.Module ((object_tool_symbol (codes "a") symbols.Local 18) ∷ (object_tool_symbol (codes "__debug__") symbols.Local 18) ∷ []) 1) ∷ [])
 
 taken_refused : emission_outcome import_sample_taken Exec (outermost 0 (codes "m.py") taken_scopes) ≡ Refused (error.SyntaxError (codes "cannot assign to __debug__")) (Some (source_place 1 1))
-unfolding with_step with_block with_name with_varname with_constant with_loops with_location refuse emit jump one_block two_blocks three_blocks put_instruction emit_count emit_name emit_varname emit_mangled add_varname add_constant emit_constant move generator_mark pass_over by_context by_level by_loops in_loop name_access inside with_path child lambda_value emission_of_def load_cell assembled_object
+unfolding with_step with_block with_name with_varname with_constant with_loops with_location refuse emit jump one_block two_blocks three_blocks put_instruction emit_count emit_name emit_varname emit_mangled add_varname add_constant emit_constant move generator_mark pass_over by_context by_level by_loops in_loop name_access inside with_path child lambda_value emission_of_def load_cell assembled_object has_layout
 taken_refused = refl
 
 taken_faults : sample_tool_faults (compile_faults Exec 0 import_sample_taken) ≡ (((codes "cannot assign to __debug__"), Some (source_place 1 1)) ∷ ((codes "cannot assign to __debug__"), Some (source_place 1 1)) ∷ [])

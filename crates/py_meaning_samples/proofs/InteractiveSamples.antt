@@ -15,6 +15,7 @@ use Rattle.py_emission_parts.specs.Children.{child, load_cell}
 use Rattle.py_emission_parts.specs.Context.{inside, outermost, with_path, nested_in_class}
 use Rattle.py_emission_parts.specs.Emitting.{Refused, with_step, with_block, with_name, with_varname, with_constant, with_loops, with_location, refuse, emit, jump, emit_count, emit_name, emit_varname, emit_mangled, add_varname, add_constant, emit_constant, move, generator_mark, pass_over, by_context, by_level, by_loops, in_loop, one_block, two_blocks, three_blocks}
 use Rattle.py_emission_parts.specs.Running.{put_instruction}
+use Rattle.py_emission_parts.specs.Laid.{has_layout}
 use Rattle.py_emission_parts.specs.Sealed.{assembled_object}
 use Rattle.py_emission.specs.Emission.{lambda_value}
 use Rattle.py_emission.specs.EmissionDefs.{emission_of_class, emission_of_def}
@@ -35,7 +36,7 @@ abbrev nothing_object : Object
 nothing_object = (sealed_as 0 None 1 0 0 0 1 (codes "<module>") ((object_tool_unit op.ReturnConst 0) ∷ []) ((source_place 1 1) ∷ []) [] [] [] [] (const.none ∷ []))
 
 nothing_emitted : object_in_mode nothing_scopes interactive_sample_nothing Single 0 ≡ Some (nothing_object, length nothing_scopes)
-unfolding with_step with_block with_name with_varname with_constant with_loops with_location refuse emit jump one_block two_blocks three_blocks put_instruction emit_count emit_name emit_varname emit_mangled add_varname add_constant emit_constant move generator_mark pass_over by_context by_level by_loops in_loop name_access inside with_path nested_in_class child lambda_value emission_of_def emission_of_class load_cell assembled_object
+unfolding with_step with_block with_name with_varname with_constant with_loops with_location refuse emit jump one_block two_blocks three_blocks put_instruction emit_count emit_name emit_varname emit_mangled add_varname add_constant emit_constant move generator_mark pass_over by_context by_level by_loops in_loop name_access inside with_path nested_in_class child lambda_value emission_of_def emission_of_class load_cell assembled_object has_layout
 nothing_emitted = refl
 
 nothing_forms : codes_of_object 9 nothing_object ≡ codes_of_scope 9 (body nothing_scopes interactive_sample_nothing Single 0)
@@ -59,7 +60,7 @@ abbrev two_printed_object : Object
 two_printed_object = (sealed_as 2 None 1 0 0 0 1 (codes "<module>") ((object_tool_unit op.LoadNameAny 0) ∷ (object_tool_unit op.LoadConst 0) ∷ (object_tool_unit op.CallFunctionPositional 1) ∷ (object_tool_unit op.PrintExpr 0) ∷ (object_tool_unit op.LoadConst 1) ∷ (object_tool_unit op.StoreLocal 1) ∷ (object_tool_unit op.LoadNameAny 1) ∷ (object_tool_unit op.Duplicate 0) ∷ (object_tool_unit op.PrintExpr 0) ∷ (object_tool_unit op.ReturnValue 0) ∷ []) ((source_place 1 1) ∷ (source_place 1 3) ∷ (source_place 1 3) ∷ (source_place 1 3) ∷ (source_place 2 5) ∷ (source_place 2 5) ∷ (source_place 3 1) ∷ (source_place 3 1) ∷ (source_place 3 1) ∷ (source_place 3 1) ∷ []) ((codes "f") ∷ (codes "x") ∷ []) [] [] [] ((const.integer (pos 1)) ∷ (const.integer (pos 2)) ∷ []))
 
 two_printed_emitted : object_in_mode two_printed_scopes two_printed Single 0 ≡ Some (two_printed_object, length two_printed_scopes)
-unfolding with_step with_block with_name with_varname with_constant with_loops with_location refuse emit jump one_block two_blocks three_blocks put_instruction emit_count emit_name emit_varname emit_mangled add_varname add_constant emit_constant move generator_mark pass_over by_context by_level by_loops in_loop name_access inside with_path nested_in_class child lambda_value emission_of_def emission_of_class load_cell assembled_object
+unfolding with_step with_block with_name with_varname with_constant with_loops with_location refuse emit jump one_block two_blocks three_blocks put_instruction emit_count emit_name emit_varname emit_mangled add_varname add_constant emit_constant move generator_mark pass_over by_context by_level by_loops in_loop name_access inside with_path nested_in_class child lambda_value emission_of_def emission_of_class load_cell assembled_object has_layout
 two_printed_emitted = refl
 
 two_printed_forms : codes_of_object 9 two_printed_object ≡ codes_of_scope 9 (body two_printed_scopes two_printed Single 0)
@@ -82,7 +83,7 @@ abbrev constant_printed_object : Object
 constant_printed_object = (sealed_as 2 None 1 0 0 0 1 (codes "<module>") ((object_tool_unit op.LoadConst 0) ∷ (object_tool_unit op.PrintExpr 0) ∷ (object_tool_unit op.LoadConst 1) ∷ (object_tool_unit op.Duplicate 0) ∷ (object_tool_unit op.PrintExpr 0) ∷ (object_tool_unit op.ReturnValue 0) ∷ []) ((source_place 1 1) ∷ (source_place 1 1) ∷ (source_place 2 1) ∷ (source_place 2 1) ∷ (source_place 2 1) ∷ (source_place 2 1) ∷ []) [] [] [] [] ((const.str (codes "doc")) ∷ (const.integer (pos 1)) ∷ []))
 
 constant_printed_emitted : object_in_mode constant_printed_scopes constant_printed Single 0 ≡ Some (constant_printed_object, length constant_printed_scopes)
-unfolding with_step with_block with_name with_varname with_constant with_loops with_location refuse emit jump one_block two_blocks three_blocks put_instruction emit_count emit_name emit_varname emit_mangled add_varname add_constant emit_constant move generator_mark pass_over by_context by_level by_loops in_loop name_access inside with_path nested_in_class child lambda_value emission_of_def emission_of_class load_cell assembled_object
+unfolding with_step with_block with_name with_varname with_constant with_loops with_location refuse emit jump one_block two_blocks three_blocks put_instruction emit_count emit_name emit_varname emit_mangled add_varname add_constant emit_constant move generator_mark pass_over by_context by_level by_loops in_loop name_access inside with_path nested_in_class child lambda_value emission_of_def emission_of_class load_cell assembled_object has_layout
 constant_printed_emitted = refl
 
 constant_printed_forms : codes_of_object 9 constant_printed_object ≡ codes_of_scope 9 (body constant_printed_scopes constant_printed Single 0)
@@ -105,7 +106,7 @@ abbrev nested_dropped_object : Object
 nested_dropped_object = (sealed_as 1 None 1 0 0 0 1 (codes "<module>") ((object_tool_unit op.LoadNameAny 0) ∷ (object_tool_unit op.JumpIfFalse 4) ∷ (object_tool_unit op.LoadNameAny 1) ∷ (object_tool_unit op.Pop 0) ∷ (object_tool_unit op.ReturnConst 0) ∷ []) ((source_place 1 4) ∷ (source_place 1 4) ∷ (source_place 2 5) ∷ (source_place 2 5) ∷ (source_place 2 5) ∷ []) ((codes "c") ∷ (codes "x") ∷ []) [] [] [] (const.none ∷ []))
 
 nested_dropped_emitted : object_in_mode nested_dropped_scopes nested_dropped Single 0 ≡ Some (nested_dropped_object, length nested_dropped_scopes)
-unfolding with_step with_block with_name with_varname with_constant with_loops with_location refuse emit jump one_block two_blocks three_blocks put_instruction emit_count emit_name emit_varname emit_mangled add_varname add_constant emit_constant move generator_mark pass_over by_context by_level by_loops in_loop name_access inside with_path nested_in_class child lambda_value emission_of_def emission_of_class load_cell assembled_object
+unfolding with_step with_block with_name with_varname with_constant with_loops with_location refuse emit jump one_block two_blocks three_blocks put_instruction emit_count emit_name emit_varname emit_mangled add_varname add_constant emit_constant move generator_mark pass_over by_context by_level by_loops in_loop name_access inside with_path nested_in_class child lambda_value emission_of_def emission_of_class load_cell assembled_object has_layout
 nested_dropped_emitted = refl
 
 nested_dropped_forms : codes_of_object 9 nested_dropped_object ≡ codes_of_scope 9 (body nested_dropped_scopes nested_dropped Single 0)
@@ -130,7 +131,7 @@ abbrev prompted_def_object : Object
 prompted_def_object = (sealed_as 3 None 1 0 0 0 1 (codes "<module>") ((object_tool_unit op.LoadConst 0) ∷ (object_tool_unit op.StoreLocal 0) ∷ (object_tool_unit op.LoadNameAny 1) ∷ (object_tool_unit op.LoadNameAny 2) ∷ (object_tool_unit op.LoadConst 1) ∷ (object_tool_unit op.StoreSubscript 0) ∷ (object_tool_unit op.LoadConst 2) ∷ (object_tool_unit op.LoadConst 3) ∷ (object_tool_unit op.MakeFunction 0) ∷ (object_tool_unit op.StoreLocal 3) ∷ (object_tool_unit op.ReturnConst 4) ∷ []) ((source_place 1 10) ∷ (source_place 1 10) ∷ (source_place 1 4) ∷ (source_place 1 4) ∷ (source_place 1 4) ∷ (source_place 1 4) ∷ (source_place 4 12) ∷ (source_place 4 12) ∷ (source_place 4 12) ∷ (source_place 4 12) ∷ (source_place 4 12) ∷ []) ((codes "x") ∷ (codes "int") ∷ (codes "__annotations__") ∷ (codes "f") ∷ []) [] [] [] ((const.integer (pos 1)) ∷ (const.str (codes "x")) ∷ (const.code (sealed_as 1 None 33 0 1 0 2 (codes "f") ((object_tool_unit op.LoadFast 0) ∷ (object_tool_unit op.Pop 0) ∷ (object_tool_unit op.LoadFast 0) ∷ (object_tool_unit op.ReturnValue 0) ∷ []) ((source_place 3 5) ∷ (source_place 3 5) ∷ (source_place 4 12) ∷ (source_place 4 12) ∷ []) [] ((codes "a") ∷ []) [] [] (const.none ∷ []))) ∷ (const.str (codes "f")) ∷ const.none ∷ []))
 
 prompted_def_emitted : object_in_mode prompted_def_scopes prompted_def Single 0 ≡ Some (prompted_def_object, length prompted_def_scopes)
-unfolding with_step with_block with_name with_varname with_constant with_loops with_location refuse emit jump one_block two_blocks three_blocks put_instruction emit_count emit_name emit_varname emit_mangled add_varname add_constant emit_constant move generator_mark pass_over by_context by_level by_loops in_loop name_access inside with_path nested_in_class child lambda_value emission_of_def emission_of_class load_cell assembled_object
+unfolding with_step with_block with_name with_varname with_constant with_loops with_location refuse emit jump one_block two_blocks three_blocks put_instruction emit_count emit_name emit_varname emit_mangled add_varname add_constant emit_constant move generator_mark pass_over by_context by_level by_loops in_loop name_access inside with_path nested_in_class child lambda_value emission_of_def emission_of_class load_cell assembled_object has_layout
 prompted_def_emitted = refl
 
 prompted_def_forms : codes_of_object 9 prompted_def_object ≡ codes_of_scope 9 (body prompted_def_scopes prompted_def Single 0)
@@ -152,7 +153,7 @@ abbrev prompted_faults_scopes : List ScopeEntry
 prompted_faults_scopes = ((entry kinds.Module ((object_tool_symbol (codes "a") symbols.Unknown 1) ∷ (object_tool_symbol (codes "b") symbols.Unknown 1) ∷ (object_tool_symbol (codes "c") symbols.Unknown 1) ∷ (object_tool_symbol (codes "__debug__") symbols.Local 2) ∷ []) 1) ∷ [])
 
 prompted_faults_refused : emission_outcome prompted_faults Single (outermost 0 (codes "m.py") prompted_faults_scopes) ≡ Refused error.InvalidBreak (Some (source_place 2 1))
-unfolding with_step with_block with_name with_varname with_constant with_loops with_location refuse emit jump one_block two_blocks three_blocks put_instruction emit_count emit_name emit_varname emit_mangled add_varname add_constant emit_constant move generator_mark pass_over by_context by_level by_loops in_loop name_access inside with_path nested_in_class child lambda_value emission_of_def emission_of_class load_cell assembled_object
+unfolding with_step with_block with_name with_varname with_constant with_loops with_location refuse emit jump one_block two_blocks three_blocks put_instruction emit_count emit_name emit_varname emit_mangled add_varname add_constant emit_constant move generator_mark pass_over by_context by_level by_loops in_loop name_access inside with_path nested_in_class child lambda_value emission_of_def emission_of_class load_cell assembled_object has_layout
 prompted_faults_refused = refl
 
 prompted_faults_faults : sample_tool_faults (compile_faults Single 0 prompted_faults) ≡ (((codes "'break' outside loop"), Some (source_place 2 1)) ∷ ((codes "cannot use starred expression here"), Some (source_place 3 1)) ∷ ((codes "cannot assign to __debug__"), Some (source_place 4 13)) ∷ [])
@@ -169,7 +170,7 @@ abbrev empty_block_object : Object
 empty_block_object = (sealed_as 0 None 1 0 0 0 1 (codes "<module>") ((object_tool_unit op.ReturnConst 0) ∷ []) ((source_place 1 1) ∷ []) [] [] [] [] (const.none ∷ []))
 
 empty_block_emitted : object_in_mode empty_block_scopes empty_block BlockExpr 0 ≡ Some (empty_block_object, length empty_block_scopes)
-unfolding with_step with_block with_name with_varname with_constant with_loops with_location refuse emit jump one_block two_blocks three_blocks put_instruction emit_count emit_name emit_varname emit_mangled add_varname add_constant emit_constant move generator_mark pass_over by_context by_level by_loops in_loop name_access inside with_path nested_in_class child lambda_value emission_of_def emission_of_class load_cell assembled_object
+unfolding with_step with_block with_name with_varname with_constant with_loops with_location refuse emit jump one_block two_blocks three_blocks put_instruction emit_count emit_name emit_varname emit_mangled add_varname add_constant emit_constant move generator_mark pass_over by_context by_level by_loops in_loop name_access inside with_path nested_in_class child lambda_value emission_of_def emission_of_class load_cell assembled_object has_layout
 empty_block_emitted = refl
 
 empty_block_forms : codes_of_object 9 empty_block_object ≡ codes_of_scope 9 (body empty_block_scopes empty_block BlockExpr 0)
@@ -193,7 +194,7 @@ abbrev last_value_object : Object
 last_value_object = (sealed_as 3 None 1 0 0 0 1 (codes "<module>") ((object_tool_unit op.LoadConst 0) ∷ (object_tool_unit op.Pop 0) ∷ (object_tool_unit op.LoadNameAny 0) ∷ (object_tool_unit op.LoadConst 1) ∷ (object_tool_unit op.CallFunctionPositional 1) ∷ (object_tool_unit op.StoreLocal 1) ∷ (object_tool_unit op.LoadNameAny 2) ∷ (object_tool_unit op.LoadNameAny 3) ∷ (object_tool_unit op.LoadConst 2) ∷ (object_tool_unit op.StoreSubscript 0) ∷ (object_tool_unit op.LoadNameAny 1) ∷ (object_tool_unit op.ReturnValue 0) ∷ []) ((source_place 1 1) ∷ (source_place 1 1) ∷ (source_place 2 10) ∷ (source_place 2 12) ∷ (source_place 2 12) ∷ (source_place 2 12) ∷ (source_place 2 4) ∷ (source_place 2 4) ∷ (source_place 2 4) ∷ (source_place 2 4) ∷ (source_place 3 1) ∷ (source_place 3 1) ∷ []) ((codes "f") ∷ (codes "x") ∷ (codes "int") ∷ (codes "__annotations__") ∷ []) [] [] [] ((const.str (codes "doc")) ∷ (const.integer (pos 1)) ∷ (const.str (codes "x")) ∷ []))
 
 last_value_emitted : object_in_mode last_value_scopes last_value BlockExpr 0 ≡ Some (last_value_object, length last_value_scopes)
-unfolding with_step with_block with_name with_varname with_constant with_loops with_location refuse emit jump one_block two_blocks three_blocks put_instruction emit_count emit_name emit_varname emit_mangled add_varname add_constant emit_constant move generator_mark pass_over by_context by_level by_loops in_loop name_access inside with_path nested_in_class child lambda_value emission_of_def emission_of_class load_cell assembled_object
+unfolding with_step with_block with_name with_varname with_constant with_loops with_location refuse emit jump one_block two_blocks three_blocks put_instruction emit_count emit_name emit_varname emit_mangled add_varname add_constant emit_constant move generator_mark pass_over by_context by_level by_loops in_loop name_access inside with_path nested_in_class child lambda_value emission_of_def emission_of_class load_cell assembled_object has_layout
 last_value_emitted = refl
 
 last_value_forms : codes_of_object 9 last_value_object ≡ codes_of_scope 9 (body last_value_scopes last_value BlockExpr 0)
@@ -216,7 +217,7 @@ abbrev last_constant_object : Object
 last_constant_object = (sealed_as 2 None 1 0 0 0 1 (codes "<module>") ((object_tool_unit op.LoadNameAny 0) ∷ (object_tool_unit op.Pop 0) ∷ (object_tool_unit op.LoadConst 0) ∷ (object_tool_unit op.LoadConst 1) ∷ (object_tool_unit op.BuildTuple 2) ∷ (object_tool_unit op.ReturnValue 0) ∷ []) ((source_place 1 1) ∷ (source_place 1 1) ∷ (source_place 2 2) ∷ (source_place 2 5) ∷ (source_place 2 5) ∷ (source_place 2 5) ∷ []) ((codes "x") ∷ []) [] [] [] ((const.integer (pos 1)) ∷ (const.integer (pos 2)) ∷ []))
 
 last_constant_emitted : object_in_mode last_constant_scopes last_constant BlockExpr 1 ≡ Some (last_constant_object, length last_constant_scopes)
-unfolding with_step with_block with_name with_varname with_constant with_loops with_location refuse emit jump one_block two_blocks three_blocks put_instruction emit_count emit_name emit_varname emit_mangled add_varname add_constant emit_constant move generator_mark pass_over by_context by_level by_loops in_loop name_access inside with_path nested_in_class child lambda_value emission_of_def emission_of_class load_cell assembled_object
+unfolding with_step with_block with_name with_varname with_constant with_loops with_location refuse emit jump one_block two_blocks three_blocks put_instruction emit_count emit_name emit_varname emit_mangled add_varname add_constant emit_constant move generator_mark pass_over by_context by_level by_loops in_loop name_access inside with_path nested_in_class child lambda_value emission_of_def emission_of_class load_cell assembled_object has_layout
 last_constant_emitted = refl
 
 last_constant_forms : codes_of_object 9 last_constant_object ≡ codes_of_scope 9 (body last_constant_scopes last_constant BlockExpr 1)
@@ -239,7 +240,7 @@ abbrev last_statement_object : Object
 last_statement_object = (sealed_as 1 None 1 0 0 0 1 (codes "<module>") ((object_tool_unit op.SetupLoop 0) ∷ (object_tool_unit op.LoadNameAny 0) ∷ (object_tool_unit op.JumpIfFalse 6) ∷ (object_tool_unit op.LoadNameAny 1) ∷ (object_tool_unit op.Pop 0) ∷ (object_tool_unit op.Jump 1) ∷ (object_tool_unit op.PopBlock 0) ∷ (object_tool_unit op.ReturnConst 0) ∷ []) ((source_place 1 1) ∷ (source_place 1 7) ∷ (source_place 1 7) ∷ (source_place 2 5) ∷ (source_place 2 5) ∷ (source_place 2 5) ∷ (source_place 2 5) ∷ (source_place 2 5) ∷ []) ((codes "c") ∷ (codes "x") ∷ []) [] [] [] (const.none ∷ []))
 
 last_statement_emitted : object_in_mode last_statement_scopes last_statement BlockExpr 0 ≡ Some (last_statement_object, length last_statement_scopes)
-unfolding with_step with_block with_name with_varname with_constant with_loops with_location refuse emit jump one_block two_blocks three_blocks put_instruction emit_count emit_name emit_varname emit_mangled add_varname add_constant emit_constant move generator_mark pass_over by_context by_level by_loops in_loop name_access inside with_path nested_in_class child lambda_value emission_of_def emission_of_class load_cell assembled_object
+unfolding with_step with_block with_name with_varname with_constant with_loops with_location refuse emit jump one_block two_blocks three_blocks put_instruction emit_count emit_name emit_varname emit_mangled add_varname add_constant emit_constant move generator_mark pass_over by_context by_level by_loops in_loop name_access inside with_path nested_in_class child lambda_value emission_of_def emission_of_class load_cell assembled_object has_layout
 last_statement_emitted = refl
 
 last_statement_forms : codes_of_object 9 last_statement_object ≡ codes_of_scope 9 (body last_statement_scopes last_statement BlockExpr 0)
@@ -265,7 +266,7 @@ abbrev last_def_object : Object
 last_def_object = (sealed_as 4 None 1 0 0 0 1 (codes "<module>") ((object_tool_unit op.LoadNameAny 0) ∷ (object_tool_unit op.Pop 0) ∷ (object_tool_unit op.LoadNameAny 1) ∷ (object_tool_unit op.LoadConst 0) ∷ (object_tool_unit op.BuildTuple 1) ∷ (object_tool_unit op.LoadConst 1) ∷ (object_tool_unit op.LoadConst 2) ∷ (object_tool_unit op.MakeFunction 8) ∷ (object_tool_unit op.Duplicate 0) ∷ (object_tool_unit op.LoadConst 3) ∷ (object_tool_unit op.Rotate2 0) ∷ (object_tool_unit op.StoreAttr 2) ∷ (object_tool_unit op.CallFunctionPositional 1) ∷ (object_tool_unit op.Duplicate 0) ∷ (object_tool_unit op.StoreLocal 3) ∷ (object_tool_unit op.ReturnValue 0) ∷ []) ((source_place 1 1) ∷ (source_place 1 1) ∷ (source_place 2 2) ∷ (source_place 3 12) ∷ (source_place 3 12) ∷ (source_place 5 12) ∷ (source_place 5 12) ∷ (source_place 5 12) ∷ (source_place 5 12) ∷ (source_place 5 12) ∷ (source_place 5 12) ∷ (source_place 5 12) ∷ (source_place 5 12) ∷ (source_place 5 12) ∷ (source_place 5 12) ∷ (source_place 5 12) ∷ []) ((codes "x") ∷ (codes "d") ∷ (codes "__doc__") ∷ (codes "f") ∷ []) [] [] [] ((const.integer (pos 1)) ∷ (const.code (sealed_as 1 None 33 0 2 0 3 (codes "f") ((object_tool_unit op.LoadFast 0) ∷ (object_tool_unit op.ReturnValue 0) ∷ []) ((source_place 5 12) ∷ (source_place 5 12) ∷ []) [] ((codes "a") ∷ (codes "b") ∷ []) [] [] (const.none ∷ []))) ∷ (const.str (codes "f")) ∷ (const.str (codes "doc")) ∷ []))
 
 last_def_emitted : object_in_mode last_def_scopes last_def BlockExpr 0 ≡ Some (last_def_object, length last_def_scopes)
-unfolding with_step with_block with_name with_varname with_constant with_loops with_location refuse emit jump one_block two_blocks three_blocks put_instruction emit_count emit_name emit_varname emit_mangled add_varname add_constant emit_constant move generator_mark pass_over by_context by_level by_loops in_loop name_access inside with_path nested_in_class child lambda_value emission_of_def emission_of_class load_cell assembled_object
+unfolding with_step with_block with_name with_varname with_constant with_loops with_location refuse emit jump one_block two_blocks three_blocks put_instruction emit_count emit_name emit_varname emit_mangled add_varname add_constant emit_constant move generator_mark pass_over by_context by_level by_loops in_loop name_access inside with_path nested_in_class child lambda_value emission_of_def emission_of_class load_cell assembled_object has_layout
 last_def_emitted = refl
 
 last_def_forms : codes_of_object 9 last_def_object ≡ codes_of_scope 9 (body last_def_scopes last_def BlockExpr 0)
@@ -290,7 +291,7 @@ abbrev last_class_object : Object
 last_class_object = (sealed_as 4 None 1 0 0 0 1 (codes "<module>") ((object_tool_unit op.LoadBuildClass 0) ∷ (object_tool_unit op.LoadConst 0) ∷ (object_tool_unit op.LoadConst 1) ∷ (object_tool_unit op.MakeFunction 0) ∷ (object_tool_unit op.LoadConst 1) ∷ (object_tool_unit op.LoadNameAny 0) ∷ (object_tool_unit op.CallFunctionPositional 3) ∷ (object_tool_unit op.Duplicate 0) ∷ (object_tool_unit op.StoreLocal 1) ∷ (object_tool_unit op.ReturnValue 0) ∷ []) ((source_place 1 1) ∷ (source_place 4 16) ∷ (source_place 4 16) ∷ (source_place 4 16) ∷ (source_place 4 16) ∷ (source_place 1 9) ∷ (source_place 1 9) ∷ (source_place 1 9) ∷ (source_place 1 9) ∷ (source_place 1 9) ∷ []) ((codes "B") ∷ (codes "C") ∷ []) [] [] [] ((const.code (sealed_as 3 None 0 0 0 0 1 (codes "C") ((object_tool_unit op.LoadGlobal 0) ∷ (object_tool_unit op.StoreLocal 1) ∷ (object_tool_unit op.LoadConst 0) ∷ (object_tool_unit op.StoreLocal 2) ∷ (object_tool_unit op.LoadConst 1) ∷ (object_tool_unit op.StoreLocal 3) ∷ (object_tool_unit op.LoadConst 2) ∷ (object_tool_unit op.StoreLocal 4) ∷ (object_tool_unit op.LoadClosure 0) ∷ (object_tool_unit op.BuildTuple 1) ∷ (object_tool_unit op.LoadConst 3) ∷ (object_tool_unit op.LoadConst 4) ∷ (object_tool_unit op.MakeFunction 1) ∷ (object_tool_unit op.StoreLocal 5) ∷ (object_tool_unit op.LoadClosure 0) ∷ (object_tool_unit op.Duplicate 0) ∷ (object_tool_unit op.StoreLocal 6) ∷ (object_tool_unit op.ReturnValue 0) ∷ []) ((source_place 1 1) ∷ (source_place 1 1) ∷ (source_place 1 1) ∷ (source_place 1 1) ∷ (source_place 1 1) ∷ (source_place 1 1) ∷ (source_place 2 9) ∷ (source_place 2 9) ∷ (source_place 4 16) ∷ (source_place 4 16) ∷ (source_place 4 16) ∷ (source_place 4 16) ∷ (source_place 4 16) ∷ (source_place 4 16) ∷ (source_place 4 16) ∷ (source_place 4 16) ∷ (source_place 4 16) ∷ (source_place 4 16) ∷ []) ((codes "__name__") ∷ (codes "__module__") ∷ (codes "__qualname__") ∷ (codes "__doc__") ∷ (codes "x") ∷ (codes "m") ∷ (codes "__classcell__") ∷ []) [] ((codes "__class__") ∷ []) [] ((const.str (codes "C")) ∷ const.none ∷ (const.integer (pos 1)) ∷ (const.code (sealed_as 1 None 33 0 1 0 3 (codes "m") ((object_tool_unit op.LoadDeref 0) ∷ (object_tool_unit op.ReturnValue 0) ∷ []) ((source_place 4 16) ∷ (source_place 4 16) ∷ []) [] ((codes "self") ∷ []) [] ((codes "__class__") ∷ []) (const.none ∷ []))) ∷ (const.str (codes "C.m")) ∷ []))) ∷ (const.str (codes "C")) ∷ []))
 
 last_class_emitted : object_in_mode last_class_scopes last_class BlockExpr 0 ≡ Some (last_class_object, length last_class_scopes)
-unfolding with_step with_block with_name with_varname with_constant with_loops with_location refuse emit jump one_block two_blocks three_blocks put_instruction emit_count emit_name emit_varname emit_mangled add_varname add_constant emit_constant move generator_mark pass_over by_context by_level by_loops in_loop name_access inside with_path nested_in_class child lambda_value emission_of_def emission_of_class load_cell assembled_object
+unfolding with_step with_block with_name with_varname with_constant with_loops with_location refuse emit jump one_block two_blocks three_blocks put_instruction emit_count emit_name emit_varname emit_mangled add_varname add_constant emit_constant move generator_mark pass_over by_context by_level by_loops in_loop name_access inside with_path nested_in_class child lambda_value emission_of_def emission_of_class load_cell assembled_object has_layout
 last_class_emitted = refl
 
 last_class_forms : codes_of_object 9 last_class_object ≡ codes_of_scope 9 (body last_class_scopes last_class BlockExpr 0)
@@ -310,7 +311,7 @@ abbrev last_faults_scopes : List ScopeEntry
 last_faults_scopes = ((entry kinds.Module ((object_tool_symbol (codes "__debug__") symbols.Local 2) ∷ []) 2) ∷ (entry kinds.Function [] 2) ∷ [])
 
 last_faults_refused : emission_outcome last_faults BlockExpr (outermost 0 (codes "m.py") last_faults_scopes) ≡ Refused error.InvalidContinue (Some (source_place 2 5))
-unfolding with_step with_block with_name with_varname with_constant with_loops with_location refuse emit jump one_block two_blocks three_blocks put_instruction emit_count emit_name emit_varname emit_mangled add_varname add_constant emit_constant move generator_mark pass_over by_context by_level by_loops in_loop name_access inside with_path nested_in_class child lambda_value emission_of_def emission_of_class load_cell assembled_object
+unfolding with_step with_block with_name with_varname with_constant with_loops with_location refuse emit jump one_block two_blocks three_blocks put_instruction emit_count emit_name emit_varname emit_mangled add_varname add_constant emit_constant move generator_mark pass_over by_context by_level by_loops in_loop name_access inside with_path nested_in_class child lambda_value emission_of_def emission_of_class load_cell assembled_object has_layout
 last_faults_refused = refl
 
 last_faults_faults : sample_tool_faults (compile_faults BlockExpr 0 last_faults) ≡ (((codes "'continue' outside loop"), Some (source_place 2 5)) ∷ ((codes "cannot assign to __debug__"), Some (source_place 2 5)) ∷ [])

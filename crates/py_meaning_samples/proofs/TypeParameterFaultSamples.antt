@@ -17,6 +17,7 @@ use Rattle.py_emission_parts.specs.Comprehensions.{as_element, called_at_once}
 use Rattle.py_emission_parts.specs.Context.{inside, outermost, with_path, nested_in_class}
 use Rattle.py_emission_parts.specs.Emitting.{Refused, with_step, with_block, with_name, with_varname, with_constant, with_loops, with_postponed, with_location, refuse, emit, jump, emit_count, emit_name, emit_varname, emit_mangled, add_varname, add_constant, emit_constant, move, generator_mark, pass_over, by_context, by_level, by_loops, in_loop, postponed_part, one_block, two_blocks, three_blocks}
 use Rattle.py_emission_parts.specs.Running.{put_instruction}
+use Rattle.py_emission_parts.specs.Laid.{has_layout}
 use Rattle.py_emission_parts.specs.Sealed.{assembled_object}
 use Rattle.py_emission.specs.Emission.{lambda_value}
 use Rattle.py_emission.specs.EmissionDefs.{emission_of_class, emission_of_def, emission_of_generic_class, emission_of_generic_def}
@@ -41,7 +42,7 @@ abbrev last_generic_object : Object
 last_generic_object = (sealed_as 3 None 1 0 0 0 1 (codes "<module>") ((object_tool_unit op.LoadBuildClass 0) ∷ (object_tool_unit op.LoadConst 0) ∷ (object_tool_unit op.LoadConst 1) ∷ (object_tool_unit op.MakeFunction 0) ∷ (object_tool_unit op.LoadConst 1) ∷ (object_tool_unit op.CallFunctionPositional 2) ∷ (object_tool_unit op.StoreLocal 0) ∷ (object_tool_unit op.LoadNameAny 1) ∷ (object_tool_unit op.LoadConst 2) ∷ (object_tool_unit op.LoadConst 3) ∷ (object_tool_unit op.MakeFunction 0) ∷ (object_tool_unit op.LoadConst 4) ∷ (object_tool_unit op.BuildTuple 1) ∷ (object_tool_unit op.CallFunctionPositional 1) ∷ (object_tool_unit op.CallFunctionPositional 1) ∷ (object_tool_unit op.StoreLocal 2) ∷ (object_tool_unit op.ReturnConst 5) ∷ []) ((source_place 1 1) ∷ (source_place 1 10) ∷ (source_place 1 10) ∷ (source_place 1 10) ∷ (source_place 1 10) ∷ (source_place 1 10) ∷ (source_place 1 10) ∷ (source_place 2 2) ∷ (source_place 2 2) ∷ (source_place 2 2) ∷ (source_place 2 2) ∷ (source_place 3 12) ∷ (source_place 3 12) ∷ (source_place 3 12) ∷ (source_place 3 12) ∷ (source_place 3 12) ∷ (source_place 3 12) ∷ []) ((codes "A") ∷ (codes "d") ∷ (codes "f") ∷ []) [] [] [] ((const.code (sealed_as 1 None 0 0 0 0 1 (codes "A") ((object_tool_unit op.LoadGlobal 0) ∷ (object_tool_unit op.StoreLocal 1) ∷ (object_tool_unit op.LoadConst 0) ∷ (object_tool_unit op.StoreLocal 2) ∷ (object_tool_unit op.LoadConst 1) ∷ (object_tool_unit op.StoreLocal 3) ∷ (object_tool_unit op.ReturnConst 1) ∷ []) ((source_place 1 1) ∷ (source_place 1 1) ∷ (source_place 1 1) ∷ (source_place 1 1) ∷ (source_place 1 1) ∷ (source_place 1 1) ∷ (source_place 1 10) ∷ []) ((codes "__name__") ∷ (codes "__module__") ∷ (codes "__qualname__") ∷ (codes "__doc__") ∷ []) [] [] [] ((const.str (codes "A")) ∷ const.none ∷ []))) ∷ (const.str (codes "A")) ∷ (const.code (sealed_as 4 None 33 1 1 0 2 (codes "<generic parameters of f>") ((object_tool_unit op.LoadFast 0) ∷ (object_tool_unit op.LoadConst 0) ∷ (object_tool_unit op.TypeVar 0) ∷ (object_tool_unit op.Duplicate 0) ∷ (object_tool_unit op.StoreFast 1) ∷ (object_tool_unit op.BuildTuple 1) ∷ (object_tool_unit op.LoadConst 1) ∷ (object_tool_unit op.LoadConst 2) ∷ (object_tool_unit op.MakeFunction 24) ∷ (object_tool_unit op.Duplicate 0) ∷ (object_tool_unit op.LoadConst 3) ∷ (object_tool_unit op.Rotate2 0) ∷ (object_tool_unit op.StoreAttr 0) ∷ (object_tool_unit op.ReturnValue 0) ∷ []) ((source_place 2 2) ∷ (source_place 2 2) ∷ (source_place 2 2) ∷ (source_place 2 2) ∷ (source_place 2 2) ∷ (source_place 2 2) ∷ (source_place 2 2) ∷ (source_place 2 2) ∷ (source_place 2 2) ∷ (source_place 2 2) ∷ (source_place 2 2) ∷ (source_place 2 2) ∷ (source_place 2 2) ∷ (source_place 2 2) ∷ []) ((codes "__doc__") ∷ []) ((codes ".defaults") ∷ (codes "T") ∷ []) [] [] ((const.str (codes "T")) ∷ (const.code (sealed_as 0 None 33 0 1 0 2 (codes "f") ((object_tool_unit op.ReturnConst 0) ∷ []) ((source_place 2 2) ∷ []) [] ((codes "x") ∷ []) [] [] (const.none ∷ []))) ∷ (const.str (codes "f")) ∷ (const.str (codes "doc")) ∷ []))) ∷ (const.str (codes "<generic parameters of f>")) ∷ (const.integer (pos 1)) ∷ const.none ∷ []))
 
 last_generic_emitted : object_in_mode last_generic_scopes last_generic BlockExpr 0 ≡ Some (last_generic_object, length last_generic_scopes)
-unfolding with_step with_block with_name with_varname with_constant with_loops with_postponed with_location refuse emit jump one_block two_blocks three_blocks put_instruction emit_count emit_name emit_varname emit_mangled add_varname add_constant emit_constant move generator_mark pass_over by_context by_level by_loops in_loop postponed_part name_access inside with_path nested_in_class child lambda_value emission_of_def emission_of_generic_def emission_of_class emission_of_generic_class load_cell assembled_object as_element called_at_once
+unfolding with_step with_block with_name with_varname with_constant with_loops with_postponed with_location refuse emit jump one_block two_blocks three_blocks put_instruction emit_count emit_name emit_varname emit_mangled add_varname add_constant emit_constant move generator_mark pass_over by_context by_level by_loops in_loop postponed_part name_access inside with_path nested_in_class child lambda_value emission_of_def emission_of_generic_def emission_of_class emission_of_generic_class load_cell assembled_object has_layout as_element called_at_once
 last_generic_emitted = refl
 
 last_generic_forms : codes_of_object 9 last_generic_object ≡ codes_of_scope 9 (body last_generic_scopes last_generic BlockExpr 0)
@@ -65,7 +66,7 @@ abbrev last_generic_class_object : Object
 last_generic_class_object = (sealed_as 3 None 1 0 0 0 1 (codes "<module>") ((object_tool_unit op.LoadConst 0) ∷ (object_tool_unit op.LoadConst 1) ∷ (object_tool_unit op.MakeFunction 0) ∷ (object_tool_unit op.CallFunctionPositional 0) ∷ (object_tool_unit op.StoreLocal 0) ∷ (object_tool_unit op.LoadNameAny 1) ∷ (object_tool_unit op.LoadConst 2) ∷ (object_tool_unit op.LoadConst 3) ∷ (object_tool_unit op.MakeFunction 0) ∷ (object_tool_unit op.CallFunctionPositional 0) ∷ (object_tool_unit op.CallFunctionPositional 1) ∷ (object_tool_unit op.StoreLocal 2) ∷ (object_tool_unit op.ReturnConst 4) ∷ []) ((source_place 1 13) ∷ (source_place 1 13) ∷ (source_place 1 13) ∷ (source_place 1 13) ∷ (source_place 1 13) ∷ (source_place 2 2) ∷ (source_place 3 12) ∷ (source_place 3 12) ∷ (source_place 3 12) ∷ (source_place 3 12) ∷ (source_place 3 12) ∷ (source_place 3 12) ∷ (source_place 3 12) ∷ []) ((codes "X") ∷ (codes "d") ∷ (codes "A") ∷ []) [] [] [] ((const.code (sealed_as 3 None 33 0 0 0 1 (codes "<generic parameters of X>") ((object_tool_unit op.LoadConst 0) ∷ (object_tool_unit op.TypeVar 0) ∷ (object_tool_unit op.Duplicate 0) ∷ (object_tool_unit op.StoreFast 0) ∷ (object_tool_unit op.BuildTuple 1) ∷ (object_tool_unit op.LoadFast 0) ∷ (object_tool_unit op.Rotate2 0) ∷ (object_tool_unit op.LoadConst 1) ∷ (object_tool_unit op.TypeAlias 0) ∷ (object_tool_unit op.ReturnValue 0) ∷ []) ((source_place 1 1) ∷ (source_place 1 1) ∷ (source_place 1 1) ∷ (source_place 1 1) ∷ (source_place 1 1) ∷ (source_place 1 13) ∷ (source_place 1 13) ∷ (source_place 1 13) ∷ (source_place 1 13) ∷ (source_place 1 13) ∷ []) [] ((codes "T") ∷ []) [] [] ((const.str (codes "T")) ∷ (const.str (codes "X")) ∷ []))) ∷ (const.str (codes "<generic parameters of X>")) ∷ (const.code (sealed_as 5 None 33 0 0 0 2 (codes "<generic parameters of A>") ((object_tool_unit op.LoadBuildClass 0) ∷ (object_tool_unit op.LoadConst 0) ∷ (object_tool_unit op.TypeVar 0) ∷ (object_tool_unit op.Duplicate 0) ∷ (object_tool_unit op.StoreDeref 0) ∷ (object_tool_unit op.BuildTuple 1) ∷ (object_tool_unit op.LoadClosure 0) ∷ (object_tool_unit op.BuildTuple 1) ∷ (object_tool_unit op.LoadConst 1) ∷ (object_tool_unit op.LoadConst 2) ∷ (object_tool_unit op.MakeFunction 17) ∷ (object_tool_unit op.LoadConst 2) ∷ (object_tool_unit op.LoadDeref 0) ∷ (object_tool_unit op.CallFunctionPositional 3) ∷ (object_tool_unit op.ReturnValue 0) ∷ []) ((source_place 2 2) ∷ (source_place 2 2) ∷ (source_place 2 2) ∷ (source_place 2 2) ∷ (source_place 2 2) ∷ (source_place 2 2) ∷ (source_place 3 28) ∷ (source_place 3 28) ∷ (source_place 3 28) ∷ (source_place 3 28) ∷ (source_place 3 28) ∷ (source_place 3 28) ∷ (source_place 3 12) ∷ (source_place 3 12) ∷ (source_place 3 12) ∷ []) [] [] ((codes "T") ∷ []) [] ((const.str (codes "T")) ∷ (const.code (sealed_as 3 None 0 0 0 0 2 (codes "A") ((object_tool_unit op.LoadGlobal 0) ∷ (object_tool_unit op.StoreLocal 1) ∷ (object_tool_unit op.LoadConst 0) ∷ (object_tool_unit op.StoreLocal 2) ∷ (object_tool_unit op.LoadConst 1) ∷ (object_tool_unit op.StoreLocal 3) ∷ (object_tool_unit op.LoadClosure 0) ∷ (object_tool_unit op.BuildTuple 1) ∷ (object_tool_unit op.LoadConst 2) ∷ (object_tool_unit op.LoadConst 3) ∷ (object_tool_unit op.MakeFunction 1) ∷ (object_tool_unit op.StoreLocal 4) ∷ (object_tool_unit op.ReturnConst 1) ∷ []) ((source_place 2 2) ∷ (source_place 2 2) ∷ (source_place 2 2) ∷ (source_place 2 2) ∷ (source_place 2 2) ∷ (source_place 2 2) ∷ (source_place 3 28) ∷ (source_place 3 28) ∷ (source_place 3 28) ∷ (source_place 3 28) ∷ (source_place 3 28) ∷ (source_place 3 28) ∷ (source_place 3 28) ∷ []) ((codes "__name__") ∷ (codes "__module__") ∷ (codes "__qualname__") ∷ (codes "__doc__") ∷ (codes "x") ∷ []) [] [] ((codes "T") ∷ []) ((const.str (codes "A")) ∷ const.none ∷ (const.code (sealed_as 1 None 33 0 0 0 3 (codes "<lambda>") ((object_tool_unit op.LoadDeref 0) ∷ (object_tool_unit op.ReturnValue 0) ∷ []) ((source_place 3 28) ∷ (source_place 3 28) ∷ []) [] [] [] ((codes "T") ∷ []) (const.none ∷ []))) ∷ (const.str (codes "<lambda>")) ∷ []))) ∷ (const.str (codes "A")) ∷ []))) ∷ (const.str (codes "<generic parameters of A>")) ∷ const.none ∷ []))
 
 last_generic_class_emitted : object_in_mode last_generic_class_scopes last_generic_class BlockExpr 0 ≡ Some (last_generic_class_object, length last_generic_class_scopes)
-unfolding with_step with_block with_name with_varname with_constant with_loops with_postponed with_location refuse emit jump one_block two_blocks three_blocks put_instruction emit_count emit_name emit_varname emit_mangled add_varname add_constant emit_constant move generator_mark pass_over by_context by_level by_loops in_loop postponed_part name_access inside with_path nested_in_class child lambda_value emission_of_def emission_of_generic_def emission_of_class emission_of_generic_class load_cell assembled_object as_element called_at_once
+unfolding with_step with_block with_name with_varname with_constant with_loops with_postponed with_location refuse emit jump one_block two_blocks three_blocks put_instruction emit_count emit_name emit_varname emit_mangled add_varname add_constant emit_constant move generator_mark pass_over by_context by_level by_loops in_loop postponed_part name_access inside with_path nested_in_class child lambda_value emission_of_def emission_of_generic_def emission_of_class emission_of_generic_class load_cell assembled_object has_layout as_element called_at_once
 last_generic_class_emitted = refl
 
 last_generic_class_forms : codes_of_object 9 last_generic_class_object ≡ codes_of_scope 9 (body last_generic_class_scopes last_generic_class BlockExpr 0)
@@ -87,7 +88,7 @@ abbrev last_alias_object : Object
 last_alias_object = (sealed_as 2 None 1 0 0 0 1 (codes "<module>") ((object_tool_unit op.LoadConst 0) ∷ (object_tool_unit op.LoadConst 1) ∷ (object_tool_unit op.MakeFunction 0) ∷ (object_tool_unit op.CallFunctionPositional 0) ∷ (object_tool_unit op.StoreLocal 0) ∷ (object_tool_unit op.ReturnConst 2) ∷ []) ((source_place 1 13) ∷ (source_place 1 13) ∷ (source_place 1 13) ∷ (source_place 1 13) ∷ (source_place 1 13) ∷ (source_place 1 13) ∷ []) ((codes "X") ∷ []) [] [] [] ((const.code (sealed_as 3 None 33 0 0 0 1 (codes "<generic parameters of X>") ((object_tool_unit op.LoadConst 0) ∷ (object_tool_unit op.TypeVar 0) ∷ (object_tool_unit op.Duplicate 0) ∷ (object_tool_unit op.StoreFast 0) ∷ (object_tool_unit op.BuildTuple 1) ∷ (object_tool_unit op.LoadFast 0) ∷ (object_tool_unit op.Rotate2 0) ∷ (object_tool_unit op.LoadConst 1) ∷ (object_tool_unit op.TypeAlias 0) ∷ (object_tool_unit op.ReturnValue 0) ∷ []) ((source_place 1 1) ∷ (source_place 1 1) ∷ (source_place 1 1) ∷ (source_place 1 1) ∷ (source_place 1 1) ∷ (source_place 1 13) ∷ (source_place 1 13) ∷ (source_place 1 13) ∷ (source_place 1 13) ∷ (source_place 1 13) ∷ []) [] ((codes "T") ∷ []) [] [] ((const.str (codes "T")) ∷ (const.str (codes "X")) ∷ []))) ∷ (const.str (codes "<generic parameters of X>")) ∷ const.none ∷ []))
 
 last_alias_emitted : object_in_mode last_alias_scopes last_alias BlockExpr 0 ≡ Some (last_alias_object, length last_alias_scopes)
-unfolding with_step with_block with_name with_varname with_constant with_loops with_postponed with_location refuse emit jump one_block two_blocks three_blocks put_instruction emit_count emit_name emit_varname emit_mangled add_varname add_constant emit_constant move generator_mark pass_over by_context by_level by_loops in_loop postponed_part name_access inside with_path nested_in_class child lambda_value emission_of_def emission_of_generic_def emission_of_class emission_of_generic_class load_cell assembled_object as_element called_at_once
+unfolding with_step with_block with_name with_varname with_constant with_loops with_postponed with_location refuse emit jump one_block two_blocks three_blocks put_instruction emit_count emit_name emit_varname emit_mangled add_varname add_constant emit_constant move generator_mark pass_over by_context by_level by_loops in_loop postponed_part name_access inside with_path nested_in_class child lambda_value emission_of_def emission_of_generic_def emission_of_class emission_of_generic_class load_cell assembled_object has_layout as_element called_at_once
 last_alias_emitted = refl
 
 last_alias_forms : codes_of_object 9 last_alias_object ≡ codes_of_scope 9 (body last_alias_scopes last_alias BlockExpr 0)
@@ -108,7 +109,7 @@ abbrev alias_debug_scopes : List ScopeEntry
 alias_debug_scopes = ((entry kinds.Module ((object_tool_symbol (codes "__debug__") symbols.Local 2) ∷ (object_tool_symbol (codes "int") symbols.Unknown 1) ∷ []) 2) ∷ (entry kinds.TypeParams ((object_tool_symbol (codes "int") symbols.GlobalImplicit 1) ∷ (object_tool_symbol (codes "T") symbols.Local 2) ∷ (object_tool_symbol (codes "f") symbols.GlobalImplicit 1) ∷ (object_tool_symbol (codes "x") symbols.GlobalImplicit 1) ∷ []) 2) ∷ [])
 
 alias_debug_refused : emission_outcome alias_debug Exec (outermost 0 (codes "m.py") alias_debug_scopes) ≡ Refused (error.SyntaxError (codes "cannot assign to __debug__")) (Some (source_place 2 5))
-unfolding with_step with_block with_name with_varname with_constant with_loops with_postponed with_location refuse emit jump one_block two_blocks three_blocks put_instruction emit_count emit_name emit_varname emit_mangled add_varname add_constant emit_constant move generator_mark pass_over by_context by_level by_loops in_loop postponed_part name_access inside with_path nested_in_class child lambda_value emission_of_def emission_of_generic_def emission_of_class emission_of_generic_class load_cell assembled_object as_element called_at_once
+unfolding with_step with_block with_name with_varname with_constant with_loops with_postponed with_location refuse emit jump one_block two_blocks three_blocks put_instruction emit_count emit_name emit_varname emit_mangled add_varname add_constant emit_constant move generator_mark pass_over by_context by_level by_loops in_loop postponed_part name_access inside with_path nested_in_class child lambda_value emission_of_def emission_of_generic_def emission_of_class emission_of_generic_class load_cell assembled_object has_layout as_element called_at_once
 alias_debug_refused = refl
 
 alias_debug_faults : sample_tool_faults (compile_faults Exec 0 alias_debug) ≡ (((codes "cannot assign to __debug__"), Some (source_place 2 5)) ∷ ((codes "cannot assign to __debug__"), Some (source_place 2 18)) ∷ ((codes "cannot assign to __debug__"), Some (source_place 3 18)) ∷ [])
@@ -124,7 +125,7 @@ abbrev parameter_debug_scopes : List ScopeEntry
 parameter_debug_scopes = ((entry kinds.Module ((object_tool_symbol (codes "f") symbols.Local 2) ∷ []) 3) ∷ (entry kinds.TypeParams ((object_tool_symbol (codes ".defaults") symbols.Local 4) ∷ (object_tool_symbol (codes "int") symbols.GlobalImplicit 1) ∷ (object_tool_symbol (codes "T") symbols.Local 2) ∷ (object_tool_symbol (codes "__debug__") symbols.Local 2) ∷ (object_tool_symbol (codes "f") symbols.GlobalImplicit 1) ∷ []) 3) ∷ (entry kinds.Function ((object_tool_symbol (codes "__debug__") symbols.Local 4) ∷ (object_tool_symbol (codes "x") symbols.Local 4) ∷ []) 3) ∷ [])
 
 parameter_debug_refused : emission_outcome parameter_debug Exec (outermost 0 (codes "m.py") parameter_debug_scopes) ≡ Refused (error.SyntaxError (codes "cannot assign to __debug__")) (Some (source_place 1 10))
-unfolding with_step with_block with_name with_varname with_constant with_loops with_postponed with_location refuse emit jump one_block two_blocks three_blocks put_instruction emit_count emit_name emit_varname emit_mangled add_varname add_constant emit_constant move generator_mark pass_over by_context by_level by_loops in_loop postponed_part name_access inside with_path nested_in_class child lambda_value emission_of_def emission_of_generic_def emission_of_class emission_of_generic_class load_cell assembled_object as_element called_at_once
+unfolding with_step with_block with_name with_varname with_constant with_loops with_postponed with_location refuse emit jump one_block two_blocks three_blocks put_instruction emit_count emit_name emit_varname emit_mangled add_varname add_constant emit_constant move generator_mark pass_over by_context by_level by_loops in_loop postponed_part name_access inside with_path nested_in_class child lambda_value emission_of_def emission_of_generic_def emission_of_class emission_of_generic_class load_cell assembled_object has_layout as_element called_at_once
 parameter_debug_refused = refl
 
 parameter_debug_faults : sample_tool_faults (compile_faults Exec 0 parameter_debug) ≡ (((codes "cannot assign to __debug__"), Some (source_place 1 10)) ∷ ((codes "cannot assign to __debug__"), Some (source_place 1 10)) ∷ ((codes "'break' outside loop"), Some (source_place 2 5)) ∷ ((codes "cannot assign to __debug__"), Some (source_place 1 51)) ∷ ((codes "'yield' outside function"), Some (source_place 1 40)) ∷ [])
@@ -139,7 +140,7 @@ abbrev alias_of_attribute_scopes : List ScopeEntry
 alias_of_attribute_scopes = ((entry kinds.Module ((object_tool_symbol (codes "a") symbols.Unknown 1) ∷ []) 2) ∷ (entry kinds.TypeParams ((object_tool_symbol (codes "x") symbols.GlobalImplicit 1) ∷ (object_tool_symbol (codes "T") symbols.Local 2) ∷ (object_tool_symbol (codes "y") symbols.GlobalImplicit 1) ∷ []) 2) ∷ [])
 
 alias_of_attribute_refused : emission_outcome alias_of_attribute Exec (outermost 0 (codes "m.py") alias_of_attribute_scopes) ≡ Refused (error.Assign (codes "attribute")) (Some (source_place 1 1))
-unfolding with_step with_block with_name with_varname with_constant with_loops with_postponed with_location refuse emit jump one_block two_blocks three_blocks put_instruction emit_count emit_name emit_varname emit_mangled add_varname add_constant emit_constant move generator_mark pass_over by_context by_level by_loops in_loop postponed_part name_access inside with_path nested_in_class child lambda_value emission_of_def emission_of_generic_def emission_of_class emission_of_generic_class load_cell assembled_object as_element called_at_once
+unfolding with_step with_block with_name with_varname with_constant with_loops with_postponed with_location refuse emit jump one_block two_blocks three_blocks put_instruction emit_count emit_name emit_varname emit_mangled add_varname add_constant emit_constant move generator_mark pass_over by_context by_level by_loops in_loop postponed_part name_access inside with_path nested_in_class child lambda_value emission_of_def emission_of_generic_def emission_of_class emission_of_generic_class load_cell assembled_object has_layout as_element called_at_once
 alias_of_attribute_refused = refl
 
 alias_of_attribute_faults : sample_tool_faults (compile_faults Exec 0 alias_of_attribute) ≡ (((codes "cannot assign to attribute"), Some (source_place 1 1)) ∷ [])
@@ -156,7 +157,7 @@ abbrev awaited_bound_scopes : List ScopeEntry
 awaited_bound_scopes = ((entry kinds.Module ((object_tool_symbol (codes "z") symbols.Unknown 1) ∷ (object_tool_symbol (codes "f") symbols.Local 2) ∷ []) 4) ∷ (entry kinds.TypeParams ((object_tool_symbol (codes ".defaults") symbols.Local 4) ∷ (object_tool_symbol (codes ".kwdefaults") symbols.Local 4) ∷ (object_tool_symbol (codes "T") symbols.Local 2) ∷ (object_tool_symbol (codes "x") symbols.GlobalImplicit 1) ∷ (object_tool_symbol (codes "U") symbols.Local 2) ∷ (object_tool_symbol (codes "c") symbols.GlobalImplicit 1) ∷ (object_tool_symbol (codes "d") symbols.GlobalImplicit 1) ∷ (object_tool_symbol (codes "y") symbols.GlobalImplicit 1) ∷ []) 4) ∷ (entry kinds.Function [] 3) ∷ (entry kinds.Function ((object_tool_symbol (codes "a") symbols.Local 4) ∷ (object_tool_symbol (codes "b") symbols.Local 12) ∷ (object_tool_symbol (codes "w") symbols.GlobalImplicit 1) ∷ []) 4) ∷ [])
 
 awaited_bound_refused : emission_outcome awaited_bound Exec (outermost 0 (codes "m.py") awaited_bound_scopes) ≡ Refused error.InvalidAwait (Some (source_place 1 32))
-unfolding with_step with_block with_name with_varname with_constant with_loops with_postponed with_location refuse emit jump one_block two_blocks three_blocks put_instruction emit_count emit_name emit_varname emit_mangled add_varname add_constant emit_constant move generator_mark pass_over by_context by_level by_loops in_loop postponed_part name_access inside with_path nested_in_class child lambda_value emission_of_def emission_of_generic_def emission_of_class emission_of_generic_class load_cell assembled_object as_element called_at_once
+unfolding with_step with_block with_name with_varname with_constant with_loops with_postponed with_location refuse emit jump one_block two_blocks three_blocks put_instruction emit_count emit_name emit_varname emit_mangled add_varname add_constant emit_constant move generator_mark pass_over by_context by_level by_loops in_loop postponed_part name_access inside with_path nested_in_class child lambda_value emission_of_def emission_of_generic_def emission_of_class emission_of_generic_class load_cell assembled_object has_layout as_element called_at_once
 awaited_bound_refused = refl
 
 awaited_bound_faults : sample_tool_faults (compile_faults Exec 0 awaited_bound) ≡ (((codes "'await' outside async function"), Some (source_place 1 32)) ∷ ((codes "'await' outside async function"), Some (source_place 2 5)) ∷ ((codes "cannot assign to __debug__"), Some (source_place 1 83)) ∷ ((codes "'await' outside async function"), Some (source_place 1 58)) ∷ ((codes "'yield' outside function"), Some (source_place 1 44)) ∷ ((codes "'await' outside async function"), Some (source_place 1 68)) ∷ [])
@@ -176,7 +177,7 @@ abbrev refused_generic_class_scopes : List ScopeEntry
 refused_generic_class_scopes = ((entry kinds.Module ((object_tool_symbol (codes "x") symbols.Unknown 1) ∷ (object_tool_symbol (codes "__debug__") symbols.Local 2) ∷ []) 3) ∷ (entry kinds.TypeParams ((object_tool_symbol (codes "x") symbols.GlobalImplicit 1) ∷ (object_tool_symbol (codes "T") symbols.Local 2) ∷ (object_tool_symbol (codes "B") symbols.GlobalImplicit 1) ∷ (object_tool_symbol (codes "y") symbols.GlobalImplicit 1) ∷ (object_tool_symbol (codes "f") symbols.GlobalImplicit 1) ∷ (object_tool_symbol (codes "z") symbols.GlobalImplicit 1) ∷ []) 3) ∷ (entry kinds.Class ((object_tool_symbol (codes "__module__") symbols.Local 2) ∷ (object_tool_symbol (codes "__qualname__") symbols.Local 2) ∷ (object_tool_symbol (codes "__doc__") symbols.Local 2) ∷ (object_tool_symbol (codes "__class__") symbols.Local 2) ∷ []) 3) ∷ [])
 
 refused_generic_class_refused : emission_outcome refused_generic_class Exec (outermost 0 (codes "m.py") refused_generic_class_scopes) ≡ Refused error.InvalidYield (Some (source_place 2 7))
-unfolding with_step with_block with_name with_varname with_constant with_loops with_postponed with_location refuse emit jump one_block two_blocks three_blocks put_instruction emit_count emit_name emit_varname emit_mangled add_varname add_constant emit_constant move generator_mark pass_over by_context by_level by_loops in_loop postponed_part name_access inside with_path nested_in_class child lambda_value emission_of_def emission_of_generic_def emission_of_class emission_of_generic_class load_cell assembled_object as_element called_at_once
+unfolding with_step with_block with_name with_varname with_constant with_loops with_postponed with_location refuse emit jump one_block two_blocks three_blocks put_instruction emit_count emit_name emit_varname emit_mangled add_varname add_constant emit_constant move generator_mark pass_over by_context by_level by_loops in_loop postponed_part name_access inside with_path nested_in_class child lambda_value emission_of_def emission_of_generic_def emission_of_class emission_of_generic_class load_cell assembled_object has_layout as_element called_at_once
 refused_generic_class_refused = refl
 
 refused_generic_class_faults : sample_tool_faults (compile_faults Exec 0 refused_generic_class) ≡ (((codes "'yield' outside function"), Some (source_place 2 7)) ∷ ((codes "'await' outside async function"), Some (source_place 3 24)) ∷ ((codes "'break' outside loop"), Some (source_place 5 9)) ∷ ((codes "'return' outside function"), Some (source_place 6 9)) ∷ ((codes "'await' outside async function"), Some (source_place 3 36)) ∷ ((codes "cannot assign to __debug__"), Some (source_place 4 13)) ∷ ((codes "cannot assign to __debug__"), Some (source_place 4 27)) ∷ [])
@@ -191,7 +192,7 @@ abbrev starred_bound_scopes : List ScopeEntry
 starred_bound_scopes = ((entry kinds.Module ((object_tool_symbol (codes "A") symbols.Local 2) ∷ []) 3) ∷ (entry kinds.TypeParams ((object_tool_symbol (codes "x") symbols.GlobalImplicit 1) ∷ (object_tool_symbol (codes "T") symbols.Local 2) ∷ (object_tool_symbol (codes "B") symbols.GlobalImplicit 1) ∷ []) 3) ∷ (entry kinds.Class ((object_tool_symbol (codes "__module__") symbols.Local 2) ∷ (object_tool_symbol (codes "__qualname__") symbols.Local 2) ∷ (object_tool_symbol (codes "__doc__") symbols.Local 2) ∷ (object_tool_symbol (codes "__class__") symbols.Local 2) ∷ []) 3) ∷ [])
 
 starred_bound_refused : emission_outcome starred_bound Exec (outermost 0 (codes "m.py") starred_bound_scopes) ≡ Refused error.InvalidStarExpr (Some (source_place 1 12))
-unfolding with_step with_block with_name with_varname with_constant with_loops with_postponed with_location refuse emit jump one_block two_blocks three_blocks put_instruction emit_count emit_name emit_varname emit_mangled add_varname add_constant emit_constant move generator_mark pass_over by_context by_level by_loops in_loop postponed_part name_access inside with_path nested_in_class child lambda_value emission_of_def emission_of_generic_def emission_of_class emission_of_generic_class load_cell assembled_object as_element called_at_once
+unfolding with_step with_block with_name with_varname with_constant with_loops with_postponed with_location refuse emit jump one_block two_blocks three_blocks put_instruction emit_count emit_name emit_varname emit_mangled add_varname add_constant emit_constant move generator_mark pass_over by_context by_level by_loops in_loop postponed_part name_access inside with_path nested_in_class child lambda_value emission_of_def emission_of_generic_def emission_of_class emission_of_generic_class load_cell assembled_object has_layout as_element called_at_once
 starred_bound_refused = refl
 
 starred_bound_faults : sample_tool_faults (compile_faults Exec 0 starred_bound) ≡ (((codes "cannot use starred expression here"), Some (source_place 1 12)) ∷ [])
@@ -210,7 +211,7 @@ abbrev postponed_text_scopes : List ScopeEntry
 postponed_text_scopes = ((entry kinds.Module ((object_tool_symbol (codes "annotations") symbols.Local 18) ∷ (object_tool_symbol (codes "f") symbols.Local 2) ∷ (object_tool_symbol (codes "A") symbols.Local 2) ∷ []) 7) ∷ (entry kinds.TypeParams ((object_tool_symbol (codes ".defaults") symbols.Local 4) ∷ (object_tool_symbol (codes "int") symbols.GlobalImplicit 1) ∷ (object_tool_symbol (codes "T") symbols.Local 2) ∷ []) 3) ∷ (entry kinds.Function ((object_tool_symbol (codes "x") symbols.Local 12) ∷ (object_tool_symbol (codes "g") symbols.GlobalImplicit 1) ∷ []) 3) ∷ (entry kinds.TypeParams ((object_tool_symbol (codes "__debug__") symbols.Local 2) ∷ (object_tool_symbol (codes "B") symbols.GlobalImplicit 1) ∷ []) 7) ∷ (entry kinds.Class ((object_tool_symbol (codes "__module__") symbols.Local 2) ∷ (object_tool_symbol (codes "__qualname__") symbols.Local 2) ∷ (object_tool_symbol (codes "__doc__") symbols.Local 2) ∷ (object_tool_symbol (codes "__class__") symbols.Local 2) ∷ (object_tool_symbol (codes "g") symbols.Local 2) ∷ []) 7) ∷ (entry kinds.TypeParams ((object_tool_symbol (codes "x") symbols.GlobalImplicit 1) ∷ (object_tool_symbol (codes "T") symbols.Local 2) ∷ []) 7) ∷ (entry kinds.Function ((object_tool_symbol (codes "self") symbols.Local 4) ∷ []) 7) ∷ [])
 
 postponed_text_refused : emission_outcome postponed_text Exec (outermost 0 (codes "m.py") postponed_text_scopes) ≡ Refused error.NotImplementedYet (Some (source_place 3 5))
-unfolding with_step with_block with_name with_varname with_constant with_loops with_postponed with_location refuse emit jump one_block two_blocks three_blocks put_instruction emit_count emit_name emit_varname emit_mangled add_varname add_constant emit_constant move generator_mark pass_over by_context by_level by_loops in_loop postponed_part name_access inside with_path nested_in_class child lambda_value emission_of_def emission_of_generic_def emission_of_class emission_of_generic_class load_cell assembled_object as_element called_at_once
+unfolding with_step with_block with_name with_varname with_constant with_loops with_postponed with_location refuse emit jump one_block two_blocks three_blocks put_instruction emit_count emit_name emit_varname emit_mangled add_varname add_constant emit_constant move generator_mark pass_over by_context by_level by_loops in_loop postponed_part name_access inside with_path nested_in_class child lambda_value emission_of_def emission_of_generic_def emission_of_class emission_of_generic_class load_cell assembled_object has_layout as_element called_at_once
 postponed_text_refused = refl
 
 postponed_text_faults : sample_tool_faults (compile_faults Exec 0 postponed_text) ≡ (((codes "RustPython does not implement this feature yet"), Some (source_place 3 5)) ∷ ((codes "'yield' outside function"), Some (source_place 2 28)) ∷ ((codes "cannot assign to __debug__"), Some (source_place 4 1)) ∷ ((codes "'await' outside async function"), Some (source_place 5 14)) ∷ ((codes "'continue' outside loop"), Some (source_place 5 40)) ∷ ((codes "RustPython does not implement this feature yet"), Some (source_place 5 40)) ∷ [])

@@ -15,6 +15,7 @@ use Rattle.py_emission_parts.specs.Comprehensions.{as_element, called_at_once}
 use Rattle.py_emission_parts.specs.Context.{inside, with_path, nested_in_class}
 use Rattle.py_emission_parts.specs.Emitting.{with_step, with_block, with_name, with_varname, with_constant, with_loops, with_postponed, with_location, refuse, emit, jump, emit_count, emit_name, emit_varname, emit_mangled, add_varname, add_constant, emit_constant, move, generator_mark, pass_over, by_context, by_level, by_loops, in_loop, postponed_part, one_block, two_blocks, three_blocks}
 use Rattle.py_emission_parts.specs.Running.{put_instruction}
+use Rattle.py_emission_parts.specs.Laid.{has_layout}
 use Rattle.py_emission_parts.specs.Sealed.{assembled_object}
 use Rattle.py_emission.specs.Emission.{lambda_value}
 use Rattle.py_emission.specs.EmissionDefs.{emission_of_class, emission_of_def, emission_of_generic_class, emission_of_generic_def}
@@ -35,7 +36,7 @@ abbrev default_handed_object : Object
 default_handed_object = (sealed_as 2 None 1 0 0 0 1 (codes "<module>") ((object_tool_unit op.LoadConst 0) ∷ (object_tool_unit op.LoadConst 1) ∷ (object_tool_unit op.MakeFunction 0) ∷ (object_tool_unit op.LoadConst 2) ∷ (object_tool_unit op.BuildTuple 1) ∷ (object_tool_unit op.CallFunctionPositional 1) ∷ (object_tool_unit op.StoreLocal 0) ∷ (object_tool_unit op.ReturnConst 3) ∷ []) ((source_place 1 13) ∷ (source_place 1 13) ∷ (source_place 1 13) ∷ (source_place 1 17) ∷ (source_place 1 17) ∷ (source_place 1 17) ∷ (source_place 1 17) ∷ (source_place 1 17) ∷ []) ((codes "f") ∷ []) [] [] [] ((const.code (sealed_as 5 None 33 1 1 0 1 (codes "<generic parameters of f>") ((object_tool_unit op.LoadFast 0) ∷ (object_tool_unit op.LoadConst 0) ∷ (object_tool_unit op.TypeVar 0) ∷ (object_tool_unit op.Duplicate 0) ∷ (object_tool_unit op.StoreFast 1) ∷ (object_tool_unit op.BuildTuple 1) ∷ (object_tool_unit op.LoadConst 1) ∷ (object_tool_unit op.LoadFast 1) ∷ (object_tool_unit op.BuildMap 1) ∷ (object_tool_unit op.LoadConst 2) ∷ (object_tool_unit op.LoadConst 3) ∷ (object_tool_unit op.MakeFunction 26) ∷ (object_tool_unit op.ReturnValue 0) ∷ []) ((source_place 1 1) ∷ (source_place 1 1) ∷ (source_place 1 1) ∷ (source_place 1 1) ∷ (source_place 1 1) ∷ (source_place 1 1) ∷ (source_place 1 21) ∷ (source_place 1 13) ∷ (source_place 1 13) ∷ (source_place 1 13) ∷ (source_place 1 13) ∷ (source_place 1 13) ∷ (source_place 1 13) ∷ []) [] ((codes ".defaults") ∷ (codes "T") ∷ []) [] [] ((const.str (codes "T")) ∷ (const.str (codes "x")) ∷ (const.code (sealed_as 0 None 33 0 1 0 1 (codes "f") ((object_tool_unit op.ReturnConst 0) ∷ []) ((source_place 1 21) ∷ []) [] ((codes "x") ∷ []) [] [] (const.none ∷ []))) ∷ (const.str (codes "f")) ∷ []))) ∷ (const.str (codes "<generic parameters of f>")) ∷ (const.integer (pos 1)) ∷ const.none ∷ []))
 
 default_handed_emitted : object_emitted default_handed_scopes default_handed 0 ≡ Some (default_handed_object, length default_handed_scopes)
-unfolding with_step with_block with_name with_varname with_constant with_loops with_postponed with_location refuse emit jump one_block two_blocks three_blocks put_instruction emit_count emit_name emit_varname emit_mangled add_varname add_constant emit_constant move generator_mark pass_over by_context by_level by_loops in_loop postponed_part name_access inside with_path nested_in_class child lambda_value emission_of_def emission_of_generic_def emission_of_class emission_of_generic_class load_cell assembled_object as_element called_at_once
+unfolding with_step with_block with_name with_varname with_constant with_loops with_postponed with_location refuse emit jump one_block two_blocks three_blocks put_instruction emit_count emit_name emit_varname emit_mangled add_varname add_constant emit_constant move generator_mark pass_over by_context by_level by_loops in_loop postponed_part name_access inside with_path nested_in_class child lambda_value emission_of_def emission_of_generic_def emission_of_class emission_of_generic_class load_cell assembled_object has_layout as_element called_at_once
 default_handed_emitted = refl
 
 default_handed_forms : codes_of_object 9 default_handed_object ≡ codes_of_scope 9 (body default_handed_scopes default_handed Exec 0)
@@ -57,7 +58,7 @@ abbrev class_parameter_object : Object
 class_parameter_object = (sealed_as 2 None 1 0 0 0 1 (codes "<module>") ((object_tool_unit op.LoadConst 0) ∷ (object_tool_unit op.LoadConst 1) ∷ (object_tool_unit op.MakeFunction 0) ∷ (object_tool_unit op.CallFunctionPositional 0) ∷ (object_tool_unit op.StoreLocal 0) ∷ (object_tool_unit op.ReturnConst 2) ∷ []) ((source_place 1 17) ∷ (source_place 1 17) ∷ (source_place 1 17) ∷ (source_place 1 17) ∷ (source_place 1 17) ∷ (source_place 1 17) ∷ []) ((codes "A") ∷ []) [] [] [] ((const.code (sealed_as 5 None 33 0 0 0 1 (codes "<generic parameters of A>") ((object_tool_unit op.LoadBuildClass 0) ∷ (object_tool_unit op.LoadConst 0) ∷ (object_tool_unit op.TypeVar 0) ∷ (object_tool_unit op.Duplicate 0) ∷ (object_tool_unit op.StoreDeref 0) ∷ (object_tool_unit op.BuildTuple 1) ∷ (object_tool_unit op.LoadClosure 0) ∷ (object_tool_unit op.BuildTuple 1) ∷ (object_tool_unit op.LoadConst 1) ∷ (object_tool_unit op.LoadConst 2) ∷ (object_tool_unit op.MakeFunction 17) ∷ (object_tool_unit op.LoadConst 2) ∷ (object_tool_unit op.CallFunctionPositional 2) ∷ (object_tool_unit op.ReturnValue 0) ∷ []) ((source_place 1 1) ∷ (source_place 1 1) ∷ (source_place 1 1) ∷ (source_place 1 1) ∷ (source_place 1 1) ∷ (source_place 1 1) ∷ (source_place 1 17) ∷ (source_place 1 17) ∷ (source_place 1 17) ∷ (source_place 1 17) ∷ (source_place 1 17) ∷ (source_place 1 17) ∷ (source_place 1 17) ∷ (source_place 1 17) ∷ []) [] [] ((codes "T") ∷ []) [] ((const.str (codes "T")) ∷ (const.code (sealed_as 1 None 0 0 0 0 1 (codes "A") ((object_tool_unit op.LoadGlobal 0) ∷ (object_tool_unit op.StoreLocal 1) ∷ (object_tool_unit op.LoadConst 0) ∷ (object_tool_unit op.StoreLocal 2) ∷ (object_tool_unit op.LoadConst 1) ∷ (object_tool_unit op.StoreLocal 3) ∷ (object_tool_unit op.LoadClassDeref 0) ∷ (object_tool_unit op.StoreLocal 4) ∷ (object_tool_unit op.ReturnConst 1) ∷ []) ((source_place 1 1) ∷ (source_place 1 1) ∷ (source_place 1 1) ∷ (source_place 1 1) ∷ (source_place 1 1) ∷ (source_place 1 1) ∷ (source_place 1 17) ∷ (source_place 1 17) ∷ (source_place 1 17) ∷ []) ((codes "__name__") ∷ (codes "__module__") ∷ (codes "__qualname__") ∷ (codes "__doc__") ∷ (codes "x") ∷ []) [] [] ((codes "T") ∷ []) ((const.str (codes "A")) ∷ const.none ∷ []))) ∷ (const.str (codes "A")) ∷ []))) ∷ (const.str (codes "<generic parameters of A>")) ∷ const.none ∷ []))
 
 class_parameter_emitted : object_emitted class_parameter_scopes class_parameter 0 ≡ Some (class_parameter_object, length class_parameter_scopes)
-unfolding with_step with_block with_name with_varname with_constant with_loops with_postponed with_location refuse emit jump one_block two_blocks three_blocks put_instruction emit_count emit_name emit_varname emit_mangled add_varname add_constant emit_constant move generator_mark pass_over by_context by_level by_loops in_loop postponed_part name_access inside with_path nested_in_class child lambda_value emission_of_def emission_of_generic_def emission_of_class emission_of_generic_class load_cell assembled_object as_element called_at_once
+unfolding with_step with_block with_name with_varname with_constant with_loops with_postponed with_location refuse emit jump one_block two_blocks three_blocks put_instruction emit_count emit_name emit_varname emit_mangled add_varname add_constant emit_constant move generator_mark pass_over by_context by_level by_loops in_loop postponed_part name_access inside with_path nested_in_class child lambda_value emission_of_def emission_of_generic_def emission_of_class emission_of_generic_class load_cell assembled_object has_layout as_element called_at_once
 class_parameter_emitted = refl
 
 class_parameter_forms : codes_of_object 9 class_parameter_object ≡ codes_of_scope 9 (body class_parameter_scopes class_parameter Exec 0)
@@ -79,7 +80,7 @@ abbrev alias_parameter_object : Object
 alias_parameter_object = (sealed_as 2 None 1 0 0 0 1 (codes "<module>") ((object_tool_unit op.LoadConst 0) ∷ (object_tool_unit op.LoadConst 1) ∷ (object_tool_unit op.MakeFunction 0) ∷ (object_tool_unit op.CallFunctionPositional 0) ∷ (object_tool_unit op.StoreLocal 0) ∷ (object_tool_unit op.ReturnConst 2) ∷ []) ((source_place 1 13) ∷ (source_place 1 13) ∷ (source_place 1 13) ∷ (source_place 1 13) ∷ (source_place 1 13) ∷ (source_place 1 13) ∷ []) ((codes "X") ∷ []) [] [] [] ((const.code (sealed_as 3 None 33 0 0 0 1 (codes "<generic parameters of X>") ((object_tool_unit op.LoadConst 0) ∷ (object_tool_unit op.TypeVar 0) ∷ (object_tool_unit op.Duplicate 0) ∷ (object_tool_unit op.StoreFast 0) ∷ (object_tool_unit op.BuildTuple 1) ∷ (object_tool_unit op.LoadGlobal 0) ∷ (object_tool_unit op.Rotate2 0) ∷ (object_tool_unit op.LoadConst 1) ∷ (object_tool_unit op.TypeAlias 0) ∷ (object_tool_unit op.ReturnValue 0) ∷ []) ((source_place 1 1) ∷ (source_place 1 1) ∷ (source_place 1 1) ∷ (source_place 1 1) ∷ (source_place 1 1) ∷ (source_place 1 13) ∷ (source_place 1 13) ∷ (source_place 1 13) ∷ (source_place 1 13) ∷ (source_place 1 13) ∷ []) ((codes "int") ∷ []) ((codes "T") ∷ []) [] [] ((const.str (codes "T")) ∷ (const.str (codes "X")) ∷ []))) ∷ (const.str (codes "<generic parameters of X>")) ∷ const.none ∷ []))
 
 alias_parameter_emitted : object_emitted alias_parameter_scopes alias_parameter 0 ≡ Some (alias_parameter_object, length alias_parameter_scopes)
-unfolding with_step with_block with_name with_varname with_constant with_loops with_postponed with_location refuse emit jump one_block two_blocks three_blocks put_instruction emit_count emit_name emit_varname emit_mangled add_varname add_constant emit_constant move generator_mark pass_over by_context by_level by_loops in_loop postponed_part name_access inside with_path nested_in_class child lambda_value emission_of_def emission_of_generic_def emission_of_class emission_of_generic_class load_cell assembled_object as_element called_at_once
+unfolding with_step with_block with_name with_varname with_constant with_loops with_postponed with_location refuse emit jump one_block two_blocks three_blocks put_instruction emit_count emit_name emit_varname emit_mangled add_varname add_constant emit_constant move generator_mark pass_over by_context by_level by_loops in_loop postponed_part name_access inside with_path nested_in_class child lambda_value emission_of_def emission_of_generic_def emission_of_class emission_of_generic_class load_cell assembled_object has_layout as_element called_at_once
 alias_parameter_emitted = refl
 
 alias_parameter_forms : codes_of_object 9 alias_parameter_object ≡ codes_of_scope 9 (body alias_parameter_scopes alias_parameter Exec 0)
@@ -106,7 +107,7 @@ abbrev plain_alias_object : Object
 plain_alias_object = (sealed_as 3 None 1 0 0 0 1 (codes "<module>") ((object_tool_unit op.LoadNameAny 0) ∷ (object_tool_unit op.BuildTuple 0) ∷ (object_tool_unit op.LoadConst 0) ∷ (object_tool_unit op.TypeAlias 0) ∷ (object_tool_unit op.StoreLocal 1) ∷ (object_tool_unit op.LoadBuildClass 0) ∷ (object_tool_unit op.LoadConst 1) ∷ (object_tool_unit op.LoadConst 2) ∷ (object_tool_unit op.MakeFunction 0) ∷ (object_tool_unit op.LoadConst 2) ∷ (object_tool_unit op.CallFunctionPositional 2) ∷ (object_tool_unit op.StoreLocal 2) ∷ (object_tool_unit op.ReturnConst 3) ∷ []) ((source_place 1 10) ∷ (source_place 1 10) ∷ (source_place 1 10) ∷ (source_place 1 10) ∷ (source_place 1 10) ∷ (source_place 2 1) ∷ (source_place 6 24) ∷ (source_place 6 24) ∷ (source_place 6 24) ∷ (source_place 6 24) ∷ (source_place 6 24) ∷ (source_place 6 24) ∷ (source_place 6 24) ∷ []) ((codes "int") ∷ (codes "X") ∷ (codes "A") ∷ []) [] [] [] ((const.str (codes "X")) ∷ (const.code (sealed_as 3 None 0 0 0 0 2 (codes "A") ((object_tool_unit op.LoadGlobal 0) ∷ (object_tool_unit op.StoreLocal 1) ∷ (object_tool_unit op.LoadConst 0) ∷ (object_tool_unit op.StoreLocal 2) ∷ (object_tool_unit op.LoadConst 1) ∷ (object_tool_unit op.StoreLocal 3) ∷ (object_tool_unit op.LoadNameAny 4) ∷ (object_tool_unit op.BuildTuple 0) ∷ (object_tool_unit op.LoadConst 2) ∷ (object_tool_unit op.TypeAlias 0) ∷ (object_tool_unit op.StoreLocal 5) ∷ (object_tool_unit op.LoadConst 3) ∷ (object_tool_unit op.LoadConst 4) ∷ (object_tool_unit op.MakeFunction 0) ∷ (object_tool_unit op.StoreLocal 6) ∷ (object_tool_unit op.ReturnConst 1) ∷ []) ((source_place 2 1) ∷ (source_place 2 1) ∷ (source_place 2 1) ∷ (source_place 2 1) ∷ (source_place 2 1) ∷ (source_place 2 1) ∷ (source_place 3 16) ∷ (source_place 3 16) ∷ (source_place 3 16) ∷ (source_place 3 16) ∷ (source_place 3 16) ∷ (source_place 6 24) ∷ (source_place 6 24) ∷ (source_place 6 24) ∷ (source_place 6 24) ∷ (source_place 6 24) ∷ []) ((codes "__name__") ∷ (codes "__module__") ∷ (codes "__qualname__") ∷ (codes "__doc__") ∷ (codes "_A__x") ∷ (codes "_A__Y") ∷ (codes "f") ∷ []) [] [] [] ((const.str (codes "A")) ∷ const.none ∷ (const.str (codes "__Y")) ∷ (const.code (sealed_as 3 None 33 0 1 0 4 (codes "f") ((object_tool_unit op.LoadFast 0) ∷ (object_tool_unit op.BuildTuple 0) ∷ (object_tool_unit op.LoadConst 1) ∷ (object_tool_unit op.TypeAlias 0) ∷ (object_tool_unit op.StoreDeref 0) ∷ (object_tool_unit op.LoadClosure 0) ∷ (object_tool_unit op.BuildTuple 1) ∷ (object_tool_unit op.LoadConst 2) ∷ (object_tool_unit op.LoadConst 3) ∷ (object_tool_unit op.MakeFunction 1) ∷ (object_tool_unit op.ReturnValue 0) ∷ []) ((source_place 5 18) ∷ (source_place 5 18) ∷ (source_place 5 18) ∷ (source_place 5 18) ∷ (source_place 5 18) ∷ (source_place 6 24) ∷ (source_place 6 24) ∷ (source_place 6 24) ∷ (source_place 6 24) ∷ (source_place 6 24) ∷ (source_place 6 24) ∷ []) [] ((codes "self") ∷ []) ((codes "Z") ∷ []) [] (const.none ∷ (const.str (codes "Z")) ∷ (const.code (sealed_as 1 None 33 0 0 0 6 (codes "<lambda>") ((object_tool_unit op.LoadDeref 0) ∷ (object_tool_unit op.ReturnValue 0) ∷ []) ((source_place 6 24) ∷ (source_place 6 24) ∷ []) [] [] [] ((codes "Z") ∷ []) (const.none ∷ []))) ∷ (const.str (codes "<lambda>")) ∷ []))) ∷ (const.str (codes "A.f")) ∷ []))) ∷ (const.str (codes "A")) ∷ const.none ∷ []))
 
 plain_alias_emitted : object_emitted plain_alias_scopes plain_alias 0 ≡ Some (plain_alias_object, length plain_alias_scopes)
-unfolding with_step with_block with_name with_varname with_constant with_loops with_postponed with_location refuse emit jump one_block two_blocks three_blocks put_instruction emit_count emit_name emit_varname emit_mangled add_varname add_constant emit_constant move generator_mark pass_over by_context by_level by_loops in_loop postponed_part name_access inside with_path nested_in_class child lambda_value emission_of_def emission_of_generic_def emission_of_class emission_of_generic_class load_cell assembled_object as_element called_at_once
+unfolding with_step with_block with_name with_varname with_constant with_loops with_postponed with_location refuse emit jump one_block two_blocks three_blocks put_instruction emit_count emit_name emit_varname emit_mangled add_varname add_constant emit_constant move generator_mark pass_over by_context by_level by_loops in_loop postponed_part name_access inside with_path nested_in_class child lambda_value emission_of_def emission_of_generic_def emission_of_class emission_of_generic_class load_cell assembled_object has_layout as_element called_at_once
 plain_alias_emitted = refl
 
 plain_alias_forms : codes_of_object 9 plain_alias_object ≡ codes_of_scope 9 (body plain_alias_scopes plain_alias Exec 0)
@@ -130,7 +131,7 @@ abbrev bound_function_object : Object
 bound_function_object = (sealed_as 4 None 1 0 0 0 1 (codes "<module>") ((object_tool_unit op.LoadConst 0) ∷ (object_tool_unit op.LoadConst 1) ∷ (object_tool_unit op.MakeFunction 0) ∷ (object_tool_unit op.LoadConst 2) ∷ (object_tool_unit op.BuildTuple 1) ∷ (object_tool_unit op.LoadConst 3) ∷ (object_tool_unit op.LoadConst 4) ∷ (object_tool_unit op.BuildMap 1) ∷ (object_tool_unit op.CallFunctionPositional 2) ∷ (object_tool_unit op.StoreLocal 0) ∷ (object_tool_unit op.ReturnConst 5) ∷ []) ((source_place 1 39) ∷ (source_place 1 39) ∷ (source_place 1 39) ∷ (source_place 1 20) ∷ (source_place 1 20) ∷ (source_place 1 20) ∷ (source_place 1 28) ∷ (source_place 1 28) ∷ (source_place 1 28) ∷ (source_place 1 28) ∷ (source_place 1 28) ∷ []) ((codes "f") ∷ []) [] [] [] ((const.code (sealed_as 6 None 33 2 2 0 1 (codes "<generic parameters of f>") ((object_tool_unit op.LoadFast 0) ∷ (object_tool_unit op.LoadFast 1) ∷ (object_tool_unit op.LoadGlobal 0) ∷ (object_tool_unit op.LoadConst 0) ∷ (object_tool_unit op.TypeVarWithBound 0) ∷ (object_tool_unit op.Duplicate 0) ∷ (object_tool_unit op.StoreFast 2) ∷ (object_tool_unit op.BuildTuple 1) ∷ (object_tool_unit op.LoadConst 1) ∷ (object_tool_unit op.LoadFast 2) ∷ (object_tool_unit op.BuildMap 1) ∷ (object_tool_unit op.LoadConst 2) ∷ (object_tool_unit op.LoadConst 3) ∷ (object_tool_unit op.MakeFunction 30) ∷ (object_tool_unit op.Duplicate 0) ∷ (object_tool_unit op.LoadConst 4) ∷ (object_tool_unit op.Rotate2 0) ∷ (object_tool_unit op.StoreAttr 1) ∷ (object_tool_unit op.ReturnValue 0) ∷ []) ((source_place 1 1) ∷ (source_place 1 1) ∷ (source_place 1 10) ∷ (source_place 1 10) ∷ (source_place 1 10) ∷ (source_place 1 10) ∷ (source_place 1 10) ∷ (source_place 1 10) ∷ (source_place 3 12) ∷ (source_place 1 39) ∷ (source_place 1 39) ∷ (source_place 1 39) ∷ (source_place 1 39) ∷ (source_place 1 39) ∷ (source_place 1 39) ∷ (source_place 1 39) ∷ (source_place 1 39) ∷ (source_place 1 39) ∷ (source_place 1 39) ∷ []) ((codes "int") ∷ (codes "__doc__") ∷ []) ((codes ".defaults") ∷ (codes ".kwdefaults") ∷ (codes "T") ∷ []) [] [] ((const.str (codes "T")) ∷ (const.str (codes "return")) ∷ (const.code (sealed_as 1 None 49 0 2 1 1 (codes "f") ((object_tool_unit op.LoadFast 0) ∷ (object_tool_unit op.ReturnValue 0) ∷ []) ((source_place 3 12) ∷ (source_place 3 12) ∷ []) [] ((codes "a") ∷ (codes "b") ∷ (codes "c") ∷ (codes "k") ∷ []) [] [] (const.none ∷ []))) ∷ (const.str (codes "f")) ∷ (const.str (codes "doc")) ∷ []))) ∷ (const.str (codes "<generic parameters of f>")) ∷ (const.integer (pos 1)) ∷ (const.str (codes "c")) ∷ (const.integer (pos 2)) ∷ const.none ∷ []))
 
 bound_function_emitted : object_emitted bound_function_scopes bound_function 0 ≡ Some (bound_function_object, length bound_function_scopes)
-unfolding with_step with_block with_name with_varname with_constant with_loops with_postponed with_location refuse emit jump one_block two_blocks three_blocks put_instruction emit_count emit_name emit_varname emit_mangled add_varname add_constant emit_constant move generator_mark pass_over by_context by_level by_loops in_loop postponed_part name_access inside with_path nested_in_class child lambda_value emission_of_def emission_of_generic_def emission_of_class emission_of_generic_class load_cell assembled_object as_element called_at_once
+unfolding with_step with_block with_name with_varname with_constant with_loops with_postponed with_location refuse emit jump one_block two_blocks three_blocks put_instruction emit_count emit_name emit_varname emit_mangled add_varname add_constant emit_constant move generator_mark pass_over by_context by_level by_loops in_loop postponed_part name_access inside with_path nested_in_class child lambda_value emission_of_def emission_of_generic_def emission_of_class emission_of_generic_class load_cell assembled_object has_layout as_element called_at_once
 bound_function_emitted = refl
 
 bound_function_forms : codes_of_object 9 bound_function_object ≡ codes_of_scope 9 (body bound_function_scopes bound_function Exec 0)
@@ -154,7 +155,7 @@ abbrev bound_undocumented_object : Object
 bound_undocumented_object = (sealed_as 4 None 1 0 0 0 1 (codes "<module>") ((object_tool_unit op.LoadConst 0) ∷ (object_tool_unit op.LoadConst 1) ∷ (object_tool_unit op.MakeFunction 0) ∷ (object_tool_unit op.LoadConst 2) ∷ (object_tool_unit op.BuildTuple 1) ∷ (object_tool_unit op.LoadConst 3) ∷ (object_tool_unit op.LoadConst 4) ∷ (object_tool_unit op.BuildMap 1) ∷ (object_tool_unit op.CallFunctionPositional 2) ∷ (object_tool_unit op.StoreLocal 0) ∷ (object_tool_unit op.ReturnConst 5) ∷ []) ((source_place 1 39) ∷ (source_place 1 39) ∷ (source_place 1 39) ∷ (source_place 1 20) ∷ (source_place 1 20) ∷ (source_place 1 20) ∷ (source_place 1 28) ∷ (source_place 1 28) ∷ (source_place 1 28) ∷ (source_place 1 28) ∷ (source_place 1 28) ∷ []) ((codes "f") ∷ []) [] [] [] ((const.code (sealed_as 6 None 33 2 2 0 1 (codes "<generic parameters of f>") ((object_tool_unit op.LoadFast 0) ∷ (object_tool_unit op.LoadFast 1) ∷ (object_tool_unit op.LoadGlobal 0) ∷ (object_tool_unit op.LoadConst 0) ∷ (object_tool_unit op.TypeVarWithBound 0) ∷ (object_tool_unit op.Duplicate 0) ∷ (object_tool_unit op.StoreFast 2) ∷ (object_tool_unit op.BuildTuple 1) ∷ (object_tool_unit op.LoadConst 1) ∷ (object_tool_unit op.LoadFast 2) ∷ (object_tool_unit op.BuildMap 1) ∷ (object_tool_unit op.LoadConst 2) ∷ (object_tool_unit op.LoadConst 3) ∷ (object_tool_unit op.MakeFunction 30) ∷ (object_tool_unit op.ReturnValue 0) ∷ []) ((source_place 1 1) ∷ (source_place 1 1) ∷ (source_place 1 10) ∷ (source_place 1 10) ∷ (source_place 1 10) ∷ (source_place 1 10) ∷ (source_place 1 10) ∷ (source_place 1 10) ∷ (source_place 3 12) ∷ (source_place 1 39) ∷ (source_place 1 39) ∷ (source_place 1 39) ∷ (source_place 1 39) ∷ (source_place 1 39) ∷ (source_place 1 39) ∷ []) ((codes "int") ∷ []) ((codes ".defaults") ∷ (codes ".kwdefaults") ∷ (codes "T") ∷ []) [] [] ((const.str (codes "T")) ∷ (const.str (codes "return")) ∷ (const.code (sealed_as 1 None 49 0 2 1 1 (codes "f") ((object_tool_unit op.LoadFast 0) ∷ (object_tool_unit op.ReturnValue 0) ∷ []) ((source_place 3 12) ∷ (source_place 3 12) ∷ []) [] ((codes "a") ∷ (codes "b") ∷ (codes "c") ∷ (codes "k") ∷ []) [] [] (const.none ∷ []))) ∷ (const.str (codes "f")) ∷ []))) ∷ (const.str (codes "<generic parameters of f>")) ∷ (const.integer (pos 1)) ∷ (const.str (codes "c")) ∷ (const.integer (pos 2)) ∷ const.none ∷ []))
 
 bound_undocumented_emitted : object_emitted bound_undocumented_scopes bound_undocumented 2 ≡ Some (bound_undocumented_object, length bound_undocumented_scopes)
-unfolding with_step with_block with_name with_varname with_constant with_loops with_postponed with_location refuse emit jump one_block two_blocks three_blocks put_instruction emit_count emit_name emit_varname emit_mangled add_varname add_constant emit_constant move generator_mark pass_over by_context by_level by_loops in_loop postponed_part name_access inside with_path nested_in_class child lambda_value emission_of_def emission_of_generic_def emission_of_class emission_of_generic_class load_cell assembled_object as_element called_at_once
+unfolding with_step with_block with_name with_varname with_constant with_loops with_postponed with_location refuse emit jump one_block two_blocks three_blocks put_instruction emit_count emit_name emit_varname emit_mangled add_varname add_constant emit_constant move generator_mark pass_over by_context by_level by_loops in_loop postponed_part name_access inside with_path nested_in_class child lambda_value emission_of_def emission_of_generic_def emission_of_class emission_of_generic_class load_cell assembled_object has_layout as_element called_at_once
 bound_undocumented_emitted = refl
 
 bound_undocumented_forms : codes_of_object 9 bound_undocumented_object ≡ codes_of_scope 9 (body bound_undocumented_scopes bound_undocumented Exec 2)
@@ -179,7 +180,7 @@ abbrev generic_bases_object : Object
 generic_bases_object = (sealed_as 2 None 1 0 0 0 1 (codes "<module>") ((object_tool_unit op.LoadConst 0) ∷ (object_tool_unit op.LoadConst 1) ∷ (object_tool_unit op.MakeFunction 0) ∷ (object_tool_unit op.CallFunctionPositional 0) ∷ (object_tool_unit op.StoreLocal 0) ∷ (object_tool_unit op.LoadConst 2) ∷ (object_tool_unit op.LoadConst 3) ∷ (object_tool_unit op.MakeFunction 0) ∷ (object_tool_unit op.CallFunctionPositional 0) ∷ (object_tool_unit op.StoreLocal 1) ∷ (object_tool_unit op.ReturnConst 4) ∷ []) ((source_place 1 38) ∷ (source_place 1 38) ∷ (source_place 1 38) ∷ (source_place 1 38) ∷ (source_place 1 38) ∷ (source_place 4 17) ∷ (source_place 4 17) ∷ (source_place 4 17) ∷ (source_place 4 17) ∷ (source_place 4 17) ∷ (source_place 4 17) ∷ []) ((codes "A") ∷ (codes "F") ∷ []) [] [] [] ((const.code (sealed_as 5 None 33 0 0 0 1 (codes "<generic parameters of A>") ((object_tool_unit op.LoadBuildClass 0) ∷ (object_tool_unit op.LoadConst 0) ∷ (object_tool_unit op.TypeVar 0) ∷ (object_tool_unit op.Duplicate 0) ∷ (object_tool_unit op.StoreDeref 0) ∷ (object_tool_unit op.LoadDeref 0) ∷ (object_tool_unit op.LoadConst 1) ∷ (object_tool_unit op.TypeVarWithBound 0) ∷ (object_tool_unit op.Duplicate 0) ∷ (object_tool_unit op.StoreFast 0) ∷ (object_tool_unit op.BuildTuple 2) ∷ (object_tool_unit op.LoadClosure 0) ∷ (object_tool_unit op.BuildTuple 1) ∷ (object_tool_unit op.LoadConst 2) ∷ (object_tool_unit op.LoadConst 3) ∷ (object_tool_unit op.MakeFunction 17) ∷ (object_tool_unit op.LoadConst 3) ∷ (object_tool_unit op.BuildTuple 2) ∷ (object_tool_unit op.LoadGlobal 0) ∷ (object_tool_unit op.LoadDeref 0) ∷ (object_tool_unit op.Subscript 0) ∷ (object_tool_unit op.BuildTuple 1) ∷ (object_tool_unit op.LoadGlobal 1) ∷ (object_tool_unit op.LoadGlobal 2) ∷ (object_tool_unit op.BuildTuple 1) ∷ (object_tool_unit op.BuildTupleUnpack 4) ∷ (object_tool_unit op.LoadConst 4) ∷ (object_tool_unit op.LoadFast 0) ∷ (object_tool_unit op.BuildMap 1) ∷ (object_tool_unit op.LoadGlobal 3) ∷ (object_tool_unit op.BuildMapForCall 2) ∷ (object_tool_unit op.CallFunctionEx 1) ∷ (object_tool_unit op.ReturnValue 0) ∷ []) ((source_place 1 1) ∷ (source_place 1 1) ∷ (source_place 1 1) ∷ (source_place 1 1) ∷ (source_place 1 1) ∷ (source_place 1 15) ∷ (source_place 1 15) ∷ (source_place 1 15) ∷ (source_place 1 15) ∷ (source_place 1 15) ∷ (source_place 1 15) ∷ (source_place 3 8) ∷ (source_place 3 8) ∷ (source_place 3 8) ∷ (source_place 3 8) ∷ (source_place 3 8) ∷ (source_place 3 8) ∷ (source_place 3 8) ∷ (source_place 1 18) ∷ (source_place 1 20) ∷ (source_place 1 20) ∷ (source_place 1 20) ∷ (source_place 1 25) ∷ (source_place 1 28) ∷ (source_place 1 28) ∷ (source_place 1 28) ∷ (source_place 1 28) ∷ (source_place 1 33) ∷ (source_place 1 33) ∷ (source_place 1 38) ∷ (source_place 1 38) ∷ (source_place 1 38) ∷ (source_place 1 38) ∷ []) ((codes "B") ∷ (codes "C") ∷ (codes "D") ∷ (codes "E") ∷ []) ((codes "U") ∷ []) ((codes "T") ∷ []) [] ((const.str (codes "T")) ∷ (const.str (codes "U")) ∷ (const.code (sealed_as 3 None 0 0 0 0 1 (codes "A") ((object_tool_unit op.LoadGlobal 0) ∷ (object_tool_unit op.StoreLocal 1) ∷ (object_tool_unit op.LoadConst 0) ∷ (object_tool_unit op.StoreLocal 2) ∷ (object_tool_unit op.LoadConst 1) ∷ (object_tool_unit op.StoreLocal 3) ∷ (object_tool_unit op.SetupAnnotation 0) ∷ (object_tool_unit op.LoadConst 2) ∷ (object_tool_unit op.StoreLocal 4) ∷ (object_tool_unit op.LoadClassDeref 0) ∷ (object_tool_unit op.LoadNameAny 5) ∷ (object_tool_unit op.LoadConst 3) ∷ (object_tool_unit op.StoreSubscript 0) ∷ (object_tool_unit op.ReturnConst 4) ∷ []) ((source_place 1 15) ∷ (source_place 1 15) ∷ (source_place 1 15) ∷ (source_place 1 15) ∷ (source_place 1 15) ∷ (source_place 1 15) ∷ (source_place 1 15) ∷ (source_place 3 12) ∷ (source_place 3 12) ∷ (source_place 3 8) ∷ (source_place 3 8) ∷ (source_place 3 8) ∷ (source_place 3 8) ∷ (source_place 3 8) ∷ []) ((codes "__name__") ∷ (codes "__module__") ∷ (codes "__qualname__") ∷ (codes "__doc__") ∷ (codes "y") ∷ (codes "__annotations__") ∷ []) [] [] ((codes "T") ∷ []) ((const.str (codes "A")) ∷ (const.str (codes "doc")) ∷ (const.integer (pos 1)) ∷ (const.str (codes "y")) ∷ const.none ∷ []))) ∷ (const.str (codes "A")) ∷ (const.str (codes "k")) ∷ []))) ∷ (const.str (codes "<generic parameters of A>")) ∷ (const.code (sealed_as 6 None 33 0 0 0 4 (codes "<generic parameters of F>") ((object_tool_unit op.LoadBuildClass 0) ∷ (object_tool_unit op.LoadConst 0) ∷ (object_tool_unit op.TypeVar 0) ∷ (object_tool_unit op.Duplicate 0) ∷ (object_tool_unit op.StoreFast 0) ∷ (object_tool_unit op.BuildTuple 1) ∷ (object_tool_unit op.LoadConst 1) ∷ (object_tool_unit op.LoadConst 2) ∷ (object_tool_unit op.MakeFunction 16) ∷ (object_tool_unit op.LoadConst 2) ∷ (object_tool_unit op.LoadGlobal 0) ∷ (object_tool_unit op.LoadFast 0) ∷ (object_tool_unit op.LoadConst 3) ∷ (object_tool_unit op.CallFunctionKeyword 4) ∷ (object_tool_unit op.ReturnValue 0) ∷ []) ((source_place 4 1) ∷ (source_place 4 1) ∷ (source_place 4 1) ∷ (source_place 4 1) ∷ (source_place 4 1) ∷ (source_place 4 1) ∷ (source_place 4 21) ∷ (source_place 4 21) ∷ (source_place 4 21) ∷ (source_place 4 21) ∷ (source_place 4 12) ∷ (source_place 4 17) ∷ (source_place 4 17) ∷ (source_place 4 17) ∷ (source_place 4 17) ∷ []) ((codes "B") ∷ []) ((codes "T") ∷ []) [] [] ((const.str (codes "T")) ∷ (const.code (sealed_as 1 None 0 0 0 0 4 (codes "F") ((object_tool_unit op.LoadGlobal 0) ∷ (object_tool_unit op.StoreLocal 1) ∷ (object_tool_unit op.LoadConst 0) ∷ (object_tool_unit op.StoreLocal 2) ∷ (object_tool_unit op.LoadConst 1) ∷ (object_tool_unit op.StoreLocal 3) ∷ (object_tool_unit op.ReturnConst 1) ∷ []) ((source_place 4 1) ∷ (source_place 4 1) ∷ (source_place 4 1) ∷ (source_place 4 1) ∷ (source_place 4 1) ∷ (source_place 4 1) ∷ (source_place 4 21) ∷ []) ((codes "__name__") ∷ (codes "__module__") ∷ (codes "__qualname__") ∷ (codes "__doc__") ∷ []) [] [] [] ((const.str (codes "F")) ∷ const.none ∷ []))) ∷ (const.str (codes "F")) ∷ (const.tuple (const.more_consts (const.str (codes "k")) const.no_consts)) ∷ []))) ∷ (const.str (codes "<generic parameters of F>")) ∷ const.none ∷ []))
 
 generic_bases_emitted : object_emitted generic_bases_scopes generic_bases 0 ≡ Some (generic_bases_object, length generic_bases_scopes)
-unfolding with_step with_block with_name with_varname with_constant with_loops with_postponed with_location refuse emit jump one_block two_blocks three_blocks put_instruction emit_count emit_name emit_varname emit_mangled add_varname add_constant emit_constant move generator_mark pass_over by_context by_level by_loops in_loop postponed_part name_access inside with_path nested_in_class child lambda_value emission_of_def emission_of_generic_def emission_of_class emission_of_generic_class load_cell assembled_object as_element called_at_once
+unfolding with_step with_block with_name with_varname with_constant with_loops with_postponed with_location refuse emit jump one_block two_blocks three_blocks put_instruction emit_count emit_name emit_varname emit_mangled add_varname add_constant emit_constant move generator_mark pass_over by_context by_level by_loops in_loop postponed_part name_access inside with_path nested_in_class child lambda_value emission_of_def emission_of_generic_def emission_of_class emission_of_generic_class load_cell assembled_object has_layout as_element called_at_once
 generic_bases_emitted = refl
 
 generic_bases_forms : codes_of_object 9 generic_bases_object ≡ codes_of_scope 9 (body generic_bases_scopes generic_bases Exec 0)
@@ -204,7 +205,7 @@ abbrev generic_method_object : Object
 generic_method_object = (sealed_as 3 None 1 0 0 0 1 (codes "<module>") ((object_tool_unit op.LoadBuildClass 0) ∷ (object_tool_unit op.LoadConst 0) ∷ (object_tool_unit op.LoadConst 1) ∷ (object_tool_unit op.MakeFunction 0) ∷ (object_tool_unit op.LoadConst 1) ∷ (object_tool_unit op.CallFunctionPositional 2) ∷ (object_tool_unit op.StoreLocal 0) ∷ (object_tool_unit op.ReturnConst 2) ∷ []) ((source_place 1 1) ∷ (source_place 2 40) ∷ (source_place 2 40) ∷ (source_place 2 40) ∷ (source_place 2 40) ∷ (source_place 2 40) ∷ (source_place 2 40) ∷ (source_place 2 40) ∷ []) ((codes "A") ∷ []) [] [] [] ((const.code (sealed_as 3 None 0 0 0 0 1 (codes "A") ((object_tool_unit op.LoadGlobal 0) ∷ (object_tool_unit op.StoreLocal 1) ∷ (object_tool_unit op.LoadConst 0) ∷ (object_tool_unit op.StoreLocal 2) ∷ (object_tool_unit op.LoadConst 1) ∷ (object_tool_unit op.StoreLocal 3) ∷ (object_tool_unit op.LoadClosure 0) ∷ (object_tool_unit op.BuildTuple 1) ∷ (object_tool_unit op.LoadConst 2) ∷ (object_tool_unit op.LoadConst 3) ∷ (object_tool_unit op.MakeFunction 1) ∷ (object_tool_unit op.LoadConst 4) ∷ (object_tool_unit op.LoadConst 5) ∷ (object_tool_unit op.BuildMap 1) ∷ (object_tool_unit op.CallFunctionPositional 1) ∷ (object_tool_unit op.StoreLocal 4) ∷ (object_tool_unit op.LoadClosure 0) ∷ (object_tool_unit op.Duplicate 0) ∷ (object_tool_unit op.StoreLocal 5) ∷ (object_tool_unit op.ReturnValue 0) ∷ []) ((source_place 1 1) ∷ (source_place 1 1) ∷ (source_place 1 1) ∷ (source_place 1 1) ∷ (source_place 1 1) ∷ (source_place 1 1) ∷ (source_place 2 30) ∷ (source_place 2 30) ∷ (source_place 2 30) ∷ (source_place 2 30) ∷ (source_place 2 30) ∷ (source_place 2 30) ∷ (source_place 2 40) ∷ (source_place 2 40) ∷ (source_place 2 40) ∷ (source_place 2 40) ∷ (source_place 2 40) ∷ (source_place 2 40) ∷ (source_place 2 40) ∷ (source_place 2 40) ∷ []) ((codes "__name__") ∷ (codes "__module__") ∷ (codes "__qualname__") ∷ (codes "__doc__") ∷ (codes "_A__m") ∷ (codes "__classcell__") ∷ []) [] ((codes "__class__") ∷ []) [] ((const.str (codes "A")) ∷ const.none ∷ (const.code (sealed_as 6 None 33 1 1 0 2 (codes "<generic parameters of __m>") ((object_tool_unit op.LoadFast 0) ∷ (object_tool_unit op.LoadGlobal 0) ∷ (object_tool_unit op.LoadConst 0) ∷ (object_tool_unit op.TypeVarWithBound 0) ∷ (object_tool_unit op.Duplicate 0) ∷ (object_tool_unit op.StoreDeref 0) ∷ (object_tool_unit op.BuildTuple 1) ∷ (object_tool_unit op.LoadConst 1) ∷ (object_tool_unit op.LoadDeref 0) ∷ (object_tool_unit op.LoadConst 2) ∷ (object_tool_unit op.LoadDeref 0) ∷ (object_tool_unit op.BuildMap 2) ∷ (object_tool_unit op.LoadClosure 1) ∷ (object_tool_unit op.LoadClosure 0) ∷ (object_tool_unit op.BuildTuple 2) ∷ (object_tool_unit op.LoadConst 3) ∷ (object_tool_unit op.LoadConst 4) ∷ (object_tool_unit op.MakeFunction 23) ∷ (object_tool_unit op.ReturnValue 0) ∷ []) ((source_place 2 5) ∷ (source_place 2 18) ∷ (source_place 2 18) ∷ (source_place 2 18) ∷ (source_place 2 18) ∷ (source_place 2 18) ∷ (source_place 2 18) ∷ (source_place 4 27) ∷ (source_place 2 46) ∷ (source_place 2 46) ∷ (source_place 2 30) ∷ (source_place 2 30) ∷ (source_place 2 30) ∷ (source_place 2 30) ∷ (source_place 2 30) ∷ (source_place 2 30) ∷ (source_place 2 30) ∷ (source_place 2 30) ∷ (source_place 2 30) ∷ []) ((codes "A") ∷ []) ((codes ".kwdefaults") ∷ []) ((codes "_A__T") ∷ []) ((codes "__class__") ∷ []) ((const.str (codes "__T")) ∷ (const.str (codes "return")) ∷ (const.str (codes "x")) ∷ (const.code (sealed_as 2 None 33 0 2 1 2 (codes "__m") ((object_tool_unit op.LoadGlobal 0) ∷ (object_tool_unit op.CallFunctionPositional 0) ∷ (object_tool_unit op.Pop 0) ∷ (object_tool_unit op.LoadDeref 0) ∷ (object_tool_unit op.LoadDeref 1) ∷ (object_tool_unit op.BuildTuple 2) ∷ (object_tool_unit op.ReturnValue 0) ∷ []) ((source_place 3 9) ∷ (source_place 3 9) ∷ (source_place 3 9) ∷ (source_place 4 16) ∷ (source_place 4 27) ∷ (source_place 4 27) ∷ (source_place 4 27) ∷ []) ((codes "super") ∷ []) ((codes "self") ∷ (codes "x") ∷ (codes "k") ∷ []) [] ((codes "__class__") ∷ (codes "_A__T") ∷ []) (const.none ∷ []))) ∷ (const.str (codes "A.__m")) ∷ []))) ∷ (const.str (codes "<generic parameters of __m>")) ∷ (const.str (codes "k")) ∷ (const.integer (pos 1)) ∷ []))) ∷ (const.str (codes "A")) ∷ const.none ∷ []))
 
 generic_method_emitted : object_emitted generic_method_scopes generic_method 0 ≡ Some (generic_method_object, length generic_method_scopes)
-unfolding with_step with_block with_name with_varname with_constant with_loops with_postponed with_location refuse emit jump one_block two_blocks three_blocks put_instruction emit_count emit_name emit_varname emit_mangled add_varname add_constant emit_constant move generator_mark pass_over by_context by_level by_loops in_loop postponed_part name_access inside with_path nested_in_class child lambda_value emission_of_def emission_of_generic_def emission_of_class emission_of_generic_class load_cell assembled_object as_element called_at_once
+unfolding with_step with_block with_name with_varname with_constant with_loops with_postponed with_location refuse emit jump one_block two_blocks three_blocks put_instruction emit_count emit_name emit_varname emit_mangled add_varname add_constant emit_constant move generator_mark pass_over by_context by_level by_loops in_loop postponed_part name_access inside with_path nested_in_class child lambda_value emission_of_def emission_of_generic_def emission_of_class emission_of_generic_class load_cell assembled_object has_layout as_element called_at_once
 generic_method_emitted = refl
 
 generic_method_forms : codes_of_object 9 generic_method_object ≡ codes_of_scope 9 (body generic_method_scopes generic_method Exec 0)
@@ -230,7 +231,7 @@ abbrev decorated_generic_object : Object
 decorated_generic_object = (sealed_as 5 None 1 0 0 0 1 (codes "<module>") ((object_tool_unit op.LoadNameAny 0) ∷ (object_tool_unit op.LoadNameAny 1) ∷ (object_tool_unit op.LoadConst 0) ∷ (object_tool_unit op.LoadConst 1) ∷ (object_tool_unit op.MakeFunction 0) ∷ (object_tool_unit op.CallFunctionPositional 1) ∷ (object_tool_unit op.LoadConst 2) ∷ (object_tool_unit op.LoadConst 3) ∷ (object_tool_unit op.MakeFunction 0) ∷ (object_tool_unit op.LoadConst 4) ∷ (object_tool_unit op.LoadConst 1) ∷ (object_tool_unit op.MakeFunction 0) ∷ (object_tool_unit op.BuildTuple 1) ∷ (object_tool_unit op.CallFunctionPositional 1) ∷ (object_tool_unit op.CallFunctionPositional 1) ∷ (object_tool_unit op.CallFunctionPositional 1) ∷ (object_tool_unit op.StoreLocal 2) ∷ (object_tool_unit op.LoadNameAny 0) ∷ (object_tool_unit op.LoadConst 5) ∷ (object_tool_unit op.LoadConst 6) ∷ (object_tool_unit op.MakeFunction 0) ∷ (object_tool_unit op.CallFunctionPositional 0) ∷ (object_tool_unit op.CallFunctionPositional 1) ∷ (object_tool_unit op.StoreLocal 3) ∷ (object_tool_unit op.ReturnConst 7) ∷ []) ((source_place 1 2) ∷ (source_place 2 2) ∷ (source_place 2 12) ∷ (source_place 2 12) ∷ (source_place 2 12) ∷ (source_place 2 12) ∷ (source_place 3 31) ∷ (source_place 3 31) ∷ (source_place 3 31) ∷ (source_place 3 20) ∷ (source_place 3 20) ∷ (source_place 3 20) ∷ (source_place 3 20) ∷ (source_place 3 20) ∷ (source_place 3 20) ∷ (source_place 3 20) ∷ (source_place 3 20) ∷ (source_place 4 2) ∷ (source_place 5 33) ∷ (source_place 5 33) ∷ (source_place 5 33) ∷ (source_place 5 33) ∷ (source_place 5 33) ∷ (source_place 5 33) ∷ (source_place 5 33) ∷ []) ((codes "d") ∷ (codes "e") ∷ (codes "f") ∷ (codes "A") ∷ []) [] [] [] ((const.code (sealed_as 0 None 33 0 0 0 2 (codes "<lambda>") ((object_tool_unit op.ReturnConst 1) ∷ []) ((source_place 2 12) ∷ []) [] [] [] [] (const.none ∷ (const.integer (pos 1)) ∷ []))) ∷ (const.str (codes "<lambda>")) ∷ (const.code (sealed_as 5 None 33 1 1 0 2 (codes "<generic parameters of f>") ((object_tool_unit op.LoadFast 0) ∷ (object_tool_unit op.LoadConst 0) ∷ (object_tool_unit op.TypeVar 0) ∷ (object_tool_unit op.Duplicate 0) ∷ (object_tool_unit op.StoreDeref 0) ∷ (object_tool_unit op.BuildTuple 1) ∷ (object_tool_unit op.LoadClosure 0) ∷ (object_tool_unit op.BuildTuple 1) ∷ (object_tool_unit op.LoadConst 1) ∷ (object_tool_unit op.LoadConst 2) ∷ (object_tool_unit op.MakeFunction 25) ∷ (object_tool_unit op.ReturnValue 0) ∷ []) ((source_place 2 12) ∷ (source_place 2 12) ∷ (source_place 2 12) ∷ (source_place 2 12) ∷ (source_place 2 12) ∷ (source_place 2 12) ∷ (source_place 3 31) ∷ (source_place 3 31) ∷ (source_place 3 31) ∷ (source_place 3 31) ∷ (source_place 3 31) ∷ (source_place 3 31) ∷ []) [] ((codes ".defaults") ∷ []) ((codes "T") ∷ []) [] ((const.str (codes "T")) ∷ (const.code (sealed_as 1 None 33 0 1 0 2 (codes "f") ((object_tool_unit op.LoadDeref 0) ∷ (object_tool_unit op.ReturnValue 0) ∷ []) ((source_place 3 31) ∷ (source_place 3 31) ∷ []) [] ((codes "x") ∷ []) [] ((codes "T") ∷ []) (const.none ∷ []))) ∷ (const.str (codes "f")) ∷ []))) ∷ (const.str (codes "<generic parameters of f>")) ∷ (const.code (sealed_as 0 None 33 0 0 0 3 (codes "<lambda>") ((object_tool_unit op.ReturnConst 1) ∷ []) ((source_place 3 20) ∷ []) [] [] [] [] (const.none ∷ (const.integer (pos 2)) ∷ []))) ∷ (const.code (sealed_as 7 None 33 0 0 0 4 (codes "<generic parameters of A>") ((object_tool_unit op.LoadBuildClass 0) ∷ (object_tool_unit op.LoadConst 0) ∷ (object_tool_unit op.LoadConst 1) ∷ (object_tool_unit op.MakeFunction 0) ∷ (object_tool_unit op.LoadConst 2) ∷ (object_tool_unit op.TypeVarWithBound 0) ∷ (object_tool_unit op.Duplicate 0) ∷ (object_tool_unit op.StoreDeref 0) ∷ (object_tool_unit op.BuildTuple 1) ∷ (object_tool_unit op.LoadConst 3) ∷ (object_tool_unit op.LoadConst 4) ∷ (object_tool_unit op.MakeFunction 16) ∷ (object_tool_unit op.LoadConst 4) ∷ (object_tool_unit op.LoadGlobal 0) ∷ (object_tool_unit op.LoadClosure 0) ∷ (object_tool_unit op.BuildTuple 1) ∷ (object_tool_unit op.LoadConst 5) ∷ (object_tool_unit op.LoadConst 1) ∷ (object_tool_unit op.MakeFunction 1) ∷ (object_tool_unit op.CallFunctionPositional 1) ∷ (object_tool_unit op.CallFunctionPositional 3) ∷ (object_tool_unit op.ReturnValue 0) ∷ []) ((source_place 4 2) ∷ (source_place 5 20) ∷ (source_place 5 20) ∷ (source_place 5 20) ∷ (source_place 5 20) ∷ (source_place 5 20) ∷ (source_place 5 20) ∷ (source_place 5 20) ∷ (source_place 5 20) ∷ (source_place 5 38) ∷ (source_place 5 38) ∷ (source_place 5 38) ∷ (source_place 5 38) ∷ (source_place 5 23) ∷ (source_place 5 33) ∷ (source_place 5 33) ∷ (source_place 5 33) ∷ (source_place 5 33) ∷ (source_place 5 33) ∷ (source_place 5 33) ∷ (source_place 5 33) ∷ (source_place 5 33) ∷ []) ((codes "f") ∷ []) [] ((codes "T") ∷ []) [] ((const.code (sealed_as 0 None 33 0 0 0 5 (codes "<lambda>") ((object_tool_unit op.ReturnConst 1) ∷ []) ((source_place 5 20) ∷ []) [] [] [] [] (const.none ∷ (const.integer (pos 3)) ∷ []))) ∷ (const.str (codes "<lambda>")) ∷ (const.str (codes "T")) ∷ (const.code (sealed_as 1 None 0 0 0 0 5 (codes "A") ((object_tool_unit op.LoadGlobal 0) ∷ (object_tool_unit op.StoreLocal 1) ∷ (object_tool_unit op.LoadConst 0) ∷ (object_tool_unit op.StoreLocal 2) ∷ (object_tool_unit op.LoadConst 1) ∷ (object_tool_unit op.StoreLocal 3) ∷ (object_tool_unit op.ReturnConst 1) ∷ []) ((source_place 5 20) ∷ (source_place 5 20) ∷ (source_place 5 20) ∷ (source_place 5 20) ∷ (source_place 5 20) ∷ (source_place 5 20) ∷ (source_place 5 38) ∷ []) ((codes "__name__") ∷ (codes "__module__") ∷ (codes "__qualname__") ∷ (codes "__doc__") ∷ []) [] [] [] ((const.str (codes "A")) ∷ const.none ∷ []))) ∷ (const.str (codes "A")) ∷ (const.code (sealed_as 1 None 33 0 0 0 5 (codes "<lambda>") ((object_tool_unit op.LoadDeref 0) ∷ (object_tool_unit op.ReturnValue 0) ∷ []) ((source_place 5 33) ∷ (source_place 5 33) ∷ []) [] [] [] ((codes "T") ∷ []) (const.none ∷ []))) ∷ []))) ∷ (const.str (codes "<generic parameters of A>")) ∷ const.none ∷ []))
 
 decorated_generic_emitted : object_emitted decorated_generic_scopes decorated_generic 0 ≡ Some (decorated_generic_object, length decorated_generic_scopes)
-unfolding with_step with_block with_name with_varname with_constant with_loops with_postponed with_location refuse emit jump one_block two_blocks three_blocks put_instruction emit_count emit_name emit_varname emit_mangled add_varname add_constant emit_constant move generator_mark pass_over by_context by_level by_loops in_loop postponed_part name_access inside with_path nested_in_class child lambda_value emission_of_def emission_of_generic_def emission_of_class emission_of_generic_class load_cell assembled_object as_element called_at_once
+unfolding with_step with_block with_name with_varname with_constant with_loops with_postponed with_location refuse emit jump one_block two_blocks three_blocks put_instruction emit_count emit_name emit_varname emit_mangled add_varname add_constant emit_constant move generator_mark pass_over by_context by_level by_loops in_loop postponed_part name_access inside with_path nested_in_class child lambda_value emission_of_def emission_of_generic_def emission_of_class emission_of_generic_class load_cell assembled_object has_layout as_element called_at_once
 decorated_generic_emitted = refl
 
 decorated_generic_forms : codes_of_object 9 decorated_generic_object ≡ codes_of_scope 9 (body decorated_generic_scopes decorated_generic Exec 0)
@@ -259,7 +260,7 @@ abbrev generic_anew_object : Object
 generic_anew_object = (sealed_as 2 None 1 0 0 0 1 (codes "<module>") ((object_tool_unit op.LoadConst 0) ∷ (object_tool_unit op.LoadConst 1) ∷ (object_tool_unit op.MakeFunction 0) ∷ (object_tool_unit op.StoreLocal 0) ∷ (object_tool_unit op.ReturnConst 2) ∷ []) ((source_place 8 29) ∷ (source_place 8 29) ∷ (source_place 8 29) ∷ (source_place 8 29) ∷ (source_place 8 29) ∷ []) ((codes "f") ∷ []) [] [] [] ((const.code (sealed_as 2 None 33 0 0 0 1 (codes "f") ((object_tool_unit op.LoadConst 1) ∷ (object_tool_unit op.LoadConst 2) ∷ (object_tool_unit op.MakeFunction 0) ∷ (object_tool_unit op.CallFunctionPositional 0) ∷ (object_tool_unit op.StoreGlobal 0) ∷ (object_tool_unit op.LoadConst 3) ∷ (object_tool_unit op.LoadConst 4) ∷ (object_tool_unit op.MakeFunction 0) ∷ (object_tool_unit op.CallFunctionPositional 0) ∷ (object_tool_unit op.StoreGlobal 1) ∷ (object_tool_unit op.LoadConst 5) ∷ (object_tool_unit op.LoadConst 6) ∷ (object_tool_unit op.MakeFunction 0) ∷ (object_tool_unit op.CallFunctionPositional 0) ∷ (object_tool_unit op.StoreFast 0) ∷ (object_tool_unit op.ReturnConst 0) ∷ []) ((source_place 5 25) ∷ (source_place 5 25) ∷ (source_place 5 25) ∷ (source_place 5 25) ∷ (source_place 5 25) ∷ (source_place 6 17) ∷ (source_place 6 17) ∷ (source_place 6 17) ∷ (source_place 6 17) ∷ (source_place 6 17) ∷ (source_place 8 29) ∷ (source_place 8 29) ∷ (source_place 8 29) ∷ (source_place 8 29) ∷ (source_place 8 29) ∷ (source_place 8 29) ∷ []) ((codes "A") ∷ (codes "g") ∷ []) ((codes "C") ∷ []) [] [] (const.none ∷ (const.code (sealed_as 4 None 33 0 0 0 3 (codes "<generic parameters of A>") ((object_tool_unit op.LoadBuildClass 0) ∷ (object_tool_unit op.LoadConst 0) ∷ (object_tool_unit op.TypeVar 0) ∷ (object_tool_unit op.Duplicate 0) ∷ (object_tool_unit op.StoreFast 0) ∷ (object_tool_unit op.BuildTuple 1) ∷ (object_tool_unit op.LoadConst 1) ∷ (object_tool_unit op.LoadConst 2) ∷ (object_tool_unit op.MakeFunction 16) ∷ (object_tool_unit op.LoadConst 2) ∷ (object_tool_unit op.CallFunctionPositional 2) ∷ (object_tool_unit op.ReturnValue 0) ∷ []) ((source_place 3 5) ∷ (source_place 3 5) ∷ (source_place 3 5) ∷ (source_place 3 5) ∷ (source_place 3 5) ∷ (source_place 3 5) ∷ (source_place 5 25) ∷ (source_place 5 25) ∷ (source_place 5 25) ∷ (source_place 5 25) ∷ (source_place 5 25) ∷ (source_place 5 25) ∷ []) [] ((codes "T") ∷ []) [] [] ((const.str (codes "T")) ∷ (const.code (sealed_as 2 None 0 0 0 0 3 (codes "A") ((object_tool_unit op.LoadGlobal 0) ∷ (object_tool_unit op.StoreLocal 1) ∷ (object_tool_unit op.LoadConst 0) ∷ (object_tool_unit op.StoreLocal 2) ∷ (object_tool_unit op.LoadConst 1) ∷ (object_tool_unit op.StoreLocal 3) ∷ (object_tool_unit op.LoadConst 2) ∷ (object_tool_unit op.LoadConst 3) ∷ (object_tool_unit op.MakeFunction 0) ∷ (object_tool_unit op.CallFunctionPositional 0) ∷ (object_tool_unit op.StoreLocal 4) ∷ (object_tool_unit op.LoadConst 4) ∷ (object_tool_unit op.LoadConst 5) ∷ (object_tool_unit op.MakeFunction 0) ∷ (object_tool_unit op.CallFunctionPositional 0) ∷ (object_tool_unit op.StoreLocal 5) ∷ (object_tool_unit op.ReturnConst 1) ∷ []) ((source_place 3 5) ∷ (source_place 3 5) ∷ (source_place 3 5) ∷ (source_place 3 5) ∷ (source_place 3 5) ∷ (source_place 3 5) ∷ (source_place 4 21) ∷ (source_place 4 21) ∷ (source_place 4 21) ∷ (source_place 4 21) ∷ (source_place 4 21) ∷ (source_place 5 25) ∷ (source_place 5 25) ∷ (source_place 5 25) ∷ (source_place 5 25) ∷ (source_place 5 25) ∷ (source_place 5 25) ∷ []) ((codes "__name__") ∷ (codes "__module__") ∷ (codes "__qualname__") ∷ (codes "__doc__") ∷ (codes "B") ∷ (codes "g") ∷ []) [] [] [] ((const.str (codes "A")) ∷ const.none ∷ (const.code (sealed_as 4 None 33 0 0 0 4 (codes "<generic parameters of B>") ((object_tool_unit op.LoadBuildClass 0) ∷ (object_tool_unit op.LoadConst 0) ∷ (object_tool_unit op.TypeVar 0) ∷ (object_tool_unit op.Duplicate 0) ∷ (object_tool_unit op.StoreFast 0) ∷ (object_tool_unit op.BuildTuple 1) ∷ (object_tool_unit op.LoadConst 1) ∷ (object_tool_unit op.LoadConst 2) ∷ (object_tool_unit op.MakeFunction 16) ∷ (object_tool_unit op.LoadConst 2) ∷ (object_tool_unit op.CallFunctionPositional 2) ∷ (object_tool_unit op.ReturnValue 0) ∷ []) ((source_place 4 9) ∷ (source_place 4 9) ∷ (source_place 4 9) ∷ (source_place 4 9) ∷ (source_place 4 9) ∷ (source_place 4 9) ∷ (source_place 4 21) ∷ (source_place 4 21) ∷ (source_place 4 21) ∷ (source_place 4 21) ∷ (source_place 4 21) ∷ (source_place 4 21) ∷ []) [] ((codes "U") ∷ []) [] [] ((const.str (codes "U")) ∷ (const.code (sealed_as 1 None 0 0 0 0 4 (codes "B") ((object_tool_unit op.LoadGlobal 0) ∷ (object_tool_unit op.StoreLocal 1) ∷ (object_tool_unit op.LoadConst 0) ∷ (object_tool_unit op.StoreLocal 2) ∷ (object_tool_unit op.LoadConst 1) ∷ (object_tool_unit op.StoreLocal 3) ∷ (object_tool_unit op.ReturnConst 1) ∷ []) ((source_place 4 9) ∷ (source_place 4 9) ∷ (source_place 4 9) ∷ (source_place 4 9) ∷ (source_place 4 9) ∷ (source_place 4 9) ∷ (source_place 4 21) ∷ []) ((codes "__name__") ∷ (codes "__module__") ∷ (codes "__qualname__") ∷ (codes "__doc__") ∷ []) [] [] [] ((const.str (codes "A.B")) ∷ const.none ∷ []))) ∷ (const.str (codes "B")) ∷ []))) ∷ (const.str (codes "<generic parameters of B>")) ∷ (const.code (sealed_as 3 None 33 0 0 0 5 (codes "<generic parameters of g>") ((object_tool_unit op.LoadConst 0) ∷ (object_tool_unit op.TypeVar 0) ∷ (object_tool_unit op.Duplicate 0) ∷ (object_tool_unit op.StoreFast 0) ∷ (object_tool_unit op.BuildTuple 1) ∷ (object_tool_unit op.LoadConst 1) ∷ (object_tool_unit op.LoadConst 2) ∷ (object_tool_unit op.MakeFunction 16) ∷ (object_tool_unit op.ReturnValue 0) ∷ []) ((source_place 5 9) ∷ (source_place 5 9) ∷ (source_place 5 9) ∷ (source_place 5 9) ∷ (source_place 5 9) ∷ (source_place 5 25) ∷ (source_place 5 25) ∷ (source_place 5 25) ∷ (source_place 5 25) ∷ []) [] ((codes "V") ∷ []) [] [] ((const.str (codes "V")) ∷ (const.code (sealed_as 0 None 33 0 1 0 5 (codes "g") ((object_tool_unit op.ReturnConst 0) ∷ []) ((source_place 5 25) ∷ []) [] ((codes "self") ∷ []) [] [] (const.none ∷ []))) ∷ (const.str (codes "A.g")) ∷ []))) ∷ (const.str (codes "<generic parameters of g>")) ∷ []))) ∷ (const.str (codes "A")) ∷ []))) ∷ (const.str (codes "<generic parameters of A>")) ∷ (const.code (sealed_as 3 None 33 0 0 0 6 (codes "<generic parameters of g>") ((object_tool_unit op.LoadConst 0) ∷ (object_tool_unit op.TypeVar 0) ∷ (object_tool_unit op.Duplicate 0) ∷ (object_tool_unit op.StoreFast 0) ∷ (object_tool_unit op.BuildTuple 1) ∷ (object_tool_unit op.LoadConst 1) ∷ (object_tool_unit op.LoadConst 2) ∷ (object_tool_unit op.MakeFunction 16) ∷ (object_tool_unit op.ReturnValue 0) ∷ []) ((source_place 6 5) ∷ (source_place 6 5) ∷ (source_place 6 5) ∷ (source_place 6 5) ∷ (source_place 6 5) ∷ (source_place 6 17) ∷ (source_place 6 17) ∷ (source_place 6 17) ∷ (source_place 6 17) ∷ []) [] ((codes "T") ∷ []) [] [] ((const.str (codes "T")) ∷ (const.code (sealed_as 0 None 33 0 0 0 6 (codes "g") ((object_tool_unit op.ReturnConst 0) ∷ []) ((source_place 6 17) ∷ []) [] [] [] [] (const.none ∷ []))) ∷ (const.str (codes "f.<locals>.g")) ∷ []))) ∷ (const.str (codes "<generic parameters of g>")) ∷ (const.code (sealed_as 5 None 33 0 0 0 7 (codes "<generic parameters of C>") ((object_tool_unit op.LoadBuildClass 0) ∷ (object_tool_unit op.LoadConst 0) ∷ (object_tool_unit op.TypeVar 0) ∷ (object_tool_unit op.Duplicate 0) ∷ (object_tool_unit op.StoreDeref 0) ∷ (object_tool_unit op.BuildTuple 1) ∷ (object_tool_unit op.LoadClosure 0) ∷ (object_tool_unit op.BuildTuple 1) ∷ (object_tool_unit op.LoadConst 1) ∷ (object_tool_unit op.LoadConst 2) ∷ (object_tool_unit op.MakeFunction 17) ∷ (object_tool_unit op.LoadConst 2) ∷ (object_tool_unit op.CallFunctionPositional 2) ∷ (object_tool_unit op.ReturnValue 0) ∷ []) ((source_place 7 5) ∷ (source_place 7 5) ∷ (source_place 7 5) ∷ (source_place 7 5) ∷ (source_place 7 5) ∷ (source_place 7 5) ∷ (source_place 8 29) ∷ (source_place 8 29) ∷ (source_place 8 29) ∷ (source_place 8 29) ∷ (source_place 8 29) ∷ (source_place 8 29) ∷ (source_place 8 29) ∷ (source_place 8 29) ∷ []) [] [] ((codes "T") ∷ []) [] ((const.str (codes "T")) ∷ (const.code (sealed_as 3 None 0 0 0 0 7 (codes "C") ((object_tool_unit op.LoadGlobal 0) ∷ (object_tool_unit op.StoreLocal 1) ∷ (object_tool_unit op.LoadConst 0) ∷ (object_tool_unit op.StoreLocal 2) ∷ (object_tool_unit op.LoadConst 1) ∷ (object_tool_unit op.StoreLocal 3) ∷ (object_tool_unit op.LoadClosure 0) ∷ (object_tool_unit op.BuildTuple 1) ∷ (object_tool_unit op.LoadConst 2) ∷ (object_tool_unit op.LoadConst 3) ∷ (object_tool_unit op.MakeFunction 1) ∷ (object_tool_unit op.StoreLocal 4) ∷ (object_tool_unit op.ReturnConst 1) ∷ []) ((source_place 7 5) ∷ (source_place 7 5) ∷ (source_place 7 5) ∷ (source_place 7 5) ∷ (source_place 7 5) ∷ (source_place 7 5) ∷ (source_place 8 29) ∷ (source_place 8 29) ∷ (source_place 8 29) ∷ (source_place 8 29) ∷ (source_place 8 29) ∷ (source_place 8 29) ∷ (source_place 8 29) ∷ []) ((codes "__name__") ∷ (codes "__module__") ∷ (codes "__qualname__") ∷ (codes "__doc__") ∷ (codes "h") ∷ []) [] [] ((codes "T") ∷ []) ((const.str (codes "f.<locals>.C")) ∷ const.none ∷ (const.code (sealed_as 1 None 33 0 1 0 8 (codes "h") ((object_tool_unit op.LoadDeref 0) ∷ (object_tool_unit op.ReturnValue 0) ∷ []) ((source_place 8 29) ∷ (source_place 8 29) ∷ []) [] ((codes "self") ∷ []) [] ((codes "T") ∷ []) (const.none ∷ []))) ∷ (const.str (codes "f.<locals>.C.h")) ∷ []))) ∷ (const.str (codes "C")) ∷ []))) ∷ (const.str (codes "<generic parameters of C>")) ∷ []))) ∷ (const.str (codes "f")) ∷ const.none ∷ []))
 
 generic_anew_emitted : object_emitted generic_anew_scopes generic_anew 0 ≡ Some (generic_anew_object, length generic_anew_scopes)
-unfolding with_step with_block with_name with_varname with_constant with_loops with_postponed with_location refuse emit jump one_block two_blocks three_blocks put_instruction emit_count emit_name emit_varname emit_mangled add_varname add_constant emit_constant move generator_mark pass_over by_context by_level by_loops in_loop postponed_part name_access inside with_path nested_in_class child lambda_value emission_of_def emission_of_generic_def emission_of_class emission_of_generic_class load_cell assembled_object as_element called_at_once
+unfolding with_step with_block with_name with_varname with_constant with_loops with_postponed with_location refuse emit jump one_block two_blocks three_blocks put_instruction emit_count emit_name emit_varname emit_mangled add_varname add_constant emit_constant move generator_mark pass_over by_context by_level by_loops in_loop postponed_part name_access inside with_path nested_in_class child lambda_value emission_of_def emission_of_generic_def emission_of_class emission_of_generic_class load_cell assembled_object has_layout as_element called_at_once
 generic_anew_emitted = refl
 
 generic_anew_forms : codes_of_object 9 generic_anew_object ≡ codes_of_scope 9 (body generic_anew_scopes generic_anew Exec 0)
@@ -286,7 +287,7 @@ abbrev parameter_scopes_object : Object
 parameter_scopes_object = (sealed_as 5 None 1 0 0 0 1 (codes "<module>") ((object_tool_unit op.LoadConst 0) ∷ (object_tool_unit op.LoadConst 1) ∷ (object_tool_unit op.MakeFunction 0) ∷ (object_tool_unit op.LoadConst 2) ∷ (object_tool_unit op.LoadConst 3) ∷ (object_tool_unit op.MakeFunction 0) ∷ (object_tool_unit op.BuildTuple 1) ∷ (object_tool_unit op.LoadConst 4) ∷ (object_tool_unit op.LoadConst 5) ∷ (object_tool_unit op.LoadConst 3) ∷ (object_tool_unit op.MakeFunction 0) ∷ (object_tool_unit op.BuildMap 1) ∷ (object_tool_unit op.CallFunctionPositional 2) ∷ (object_tool_unit op.StoreLocal 0) ∷ (object_tool_unit op.LoadConst 6) ∷ (object_tool_unit op.LoadConst 7) ∷ (object_tool_unit op.MakeFunction 0) ∷ (object_tool_unit op.CallFunctionPositional 0) ∷ (object_tool_unit op.StoreLocal 1) ∷ (object_tool_unit op.LoadConst 8) ∷ (object_tool_unit op.LoadConst 9) ∷ (object_tool_unit op.MakeFunction 0) ∷ (object_tool_unit op.CallFunctionPositional 0) ∷ (object_tool_unit op.StoreLocal 2) ∷ (object_tool_unit op.LoadConst 10) ∷ (object_tool_unit op.LoadConst 3) ∷ (object_tool_unit op.MakeFunction 0) ∷ (object_tool_unit op.BuildTuple 0) ∷ (object_tool_unit op.LoadConst 11) ∷ (object_tool_unit op.TypeAlias 0) ∷ (object_tool_unit op.StoreLocal 3) ∷ (object_tool_unit op.LoadConst 12) ∷ (object_tool_unit op.LoadConst 3) ∷ (object_tool_unit op.MakeFunction 0) ∷ (object_tool_unit op.StoreLocal 4) ∷ (object_tool_unit op.ReturnConst 13) ∷ []) ((source_place 1 90) ∷ (source_place 1 90) ∷ (source_place 1 90) ∷ (source_place 1 75) ∷ (source_place 1 75) ∷ (source_place 1 75) ∷ (source_place 1 75) ∷ (source_place 1 75) ∷ (source_place 1 103) ∷ (source_place 1 103) ∷ (source_place 1 103) ∷ (source_place 1 103) ∷ (source_place 1 103) ∷ (source_place 1 103) ∷ (source_place 3 44) ∷ (source_place 3 44) ∷ (source_place 3 44) ∷ (source_place 3 44) ∷ (source_place 3 44) ∷ (source_place 4 32) ∷ (source_place 4 32) ∷ (source_place 4 32) ∷ (source_place 4 32) ∷ (source_place 4 32) ∷ (source_place 5 18) ∷ (source_place 5 18) ∷ (source_place 5 18) ∷ (source_place 5 18) ∷ (source_place 5 18) ∷ (source_place 5 18) ∷ (source_place 5 18) ∷ (source_place 6 13) ∷ (source_place 6 13) ∷ (source_place 6 13) ∷ (source_place 6 13) ∷ (source_place 6 13) ∷ []) ((codes "f") ∷ (codes "A") ∷ (codes "X") ∷ (codes "Y") ∷ (codes "y") ∷ []) [] [] [] ((const.code (sealed_as 10 None 33 2 2 0 1 (codes "<generic parameters of f>") ((object_tool_unit op.LoadFast 0) ∷ (object_tool_unit op.LoadFast 1) ∷ (object_tool_unit op.LoadConst 0) ∷ (object_tool_unit op.LoadConst 1) ∷ (object_tool_unit op.MakeFunction 0) ∷ (object_tool_unit op.LoadConst 2) ∷ (object_tool_unit op.TypeVarWithBound 0) ∷ (object_tool_unit op.Duplicate 0) ∷ (object_tool_unit op.StoreDeref 0) ∷ (object_tool_unit op.LoadConst 3) ∷ (object_tool_unit op.LoadConst 4) ∷ (object_tool_unit op.MakeFunction 0) ∷ (object_tool_unit op.LoadClosure 0) ∷ (object_tool_unit op.BuildTuple 1) ∷ (object_tool_unit op.LoadConst 5) ∷ (object_tool_unit op.LoadConst 1) ∷ (object_tool_unit op.MakeFunction 1) ∷ (object_tool_unit op.GetIter 0) ∷ (object_tool_unit op.CallFunctionPositional 1) ∷ (object_tool_unit op.LoadConst 6) ∷ (object_tool_unit op.TypeVarWithBound 0) ∷ (object_tool_unit op.Duplicate 0) ∷ (object_tool_unit op.StoreDeref 1) ∷ (object_tool_unit op.BuildTuple 2) ∷ (object_tool_unit op.LoadConst 7) ∷ (object_tool_unit op.LoadClosure 1) ∷ (object_tool_unit op.BuildTuple 1) ∷ (object_tool_unit op.LoadConst 8) ∷ (object_tool_unit op.LoadConst 1) ∷ (object_tool_unit op.MakeFunction 1) ∷ (object_tool_unit op.LoadConst 9) ∷ (object_tool_unit op.LoadClosure 0) ∷ (object_tool_unit op.BuildTuple 1) ∷ (object_tool_unit op.LoadConst 10) ∷ (object_tool_unit op.LoadConst 1) ∷ (object_tool_unit op.MakeFunction 1) ∷ (object_tool_unit op.LoadConst 11) ∷ (object_tool_unit op.LoadConst 12) ∷ (object_tool_unit op.LoadConst 1) ∷ (object_tool_unit op.MakeFunction 0) ∷ (object_tool_unit op.BuildMap 3) ∷ (object_tool_unit op.LoadClosure 0) ∷ (object_tool_unit op.BuildTuple 1) ∷ (object_tool_unit op.LoadConst 13) ∷ (object_tool_unit op.LoadConst 14) ∷ (object_tool_unit op.MakeFunction 31) ∷ (object_tool_unit op.ReturnValue 0) ∷ []) ((source_place 1 1) ∷ (source_place 1 1) ∷ (source_place 1 18) ∷ (source_place 1 18) ∷ (source_place 1 18) ∷ (source_place 1 18) ∷ (source_place 1 18) ∷ (source_place 1 18) ∷ (source_place 1 18) ∷ (source_place 1 25) ∷ (source_place 1 25) ∷ (source_place 1 25) ∷ (source_place 1 45) ∷ (source_place 1 45) ∷ (source_place 1 45) ∷ (source_place 1 45) ∷ (source_place 1 45) ∷ (source_place 1 45) ∷ (source_place 1 45) ∷ (source_place 1 45) ∷ (source_place 1 45) ∷ (source_place 1 45) ∷ (source_place 1 45) ∷ (source_place 1 45) ∷ (source_place 2 20) ∷ (source_place 1 118) ∷ (source_place 1 118) ∷ (source_place 1 118) ∷ (source_place 1 118) ∷ (source_place 1 118) ∷ (source_place 1 118) ∷ (source_place 1 62) ∷ (source_place 1 62) ∷ (source_place 1 62) ∷ (source_place 1 62) ∷ (source_place 1 62) ∷ (source_place 1 62) ∷ (source_place 1 90) ∷ (source_place 1 90) ∷ (source_place 1 90) ∷ (source_place 1 90) ∷ (source_place 1 90) ∷ (source_place 1 90) ∷ (source_place 1 90) ∷ (source_place 1 90) ∷ (source_place 1 90) ∷ (source_place 1 90) ∷ []) [] ((codes ".defaults") ∷ (codes ".kwdefaults") ∷ []) ((codes "T") ∷ (codes "U") ∷ []) [] ((const.code (sealed_as 0 None 33 0 0 0 1 (codes "<lambda>") ((object_tool_unit op.ReturnConst 1) ∷ []) ((source_place 1 18) ∷ []) [] [] [] [] (const.none ∷ (const.integer (pos 1)) ∷ []))) ∷ (const.str (codes "<lambda>")) ∷ (const.str (codes "T")) ∷ (const.code (sealed_as 3 None 33 1 1 0 1 (codes "<listcomp>") ((object_tool_unit op.BuildList 0) ∷ (object_tool_unit op.LoadFast 0) ∷ (object_tool_unit op.ForIter 7) ∷ (object_tool_unit op.StoreFast 1) ∷ (object_tool_unit op.LoadFast 1) ∷ (object_tool_unit op.ListAppend 1) ∷ (object_tool_unit op.Jump 2) ∷ (object_tool_unit op.ReturnValue 0) ∷ []) ((source_place 1 24) ∷ (source_place 1 24) ∷ (source_place 1 24) ∷ (source_place 1 24) ∷ (source_place 1 25) ∷ (source_place 1 25) ∷ (source_place 1 25) ∷ (source_place 1 25) ∷ []) [] ((codes ".0") ∷ (codes "x") ∷ []) [] [] [])) ∷ (const.str (codes "<listcomp>")) ∷ (const.code (sealed_as 1 None 33 0 0 0 1 (codes "<lambda>") ((object_tool_unit op.LoadDeref 0) ∷ (object_tool_unit op.ReturnValue 0) ∷ []) ((source_place 1 45) ∷ (source_place 1 45) ∷ []) [] [] [] ((codes "T") ∷ []) (const.none ∷ []))) ∷ (const.str (codes "U")) ∷ (const.str (codes "return")) ∷ (const.code (sealed_as 1 None 33 0 0 0 1 (codes "<lambda>") ((object_tool_unit op.LoadDeref 0) ∷ (object_tool_unit op.ReturnValue 0) ∷ []) ((source_place 1 118) ∷ (source_place 1 118) ∷ []) [] [] [] ((codes "U") ∷ []) (const.none ∷ []))) ∷ (const.str (codes "a")) ∷ (const.code (sealed_as 1 None 33 0 0 0 1 (codes "<lambda>") ((object_tool_unit op.LoadDeref 0) ∷ (object_tool_unit op.ReturnValue 0) ∷ []) ((source_place 1 62) ∷ (source_place 1 62) ∷ []) [] [] [] ((codes "T") ∷ []) (const.none ∷ []))) ∷ (const.str (codes "b")) ∷ (const.code (sealed_as 0 None 33 0 0 0 1 (codes "<lambda>") ((object_tool_unit op.ReturnConst 1) ∷ []) ((source_place 1 90) ∷ []) [] [] [] [] (const.none ∷ (const.integer (pos 3)) ∷ []))) ∷ (const.code (sealed_as 3 None 41 0 1 1 1 (codes "f") ((object_tool_unit op.LoadClosure 0) ∷ (object_tool_unit op.BuildTuple 1) ∷ (object_tool_unit op.LoadConst 1) ∷ (object_tool_unit op.LoadConst 2) ∷ (object_tool_unit op.MakeFunction 1) ∷ (object_tool_unit op.ReturnValue 0) ∷ []) ((source_place 2 20) ∷ (source_place 2 20) ∷ (source_place 2 20) ∷ (source_place 2 20) ∷ (source_place 2 20) ∷ (source_place 2 20) ∷ []) [] ((codes "a") ∷ (codes "c") ∷ (codes "b") ∷ []) [] ((codes "T") ∷ []) (const.none ∷ (const.code (sealed_as 1 None 33 0 0 0 2 (codes "<lambda>") ((object_tool_unit op.LoadDeref 0) ∷ (object_tool_unit op.ReturnValue 0) ∷ []) ((source_place 2 20) ∷ (source_place 2 20) ∷ []) [] [] [] ((codes "T") ∷ []) (const.none ∷ []))) ∷ (const.str (codes "<lambda>")) ∷ []))) ∷ (const.str (codes "f")) ∷ []))) ∷ (const.str (codes "<generic parameters of f>")) ∷ (const.code (sealed_as 0 None 33 0 0 0 1 (codes "<lambda>") ((object_tool_unit op.ReturnConst 1) ∷ []) ((source_place 1 75) ∷ []) [] [] [] [] (const.none ∷ (const.integer (pos 2)) ∷ []))) ∷ (const.str (codes "<lambda>")) ∷ (const.str (codes "c")) ∷ (const.code (sealed_as 0 None 33 0 0 0 1 (codes "<lambda>") ((object_tool_unit op.ReturnConst 1) ∷ []) ((source_place 1 103) ∷ []) [] [] [] [] (const.none ∷ (const.integer (pos 4)) ∷ []))) ∷ (const.code (sealed_as 6 None 33 0 0 0 3 (codes "<generic parameters of A>") ((object_tool_unit op.LoadBuildClass 0) ∷ (object_tool_unit op.LoadConst 0) ∷ (object_tool_unit op.LoadConst 1) ∷ (object_tool_unit op.MakeFunction 0) ∷ (object_tool_unit op.LoadConst 2) ∷ (object_tool_unit op.TypeVarWithBound 0) ∷ (object_tool_unit op.Duplicate 0) ∷ (object_tool_unit op.StoreDeref 0) ∷ (object_tool_unit op.BuildTuple 1) ∷ (object_tool_unit op.LoadClosure 0) ∷ (object_tool_unit op.BuildTuple 1) ∷ (object_tool_unit op.LoadConst 3) ∷ (object_tool_unit op.LoadConst 4) ∷ (object_tool_unit op.MakeFunction 17) ∷ (object_tool_unit op.LoadConst 4) ∷ (object_tool_unit op.LoadClosure 0) ∷ (object_tool_unit op.BuildTuple 1) ∷ (object_tool_unit op.LoadConst 5) ∷ (object_tool_unit op.LoadConst 1) ∷ (object_tool_unit op.MakeFunction 1) ∷ (object_tool_unit op.LoadConst 6) ∷ (object_tool_unit op.LoadConst 1) ∷ (object_tool_unit op.MakeFunction 0) ∷ (object_tool_unit op.LoadConst 7) ∷ (object_tool_unit op.CallFunctionKeyword 4) ∷ (object_tool_unit op.ReturnValue 0) ∷ []) ((source_place 3 1) ∷ (source_place 3 20) ∷ (source_place 3 20) ∷ (source_place 3 20) ∷ (source_place 3 20) ∷ (source_place 3 20) ∷ (source_place 3 20) ∷ (source_place 3 20) ∷ (source_place 3 20) ∷ (source_place 3 60) ∷ (source_place 3 60) ∷ (source_place 3 60) ∷ (source_place 3 60) ∷ (source_place 3 60) ∷ (source_place 3 60) ∷ (source_place 3 31) ∷ (source_place 3 31) ∷ (source_place 3 31) ∷ (source_place 3 31) ∷ (source_place 3 31) ∷ (source_place 3 44) ∷ (source_place 3 44) ∷ (source_place 3 44) ∷ (source_place 3 44) ∷ (source_place 3 44) ∷ (source_place 3 44) ∷ []) [] [] ((codes "T") ∷ []) [] ((const.code (sealed_as 0 None 33 0 0 0 3 (codes "<lambda>") ((object_tool_unit op.ReturnConst 1) ∷ []) ((source_place 3 20) ∷ []) [] [] [] [] (const.none ∷ (const.integer (pos 5)) ∷ []))) ∷ (const.str (codes "<lambda>")) ∷ (const.str (codes "T")) ∷ (const.code (sealed_as 3 None 0 0 0 0 3 (codes "A") ((object_tool_unit op.LoadGlobal 0) ∷ (object_tool_unit op.StoreLocal 1) ∷ (object_tool_unit op.LoadConst 0) ∷ (object_tool_unit op.StoreLocal 2) ∷ (object_tool_unit op.LoadConst 1) ∷ (object_tool_unit op.StoreLocal 3) ∷ (object_tool_unit op.LoadClosure 0) ∷ (object_tool_unit op.BuildTuple 1) ∷ (object_tool_unit op.LoadConst 2) ∷ (object_tool_unit op.LoadConst 3) ∷ (object_tool_unit op.MakeFunction 1) ∷ (object_tool_unit op.StoreLocal 4) ∷ (object_tool_unit op.ReturnConst 1) ∷ []) ((source_place 3 20) ∷ (source_place 3 20) ∷ (source_place 3 20) ∷ (source_place 3 20) ∷ (source_place 3 20) ∷ (source_place 3 20) ∷ (source_place 3 60) ∷ (source_place 3 60) ∷ (source_place 3 60) ∷ (source_place 3 60) ∷ (source_place 3 60) ∷ (source_place 3 60) ∷ (source_place 3 60) ∷ []) ((codes "__name__") ∷ (codes "__module__") ∷ (codes "__qualname__") ∷ (codes "__doc__") ∷ (codes "x") ∷ []) [] [] ((codes "T") ∷ []) ((const.str (codes "A")) ∷ const.none ∷ (const.code (sealed_as 1 None 33 0 0 0 3 (codes "<lambda>") ((object_tool_unit op.LoadDeref 0) ∷ (object_tool_unit op.ReturnValue 0) ∷ []) ((source_place 3 60) ∷ (source_place 3 60) ∷ []) [] [] [] ((codes "T") ∷ []) (const.none ∷ []))) ∷ (const.str (codes "<lambda>")) ∷ []))) ∷ (const.str (codes "A")) ∷ (const.code (sealed_as 1 None 33 0 0 0 3 (codes "<lambda>") ((object_tool_unit op.LoadDeref 0) ∷ (object_tool_unit op.ReturnValue 0) ∷ []) ((source_place 3 31) ∷ (source_place 3 31) ∷ []) [] [] [] ((codes "T") ∷ []) (const.none ∷ []))) ∷ (const.code (sealed_as 0 None 33 0 0 0 3 (codes "<lambda>") ((object_tool_unit op.ReturnConst 1) ∷ []) ((source_place 3 44) ∷ []) [] [] [] [] (const.none ∷ (const.integer (pos 6)) ∷ []))) ∷ (const.tuple (const.more_consts (const.str (codes "k")) const.no_consts)) ∷ []))) ∷ (const.str (codes "<generic parameters of A>")) ∷ (const.code (sealed_as 4 None 33 0 0 0 4 (codes "<generic parameters of X>") ((object_tool_unit op.LoadConst 0) ∷ (object_tool_unit op.LoadConst 1) ∷ (object_tool_unit op.MakeFunction 0) ∷ (object_tool_unit op.LoadConst 2) ∷ (object_tool_unit op.TypeVarWithBound 0) ∷ (object_tool_unit op.Duplicate 0) ∷ (object_tool_unit op.StoreDeref 0) ∷ (object_tool_unit op.BuildTuple 1) ∷ (object_tool_unit op.LoadClosure 0) ∷ (object_tool_unit op.BuildTuple 1) ∷ (object_tool_unit op.LoadConst 3) ∷ (object_tool_unit op.LoadConst 1) ∷ (object_tool_unit op.MakeFunction 1) ∷ (object_tool_unit op.Rotate2 0) ∷ (object_tool_unit op.LoadConst 4) ∷ (object_tool_unit op.TypeAlias 0) ∷ (object_tool_unit op.ReturnValue 0) ∷ []) ((source_place 4 19) ∷ (source_place 4 19) ∷ (source_place 4 19) ∷ (source_place 4 19) ∷ (source_place 4 19) ∷ (source_place 4 19) ∷ (source_place 4 19) ∷ (source_place 4 19) ∷ (source_place 4 32) ∷ (source_place 4 32) ∷ (source_place 4 32) ∷ (source_place 4 32) ∷ (source_place 4 32) ∷ (source_place 4 32) ∷ (source_place 4 32) ∷ (source_place 4 32) ∷ (source_place 4 32) ∷ []) [] [] ((codes "T") ∷ []) [] ((const.code (sealed_as 0 None 33 0 0 0 4 (codes "<lambda>") ((object_tool_unit op.ReturnConst 1) ∷ []) ((source_place 4 19) ∷ []) [] [] [] [] (const.none ∷ (const.integer (pos 7)) ∷ []))) ∷ (const.str (codes "<lambda>")) ∷ (const.str (codes "T")) ∷ (const.code (sealed_as 1 None 33 0 0 0 4 (codes "<lambda>") ((object_tool_unit op.LoadDeref 0) ∷ (object_tool_unit op.ReturnValue 0) ∷ []) ((source_place 4 32) ∷ (source_place 4 32) ∷ []) [] [] [] ((codes "T") ∷ []) (const.none ∷ []))) ∷ (const.str (codes "X")) ∷ []))) ∷ (const.str (codes "<generic parameters of X>")) ∷ (const.code (sealed_as 0 None 33 0 0 0 5 (codes "<lambda>") ((object_tool_unit op.ReturnConst 1) ∷ []) ((source_place 5 18) ∷ []) [] [] [] [] (const.none ∷ (const.integer (pos 8)) ∷ []))) ∷ (const.str (codes "Y")) ∷ (const.code (sealed_as 0 None 33 0 0 0 6 (codes "<lambda>") ((object_tool_unit op.ReturnConst 1) ∷ []) ((source_place 6 13) ∷ []) [] [] [] [] (const.none ∷ (const.integer (pos 9)) ∷ []))) ∷ const.none ∷ []))
 
 parameter_scopes_emitted : object_emitted parameter_scopes_scopes parameter_scopes 0 ≡ Some (parameter_scopes_object, length parameter_scopes_scopes)
-unfolding with_step with_block with_name with_varname with_constant with_loops with_postponed with_location refuse emit jump one_block two_blocks three_blocks put_instruction emit_count emit_name emit_varname emit_mangled add_varname add_constant emit_constant move generator_mark pass_over by_context by_level by_loops in_loop postponed_part name_access inside with_path nested_in_class child lambda_value emission_of_def emission_of_generic_def emission_of_class emission_of_generic_class load_cell assembled_object as_element called_at_once
+unfolding with_step with_block with_name with_varname with_constant with_loops with_postponed with_location refuse emit jump one_block two_blocks three_blocks put_instruction emit_count emit_name emit_varname emit_mangled add_varname add_constant emit_constant move generator_mark pass_over by_context by_level by_loops in_loop postponed_part name_access inside with_path nested_in_class child lambda_value emission_of_def emission_of_generic_def emission_of_class emission_of_generic_class load_cell assembled_object has_layout as_element called_at_once
 parameter_scopes_emitted = refl
 
 parameter_scopes_forms : codes_of_object 9 parameter_scopes_object ≡ codes_of_scope 9 (body parameter_scopes_scopes parameter_scopes Exec 0)
@@ -314,7 +315,7 @@ abbrev nested_generics_object : Object
 nested_generics_object = (sealed_as 2 None 1 0 0 0 1 (codes "<module>") ((object_tool_unit op.LoadConst 0) ∷ (object_tool_unit op.LoadConst 1) ∷ (object_tool_unit op.MakeFunction 0) ∷ (object_tool_unit op.CallFunctionPositional 0) ∷ (object_tool_unit op.StoreLocal 0) ∷ (object_tool_unit op.ReturnConst 2) ∷ []) ((source_place 2 30) ∷ (source_place 2 30) ∷ (source_place 2 30) ∷ (source_place 2 30) ∷ (source_place 2 30) ∷ (source_place 2 30) ∷ []) ((codes "A") ∷ []) [] [] [] ((const.code (sealed_as 5 None 33 0 0 0 1 (codes "<generic parameters of A>") ((object_tool_unit op.LoadBuildClass 0) ∷ (object_tool_unit op.LoadConst 0) ∷ (object_tool_unit op.TypeVar 0) ∷ (object_tool_unit op.Duplicate 0) ∷ (object_tool_unit op.StoreDeref 0) ∷ (object_tool_unit op.BuildTuple 1) ∷ (object_tool_unit op.LoadClosure 0) ∷ (object_tool_unit op.BuildTuple 1) ∷ (object_tool_unit op.LoadConst 1) ∷ (object_tool_unit op.LoadConst 2) ∷ (object_tool_unit op.MakeFunction 17) ∷ (object_tool_unit op.LoadConst 2) ∷ (object_tool_unit op.CallFunctionPositional 2) ∷ (object_tool_unit op.ReturnValue 0) ∷ []) ((source_place 1 1) ∷ (source_place 1 1) ∷ (source_place 1 1) ∷ (source_place 1 1) ∷ (source_place 1 1) ∷ (source_place 1 1) ∷ (source_place 2 30) ∷ (source_place 2 30) ∷ (source_place 2 30) ∷ (source_place 2 30) ∷ (source_place 2 30) ∷ (source_place 2 30) ∷ (source_place 2 30) ∷ (source_place 2 30) ∷ []) [] [] ((codes "T") ∷ []) [] ((const.str (codes "T")) ∷ (const.code (sealed_as 3 None 0 0 0 0 1 (codes "A") ((object_tool_unit op.LoadGlobal 0) ∷ (object_tool_unit op.StoreLocal 1) ∷ (object_tool_unit op.LoadConst 0) ∷ (object_tool_unit op.StoreLocal 2) ∷ (object_tool_unit op.LoadConst 1) ∷ (object_tool_unit op.StoreLocal 3) ∷ (object_tool_unit op.LoadClosure 0) ∷ (object_tool_unit op.BuildTuple 1) ∷ (object_tool_unit op.LoadConst 2) ∷ (object_tool_unit op.LoadConst 3) ∷ (object_tool_unit op.MakeFunction 1) ∷ (object_tool_unit op.LoadClassDeref 0) ∷ (object_tool_unit op.BuildTuple 1) ∷ (object_tool_unit op.CallFunctionPositional 1) ∷ (object_tool_unit op.StoreLocal 4) ∷ (object_tool_unit op.ReturnConst 1) ∷ []) ((source_place 1 1) ∷ (source_place 1 1) ∷ (source_place 1 1) ∷ (source_place 1 1) ∷ (source_place 1 1) ∷ (source_place 1 1) ∷ (source_place 2 26) ∷ (source_place 2 26) ∷ (source_place 2 26) ∷ (source_place 2 26) ∷ (source_place 2 26) ∷ (source_place 2 30) ∷ (source_place 2 30) ∷ (source_place 2 30) ∷ (source_place 2 30) ∷ (source_place 2 30) ∷ []) ((codes "__name__") ∷ (codes "__module__") ∷ (codes "__qualname__") ∷ (codes "__doc__") ∷ (codes "m") ∷ []) [] [] ((codes "T") ∷ []) ((const.str (codes "A")) ∷ const.none ∷ (const.code (sealed_as 6 None 33 1 1 0 2 (codes "<generic parameters of m>") ((object_tool_unit op.LoadFast 0) ∷ (object_tool_unit op.LoadDeref 1) ∷ (object_tool_unit op.LoadConst 0) ∷ (object_tool_unit op.TypeVarWithBound 0) ∷ (object_tool_unit op.Duplicate 0) ∷ (object_tool_unit op.StoreDeref 0) ∷ (object_tool_unit op.BuildTuple 1) ∷ (object_tool_unit op.LoadConst 1) ∷ (object_tool_unit op.LoadDeref 1) ∷ (object_tool_unit op.LoadConst 2) ∷ (object_tool_unit op.LoadDeref 0) ∷ (object_tool_unit op.BuildMap 2) ∷ (object_tool_unit op.LoadClosure 0) ∷ (object_tool_unit op.LoadClosure 1) ∷ (object_tool_unit op.BuildTuple 2) ∷ (object_tool_unit op.LoadConst 3) ∷ (object_tool_unit op.LoadConst 4) ∷ (object_tool_unit op.MakeFunction 27) ∷ (object_tool_unit op.ReturnValue 0) ∷ []) ((source_place 2 5) ∷ (source_place 2 14) ∷ (source_place 2 14) ∷ (source_place 2 14) ∷ (source_place 2 14) ∷ (source_place 2 14) ∷ (source_place 2 14) ∷ (source_place 7 19) ∷ (source_place 2 36) ∷ (source_place 2 36) ∷ (source_place 2 26) ∷ (source_place 2 26) ∷ (source_place 2 26) ∷ (source_place 2 26) ∷ (source_place 2 26) ∷ (source_place 2 26) ∷ (source_place 2 26) ∷ (source_place 2 26) ∷ (source_place 2 26) ∷ []) [] ((codes ".defaults") ∷ []) ((codes "U") ∷ []) ((codes "T") ∷ []) ((const.str (codes "U")) ∷ (const.str (codes "return")) ∷ (const.str (codes "x")) ∷ (const.code (sealed_as 3 None 33 0 2 0 2 (codes "m") ((object_tool_unit op.LoadClosure 1) ∷ (object_tool_unit op.LoadClosure 2) ∷ (object_tool_unit op.BuildTuple 2) ∷ (object_tool_unit op.LoadConst 1) ∷ (object_tool_unit op.LoadConst 2) ∷ (object_tool_unit op.MakeFunction 1) ∷ (object_tool_unit op.CallFunctionPositional 0) ∷ (object_tool_unit op.StoreFast 2) ∷ (object_tool_unit op.LoadClosure 2) ∷ (object_tool_unit op.LoadClosure 1) ∷ (object_tool_unit op.LoadClosure 0) ∷ (object_tool_unit op.BuildTuple 3) ∷ (object_tool_unit op.LoadConst 3) ∷ (object_tool_unit op.LoadConst 4) ∷ (object_tool_unit op.MakeFunction 1) ∷ (object_tool_unit op.CallFunctionPositional 0) ∷ (object_tool_unit op.StoreDeref 0) ∷ (object_tool_unit op.LoadFast 2) ∷ (object_tool_unit op.LoadDeref 0) ∷ (object_tool_unit op.BuildTuple 2) ∷ (object_tool_unit op.ReturnValue 0) ∷ []) ((source_place 3 28) ∷ (source_place 3 28) ∷ (source_place 3 28) ∷ (source_place 3 28) ∷ (source_place 3 28) ∷ (source_place 3 28) ∷ (source_place 3 28) ∷ (source_place 3 28) ∷ (source_place 4 22) ∷ (source_place 4 22) ∷ (source_place 4 22) ∷ (source_place 4 22) ∷ (source_place 4 22) ∷ (source_place 4 22) ∷ (source_place 4 22) ∷ (source_place 4 22) ∷ (source_place 4 22) ∷ (source_place 7 16) ∷ (source_place 7 19) ∷ (source_place 7 19) ∷ (source_place 7 19) ∷ []) [] ((codes "self") ∷ (codes "x") ∷ (codes "V") ∷ []) ((codes "B") ∷ []) ((codes "U") ∷ (codes "T") ∷ []) (const.none ∷ (const.code (sealed_as 3 None 33 0 0 0 3 (codes "<generic parameters of V>") ((object_tool_unit op.LoadDeref 0) ∷ (object_tool_unit op.LoadConst 0) ∷ (object_tool_unit op.TypeVarWithBound 0) ∷ (object_tool_unit op.Duplicate 0) ∷ (object_tool_unit op.StoreFast 0) ∷ (object_tool_unit op.BuildTuple 1) ∷ (object_tool_unit op.LoadDeref 1) ∷ (object_tool_unit op.LoadFast 0) ∷ (object_tool_unit op.BuildTuple 2) ∷ (object_tool_unit op.Rotate2 0) ∷ (object_tool_unit op.LoadConst 1) ∷ (object_tool_unit op.TypeAlias 0) ∷ (object_tool_unit op.ReturnValue 0) ∷ []) ((source_place 3 19) ∷ (source_place 3 19) ∷ (source_place 3 19) ∷ (source_place 3 19) ∷ (source_place 3 19) ∷ (source_place 3 19) ∷ (source_place 3 25) ∷ (source_place 3 28) ∷ (source_place 3 28) ∷ (source_place 3 28) ∷ (source_place 3 28) ∷ (source_place 3 28) ∷ (source_place 3 28) ∷ []) [] ((codes "W") ∷ []) [] ((codes "U") ∷ (codes "T") ∷ []) ((const.str (codes "W")) ∷ (const.str (codes "V")) ∷ []))) ∷ (const.str (codes "<generic parameters of V>")) ∷ (const.code (sealed_as 6 None 33 0 0 0 4 (codes "<generic parameters of B>") ((object_tool_unit op.LoadBuildClass 0) ∷ (object_tool_unit op.LoadConst 0) ∷ (object_tool_unit op.TypeVar 0) ∷ (object_tool_unit op.Duplicate 0) ∷ (object_tool_unit op.StoreDeref 0) ∷ (object_tool_unit op.BuildTuple 1) ∷ (object_tool_unit op.LoadClosure 2) ∷ (object_tool_unit op.LoadClosure 1) ∷ (object_tool_unit op.LoadClosure 0) ∷ (object_tool_unit op.LoadClosure 3) ∷ (object_tool_unit op.BuildTuple 4) ∷ (object_tool_unit op.LoadConst 1) ∷ (object_tool_unit op.LoadConst 2) ∷ (object_tool_unit op.MakeFunction 17) ∷ (object_tool_unit op.LoadConst 2) ∷ (object_tool_unit op.LoadGlobal 0) ∷ (object_tool_unit op.LoadDeref 0) ∷ (object_tool_unit op.Subscript 0) ∷ (object_tool_unit op.CallFunctionPositional 3) ∷ (object_tool_unit op.ReturnValue 0) ∷ []) ((source_place 4 9) ∷ (source_place 4 9) ∷ (source_place 4 9) ∷ (source_place 4 9) ∷ (source_place 4 9) ∷ (source_place 4 9) ∷ (source_place 6 34) ∷ (source_place 6 34) ∷ (source_place 6 34) ∷ (source_place 6 34) ∷ (source_place 6 34) ∷ (source_place 6 34) ∷ (source_place 6 34) ∷ (source_place 6 34) ∷ (source_place 6 34) ∷ (source_place 4 20) ∷ (source_place 4 22) ∷ (source_place 4 22) ∷ (source_place 4 22) ∷ (source_place 4 22) ∷ []) ((codes "A") ∷ []) [] ((codes "X") ∷ []) ((codes "T") ∷ (codes "U") ∷ (codes "B") ∷ []) ((const.str (codes "X")) ∷ (const.code (sealed_as 4 None 0 0 0 0 4 (codes "B") ((object_tool_unit op.LoadGlobal 0) ∷ (object_tool_unit op.StoreLocal 1) ∷ (object_tool_unit op.LoadConst 0) ∷ (object_tool_unit op.StoreLocal 2) ∷ (object_tool_unit op.LoadConst 1) ∷ (object_tool_unit op.StoreLocal 3) ∷ (object_tool_unit op.SetupAnnotation 0) ∷ (object_tool_unit op.LoadClassDeref 0) ∷ (object_tool_unit op.LoadNameAny 4) ∷ (object_tool_unit op.LoadConst 2) ∷ (object_tool_unit op.StoreSubscript 0) ∷ (object_tool_unit op.LoadClosure 2) ∷ (object_tool_unit op.LoadClosure 1) ∷ (object_tool_unit op.LoadClosure 0) ∷ (object_tool_unit op.LoadClosure 3) ∷ (object_tool_unit op.BuildTuple 4) ∷ (object_tool_unit op.LoadConst 3) ∷ (object_tool_unit op.LoadConst 4) ∷ (object_tool_unit op.MakeFunction 1) ∷ (object_tool_unit op.CallFunctionPositional 0) ∷ (object_tool_unit op.StoreLocal 5) ∷ (object_tool_unit op.ReturnConst 1) ∷ []) ((source_place 4 9) ∷ (source_place 4 9) ∷ (source_place 4 9) ∷ (source_place 4 9) ∷ (source_place 4 9) ∷ (source_place 4 9) ∷ (source_place 4 9) ∷ (source_place 5 16) ∷ (source_place 5 16) ∷ (source_place 5 16) ∷ (source_place 5 16) ∷ (source_place 6 34) ∷ (source_place 6 34) ∷ (source_place 6 34) ∷ (source_place 6 34) ∷ (source_place 6 34) ∷ (source_place 6 34) ∷ (source_place 6 34) ∷ (source_place 6 34) ∷ (source_place 6 34) ∷ (source_place 6 34) ∷ (source_place 6 34) ∷ []) ((codes "__name__") ∷ (codes "__module__") ∷ (codes "__qualname__") ∷ (codes "__doc__") ∷ (codes "__annotations__") ∷ (codes "n") ∷ []) [] [] ((codes "U") ∷ (codes "T") ∷ (codes "X") ∷ (codes "B") ∷ []) ((const.str (codes "A.m.<locals>.B")) ∷ const.none ∷ (const.str (codes "y")) ∷ (const.code (sealed_as 7 None 33 0 0 0 6 (codes "<generic parameters of n>") ((object_tool_unit op.LoadDeref 1) ∷ (object_tool_unit op.LoadConst 0) ∷ (object_tool_unit op.TypeVarWithBound 0) ∷ (object_tool_unit op.Duplicate 0) ∷ (object_tool_unit op.StoreDeref 0) ∷ (object_tool_unit op.BuildTuple 1) ∷ (object_tool_unit op.LoadConst 1) ∷ (object_tool_unit op.LoadDeref 0) ∷ (object_tool_unit op.BuildMap 1) ∷ (object_tool_unit op.LoadClosure 2) ∷ (object_tool_unit op.LoadClosure 3) ∷ (object_tool_unit op.LoadClosure 1) ∷ (object_tool_unit op.LoadClosure 0) ∷ (object_tool_unit op.LoadClosure 4) ∷ (object_tool_unit op.BuildTuple 5) ∷ (object_tool_unit op.LoadConst 2) ∷ (object_tool_unit op.LoadConst 3) ∷ (object_tool_unit op.MakeFunction 19) ∷ (object_tool_unit op.ReturnValue 0) ∷ []) ((source_place 6 22) ∷ (source_place 6 22) ∷ (source_place 6 22) ∷ (source_place 6 22) ∷ (source_place 6 22) ∷ (source_place 6 22) ∷ (source_place 6 60) ∷ (source_place 6 34) ∷ (source_place 6 34) ∷ (source_place 6 34) ∷ (source_place 6 34) ∷ (source_place 6 34) ∷ (source_place 6 34) ∷ (source_place 6 34) ∷ (source_place 6 34) ∷ (source_place 6 34) ∷ (source_place 6 34) ∷ (source_place 6 34) ∷ (source_place 6 34) ∷ []) [] [] ((codes "Y") ∷ []) ((codes "X") ∷ (codes "T") ∷ (codes "U") ∷ (codes "B") ∷ []) ((const.str (codes "Y")) ∷ (const.str (codes "z")) ∷ (const.code (sealed_as 6 None 33 0 2 0 6 (codes "n") ((object_tool_unit op.LoadDeref 0) ∷ (object_tool_unit op.LoadDeref 1) ∷ (object_tool_unit op.LoadDeref 2) ∷ (object_tool_unit op.LoadDeref 3) ∷ (object_tool_unit op.LoadFast 1) ∷ (object_tool_unit op.LoadDeref 4) ∷ (object_tool_unit op.BuildTuple 6) ∷ (object_tool_unit op.ReturnValue 0) ∷ []) ((source_place 6 45) ∷ (source_place 6 48) ∷ (source_place 6 51) ∷ (source_place 6 54) ∷ (source_place 6 57) ∷ (source_place 6 60) ∷ (source_place 6 60) ∷ (source_place 6 60) ∷ []) [] ((codes "self") ∷ (codes "z") ∷ []) [] ((codes "T") ∷ (codes "U") ∷ (codes "X") ∷ (codes "Y") ∷ (codes "B") ∷ []) (const.none ∷ []))) ∷ (const.str (codes "A.m.<locals>.B.n")) ∷ []))) ∷ (const.str (codes "<generic parameters of n>")) ∷ []))) ∷ (const.str (codes "B")) ∷ []))) ∷ (const.str (codes "<generic parameters of B>")) ∷ []))) ∷ (const.str (codes "A.m")) ∷ []))) ∷ (const.str (codes "<generic parameters of m>")) ∷ []))) ∷ (const.str (codes "A")) ∷ []))) ∷ (const.str (codes "<generic parameters of A>")) ∷ const.none ∷ []))
 
 nested_generics_emitted : object_emitted nested_generics_scopes nested_generics 0 ≡ Some (nested_generics_object, length nested_generics_scopes)
-unfolding with_step with_block with_name with_varname with_constant with_loops with_postponed with_location refuse emit jump one_block two_blocks three_blocks put_instruction emit_count emit_name emit_varname emit_mangled add_varname add_constant emit_constant move generator_mark pass_over by_context by_level by_loops in_loop postponed_part name_access inside with_path nested_in_class child lambda_value emission_of_def emission_of_generic_def emission_of_class emission_of_generic_class load_cell assembled_object as_element called_at_once
+unfolding with_step with_block with_name with_varname with_constant with_loops with_postponed with_location refuse emit jump one_block two_blocks three_blocks put_instruction emit_count emit_name emit_varname emit_mangled add_varname add_constant emit_constant move generator_mark pass_over by_context by_level by_loops in_loop postponed_part name_access inside with_path nested_in_class child lambda_value emission_of_def emission_of_generic_def emission_of_class emission_of_generic_class load_cell assembled_object has_layout as_element called_at_once
 nested_generics_emitted = refl
 
 nested_generics_forms : codes_of_object 9 nested_generics_object ≡ codes_of_scope 9 (body nested_generics_scopes nested_generics Exec 0)
@@ -340,7 +341,7 @@ abbrev parameter_bound_again_object : Object
 parameter_bound_again_object = (sealed_as 2 None 1 0 0 0 1 (codes "<module>") ((object_tool_unit op.LoadConst 0) ∷ (object_tool_unit op.LoadConst 1) ∷ (object_tool_unit op.MakeFunction 0) ∷ (object_tool_unit op.CallFunctionPositional 0) ∷ (object_tool_unit op.StoreLocal 0) ∷ (object_tool_unit op.ReturnConst 2) ∷ []) ((source_place 5 12) ∷ (source_place 5 12) ∷ (source_place 5 12) ∷ (source_place 5 12) ∷ (source_place 5 12) ∷ (source_place 5 12) ∷ []) ((codes "f") ∷ []) [] [] [] ((const.code (sealed_as 4 None 33 0 0 0 1 (codes "<generic parameters of f>") ((object_tool_unit op.LoadConst 0) ∷ (object_tool_unit op.TypeVar 0) ∷ (object_tool_unit op.Duplicate 0) ∷ (object_tool_unit op.StoreDeref 0) ∷ (object_tool_unit op.BuildTuple 1) ∷ (object_tool_unit op.LoadClosure 0) ∷ (object_tool_unit op.BuildTuple 1) ∷ (object_tool_unit op.LoadConst 1) ∷ (object_tool_unit op.LoadConst 2) ∷ (object_tool_unit op.MakeFunction 17) ∷ (object_tool_unit op.ReturnValue 0) ∷ []) ((source_place 1 1) ∷ (source_place 1 1) ∷ (source_place 1 1) ∷ (source_place 1 1) ∷ (source_place 1 1) ∷ (source_place 5 12) ∷ (source_place 5 12) ∷ (source_place 5 12) ∷ (source_place 5 12) ∷ (source_place 5 12) ∷ (source_place 5 12) ∷ []) [] [] ((codes "T") ∷ []) [] ((const.str (codes "T")) ∷ (const.code (sealed_as 2 None 33 0 1 0 1 (codes "f") ((object_tool_unit op.LoadFast 0) ∷ (object_tool_unit op.StoreDeref 0) ∷ (object_tool_unit op.LoadConst 1) ∷ (object_tool_unit op.LoadConst 2) ∷ (object_tool_unit op.MakeFunction 0) ∷ (object_tool_unit op.CallFunctionPositional 0) ∷ (object_tool_unit op.StoreFast 1) ∷ (object_tool_unit op.LoadFast 1) ∷ (object_tool_unit op.ReturnValue 0) ∷ []) ((source_place 3 9) ∷ (source_place 3 9) ∷ (source_place 4 26) ∷ (source_place 4 26) ∷ (source_place 4 26) ∷ (source_place 4 26) ∷ (source_place 4 26) ∷ (source_place 5 12) ∷ (source_place 5 12) ∷ []) [] ((codes "x") ∷ (codes "g") ∷ []) [] ((codes "T") ∷ []) (const.none ∷ (const.code (sealed_as 4 None 33 0 0 0 4 (codes "<generic parameters of g>") ((object_tool_unit op.LoadDeref 0) ∷ (object_tool_unit op.LoadConst 0) ∷ (object_tool_unit op.TypeVarWithBound 0) ∷ (object_tool_unit op.Duplicate 0) ∷ (object_tool_unit op.StoreDeref 0) ∷ (object_tool_unit op.BuildTuple 1) ∷ (object_tool_unit op.LoadClosure 0) ∷ (object_tool_unit op.BuildTuple 1) ∷ (object_tool_unit op.LoadConst 1) ∷ (object_tool_unit op.LoadConst 2) ∷ (object_tool_unit op.MakeFunction 17) ∷ (object_tool_unit op.ReturnValue 0) ∷ []) ((source_place 4 14) ∷ (source_place 4 14) ∷ (source_place 4 14) ∷ (source_place 4 14) ∷ (source_place 4 14) ∷ (source_place 4 14) ∷ (source_place 4 26) ∷ (source_place 4 26) ∷ (source_place 4 26) ∷ (source_place 4 26) ∷ (source_place 4 26) ∷ (source_place 4 26) ∷ []) [] [] ((codes "T") ∷ []) [] ((const.str (codes "T")) ∷ (const.code (sealed_as 1 None 35 0 0 0 4 (codes "g") ((object_tool_unit op.LoadDeref 0) ∷ (object_tool_unit op.YieldValue 0) ∷ (object_tool_unit op.Pop 0) ∷ (object_tool_unit op.ReturnConst 0) ∷ []) ((source_place 4 26) ∷ (source_place 4 26) ∷ (source_place 4 26) ∷ (source_place 4 26) ∷ []) [] [] [] ((codes "T") ∷ []) (const.none ∷ []))) ∷ (const.str (codes "f.<locals>.g")) ∷ []))) ∷ (const.str (codes "<generic parameters of g>")) ∷ []))) ∷ (const.str (codes "f")) ∷ []))) ∷ (const.str (codes "<generic parameters of f>")) ∷ const.none ∷ []))
 
 parameter_bound_again_emitted : object_emitted parameter_bound_again_scopes parameter_bound_again 0 ≡ Some (parameter_bound_again_object, length parameter_bound_again_scopes)
-unfolding with_step with_block with_name with_varname with_constant with_loops with_postponed with_location refuse emit jump one_block two_blocks three_blocks put_instruction emit_count emit_name emit_varname emit_mangled add_varname add_constant emit_constant move generator_mark pass_over by_context by_level by_loops in_loop postponed_part name_access inside with_path nested_in_class child lambda_value emission_of_def emission_of_generic_def emission_of_class emission_of_generic_class load_cell assembled_object as_element called_at_once
+unfolding with_step with_block with_name with_varname with_constant with_loops with_postponed with_location refuse emit jump one_block two_blocks three_blocks put_instruction emit_count emit_name emit_varname emit_mangled add_varname add_constant emit_constant move generator_mark pass_over by_context by_level by_loops in_loop postponed_part name_access inside with_path nested_in_class child lambda_value emission_of_def emission_of_generic_def emission_of_class emission_of_generic_class load_cell assembled_object has_layout as_element called_at_once
 parameter_bound_again_emitted = refl
 
 parameter_bound_again_forms : codes_of_object 9 parameter_bound_again_object ≡ codes_of_scope 9 (body parameter_bound_again_scopes parameter_bound_again Exec 0)
@@ -364,7 +365,7 @@ abbrev postponed_generic_object : Object
 postponed_generic_object = (sealed_as 2 None 1 0 0 0 1 (codes "<module>") ((object_tool_unit op.LoadConst 0) ∷ (object_tool_unit op.LoadConst 1) ∷ (object_tool_unit op.ImportName 0) ∷ (object_tool_unit op.ImportFrom 1) ∷ (object_tool_unit op.StoreLocal 1) ∷ (object_tool_unit op.Pop 0) ∷ (object_tool_unit op.LoadConst 2) ∷ (object_tool_unit op.LoadConst 3) ∷ (object_tool_unit op.MakeFunction 0) ∷ (object_tool_unit op.LoadConst 4) ∷ (object_tool_unit op.BuildTuple 1) ∷ (object_tool_unit op.CallFunctionPositional 1) ∷ (object_tool_unit op.StoreLocal 2) ∷ (object_tool_unit op.LoadConst 5) ∷ (object_tool_unit op.LoadConst 6) ∷ (object_tool_unit op.MakeFunction 0) ∷ (object_tool_unit op.StoreLocal 3) ∷ (object_tool_unit op.ReturnConst 7) ∷ []) ((source_place 1 1) ∷ (source_place 1 1) ∷ (source_place 1 1) ∷ (source_place 1 1) ∷ (source_place 1 1) ∷ (source_place 1 1) ∷ (source_place 2 68) ∷ (source_place 2 68) ∷ (source_place 2 68) ∷ (source_place 2 44) ∷ (source_place 2 44) ∷ (source_place 2 44) ∷ (source_place 2 44) ∷ (source_place 3 13) ∷ (source_place 3 13) ∷ (source_place 3 13) ∷ (source_place 3 13) ∷ (source_place 3 13) ∷ []) ((codes "__future__") ∷ (codes "annotations") ∷ (codes "f") ∷ (codes "y") ∷ []) [] [] [] ((const.integer (pos 0)) ∷ (const.tuple (const.more_consts (const.str (codes "annotations")) const.no_consts)) ∷ (const.code (sealed_as 8 None 33 1 1 0 2 (codes "<generic parameters of f>") ((object_tool_unit op.LoadFast 0) ∷ (object_tool_unit op.LoadConst 0) ∷ (object_tool_unit op.LoadConst 1) ∷ (object_tool_unit op.MakeFunction 0) ∷ (object_tool_unit op.LoadConst 2) ∷ (object_tool_unit op.TypeVarWithBound 0) ∷ (object_tool_unit op.Duplicate 0) ∷ (object_tool_unit op.StoreDeref 0) ∷ (object_tool_unit op.BuildTuple 1) ∷ (object_tool_unit op.LoadConst 3) ∷ (object_tool_unit op.LoadConst 2) ∷ (object_tool_unit op.LoadConst 4) ∷ (object_tool_unit op.LoadConst 2) ∷ (object_tool_unit op.LoadConst 5) ∷ (object_tool_unit op.LoadConst 6) ∷ (object_tool_unit op.BuildMap 3) ∷ (object_tool_unit op.LoadClosure 0) ∷ (object_tool_unit op.BuildTuple 1) ∷ (object_tool_unit op.LoadConst 7) ∷ (object_tool_unit op.LoadConst 8) ∷ (object_tool_unit op.MakeFunction 27) ∷ (object_tool_unit op.ReturnValue 0) ∷ []) ((source_place 2 1) ∷ (source_place 2 18) ∷ (source_place 2 18) ∷ (source_place 2 18) ∷ (source_place 2 18) ∷ (source_place 2 18) ∷ (source_place 2 18) ∷ (source_place 2 18) ∷ (source_place 2 18) ∷ (source_place 2 68) ∷ (source_place 2 68) ∷ (source_place 2 68) ∷ (source_place 2 68) ∷ (source_place 2 68) ∷ (source_place 2 68) ∷ (source_place 2 68) ∷ (source_place 2 68) ∷ (source_place 2 68) ∷ (source_place 2 68) ∷ (source_place 2 68) ∷ (source_place 2 68) ∷ (source_place 2 68) ∷ []) [] ((codes ".defaults") ∷ []) ((codes "T") ∷ []) [] ((const.code (sealed_as 0 None 33 0 0 0 2 (codes "<lambda>") ((object_tool_unit op.ReturnConst 1) ∷ []) ((source_place 2 18) ∷ []) [] [] [] [] (const.none ∷ (const.integer (pos 1)) ∷ []))) ∷ (const.str (codes "<lambda>")) ∷ (const.str (codes "T")) ∷ (const.str (codes "return")) ∷ (const.str (codes "x")) ∷ (const.str (codes "y")) ∷ (const.str (codes "lambda: T")) ∷ (const.code (sealed_as 3 None 33 0 2 0 2 (codes "f") ((object_tool_unit op.LoadClosure 0) ∷ (object_tool_unit op.BuildTuple 1) ∷ (object_tool_unit op.LoadConst 1) ∷ (object_tool_unit op.LoadConst 2) ∷ (object_tool_unit op.MakeFunction 1) ∷ (object_tool_unit op.ReturnValue 0) ∷ []) ((source_place 2 68) ∷ (source_place 2 68) ∷ (source_place 2 68) ∷ (source_place 2 68) ∷ (source_place 2 68) ∷ (source_place 2 68) ∷ []) [] ((codes "x") ∷ (codes "y") ∷ []) [] ((codes "T") ∷ []) (const.none ∷ (const.code (sealed_as 1 None 33 0 0 0 2 (codes "<lambda>") ((object_tool_unit op.LoadDeref 0) ∷ (object_tool_unit op.ReturnValue 0) ∷ []) ((source_place 2 68) ∷ (source_place 2 68) ∷ []) [] [] [] ((codes "T") ∷ []) (const.none ∷ []))) ∷ (const.str (codes "<lambda>")) ∷ []))) ∷ (const.str (codes "f")) ∷ []))) ∷ (const.str (codes "<generic parameters of f>")) ∷ (const.integer (pos 2)) ∷ (const.code (sealed_as 0 None 33 0 0 0 3 (codes "<lambda>") ((object_tool_unit op.ReturnConst 1) ∷ []) ((source_place 3 13) ∷ []) [] [] [] [] (const.none ∷ (const.integer (pos 3)) ∷ []))) ∷ (const.str (codes "<lambda>")) ∷ const.none ∷ []))
 
 postponed_generic_emitted : object_emitted postponed_generic_scopes postponed_generic 0 ≡ Some (postponed_generic_object, length postponed_generic_scopes)
-unfolding with_step with_block with_name with_varname with_constant with_loops with_postponed with_location refuse emit jump one_block two_blocks three_blocks put_instruction emit_count emit_name emit_varname emit_mangled add_varname add_constant emit_constant move generator_mark pass_over by_context by_level by_loops in_loop postponed_part name_access inside with_path nested_in_class child lambda_value emission_of_def emission_of_generic_def emission_of_class emission_of_generic_class load_cell assembled_object as_element called_at_once
+unfolding with_step with_block with_name with_varname with_constant with_loops with_postponed with_location refuse emit jump one_block two_blocks three_blocks put_instruction emit_count emit_name emit_varname emit_mangled add_varname add_constant emit_constant move generator_mark pass_over by_context by_level by_loops in_loop postponed_part name_access inside with_path nested_in_class child lambda_value emission_of_def emission_of_generic_def emission_of_class emission_of_generic_class load_cell assembled_object has_layout as_element called_at_once
 postponed_generic_emitted = refl
 
 postponed_generic_forms : codes_of_object 9 postponed_generic_object ≡ codes_of_scope 9 (body postponed_generic_scopes postponed_generic Exec 0)

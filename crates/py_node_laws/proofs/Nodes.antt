@@ -1,5 +1,5 @@
 -- What emissions of nodes add, by the recursions of py_emission_proof.
-use Rattle.std.proofs.Common.{◌≡◌, ℕ, List, [], ◌∷◌, Option, Some, None, refl, sym, subst}
+use Rattle.std.proofs.Common.{arith, ◌≡◌, ℕ, List, [], ◌∷◌, Option, Some, None, refl, sym, subst}
 use Rattle.py_bytecode.specs.Objects.{Const, Object, codes_in}
 use Rattle.py_bytecode.specs.Decode.{Tables}
 use Rattle.py_control.specs.Form.{Scope}
