@@ -1,10 +1,11 @@
 //! The compile calls.
 
-ghost use Rattle.std.specs.Prelude.{◌≡◌, ◌≢◌, true, false, [], None, IfOk, IfErr, OnOk};
+ghost use Rattle.std.specs.Prelude.{◌≡◌, ◌≢◌, ◌⊎◌, true, false, [], None, IfOk, IfErr, OnOk};
 ghost use Rattle.py_tree.specs.Tree as tree;
 ghost use Rattle.py_tree.specs.View.{expr_tree, mod_tree, stmts, stmt_tree};
 ghost use Rattle.py_name_uses.specs.Goes.{IsTextOrMemory};
 ghost use Rattle.py_emission_parts.specs.Context.{outermost};
+ghost use Rattle.py_emission_parts.specs.Refused.{unlaid};
 ghost use Rattle.py_emission.specs.EmissionMods.{emission_of_mod, emission_outcome};
 ghost use Rattle.py_meaning.specs.Faults.{compile_faults};
 ghost use Rattle.py_meaning.specs.Scanned.{scan_faults, scopes_of};
@@ -258,7 +259,23 @@ fn is_no_fault(error: &CodegenErrorType) -> bool
     ensures other { result ≡ false
         → (error.now ≢ CodegenErrorType.MissingCell) × (error.now ≢ unlaid) }
 {
-    matches!(error, CodegenErrorType::MissingCell | CodegenErrorType::AsyncYieldFrom)
+    is_missing_cell(error) || is_no_layout(error)
+}
+
+/// Whether the error says that a cell is not there.
+fn is_missing_cell(error: &CodegenErrorType) -> bool
+    ensures missing { result ≡ true → error.now ≡ CodegenErrorType.MissingCell }
+    ensures other { result ≡ false → error.now ≢ CodegenErrorType.MissingCell }
+{
+    matches!(error, CodegenErrorType::MissingCell)
+}
+
+/// Whether the error says that a nested scope has no layout.
+fn is_no_layout(error: &CodegenErrorType) -> bool
+    ensures missing { result ≡ true → error.now ≡ unlaid }
+    ensures other { result ≡ false → error.now ≢ unlaid }
+{
+    matches!(error, CodegenErrorType::AsyncYieldFrom)
 }
 
 /// The code of a program over these scopes.

@@ -3,7 +3,6 @@ use Rattle.std.proofs.Common.{◌≡◌, ◌≢◌, ◌⊎◌, ℕ, zero, suc, �
 use Rattle.std.specs.Prelude.{not, ◌&&◌, nat_eq, nat_lt}
 use Rattle.std.proofs.lemmas.Bool.{cases_lt, eqb-true, eq-eqb}
 use Rattle.std.proofs.lemmas.Nat.{mul-le}
-use Rattle.py_base.proofs.Numbers.{nat_lt_true}
 use Rattle.py_dataflow.specs.declared.known.Refused.{Refused}
 use Rattle.py_dataflow.specs.Highest.{Known, known_at, successors, greatest}
 use Rattle.py_dataflow.specs.Known.{join, Torn, arrival}

@@ -29,7 +29,7 @@ not_negated false h = absurd cc
 pub contrary : {a : Bool} → a ≡ true → a ≡ false → ⊥
 contrary h g = let z : true ≡ false = sym h ∙ g in cc
 
-kind_of_number : ℕ → Kind
+abbrev kind_of_number : ℕ → Kind
 kind_of_number zero = Kind.Loop
 kind_of_number (suc zero) = Kind.Except
 kind_of_number (suc (suc zero)) = Kind.Finally
