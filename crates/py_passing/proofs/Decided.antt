@@ -65,28 +65,28 @@ module _ (look : ℕ → Option (Seen ℕ)) where
 
     good_next : (a : Known) → IsIn a (arrivals look ks) → is_seen (look a.place) ≡ true → fits_there (found ks a.place) a.at ≡ true → IsGood (with_arrival a ks)
     good_next a i seen fits = record {
-        shown = λ k j. elim (in_arrived a k ks j) [
-          | inl l ↦ good.shown k l
-          | inr r ↦ subst (λ n. Shown look n k.at) (sym r.0) (subst (λ t. Shown look a.place t) (sym r.1) (joined_shown a.place (found ks a.place) a.at refl fits (arrival_shown a i).0))
-        ];
-        whole = λ k j. elim (in_arrived a k ks j) [
-          | inl l ↦ good.whole k l
-          | inr r ↦ subst (λ (t : State). ¬ Torn t.shape) (sym r.1) (whole_arrived a ks fits)
-        ];
-        seen = λ k j. elim (in_arrived a k ks j) [
-          | inl l ↦ good.seen k l
-          | inr r ↦ subst (λ n. look n ≢ None) (sym r.0) (seen_so (look a.place) seen)
-        ];
-        short = λ k j. elim (in_arrived a k ks j) [
-          | inl l ↦ (let m = good.short k l in let n = long_kept a ks in omega (arith, m, n))
-          | inr r ↦ subst (λ (t : State). length t.shape < length (with_arrival a ks)) (sym r.1)
-              (arrival_long (found ks a.place) a.at (length (with_arrival a ks))
-              (λ e. let m = (arrival_shown a i).1 in let n = long_new a ks e in omega (arith, m, n))
-              (λ s e. let f = found_in a.place s ks e in let m = good.short f.0 f.1 in let n = long_kept a ks in let q = ap (λ (t : State). length t.shape) f.3 in omega (arith, m, n, q)))
-        ];
-        apart = apart_arrived a ks good.apart;
-        start = covered_kept a ks fits 0 (state 0 []) good.start;
-      }
+      shown = λ k j. elim (in_arrived a k ks j) [
+        | inl l ↦ good.shown k l
+        | inr r ↦ subst (λ n. Shown look n k.at) (sym r.0) (subst (λ t. Shown look a.place t) (sym r.1) (joined_shown a.place (found ks a.place) a.at refl fits (arrival_shown a i).0))
+      ];
+      whole = λ k j. elim (in_arrived a k ks j) [
+        | inl l ↦ good.whole k l
+        | inr r ↦ subst (λ (t : State). ¬ Torn t.shape) (sym r.1) (whole_arrived a ks fits)
+      ];
+      seen = λ k j. elim (in_arrived a k ks j) [
+        | inl l ↦ good.seen k l
+        | inr r ↦ subst (λ n. look n ≢ None) (sym r.0) (seen_so (look a.place) seen)
+      ];
+      short = λ k j. elim (in_arrived a k ks j) [
+        | inl l ↦ (let m = good.short k l in let n = long_kept a ks in omega (arith, m, n))
+        | inr r ↦ subst (λ (t : State). length t.shape < length (with_arrival a ks)) (sym r.1)
+            (arrival_long (found ks a.place) a.at (length (with_arrival a ks))
+            (λ e. let m = (arrival_shown a i).1 in let n = long_new a ks e in omega (arith, m, n))
+            (λ s e. let f = found_in a.place s ks e in let m = good.short f.0 f.1 in let n = long_kept a ks in let q = ap (λ (t : State). length t.shape) f.3 in omega (arith, m, n, q)))
+      ];
+      apart = apart_arrived a ks good.apart;
+      start = covered_kept a ks fits 0 (state 0 []) good.start;
+    }
 
     -- where nothing is open and all passes, no walk is refused
     passed : (k : Known) (js : List Known) → IsIn k js → all_pass look js ≡ true → passes_at (look k.place) k.at ≡ true

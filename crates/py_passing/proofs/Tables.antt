@@ -67,9 +67,9 @@ pub record Led (x : Seen ℕ) (s : State) (a : Known) : Type 0 where
 
 pub in_edge : (x : Seen ℕ) (s : State) (a : Known) → IsIn a (successors s (Some x)) → Led x s a
 in_edge x s a h = elim (in_either a (if x.flow.falls then known_at x.next (falls_to x.flow s) ∷ [] else []) (jump_targets x s x.target) h) [
-    | inl l ↦ falls x.flow.falls refl l
-    | inr r ↦ jumps x.target refl r
-  ]
+  | inl l ↦ falls x.flow.falls refl l
+  | inr r ↦ jumps x.target refl r
+]
   where
     falls : (b : Bool) → x.flow.falls ≡ b → IsIn a (if b then known_at x.next (falls_to x.flow s) ∷ [] else []) → Led x s a
     falls true e (inl q) = subst (Led x s) (sym q) (record { edge = Falls e })
