@@ -275,7 +275,7 @@ fn is_no_layout(error: &CodegenErrorType) -> bool
     ensures missing { result ≡ true → error.now ≡ unlaid }
     ensures other { result ≡ false → error.now ≢ unlaid }
 {
-    matches!(error, CodegenErrorType::AsyncYieldFrom)
+    matches!(error, CodegenErrorType::NoLayout)
 }
 
 /// The code of a program over these scopes.

@@ -27,4 +27,4 @@ rewritten other = other
 
 -- the error of a scope within whose code has no layout
 abbrev pub unlaid : CodegenErrorType
-unlaid = error.AsyncYieldFrom
+unlaid = error.NoLayout

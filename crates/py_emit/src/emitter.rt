@@ -339,7 +339,7 @@ impl Emitter {
     /// around goes on.
     ///
     /// # Errors
-    /// AsyncYieldFrom, at the present location, where the blocks are refused for anything but their size, or OutOfMemory.
+    /// NoLayout, at the present location, where the blocks are refused for anything but their size, or OutOfMemory.
     /// A table of 2^31 entries and a code of 2^32 units count as that. The part "Out of memory" of docs/DECISIONS.md says
     /// what no tree without faults reaches.
     #[tactic(auto, unfolding(crate::specs::States::rest))]

@@ -53,6 +53,6 @@ pub(crate) fn layout_error(error: FinalizeError) -> CodegenErrorType
         FinalizeError::TooManyNames | FinalizeError::TooManyUnits | FinalizeError::OutOfMemory => {
             CodegenErrorType::OutOfMemory
         }
-        _ => CodegenErrorType::AsyncYieldFrom,
+        _ => CodegenErrorType::NoLayout,
     }
 }

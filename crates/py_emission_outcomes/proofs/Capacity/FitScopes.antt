@@ -90,7 +90,7 @@ hand_as {c} e h = subst (AtHand c) (sym e) h
 told_so : (e : CodegenErrorType) → IsOfTree e → IsOfTree (rewritten e)
 told_so error.InvalidStarExpr h = tt
 told_so error.MissingCell h = h
-told_so error.AsyncYieldFrom h = h
+told_so error.NoLayout h = h
 told_so other h = tt
 
 done_element : (c : NodeContext) (l b : ℕ) (o : Outcome) → FitsIn c l b o → FitsIn c l b (rewritten_in o)

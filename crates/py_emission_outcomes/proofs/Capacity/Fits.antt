@@ -36,7 +36,7 @@ pub record FitStands (c : NodeContext) (k : ℕ) (s : State) : Type 0 where
 -- an error that says neither that a cell is not there nor that a nested scope has no layout
 abbrev pub IsOfTree : CodegenErrorType → Type 0
 IsOfTree error.MissingCell = ⊥
-IsOfTree error.AsyncYieldFrom = ⊥
+IsOfTree error.NoLayout = ⊥
 IsOfTree other = Unit {0}
 
 -- it is not too wide, no cell is missing, and each nested scope has a layout; where it is done, c stands around, the next scope has the number l, and at most b is taken
