@@ -15,7 +15,6 @@ use py_tree::{Alias, List};
 /// # Errors
 /// InvalidFuturePlacement where no such import may stand any more; InvalidFutureFeature for the first name that cannot be
 /// taken from the future; or OutOfMemory.
-#[tactic(auto, unfolding(py_emit::specs::States::rest))]
 pub fn compile_future_features(em: &mut Emitter, features: &List<Alias>) -> Result<(), CodegenError>
     ensures { EmitsInto result (emission_of_features (rest em.old).context.future_over features.now)
         (record (rest
