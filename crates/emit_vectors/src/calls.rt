@@ -13,43 +13,155 @@ use py_ir::{BlockIdx, InstructionInfo};
 use py_listing::listing;
 use py_scope::SymbolTableType;
 use std::alloc::{AllocError, Global};
+use std::mem;
 
 /// The answers to the calls, which `; ` divides, in their order, each after the one before it.
 pub fn made(alloc: Global, em: &mut Emitter, calls: &str) -> Result<String, Failure> {
     let mut answers = String::new(alloc);
     for call in calls.split("; ") {
-        let answer = match call_made(alloc, em, call) {
-            Ok(answer) => answer,
-            Err(Failure::Refused(error)) => error_text(alloc, &error)?,
-            Err(other) => return Err(other),
-        };
-        if !answers.is_empty() {
-            answers.push_str("; ")?;
-        }
-        answers.push_str(answer.as_str())?;
+        let answer = call_answered(alloc, em, call)?;
+        push_answer(&mut answers, answer.as_str())?;
     }
     Ok(answers)
+}
+
+/// Adds an answer to those before it.
+fn push_answer(answers: &mut String, answer: &str) -> Result<(), AllocError> {
+    if !answers.is_empty() {
+        answers.push_str("; ")?;
+    }
+    answers.push_str(answer)
+}
+
+/// Makes one call, and answers its error as a text.
+fn call_answered(alloc: Global, em: &mut Emitter, call: &str) -> Result<String, Failure> {
+    match call_made(alloc, em, call) {
+        Ok(answer) => Ok(answer),
+        Err(Failure::Refused(error)) => Ok(error_text(alloc, &error)?),
+        Err(other) => Err(other),
+    }
+}
+
+/// A call that speaks of instructions and blocks.
+#[derive(Clone, Copy)]
+enum OnBlock {
+    At,
+    Emit,
+    EmitArg,
+    NewBlock,
+    BeginBlock,
+    TakeLast,
+    ReturnValue,
+}
+
+/// A call that is handed a constant.
+#[derive(Clone, Copy)]
+enum OnConstants {
+    Add,
+    Load,
+    Return,
+}
+
+/// A call that is handed a name.
+#[derive(Clone, Copy)]
+enum OnNames {
+    AddParameter,
+    Name,
+    Varname,
+    AddVarname,
+    Access(NameUsage),
+}
+
+/// A call that speaks of the class and of the names of the context.
+#[derive(Clone, Copy)]
+enum OnEnclosing {
+    SetClass,
+    PushPath,
+    PopPath,
+    SetPath,
+    Mangled,
+    QualifiedName,
+}
+
+/// A call that speaks of the scope, or of what the emitter was made with.
+#[derive(Clone, Copy)]
+enum OnScope {
+    Scope,
+    Symbol,
+    Close,
+    Function,
+    MadeWith,
+    Error,
+}
+
+#[derive(Clone, Copy)]
+enum Call {
+    Block(OnBlock),
+    Constants(OnConstants),
+    Names(OnNames),
+    Enclosing(OnEnclosing),
+    Scope(OnScope),
+    SetContext,
+}
+
+/// The names of calls.
+const CALLS: [(&str, Call); 30] = [
+    ("at", Call::Block(OnBlock::At)),
+    ("emit", Call::Block(OnBlock::Emit)),
+    ("emit_arg", Call::Block(OnBlock::EmitArg)),
+    ("new_block", Call::Block(OnBlock::NewBlock)),
+    ("begin_block", Call::Block(OnBlock::BeginBlock)),
+    ("take_last", Call::Block(OnBlock::TakeLast)),
+    ("return_value", Call::Block(OnBlock::ReturnValue)),
+    ("add_constant", Call::Constants(OnConstants::Add)),
+    ("load_const", Call::Constants(OnConstants::Load)),
+    ("return_const", Call::Constants(OnConstants::Return)),
+    ("add_parameter", Call::Names(OnNames::AddParameter)),
+    ("name", Call::Names(OnNames::Name)),
+    ("varname", Call::Names(OnNames::Varname)),
+    ("add_varname", Call::Names(OnNames::AddVarname)),
+    ("load", Call::Names(OnNames::Access(NameUsage::Load))),
+    ("store", Call::Names(OnNames::Access(NameUsage::Store))),
+    ("delete", Call::Names(OnNames::Access(NameUsage::Delete))),
+    ("set_class", Call::Enclosing(OnEnclosing::SetClass)),
+    ("push_path", Call::Enclosing(OnEnclosing::PushPath)),
+    ("pop_path", Call::Enclosing(OnEnclosing::PopPath)),
+    ("set_path", Call::Enclosing(OnEnclosing::SetPath)),
+    ("mangled", Call::Enclosing(OnEnclosing::Mangled)),
+    (
+        "qualified_name",
+        Call::Enclosing(OnEnclosing::QualifiedName),
+    ),
+    ("scope", Call::Scope(OnScope::Scope)),
+    ("symbol", Call::Scope(OnScope::Symbol)),
+    ("close", Call::Scope(OnScope::Close)),
+    ("function", Call::Scope(OnScope::Function)),
+    ("made_with", Call::Scope(OnScope::MadeWith)),
+    ("error", Call::Scope(OnScope::Error)),
+    ("set_context", Call::SetContext),
+];
+
+/// The call of this name.
+fn call_of(name: &str) -> Option<Call> {
+    for (word, call) in CALLS {
+        if word == name {
+            return Some(call);
+        }
+    }
+    None
 }
 
 /// Makes one call.
 fn call_made(alloc: Global, em: &mut Emitter, call: &str) -> Result<String, Failure> {
     let (name, rest) = call.split_once(' ').unwrap_or((call, ""));
-    match name {
-        "at" | "emit" | "emit_arg" | "new_block" | "begin_block" | "take_last" | "return_value" => {
-            on_block(alloc, em, name, rest)
-        }
-        "add_constant" | "load_const" | "return_const" => on_constants(alloc, em, name, rest),
-        "add_parameter" | "name" | "varname" | "add_varname" | "load" | "store" | "delete" => {
-            on_names(alloc, em, name, rest)
-        }
-        "set_class" | "push_path" | "pop_path" | "set_path" | "mangled" | "qualified_name" => {
-            on_enclosing(alloc, em, name, rest)
-        }
-        "scope" | "symbol" | "close" | "function" | "made_with" | "error" => {
-            on_scope(alloc, em, name, rest)
-        }
-        "set_context" => on_context(alloc, em, rest),
-        _ => Err(Failure::Line),
+    let call = call_of(name).ok_or(Failure::Line)?;
+    match call {
+        Call::Block(call) => on_block(alloc, em, call, rest),
+        Call::Constants(call) => on_constants(alloc, em, call, rest),
+        Call::Names(call) => on_names(alloc, em, call, rest),
+        Call::Enclosing(call) => on_enclosing(alloc, em, call, rest),
+        Call::Scope(call) => on_scope(alloc, em, call, rest),
+        Call::SetContext => on_context(alloc, em, rest),
     }
 }
 
@@ -90,74 +202,74 @@ fn info_text(alloc: Global, info: InstructionInfo) -> Result<String, AllocError>
     format!(in alloc; "{instr:?} {} to {} at {place}", arg.0, target.0)
 }
 
-/// A call that speaks of instructions and blocks.
-fn on_block(alloc: Global, em: &mut Emitter, name: &str, rest: &str) -> Result<String, Failure> {
-    match name {
-        "at" => em.set_location(place(rest)?),
-        "emit" => {
-            let (instr, rest) = pair(rest)?;
-            let (arg, target) = pair(rest)?;
-            let target = BlockIdx(number(target)?);
-            em.emit(instruction(instr)?, OpArg(number(arg)?), target)?;
-        }
-        "emit_arg" => {
+/// The number of a block.
+fn block_text(alloc: Global, block: BlockIdx) -> Result<String, AllocError> {
+    format!(in alloc; "{}", block.0)
+}
+
+/// A place in a table.
+fn index_text(alloc: Global, place: u32) -> Result<String, AllocError> {
+    format!(in alloc; "{place}")
+}
+
+fn on_block(alloc: Global, em: &mut Emitter, call: OnBlock, rest: &str) -> Result<String, Failure> {
+    match call {
+        OnBlock::At => em.set_location(place(rest)?),
+        OnBlock::Emit => emit(em, rest)?,
+        OnBlock::EmitArg => {
             let (instr, arg) = pair(rest)?;
             em.emit_arg(instruction(instr)?, number(arg)?)?;
         }
-        "new_block" => {
-            let block = em.new_block()?;
-            return Ok(format!(in alloc; "{}", block.0)?);
-        }
-        "begin_block" => {
+        OnBlock::NewBlock => return Ok(block_text(alloc, em.new_block()?)?),
+        OnBlock::BeginBlock => {
             let block = em.new_block()?;
             em.switch_to_block(block);
         }
-        "return_value" => em.return_value()?,
-        _ => {
-            return match em.take_last() {
-                Some(last) => Ok(info_text(alloc, last)?),
-                None => Ok(String::from_str(alloc, "nothing")?),
-            };
-        }
+        OnBlock::ReturnValue => em.return_value()?,
+        OnBlock::TakeLast => return last_text(alloc, em),
     }
     ok(alloc)
 }
 
-/// A call that is handed a constant.
+/// Emits an instruction with its operand and its target.
+fn emit(em: &mut Emitter, words: &str) -> Result<(), Failure> {
+    let (instr, rest) = pair(words)?;
+    let (arg, target) = pair(rest)?;
+    let target = BlockIdx(number(target)?);
+    em.emit(instruction(instr)?, OpArg(number(arg)?), target)?;
+    Ok(())
+}
+
+/// The last instruction, which is taken out.
+fn last_text(alloc: Global, em: &mut Emitter) -> Result<String, Failure> {
+    match em.take_last() {
+        Some(last) => Ok(info_text(alloc, last)?),
+        None => Ok(String::from_str(alloc, "nothing")?),
+    }
+}
+
 fn on_constants(
     alloc: Global,
     em: &mut Emitter,
-    name: &str,
+    call: OnConstants,
     rest: &str,
 ) -> Result<String, Failure> {
     let value = constant(alloc, rest)?;
-    match name {
-        "add_constant" => {
-            let place = em.add_constant(value)?;
-            return Ok(format!(in alloc; "{place}")?);
-        }
-        "load_const" => em.load_const(value)?,
-        _ => em.return_const(value)?,
+    match call {
+        OnConstants::Add => return Ok(index_text(alloc, em.add_constant(value)?)?),
+        OnConstants::Load => em.load_const(value)?,
+        OnConstants::Return => em.return_const(value)?,
     }
     ok(alloc)
 }
 
-/// A call that is handed a name.
-fn on_names(alloc: Global, em: &mut Emitter, name: &str, rest: &str) -> Result<String, Failure> {
-    match name {
-        "name" => {
-            let place = em.name(rest)?;
-            return Ok(format!(in alloc; "{place}")?);
-        }
-        "varname" => {
-            let place = em.varname(rest)?;
-            return Ok(format!(in alloc; "{place}")?);
-        }
-        "add_parameter" => em.add_parameter(rest)?,
-        "add_varname" => em.add_varname(rest)?,
-        "load" => em.compile_name(NameUsage::Load, rest)?,
-        "store" => em.compile_name(NameUsage::Store, rest)?,
-        _ => em.compile_name(NameUsage::Delete, rest)?,
+fn on_names(alloc: Global, em: &mut Emitter, call: OnNames, rest: &str) -> Result<String, Failure> {
+    match call {
+        OnNames::Name => return Ok(index_text(alloc, em.name(rest)?)?),
+        OnNames::Varname => return Ok(index_text(alloc, em.varname(rest)?)?),
+        OnNames::AddParameter => em.add_parameter(rest)?,
+        OnNames::AddVarname => em.add_varname(rest)?,
+        OnNames::Access(usage) => em.compile_name(usage, rest)?,
     }
     ok(alloc)
 }
@@ -178,76 +290,97 @@ fn parts(alloc: Global, path: &str) -> Result<Names, AllocError> {
     Ok(List::from_vec(parts))
 }
 
-/// A call that speaks of the class and of the names of the context.
 fn on_enclosing(
     alloc: Global,
     em: &mut Emitter,
-    name: &str,
+    call: OnEnclosing,
     rest: &str,
 ) -> Result<String, Failure> {
-    match name {
-        "set_class" => {
-            let class = if rest.is_empty() {
-                None
-            } else {
-                Some(text(alloc, rest)?)
-            };
-            match em.set_class(class) {
-                Some(before) => quoted(alloc, &before),
-                None => Ok(String::from_str(alloc, "none")?),
-            }
-        }
-        "set_path" => {
-            let before = em.set_path(parts(alloc, rest)?);
-            Ok(format!(in alloc; "{before:?}")?)
-        }
-        "mangled" => quoted(alloc, &em.mangled(rest)?),
-        "qualified_name" => quoted(alloc, &em.qualified_name()?),
-        "push_path" => {
+    match call {
+        OnEnclosing::SetClass => set_class(alloc, em, rest),
+        OnEnclosing::SetPath => set_path(alloc, em, rest),
+        OnEnclosing::Mangled => quoted(alloc, &em.mangled(rest)?),
+        OnEnclosing::QualifiedName => quoted(alloc, &em.qualified_name()?),
+        OnEnclosing::PushPath => {
             em.push_path(text(alloc, rest)?)?;
             ok(alloc)
         }
-        _ => {
+        OnEnclosing::PopPath => {
             em.pop_path();
             ok(alloc)
         }
     }
 }
 
-/// A call that speaks of the scope, or of what the emitter was made with.
-fn on_scope(alloc: Global, em: &mut Emitter, name: &str, rest: &str) -> Result<String, Failure> {
-    match name {
-        "scope" => Ok(format!(in alloc; "{:?}, next {}", em.scope_type(), em.next_scope())?),
-        "symbol" => match em.symbol(rest) {
+/// The class before, once this one, or none, is around.
+fn set_class(alloc: Global, em: &mut Emitter, name: &str) -> Result<String, Failure> {
+    let class = if name.is_empty() {
+        None
+    } else {
+        Some(text(alloc, name)?)
+    };
+    match em.set_class(class) {
+        Some(before) => quoted(alloc, &before),
+        None => Ok(String::from_str(alloc, "none")?),
+    }
+}
+
+/// The path before, once this one is around.
+fn set_path(alloc: Global, em: &mut Emitter, path: &str) -> Result<String, Failure> {
+    let before = em.set_path(parts(alloc, path)?);
+    let told = path_text(alloc, &before);
+    mem::drop(before);
+    Ok(told?)
+}
+
+fn path_text(alloc: Global, path: &Names) -> Result<String, AllocError> {
+    format!(in alloc; "{path:?}")
+}
+
+fn on_scope(alloc: Global, em: &mut Emitter, call: OnScope, rest: &str) -> Result<String, Failure> {
+    match call {
+        OnScope::Scope => {
+            Ok(format!(in alloc; "{:?}, next {}", em.scope_type(), em.next_scope())?)
+        }
+        OnScope::Symbol => match em.symbol(rest) {
             Some(symbol) => Ok(format!(in alloc; "{:?}", symbol.scope)?),
             None => Ok(String::from_str(alloc, "none")?),
         },
-        "made_with" => {
-            let level = em.opts().optimize;
-            let name = text(em.alloc(), "x")?;
-            Ok(format!(in alloc; "{level} {name:?}")?)
-        }
-        "error" => {
+        OnScope::MadeWith => made_with(alloc, em),
+        OnScope::Error => {
             let error = match rest {
                 "InvalidReturn" => CodegenErrorType::InvalidReturn,
                 _ => CodegenErrorType::OutOfMemory,
             };
             Err(Failure::Refused(em.error(error)))
         }
-        "close" => close_over(alloc, em, rest),
-        _ => {
-            let head = head_of_function(alloc)?;
-            let code = function(em, head)?;
-            Ok(listing(alloc, &code)?)
-        }
+        OnScope::Close => close_over(alloc, em, rest),
+        OnScope::Function => function_text(alloc, em),
     }
+}
+
+/// The level and the allocator, which makes a text.
+fn made_with(alloc: Global, em: &Emitter) -> Result<String, Failure> {
+    let level = em.opts().optimize;
+    let name = text(em.alloc(), "x")?;
+    Ok(format!(in alloc; "{level} {name:?}")?)
 }
 
 /// Whether the tuple of its cells is built for a lambda to which this name comes from outside, or none where it is empty.
 fn close_over(alloc: Global, em: &mut Emitter, free: &str) -> Result<String, Failure> {
-    let code = code_of(alloc, free)?;
-    let closed = em.build_closure(&code)?;
+    let code = code_of(alloc, "<lambda>", free)?;
+    let closed = em.build_closure(&code);
+    mem::drop(code);
+    let closed = closed?;
     Ok(format!(in alloc; "{closed}")?)
+}
+
+/// The listing of a generator within.
+fn function_text(alloc: Global, em: &mut Emitter) -> Result<String, Failure> {
+    let code = function(em, head_of_function(alloc)?)?;
+    let lines = listing(alloc, &code);
+    mem::drop(code);
+    Ok(lines?)
 }
 
 /// Goes into a function.

@@ -7,6 +7,7 @@ use py_bytecode::CodeFlags;
 use py_emit::{CompileOpts, Emitter, Naming, ScopeHead};
 use py_scope::{Role, ScopeBuilder, SymbolTable, SymbolTableType, Symbols};
 use std::alloc::{AllocError, Global};
+use std::mem;
 
 /// This text.
 pub fn text(alloc: Global, s: &str) -> Result<Text, AllocError> {
@@ -41,6 +42,16 @@ const USES: [(Option<SymbolTableType>, &str, Role); 9] = [
 /// uses w, and in which a lambda uses x.
 fn table(alloc: Global) -> Result<SymbolTable, Failure> {
     let mut builder = ScopeBuilder::new(alloc)?;
+    match use_all(alloc, &mut builder) {
+        Ok(()) => Ok(builder.finish()?),
+        Err(failure) => {
+            mem::drop(builder);
+            Err(failure)
+        }
+    }
+}
+
+fn use_all(alloc: Global, builder: &mut ScopeBuilder) -> Result<(), Failure> {
     for (scope, name, role) in USES {
         let name = text(alloc, name)?;
         match scope {
@@ -48,11 +59,12 @@ fn table(alloc: Global) -> Result<SymbolTable, Failure> {
             None => builder.register(&name, role, SourceLocation::default())?,
         }
     }
-    Ok(builder.finish()?)
+    Ok(())
 }
 
 /// An emitter of a module without names.
 pub fn in_module(alloc: Global, optimize: u8) -> Result<Emitter, Failure> {
+    let path = text(alloc, "m.py")?;
     let table = SymbolTable {
         name: text(alloc, "top")?,
         typ: SymbolTableType::Module,
@@ -61,7 +73,6 @@ pub fn in_module(alloc: Global, optimize: u8) -> Result<Emitter, Failure> {
         symbols: Symbols::new(alloc),
         sub_tables: List::new(alloc),
     };
-    let path = text(alloc, "m.py")?;
     Ok(Emitter::new(alloc, CompileOpts { optimize }, path, table)?)
 }
 
@@ -78,6 +89,9 @@ pub fn in_function(alloc: Global, optimize: u8) -> Result<Emitter, Failure> {
     let mut em = in_file(alloc, optimize)?;
     match em.open_scope(head, SymbolTableType::Function, Naming::AsEnclosing) {
         Ok(()) => Ok(em),
-        Err(error) => Err(Failure::Refused(error)),
+        Err(error) => {
+            mem::drop(em);
+            Err(Failure::Refused(error))
+        }
     }
 }

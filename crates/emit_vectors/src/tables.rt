@@ -11,6 +11,7 @@ use py_emit::{CompileOpts, Emitter, ScopeHead};
 use py_scope::{Steps, SymbolTable, SymbolTableType, Symbols};
 use std::alloc::{AllocError, Global};
 use std::marker::Brand;
+use std::mem;
 use std::sync::ledger::{Blank, Ledger};
 
 /// A table without names, with these within.
@@ -76,13 +77,18 @@ fn place_text(alloc: Global, em: &Emitter) -> Result<String, AllocError> {
 pub fn entered(alloc: Global) -> Result<String, Failure> {
     let head = head_of_function(alloc)?;
     let mut em = emitter(alloc)?;
-    enter::<Brand>(&mut em, head, Blank::new(1))?;
-    Ok(place_text(alloc, &em)?)
+    let entered = enter::<Brand>(&mut em, head, Blank::new(1));
+    let place = place_text(alloc, &em);
+    mem::drop(em);
+    entered?;
+    Ok(place?)
 }
 
 /// Where an emitter is once the nested scope is dropped.
 pub fn dropped(alloc: Global) -> Result<String, Failure> {
     let mut em = emitter(alloc)?;
     drop_one::<Brand>(&mut em, Blank::new(1));
-    Ok(place_text(alloc, &em)?)
+    let place = place_text(alloc, &em);
+    mem::drop(em);
+    Ok(place?)
 }

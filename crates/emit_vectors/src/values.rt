@@ -4,11 +4,12 @@ use crate::calls::pair;
 use crate::emitters::text;
 use crate::failure::Failure;
 use bitflags::Flags;
-use py_base::{List, SourceLocation};
+use py_base::{List, Names, SourceLocation, Text};
 use py_bytecode::{CodeFlags, CodeObject, CodeUnit, ConstantData, Instruction, MakeFunctionFlags};
 use py_ir::{ConstantSet, NameSet};
 use std::alloc::{AllocError, Global};
 use std::hash::{DefaultHasher, Hash, Hasher};
+use std::mem;
 
 fn hash_of<T: Hash>(value: &T) -> u64 {
     let mut state = DefaultHasher::new();
@@ -22,12 +23,23 @@ pub fn texts(alloc: Global, rest: &str) -> Result<String, Failure> {
     let (first, second) = pair(rest)?;
     let first = text(alloc, first)?;
     let second = text(alloc, second)?;
-    let copy = first.try_clone(alloc)?;
-    let is_same = copy == first;
-    let is_hashed_alike = hash_of(&copy) == hash_of(&first);
-    let compared = format!(in alloc; "{} {} {first:?}", first == second, first < second)?;
+    let copied = copy_text(alloc, &first)?;
+    let compared = compared_text(alloc, &first, &second)?;
     let second = second.into_string();
-    Ok(format!(in alloc; "{is_same} {is_hashed_alike}, {compared} {second}")?)
+    Ok(format!(in alloc; "{copied}, {compared} {second}")?)
+}
+
+/// Whether a copy of a text equals it, and has its hash.
+fn copy_text(alloc: Global, text: &Text) -> Result<String, AllocError> {
+    let copy = text.try_clone(alloc)?;
+    let is_same = copy == *text;
+    let is_hashed_alike = hash_of(&copy) == hash_of(text);
+    mem::drop(copy);
+    format!(in alloc; "{is_same} {is_hashed_alike}")
+}
+
+fn compared_text(alloc: Global, first: &Text, second: &Text) -> Result<String, AllocError> {
+    format!(in alloc; "{} {} {first:?}", *first == *second, *first < *second)
 }
 
 /// A list before and after a number is taken out, and the first place of a source.
@@ -52,8 +64,7 @@ pub fn lists(alloc: Global, rest: &str) -> Result<String, Failure> {
 /// The constant of a word: `None`, `Ellipsis`, a number, or the code of a name after `code:`.
 pub fn constant(alloc: Global, word: &str) -> Result<ConstantData, Failure> {
     if let Some(name) = word.strip_prefix("code:") {
-        let mut code = code_of(alloc, "")?;
-        code.obj_name = text(alloc, name)?;
+        let code = code_of(alloc, name, "")?;
         return Ok(ConstantData::Code {
             code: Box::new(alloc, code)?,
         });
@@ -68,34 +79,47 @@ pub fn constant(alloc: Global, word: &str) -> Result<ConstantData, Failure> {
     }
 }
 
-/// The code of a lambda that returns None, to which this name comes from outside, or none where it is empty.
-pub fn code_of(alloc: Global, free: &str) -> Result<CodeObject, AllocError> {
-    let unit = CodeUnit {
-        op: Instruction::ReturnConst,
-        arg: 0,
-    };
-    let mut freevars = Vec::new(alloc);
-    if !free.is_empty() {
-        freevars.push(text(alloc, free)?)?;
-    }
+/// The code of this name that returns None, to which this name comes from outside, or none where it is empty.
+pub fn code_of(alloc: Global, name: &str, free: &str) -> Result<CodeObject, AllocError> {
+    let source_path = text(alloc, "m.py")?;
+    let obj_name = text(alloc, name)?;
+    let freevars = free_names(alloc, free)?;
+    let instructions = one_unit(alloc)?;
+    let constants = vec![in alloc; ConstantData::None]?;
     Ok(CodeObject {
         flags: CodeFlags::from_bits_retain(0),
         posonlyarg_count: 0,
         arg_count: 0,
         kwonlyarg_count: 0,
-        source_path: text(alloc, "m.py")?,
+        source_path,
         first_line_number: None,
-        obj_name: text(alloc, "<lambda>")?,
+        obj_name,
         max_stackdepth: 0,
-        instructions: List::from_vec(vec![in alloc; unit]?),
+        instructions,
         locations: List::new(alloc),
-        constants: List::from_vec(vec![in alloc; ConstantData::None]?),
+        constants: List::from_vec(constants),
         names: List::new(alloc),
         varnames: List::new(alloc),
         cellvars: List::new(alloc),
-        freevars: List::from_vec(freevars),
+        freevars,
         cell2arg: Some(List::new(alloc)),
     })
+}
+
+fn free_names(alloc: Global, free: &str) -> Result<Names, AllocError> {
+    let mut names = Vec::new(alloc);
+    if !free.is_empty() {
+        names.push(text(alloc, free)?)?;
+    }
+    Ok(List::from_vec(names))
+}
+
+fn one_unit(alloc: Global) -> Result<List<CodeUnit>, AllocError> {
+    let unit = CodeUnit {
+        op: Instruction::ReturnConst,
+        arg: 0,
+    };
+    Ok(List::from_vec(vec![in alloc; unit]?))
 }
 
 /// Whether two constants hash alike where they are equal.
@@ -109,23 +133,66 @@ pub fn constants(alloc: Global, rest: &str) -> Result<String, Failure> {
     let (words, asked) = rest.split_once(" ? ").ok_or(Failure::Line)?;
     let asked = constant(alloc, asked)?;
     let mut set = ConstantSet::new(alloc);
+    let answer = constants_entered(alloc, &mut set, words, &asked);
+    mem::drop(set);
+    mem::drop(asked);
+    answer
+}
+
+/// Enters the constants of these words, and answers where they stand and where the one that is asked for does.
+fn constants_entered(
+    alloc: Global,
+    set: &mut ConstantSet,
+    words: &str,
+    asked: &ConstantData,
+) -> Result<String, Failure> {
     let mut places = String::new(alloc);
     let mut is_alike = true;
     for word in words.split(' ') {
-        let value = constant(alloc, word)?;
-        is_alike = is_alike && agree(&value, &asked);
-        let Ok(place) = set.insert_full(value) else {
-            return Err(Failure::OutOfMemory);
-        };
-        places.push_str(format!(in alloc; "{place} ")?.as_str())?;
+        let agrees = enter_constant(alloc, set, &mut places, word, asked)?;
+        is_alike = is_alike && agrees;
     }
-    let found = set.get_index_of(&asked);
-    let is_held = stands_at(&set, found, &asked);
+    let found = found_text(alloc, set, asked)?;
+    Ok(format!(in alloc; "{places}{found}, alike {is_alike}")?)
+}
+
+/// Enters a constant, and adds its place. Answers whether it hashes as the one that is asked for where the two are equal.
+fn enter_constant(
+    alloc: Global,
+    set: &mut ConstantSet,
+    places: &mut String,
+    word: &str,
+    asked: &ConstantData,
+) -> Result<bool, Failure> {
+    let value = constant(alloc, word)?;
+    let agrees = agree(&value, asked);
+    match set.insert_full(value) {
+        Ok(place) => {
+            push_place(alloc, places, place)?;
+            Ok(agrees)
+        }
+        Err(back) => {
+            mem::drop(back);
+            Err(Failure::OutOfMemory)
+        }
+    }
+}
+
+fn push_place(alloc: Global, places: &mut String, place: usize) -> Result<(), AllocError> {
+    let place = format!(in alloc; "{place} ")?;
+    places.push_str(place.as_str())
+}
+
+/// How many constants there are, where this one is found, whether it stands there, and that none stands past the last.
+fn found_text(
+    alloc: Global,
+    set: &ConstantSet,
+    asked: &ConstantData,
+) -> Result<String, AllocError> {
+    let found = set.get_index_of(asked);
+    let is_held = stands_at(set, found, asked);
     let is_past = set.get_index(set.len()).is_none();
-    Ok(format!(in alloc;
-        "{places}of {}, {found:?} {is_held}, past {is_past}, alike {is_alike}",
-        set.len()
-    )?)
+    format!(in alloc; "of {}, {found:?} {is_held}, past {is_past}", set.len())
 }
 
 /// Whether the constant stands at this place.
@@ -151,19 +218,48 @@ pub fn enter(alloc: Global, names: &mut NameSet, name: &str) -> Result<usize, Al
 pub fn names(alloc: Global, rest: &str) -> Result<String, Failure> {
     let (words, asked) = rest.split_once(" ? ").ok_or(Failure::Line)?;
     let mut names = NameSet::new(alloc);
+    let answer = names_entered(alloc, &mut names, words, asked);
+    mem::drop(names);
+    answer
+}
+
+/// Enters the names that these words are, and answers where they stand and where the one that is asked for does.
+fn names_entered(
+    alloc: Global,
+    names: &mut NameSet,
+    words: &str,
+    asked: &str,
+) -> Result<String, Failure> {
     let mut places = String::new(alloc);
     for word in words.split(' ') {
-        let place = enter(alloc, &mut names, word)?;
-        let held = names.get_index(place).unwrap_or("-");
-        places.push_str(format!(in alloc; "{held} {place}, ")?.as_str())?;
+        enter_name(alloc, names, &mut places, word)?;
     }
+    let asked = asked_text(alloc, names, asked)?;
+    Ok(format!(in alloc; "{places}{asked}")?)
+}
+
+/// Enters a name, and adds it as it stands in the set, with its place.
+fn enter_name(
+    alloc: Global,
+    names: &mut NameSet,
+    places: &mut String,
+    name: &str,
+) -> Result<(), AllocError> {
+    let place = enter(alloc, names, name)?;
+    let held = names.get_index(place).unwrap_or("-");
+    let told = format!(in alloc; "{held} {place}, ")?;
+    places.push_str(told.as_str())
+}
+
+/// How many names there are, where this one is found, by itself and as a text, and where it is once it is entered.
+fn asked_text(alloc: Global, names: &mut NameSet, asked: &str) -> Result<String, AllocError> {
     let count = names.len();
     let found = names.place_of(asked);
     let same = names.get_index_of(&text(alloc, asked)?);
-    let Ok(entered) = names.enter(alloc, asked) else {
-        return Err(Failure::OutOfMemory);
-    };
-    Ok(format!(in alloc; "{places}{count} names, {found:?} {same:?} {entered}")?)
+    match names.enter(alloc, asked) {
+        Ok(entered) => format!(in alloc; "{count} names, {found:?} {same:?} {entered}"),
+        Err(_) => Err(AllocError),
+    }
 }
 
 /// Flags by their bits: whether a code with these is a generator and optimized, and those of the making of a function without
