@@ -37,7 +37,11 @@ fn push_answer(answers: &mut String, answer: &str) -> Result<(), AllocError> {
 fn call_answered(alloc: Global, em: &mut Emitter, call: &str) -> Result<String, Failure> {
     match call_made(alloc, em, call) {
         Ok(answer) => Ok(answer),
-        Err(Failure::Refused(error)) => Ok(error_text(alloc, &error)?),
+        Err(Failure::Refused(error)) => {
+            let text = error_text(alloc, &error);
+            mem::drop(error);
+            Ok(text?)
+        }
         Err(other) => Err(other),
     }
 }

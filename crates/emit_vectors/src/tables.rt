@@ -22,25 +22,32 @@ fn table(
 ) -> Result<SymbolTable, AllocError>
     ensures { IfOk result (λ table. (out-SymbolTable table).sub_tables ≡ sub_tables) }
 {
-    Ok(SymbolTable {
-        name: text(alloc, "f")?,
-        typ,
-        line_number: 0,
-        is_nested: false,
-        symbols: Symbols::new(alloc),
-        sub_tables,
-    })
+    match text(alloc, "f") {
+        Ok(name) => Ok(SymbolTable {
+            name,
+            typ,
+            line_number: 0,
+            is_nested: false,
+            symbols: Symbols::new(alloc),
+            sub_tables,
+        }),
+        Err(error) => {
+            mem::drop(sub_tables);
+            Err(error)
+        }
+    }
 }
 
 /// An emitter of a file with one function.
 fn emitter(alloc: Global) -> Result<Emitter, Failure>
     ensures { IfOk result (λ em. AreLeft 1 (state em)) }
 {
+    let path = text(alloc, "m.py")?;
     let function = table(alloc, SymbolTableType::Function, List::new(alloc))?;
     let mut within = Vec::new(alloc);
     within.push(function)?;
     let top = table(alloc, SymbolTableType::Module, List::from_vec(within))?;
-    let em = Emitter::new(alloc, CompileOpts::default(), text(alloc, "m.py")?, top)?;
+    let em = Emitter::new(alloc, CompileOpts::default(), path, top)?;
     Ok(em)
 }
 
