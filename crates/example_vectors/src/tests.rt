@@ -14,6 +14,7 @@ use py_run::Status;
 use py_step::Script;
 use py_tree::Mod;
 use std::alloc::{AllocError, Global};
+use std::mem;
 use std::test::Fail;
 
 /// The rows of `f(a + 1)`.
@@ -50,7 +51,9 @@ fn compiled(alloc: Global) -> Result<CodeObject, Fail> {
 fn compiles_a_file(rt: HostRuntime) -> Result<(), Fail> {
     let alloc = rt.alloc();
     let code = compiled(alloc)?;
-    assert_eq!(rt; listing(alloc, &code)?.as_str(), LISTING);
+    let lines = listing(alloc, &code);
+    mem::drop(code);
+    assert_eq!(rt; lines?.as_str(), LISTING);
     Ok(())
 }
 
@@ -73,33 +76,58 @@ fn looks_at_scopes(rt: HostRuntime) -> Result<(), Fail> {
     Ok(())
 }
 
-/// One block, which returns None.
-fn one_block(alloc: Global) -> Result<CodeInfo, Fail> {
-    let mut constants = ConstantSet::new(alloc);
-    let is_kept = constants.insert_full(ConstantData::None).is_ok();
-    let mut instructions = Vec::new(alloc);
-    instructions.push(InstructionInfo {
+/// A block that returns the first constant.
+fn returning(alloc: Global) -> Result<Block, AllocError> {
+    let item = InstructionInfo {
         instr: Instruction::ReturnConst,
         arg: OpArg(0),
         target: BlockIdx::NULL,
         location: SourceLocation::default(),
-    })?;
-    let mut blocks = Blocks::new(alloc);
-    let block = Block {
-        instructions: List::from_vec(instructions),
-        next: BlockIdx::NULL,
     };
-    if !is_kept || blocks.push(block).is_err() {
-        return Err("no memory".into());
+    Ok(Block {
+        instructions: List::from_vec(vec![in alloc; item]?),
+        next: BlockIdx::NULL,
+    })
+}
+
+fn only_one(alloc: Global) -> Result<Blocks, Fail> {
+    let mut blocks = Blocks::new(alloc);
+    let block = returning(alloc)?;
+    match blocks.push(block) {
+        Ok(()) => Ok(blocks),
+        Err(back) => {
+            mem::drop(back);
+            Err("no memory".into())
+        }
     }
-    Ok(CodeInfo {
+}
+
+fn only_none(alloc: Global) -> Result<ConstantSet, Fail> {
+    let mut constants = ConstantSet::new(alloc);
+    match constants.insert_full(ConstantData::None) {
+        Ok(_) => Ok(constants),
+        Err(back) => {
+            mem::drop(back);
+            Err("no memory".into())
+        }
+    }
+}
+
+fn info_of(
+    alloc: Global,
+    path: Text,
+    name: Text,
+    constants: ConstantSet,
+    blocks: Blocks,
+) -> CodeInfo {
+    CodeInfo {
         flags: CodeFlags::NEW_LOCALS,
         posonlyarg_count: 0,
         arg_count: 0,
         kwonlyarg_count: 0,
-        source_path: text(alloc, "m.py")?,
+        source_path: path,
         first_line_number: OneIndexed::MIN,
-        obj_name: text(alloc, "<module>")?,
+        obj_name: name,
         blocks,
         current_block: BlockIdx(0),
         constants,
@@ -107,37 +135,98 @@ fn one_block(alloc: Global) -> Result<CodeInfo, Fail> {
         varname_cache: NameSet::new(alloc),
         cellvar_cache: NameSet::new(alloc),
         freevar_cache: NameSet::new(alloc),
-    })
+    }
+}
+
+/// One block, which returns None.
+fn one_block(alloc: Global) -> Result<CodeInfo, Fail> {
+    let path = text(alloc, "m.py")?;
+    let name = text(alloc, "<module>")?;
+    let blocks = only_one(alloc)?;
+    match only_none(alloc) {
+        Ok(constants) => Ok(info_of(alloc, path, name, constants, blocks)),
+        Err(fail) => {
+            mem::drop(blocks);
+            Err(fail)
+        }
+    }
 }
 
 #[test]
 fn lays_blocks_out(rt: HostRuntime) -> Result<(), Fail> {
     let alloc = rt.alloc();
-    match laid_out(alloc, one_block(alloc)?) {
+    let info = one_block(alloc)?;
+    match laid_out(alloc, info) {
         Ok(code) => {
-            assert_eq!(rt; code.instructions.len(), 1);
-            assert_eq!(rt; code.max_stackdepth, 0);
+            let (count, depth) = (code.instructions.len(), code.max_stackdepth);
+            mem::drop(code);
+            assert_eq!(rt; count, 1);
+            assert_eq!(rt; depth, 0);
         }
         Err(_) => return Err("refused".into()),
     }
     Ok(())
 }
 
+/// The listing of what is read of a file as code that may run.
+fn read_safely(alloc: Global, bytes: &[u8]) -> Result<String, Fail> {
+    match safe_code(alloc, bytes)? {
+        Some(read) => {
+            let lines = listing(alloc, &read);
+            mem::drop(read);
+            Ok(lines?)
+        }
+        None => Err("a flaw".into()),
+    }
+}
+
+/// The same of the file of a code.
+fn written_and_read(alloc: Global, code: &CodeObject) -> Result<String, Fail> {
+    let bytes = write_code(alloc, code)?;
+    let lines = read_safely(alloc, bytes.as_slice());
+    mem::drop(bytes);
+    lines
+}
+
+fn is_given(alloc: Global, bytes: &[u8]) -> Result<bool, Fail> {
+    let read = safe_code(alloc, bytes)?;
+    let is_given = read.is_some();
+    mem::drop(read);
+    Ok(is_given)
+}
+
+/// Whether a code may run, and whether what is read of its file is given.
+fn is_safe(alloc: Global, code: &CodeObject) -> Result<(bool, bool), Fail> {
+    let may_run = may_run(alloc, code)?;
+    let bytes = write_code(alloc, code)?;
+    let given = is_given(alloc, bytes.as_slice());
+    mem::drop(bytes);
+    Ok((may_run, given?))
+}
+
+/// Whether a code may run with its depth, and with a depth of 2.
+fn safe_by_depth(
+    alloc: Global,
+    code: &mut CodeObject,
+) -> Result<((bool, bool), (bool, bool)), Fail> {
+    let whole = is_safe(alloc, code)?;
+    code.max_stackdepth = 2;
+    let less = is_safe(alloc, code)?;
+    Ok((whole, less))
+}
+
 #[test]
 fn reads_safe_code(rt: HostRuntime) -> Result<(), Fail> {
     let alloc = rt.alloc();
     let mut code = compiled(alloc)?;
-    assert!(rt; may_run(alloc, &code)?);
-    let bytes = write_code(alloc, &code)?;
-    match safe_code(alloc, bytes.as_slice())? {
-        Some(read) => assert_eq!(rt; listing(alloc, &read)?.as_str(), LISTING),
-        None => return Err("a flaw".into()),
-    }
+    let lines = written_and_read(alloc, &code);
+    let safe = safe_by_depth(alloc, &mut code);
+    mem::drop(code);
+    assert_eq!(rt; lines?.as_str(), LISTING);
+    let (whole, less) = safe?;
+    assert_eq!(rt; whole, (true, true));
     // One value less on the stack than the code needs.
-    code.max_stackdepth = 2;
-    assert!(rt; !may_run(alloc, &code)?);
-    let bytes = write_code(alloc, &code)?;
-    assert!(rt; safe_code(alloc, bytes.as_slice())?.is_none());
+    assert_eq!(rt; less, (false, false));
     Ok(())
 }
 
@@ -145,17 +234,31 @@ fn reads_safe_code(rt: HostRuntime) -> Result<(), Fail> {
 const RUNS: &str =
     "code\nload 'f'\nload 'a'\nop BinaryOperation Add: #1.0, 1\nop CallFunctionPositional 1: #0.0, #2.0\nreturned None\ntree\nload 'f'\nload 'a'\nop BinaryOperation Add: #1.0, 1\nop CallFunctionPositional 1: #0.0, #2.0\nreturned None\n";
 
+fn over_a_script(alloc: Global, code: &CodeObject, tree: &Mod) -> Result<String, Fail> {
+    match Script::parse(alloc, "g1,g1,g1,g1")? {
+        Some(script) => {
+            let lines = text_of_runs(alloc, code, tree, &script);
+            mem::drop(script);
+            Ok(lines?)
+        }
+        None => Err("no script".into()),
+    }
+}
+
+fn both_runs(alloc: Global, code: &CodeObject) -> Result<String, Fail> {
+    let tree = tree(alloc, CALL)?;
+    let lines = over_a_script(alloc, code, &tree);
+    tree.discard();
+    lines
+}
+
 #[test]
 fn runs_over_a_script(rt: HostRuntime) -> Result<(), Fail> {
     let alloc = rt.alloc();
     let code = compiled(alloc)?;
-    let Some(script) = Script::parse(alloc, "g1,g1,g1,g1")? else {
-        return Err("no script".into());
-    };
-    let tree = tree(alloc, CALL)?;
-    let text = text_of_runs(alloc, &code, &tree, &script);
-    tree.discard();
-    assert_eq!(rt; text?.as_str(), RUNS);
+    let lines = both_runs(alloc, &code);
+    mem::drop(code);
+    assert_eq!(rt; lines?.as_str(), RUNS);
     Ok(())
 }
 
@@ -163,17 +266,23 @@ fn room(alloc: Global, size: usize) -> Result<List<u8>, AllocError> {
     Ok(List::from_vec(vec![in alloc; 0u8; size]?))
 }
 
-/// A run over the rows, with so much room for the listing.
-fn ended(alloc: Global, size: usize) -> Result<Ended, AllocError> {
+fn words_of(alloc: Global) -> Result<List<Text>, AllocError> {
     let mut words = Vec::new(alloc);
     for word in ["exec", "0", "m.py"] {
         words.push(text(alloc, word)?)?;
     }
-    let words = List::from_vec(words);
+    Ok(List::from_vec(words))
+}
+
+/// A run over the rows, with so much room for the listing.
+fn ended(alloc: Global, size: usize) -> Result<Ended, AllocError> {
     let rows = List::from_vec(Vec::from_slice(alloc, CALL.as_bytes())?);
     let out = room(alloc, size)?;
     let err = room(alloc, 64)?;
-    Ok(run_in_memory(alloc, &words, rows, out, err))
+    let words = words_of(alloc)?;
+    let done = run_in_memory(alloc, &words, rows, out, err);
+    mem::drop(words);
+    Ok(done)
 }
 
 #[test]
@@ -183,8 +292,10 @@ fn runs_in_memory(rt: HostRuntime) -> Result<(), Fail> {
     assert_eq!(rt; done.report.status, Status::Done);
     assert_eq!(rt; done.out.bytes(), LISTING.as_bytes());
     assert_eq!(rt; done.err.bytes().len(), 0);
+    mem::drop(done);
     let full = ended(alloc, 16)?;
     assert_eq!(rt; full.report.status, Status::WriteFault);
     assert_eq!(rt; full.out.bytes().len(), 0);
+    mem::drop(full);
     Ok(())
 }
