@@ -9,6 +9,7 @@ use py_base::List;
 use py_devices::{CleanSink, CleanSource, MemSink, MemSource, Sink, Source, StdSink, StdSource};
 use py_run::{Status, Words, run};
 use std::alloc::{AllocError, Global};
+use std::mem;
 
 /// What comes of the case of a line: its lines, each ended.
 pub fn answer(alloc: Global, line: &str) -> Result<String, AllocError> {
@@ -55,7 +56,9 @@ fn ran(
                 room,
                 text: listing.bytes(),
             };
-            run_in_pieces(alloc, read, write, words, input)
+            let lines = run_in_pieces(alloc, read, write, words, input);
+            mem::drop(listing);
+            lines
         }
     }
 }
@@ -79,11 +82,17 @@ fn clean_run(
     words: &Words,
     input: List<u8>,
 ) -> Result<String, AllocError> {
+    let out = room(alloc, out as usize)?;
+    let err = room(alloc, err as usize)?;
     let mut source = CleanSource::new(input);
-    let mut out = CleanSink::new(room(alloc, out as usize)?);
-    let mut err = CleanSink::new(room(alloc, err as usize)?);
+    let mut out = CleanSink::new(out);
+    let mut err = CleanSink::new(err);
     let status = run(alloc, words, &mut source, &mut out, &mut err).status;
-    told(alloc, status, out.bytes(), err.bytes())
+    let lines = told(alloc, status, out.bytes(), err.bytes());
+    mem::drop(source);
+    mem::drop(out);
+    mem::drop(err);
+    lines
 }
 
 /// What a run writes where no device fails.
@@ -94,10 +103,14 @@ fn clean_text(
     input: &List<u8>,
 ) -> Result<CleanSink, AllocError> {
     let input = List::from_vec(Vec::from_slice(alloc, input.as_slice())?);
+    let out = room(alloc, size as usize)?;
+    let err = room(alloc, 1024)?;
     let mut source = CleanSource::new(input);
-    let mut out = CleanSink::new(room(alloc, size as usize)?);
-    let mut err = CleanSink::new(room(alloc, 1024)?);
+    let mut out = CleanSink::new(out);
+    let mut err = CleanSink::new(err);
     let _report = run(alloc, words, &mut source, &mut out, &mut err);
+    mem::drop(source);
+    mem::drop(err);
     Ok(out)
 }
 
@@ -118,24 +131,35 @@ fn run_in_pieces(
     words: &Words,
     input: List<u8>,
 ) -> Result<String, AllocError> {
+    let failing_read = only(alloc, read)?;
+    let failing_write = only(alloc, write.pieces)?;
+    let buffer = room(alloc, write.room as usize)?;
+    let err = room(alloc, 1024)?;
     let mut source = Watched {
-        inner: MemSource::new(input, size_of(read), only(alloc, read)?),
+        inner: MemSource::new(input, size_of(read), failing_read),
         ended: false,
         late: 0,
     };
-    let pieces = write.pieces;
-    let buffer = room(alloc, write.room as usize)?;
     let mut out = Awaiting {
-        inner: MemSink::new(buffer, size_of(pieces), only(alloc, pieces)?),
+        inner: MemSink::new(buffer, size_of(write.pieces), failing_write),
         left: write.text,
         partial: 0,
     };
-    let mut err = CleanSink::new(room(alloc, 1024)?);
+    let mut err = CleanSink::new(err);
     let status = run(alloc, words, &mut source, &mut out, &mut err).status;
-    let mut lines = told(alloc, status, out.inner.bytes(), err.bytes())?;
-    let late = source.late;
-    let partial = out.partial;
-    lines.push_str(format!(in alloc; "{late} late reads, {partial} partial writes\n")?.as_str())?;
+    let lines = told(alloc, status, out.inner.bytes(), err.bytes());
+    let (late, partial) = (source.late, out.partial);
+    mem::drop(source);
+    mem::drop(out);
+    mem::drop(err);
+    counted(alloc, lines?, late, partial)
+}
+
+/// These lines, and then the one with both counts.
+fn counted(alloc: Global, lines: String, late: u64, partial: u64) -> Result<String, AllocError> {
+    let mut lines = lines;
+    let counts = format!(in alloc; "{late} late reads, {partial} partial writes\n")?;
+    lines.push_str(counts.as_str())?;
     Ok(lines)
 }
 
