@@ -5,10 +5,25 @@ use py_base::{List, OneIndexed, SourceLocation, Text};
 use py_bytecode::{CodeFlags, ConstantData, Instruction, OpArg};
 use py_ir::{Block, BlockIdx, Blocks, CodeInfo, ConstantSet, InstructionInfo, NameSet};
 use std::alloc::{AllocError, Global};
+use std::mem;
 
 /// The blocks of a loop that is left by its first test, with the constant None.
 pub fn loop_of_blocks(alloc: Global) -> Result<CodeInfo, AllocError> {
+    let path = text(alloc, "m.py")?;
+    let name = text(alloc, "f")?;
+    let constants = only_none(alloc)?;
     let mut blocks = Blocks::new(alloc);
+    match push_all(alloc, &mut blocks) {
+        Ok(()) => Ok(code_info(alloc, path, name, constants, blocks)),
+        Err(error) => {
+            mem::drop(blocks);
+            mem::drop(constants);
+            Err(error)
+        }
+    }
+}
+
+fn push_all(alloc: Global, blocks: &mut Blocks) -> Result<(), AllocError> {
     let head = [
         info(Instruction::SetupLoop, BlockIdx::NULL),
         info(Instruction::LoadConst, BlockIdx::NULL),
@@ -20,16 +35,18 @@ pub fn loop_of_blocks(alloc: Global) -> Result<CodeInfo, AllocError> {
         info(Instruction::ReturnConst, BlockIdx::NULL),
     ];
     let out = [info(Instruction::ReturnConst, BlockIdx::NULL)];
-    push(&mut blocks, block(alloc, &head, BlockIdx(1))?)?;
-    push(&mut blocks, block(alloc, &last, BlockIdx(2))?)?;
-    push(&mut blocks, block(alloc, &out, BlockIdx::NULL)?)?;
-    code_info(alloc, blocks, only_none(alloc)?)
+    push(blocks, block(alloc, &head, BlockIdx(1))?)?;
+    push(blocks, block(alloc, &last, BlockIdx(2))?)?;
+    push(blocks, block(alloc, &out, BlockIdx::NULL)?)
 }
 
 fn push(blocks: &mut Blocks, block: Block) -> Result<(), AllocError> {
     match blocks.push(block) {
-        Ok(_) => Ok(()),
-        Err(_) => Err(AllocError),
+        Ok(()) => Ok(()),
+        Err(back) => {
+            mem::drop(back);
+            Err(AllocError)
+        }
     }
 }
 
@@ -37,7 +54,11 @@ fn only_none(alloc: Global) -> Result<ConstantSet, AllocError> {
     let mut constants = ConstantSet::new(alloc);
     match constants.insert_full(ConstantData::None) {
         Ok(_) => Ok(constants),
-        Err(_) => Err(AllocError),
+        Err(back) => {
+            mem::drop(back);
+            mem::drop(constants);
+            Err(AllocError)
+        }
     }
 }
 
@@ -63,17 +84,19 @@ fn text(alloc: Global, text: &str) -> Result<Text, AllocError> {
 
 fn code_info(
     alloc: Global,
-    blocks: Blocks,
+    path: Text,
+    name: Text,
     constants: ConstantSet,
-) -> Result<CodeInfo, AllocError> {
-    Ok(CodeInfo {
+    blocks: Blocks,
+) -> CodeInfo {
+    CodeInfo {
         flags: CodeFlags::from_bits_retain(0),
         posonlyarg_count: 0,
         arg_count: 0,
         kwonlyarg_count: 0,
-        source_path: text(alloc, "m.py")?,
+        source_path: path,
         first_line_number: OneIndexed::MIN,
-        obj_name: text(alloc, "f")?,
+        obj_name: name,
         blocks,
         current_block: BlockIdx(0),
         constants,
@@ -81,5 +104,5 @@ fn code_info(
         varname_cache: NameSet::new(alloc),
         cellvar_cache: NameSet::new(alloc),
         freevar_cache: NameSet::new(alloc),
-    })
+    }
 }

@@ -10,11 +10,12 @@ use py_codefile::{read_code, write_code};
 use py_listing::listing;
 use py_names::{report, report_lines, report_text};
 use py_rows::read_rows;
-use py_step::{Script, push_trace, run_script};
+use py_step::{Script, StepReport, push_trace, run_script};
 use py_tree::{Mod, Mode};
 use py_verify::{Verdict, verify};
 use std::alloc::{AllocError, Global};
-use symboltable::scan_program;
+use std::mem;
+use symboltable::{SymbolTable, scan_program};
 
 /// The answers of `run_script`.
 const ANSWERS: &str = "g1,g1,g1,g1,g1,d,g1,g1,d,g1,g1,g1,d";
@@ -27,11 +28,17 @@ pub fn answer(alloc: Global, call: &str, input: &[u8]) -> Result<Vec<u8>, Failur
     match call {
         "finalize_code" => {
             let code = loop_of_blocks(alloc)?.finalize_code(alloc, 0)?;
-            listed(alloc, &code)
+            listed_and_dropped(alloc, code)
         }
-        "read_code" => listed(alloc, &read_code(alloc, input)?),
+        "read_code" => listed_and_dropped(alloc, read_code(alloc, input)?),
         _ => answer_of_tree(alloc, call, input),
     }
+}
+
+fn listed_and_dropped(alloc: Global, code: CodeObject) -> Result<Vec<u8>, Failure> {
+    let lines = listed(alloc, &code);
+    mem::drop(code);
+    lines
 }
 
 /// What a call answers that is given rows.
@@ -56,12 +63,24 @@ fn answer_of_tree(alloc: Global, call: &str, input: &[u8]) -> Result<Vec<u8>, Fa
 fn answer_of_code(alloc: Global, call: &str, tree: &Mod) -> Result<Vec<u8>, Failure> {
     let path = Text::from_string(String::from_str(alloc, "m.py")?);
     let code = compile_top(alloc, tree, path, Mode::Exec, CompileOpts { optimize: 0 })?;
+    let answer = answer_with_code(alloc, call, &code, tree);
+    mem::drop(code);
+    answer
+}
+
+/// What a call answers that is given a code.
+fn answer_with_code(
+    alloc: Global,
+    call: &str,
+    code: &CodeObject,
+    tree: &Mod,
+) -> Result<Vec<u8>, Failure> {
     match call {
         "compile_top" => told(alloc, "compiled\n"),
-        "listing" => listed(alloc, &code),
-        "verify" => verified(alloc, &code),
-        "write_code" => Ok(write_code(alloc, &code)?.into_vec()),
-        "run_script" => stepped(alloc, &code, tree),
+        "listing" => listed(alloc, code),
+        "verify" => verified(alloc, code),
+        "write_code" => Ok(write_code(alloc, code)?.into_vec()),
+        "run_script" => stepped(alloc, code, tree),
         _ => Err(Failure::Unknown),
     }
 }
@@ -86,21 +105,35 @@ fn stepped(alloc: Global, code: &CodeObject, tree: &Mod) -> Result<Vec<u8>, Fail
     let Some(script) = Script::parse(alloc, ANSWERS)? else {
         return Err(Failure::Refused);
     };
-    let report = run_script(alloc, code, tree, Mode::Exec, 0, &script)?;
+    let ran = run_script(alloc, code, tree, Mode::Exec, 0, &script);
+    mem::drop(script);
+    let report = ran?;
+    let lines = lines_of(alloc, &report);
+    mem::drop(report);
+    told(alloc, lines?.as_str())
+}
+
+fn lines_of(alloc: Global, report: &StepReport) -> Result<String, AllocError> {
     let mut text = String::new(alloc);
     push_trace(&mut text, &report.code)?;
     push_trace(&mut text, &report.tree)?;
-    told(alloc, text.as_str())
+    Ok(text)
 }
 
 fn scanned(alloc: Global, tree: &Mod) -> Result<Vec<u8>, Failure> {
     match tree {
         Mod::Module(module) => {
             let table = scan_program(alloc, &module.body)?;
-            told(alloc, format!(in alloc; "{table:?}\n")?.as_str())
+            let text = table_text(alloc, &table);
+            mem::drop(table);
+            told(alloc, text?.as_str())
         }
         _ => Err(Failure::Refused),
     }
+}
+
+fn table_text(alloc: Global, table: &SymbolTable) -> Result<String, AllocError> {
+    format!(in alloc; "{table:?}\n")
 }
 
 /// How many findings the report has.
