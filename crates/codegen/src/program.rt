@@ -12,6 +12,7 @@ ghost use Rattle.py_emit.specs.States.{AreMade, Emits, rest};
 use py_base::{CodegenError, CodegenErrorType};
 use py_bytecode::{ConstantData, Instruction};
 use py_emit::{Emitter, refuse};
+use py_expr::ExpressionCode;
 use py_stmt::{compile_file, compile_prompt, compile_whole_block};
 use py_stmt_parts::{emit_setup, find_ann, split_doc, statements_from};
 use py_tree::{Expr, Mode, Stmt, Stmts, Text};
@@ -45,7 +46,7 @@ fn emit_rest(em: &mut Emitter, body: &[Stmt]) -> Result<(), CodegenError>
     ensures { Emits result (emission_after emission_of_stmts (stmts stmt_tree body.now)
         ▸ emit_constant Instruction.ReturnConst none) em.old em.new }
 {
-    compile_file(em, body)?;
+    compile_file::<ExpressionCode>(em, body)?;
     em.return_const(ConstantData::None)
 }
 
@@ -91,7 +92,10 @@ pub(crate) fn emit_interactive(
     ensures { Emits result (emission_of_interactive mode (stmts stmt_tree body.now)) em.old em.new }
 {
     match mode {
-        Mode::Single => compile_prompt(em, body.as_slice()),
-        Mode::BlockExpr | Mode::Exec | Mode::Eval => compile_whole_block(em, body.as_slice()),
+        Mode::Single => compile_prompt::<ExpressionCode>(em, body.as_slice()),
+        Mode::BlockExpr | Mode::Exec | Mode::Eval => compile_whole_block::<ExpressionCode>(
+            em,
+            body.as_slice(),
+        ),
     }
 }

@@ -7,6 +7,7 @@ ghost use Rattle.py_stmt_parts.specs.Futures.{EmitsInto, context_after, emission
 
 use py_base::CodegenError;
 use py_emit::Emitter;
+use py_expr::ExpressionCode;
 use py_stmt::compile_placed;
 use py_stmt_parts::statements_from;
 use py_tree::{Stmt, Stmts};
@@ -26,7 +27,7 @@ pub fn compile_statement(em: &mut Emitter, statement: &Stmt) -> Result<(), Codeg
         em.new }
     ensures loops { OnOk result (AreMade (rest em.new).context.loop_blocks) }
 {
-    compile_placed(em, slice::from_ref(statement))
+    compile_placed::<ExpressionCode>(em, slice::from_ref(statement))
 }
 
 /// Emits the statements of a body from a place on, which is at most its length. The context has the blocks to which the
@@ -42,5 +43,5 @@ pub fn compile_statements(em: &mut Emitter, body: &Stmts, from: usize) -> Result
         (context_after (rest em.old).context (stmts stmt_tree (drop from body.now))) em.old em.new }
     ensures loops { OnOk result (AreMade (rest em.new).context.loop_blocks) }
 {
-    compile_placed(em, statements_from(body, from))
+    compile_placed::<ExpressionCode>(em, statements_from(body, from))
 }

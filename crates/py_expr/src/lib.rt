@@ -5,6 +5,7 @@
 
 mod calls;
 mod clauses;
+mod code;
 mod comparisons;
 mod comprehensions;
 mod conditions;
@@ -19,6 +20,7 @@ mod texts;
 mod yields;
 
 pub use calls::compile_call_inner;
+pub use code::ExpressionCode;
 pub use comprehensions::compile_comprehension;
 pub use conditions::compile_jump_if;
 pub use expressions::{compile_expression, compile_expressions};

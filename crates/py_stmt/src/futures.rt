@@ -11,6 +11,7 @@ use crate::interactive::{compile_block, compile_single};
 use crate::statements::compile_statements;
 use py_base::CodegenError;
 use py_emit::Emitter;
+use py_expr_calls::Expressions;
 use py_stmt_parts::{compile_futures, restore};
 use py_stmt_simple::compile_openings;
 use py_tree::Stmt;
@@ -19,14 +20,14 @@ use py_tree::Stmt;
 ///
 /// # Errors
 /// The first compile fault of the statements, with its location; MissingCell; or OutOfMemory.
-pub fn compile_file(em: &mut Emitter, body: &[Stmt]) -> Result<(), CodegenError>
+pub fn compile_file<E: Expressions>(em: &mut Emitter, body: &[Stmt]) -> Result<(), CodegenError>
     requires loops { AreMade (rest em.old).context.loop_blocks }
     ensures { Emits result (emission_after emission_of_stmts (stmts stmt_tree body.now)) em.old
         em.new }
 {
     let before = em.context().future_annotations;
     let opening = compile_futures(em, body)?;
-    compile_statements(em, &body[opening.count..])?;
+    compile_statements::<E>(em, &body[opening.count..])?;
     restore(em, opening.postponed, before);
     Ok(())
 }
@@ -35,14 +36,17 @@ pub fn compile_file(em: &mut Emitter, body: &[Stmt]) -> Result<(), CodegenError>
 ///
 /// # Errors
 /// The first compile fault of the statements, with its location; MissingCell; or OutOfMemory.
-pub fn compile_whole_block(em: &mut Emitter, body: &[Stmt]) -> Result<(), CodegenError>
+pub fn compile_whole_block<E: Expressions>(
+    em: &mut Emitter,
+    body: &[Stmt],
+) -> Result<(), CodegenError>
     requires loops { AreMade (rest em.old).context.loop_blocks }
     ensures { Emits result (emission_after emission_of_block (stmts stmt_tree body.now)) em.old
         em.new }
 {
     let before = em.context().future_annotations;
     let opening = compile_futures(em, body)?;
-    compile_block(em, &body[opening.count..])?;
+    compile_block::<E>(em, &body[opening.count..])?;
     restore(em, opening.postponed, before);
     Ok(())
 }
@@ -52,13 +56,13 @@ pub fn compile_whole_block(em: &mut Emitter, body: &[Stmt]) -> Result<(), Codege
 ///
 /// # Errors
 /// The first compile fault of the statements, with its location; MissingCell; or OutOfMemory.
-pub fn compile_prompt(em: &mut Emitter, body: &[Stmt]) -> Result<(), CodegenError>
+pub fn compile_prompt<E: Expressions>(em: &mut Emitter, body: &[Stmt]) -> Result<(), CodegenError>
     requires loops { AreMade (rest em.old).context.loop_blocks }
     ensures { Emits result (emission_of_prompt (stmts stmt_tree body.now)) em.old em.new }
 {
     let before = em.context().future_annotations;
-    let opening = compile_openings(em, body)?;
-    compile_single(em, &body[opening.count..])?;
+    let opening = compile_openings::<E>(em, body)?;
+    compile_single::<E>(em, &body[opening.count..])?;
     restore(em, opening.postponed, before);
     Ok(())
 }
@@ -69,27 +73,27 @@ pub fn compile_prompt(em: &mut Emitter, body: &[Stmt]) -> Result<(), CodegenErro
 /// # Errors
 /// The first compile fault of the statements, with its location; MissingCell; or OutOfMemory.
 #[tactic(auto, using(crate::proofs::PlacedStatementLemmas::emits_over))]
-pub fn compile_placed(em: &mut Emitter, body: &[Stmt]) -> Result<(), CodegenError>
+pub fn compile_placed<E: Expressions>(em: &mut Emitter, body: &[Stmt]) -> Result<(), CodegenError>
     requires loops { AreMade (rest em.old).context.loop_blocks }
     ensures { EmitsInto result (emission_placed (rest em.old).context.future_over
         (stmts stmt_tree body.now)) (context_after (rest em.old).context (stmts stmt_tree body.now))
         em.old em.new }
 {
     if em.context().future_over {
-        return compile_statements(em, body);
+        return compile_statements::<E>(em, body);
     }
-    compile_opened(em, body)
+    compile_opened::<E>(em, body)
 }
 
 /// Emits statements from here on, where imports from `__future__` may stand first.
-fn compile_opened(em: &mut Emitter, body: &[Stmt]) -> Result<(), CodegenError>
+fn compile_opened<E: Expressions>(em: &mut Emitter, body: &[Stmt]) -> Result<(), CodegenError>
     requires loops { AreMade (rest em.old).context.loop_blocks }
     requires opened { (rest em.old).context.future_over ≡ false }
     ensures { EmitsInto result (emission_after emission_of_stmts (stmts stmt_tree body.now))
         (context_after (rest em.old).context (stmts stmt_tree body.now)) em.old em.new }
 {
     let opening = compile_futures(em, body)?;
-    compile_statements(em, &body[opening.count..])?;
+    compile_statements::<E>(em, &body[opening.count..])?;
     em.set_future_over(opening.count < body.len());
     Ok(())
 }

@@ -12,7 +12,7 @@ use crate::{classes, functions};
 use py_base::CodegenError;
 use py_bytecode::{ConstantData, Instruction};
 use py_emit::Emitter;
-use py_expr::compile_return;
+use py_expr_calls::Expressions;
 use py_stmt_simple::{print_value, show_value, store_and_return};
 use py_tree::{Stmt, StmtClassDef, StmtFunctionDef};
 
@@ -22,7 +22,10 @@ use py_tree::{Stmt, StmtClassDef, StmtFunctionDef};
 /// # Errors
 /// The first compile fault of the statements, with its location; MissingCell; or OutOfMemory.
 #[tactic(auto, using(py_bytecode::proofs::View::views))]
-pub(crate) fn compile_single(em: &mut Emitter, body: &[Stmt]) -> Result<(), CodegenError>
+pub(crate) fn compile_single<E: Expressions>(
+    em: &mut Emitter,
+    body: &[Stmt],
+) -> Result<(), CodegenError>
     requires loops { AreMade (rest em.old).context.loop_blocks }
     ensures { Emits result (emission_of_single (stmts stmt_tree body.now)) em.old em.new }
 {
@@ -30,62 +33,69 @@ pub(crate) fn compile_single(em: &mut Emitter, body: &[Stmt]) -> Result<(), Code
     if count == 0 {
         return em.return_const(ConstantData::None);
     }
-    compile_single_parts(em, &body[..count - 1], &body[count - 1])
+    compile_single_parts::<E>(em, &body[..count - 1], &body[count - 1])
 }
 
 /// Emits statements at a prompt, the last of which is given apart.
-fn compile_single_parts(em: &mut Emitter, first: &[Stmt], last: &Stmt) -> Result<(), CodegenError>
+fn compile_single_parts<E: Expressions>(
+    em: &mut Emitter,
+    first: &[Stmt],
+    last: &Stmt,
+) -> Result<(), CodegenError>
     requires loops { AreMade (rest em.old).context.loop_blocks }
     ensures { Emits result (all_prompted (stmts stmt_tree first.now)
         ▸ shown_stmt (stmt_tree last.now)) em.old em.new }
 {
-    compile_prompted(em, first)?;
-    compile_shown(em, last)
+    compile_prompted::<E>(em, first)?;
+    compile_shown::<E>(em, last)
 }
 
 /// Emits statements at a prompt that others follow.
-fn compile_prompted(em: &mut Emitter, body: &[Stmt]) -> Result<(), CodegenError>
+fn compile_prompted<E: Expressions>(em: &mut Emitter, body: &[Stmt]) -> Result<(), CodegenError>
     requires loops { AreMade (rest em.old).context.loop_blocks }
     ensures { Emits result (all_prompted (stmts stmt_tree body.now)) em.old em.new }
 {
     for statement in body {
-        compile_prompted_one(em, statement)?;
+        compile_prompted_one::<E>(em, statement)?;
     }
     Ok(())
 }
 
 /// Emits a statement at a prompt that others follow.
 #[tactic(auto, using(py_tree::proofs::View::trees))]
-fn compile_prompted_one(em: &mut Emitter, statement: &Stmt) -> Result<(), CodegenError>
+fn compile_prompted_one<E: Expressions>(
+    em: &mut Emitter,
+    statement: &Stmt,
+) -> Result<(), CodegenError>
     requires loops { AreMade (rest em.old).context.loop_blocks }
     ensures { Emits result (prompted_stmt (stmt_tree statement.now)) em.old em.new }
 {
     match statement {
-        Stmt::Expr(s) => print_value(em, &s.value),
-        _ => compile_statement(em, statement),
+        Stmt::Expr(s) => print_value::<E>(em, &s.value),
+        _ => compile_statement::<E>(em, statement),
     }
 }
 
 /// Emits the last statement at a prompt.
 #[tactic(auto, using(py_tree::proofs::View::trees))]
-fn compile_shown(em: &mut Emitter, statement: &Stmt) -> Result<(), CodegenError>
+fn compile_shown<E: Expressions>(em: &mut Emitter, statement: &Stmt) -> Result<(), CodegenError>
     requires loops { AreMade (rest em.old).context.loop_blocks }
     ensures { Emits result (shown_stmt (stmt_tree statement.now)) em.old em.new }
 {
     match statement {
-        Stmt::Expr(s) => show_value(em, &s.value),
-        _ => compile_ended(em, statement),
+        Stmt::Expr(s) => show_value::<E>(em, &s.value),
+        _ => compile_ended::<E>(em, statement),
     }
 }
 
 /// Emits a statement and a return of None.
 #[tactic(auto, using(py_bytecode::proofs::View::views))]
-fn compile_ended(em: &mut Emitter, statement: &Stmt) -> Result<(), CodegenError>
+fn compile_ended<E: Expressions>(em: &mut Emitter, statement: &Stmt) -> Result<(), CodegenError>
     requires loops { AreMade (rest em.old).context.loop_blocks }
     ensures { Emits result (emission_of_stmt (stmt_tree statement.now)
         ▸ emit_constant Instruction.ReturnConst none) em.old em.new }
 {
-    compile_statement(em, statement)?;
+    compile_statement::<E>(em, statement)?;
     em.return_const(ConstantData::None)
 }
 
@@ -95,7 +105,10 @@ fn compile_ended(em: &mut Emitter, statement: &Stmt) -> Result<(), CodegenError>
 /// # Errors
 /// The first compile fault of the statements, with its location; MissingCell; or OutOfMemory.
 #[tactic(auto, using(py_bytecode::proofs::View::views))]
-pub(crate) fn compile_block(em: &mut Emitter, body: &[Stmt]) -> Result<(), CodegenError>
+pub(crate) fn compile_block<E: Expressions>(
+    em: &mut Emitter,
+    body: &[Stmt],
+) -> Result<(), CodegenError>
     requires loops { AreMade (rest em.old).context.loop_blocks }
     ensures { Emits result (emission_of_block (stmts stmt_tree body.now)) em.old em.new }
 {
@@ -103,52 +116,59 @@ pub(crate) fn compile_block(em: &mut Emitter, body: &[Stmt]) -> Result<(), Codeg
     if count == 0 {
         return em.return_const(ConstantData::None);
     }
-    compile_block_parts(em, &body[..count - 1], &body[count - 1])
+    compile_block_parts::<E>(em, &body[..count - 1], &body[count - 1])
 }
 
 /// Emits a block, the last statement of which is given apart.
-fn compile_block_parts(em: &mut Emitter, first: &[Stmt], last: &Stmt) -> Result<(), CodegenError>
+fn compile_block_parts<E: Expressions>(
+    em: &mut Emitter,
+    first: &[Stmt],
+    last: &Stmt,
+) -> Result<(), CodegenError>
     requires loops { AreMade (rest em.old).context.loop_blocks }
     ensures { Emits result (emission_of_stmts (stmts stmt_tree first.now)
         ▸ emission_of_value (stmt_tree last.now)) em.old em.new }
 {
-    compile_statements(em, first)?;
-    compile_value(em, last)
+    compile_statements::<E>(em, first)?;
+    compile_value::<E>(em, last)
 }
 
 /// Emits the last statement of a block, and the return of its value.
 #[tactic(auto, using(py_tree::proofs::View::trees, py_stmt_parts::proofs::Steps::step_steps))]
-fn compile_value(em: &mut Emitter, statement: &Stmt) -> Result<(), CodegenError>
+fn compile_value<E: Expressions>(em: &mut Emitter, statement: &Stmt) -> Result<(), CodegenError>
     requires loops { AreMade (rest em.old).context.loop_blocks }
     ensures { Emits result (emission_of_value (stmt_tree statement.now)) em.old em.new }
 {
     match statement {
         Stmt::Expr(s) => {
             em.set_location(s.location);
-            compile_return(em, &s.value)
+            E::compile_return(em, &s.value)
         }
-        Stmt::FunctionDef(s) => return_function(em, s),
-        Stmt::ClassDef(s) => return_class(em, s),
-        _ => compile_ended(em, statement),
+        Stmt::FunctionDef(s) => return_function::<E>(em, s),
+        Stmt::ClassDef(s) => return_class::<E>(em, s),
+        _ => compile_ended::<E>(em, statement),
     }
 }
 
 /// Emits a function that is stored and returned.
 #[tactic(auto, using(py_stmt_parts::proofs::Steps::step_steps))]
-fn return_function(em: &mut Emitter, s: &StmtFunctionDef) -> Result<(), CodegenError>
+fn return_function<E: Expressions>(
+    em: &mut Emitter,
+    s: &StmtFunctionDef,
+) -> Result<(), CodegenError>
     ensures { Emits result (emission_of_value (function_def_tree s.now)) em.old em.new }
 {
     em.set_location(s.location);
-    functions::compile_decorated(em, s)?;
+    functions::compile_decorated::<E>(em, s)?;
     store_and_return(em, s.name.as_str())
 }
 
 /// Emits a class that is stored and returned.
 #[tactic(auto, using(py_stmt_parts::proofs::Steps::step_steps))]
-fn return_class(em: &mut Emitter, s: &StmtClassDef) -> Result<(), CodegenError>
+fn return_class<E: Expressions>(em: &mut Emitter, s: &StmtClassDef) -> Result<(), CodegenError>
     ensures { Emits result (emission_of_value (class_def_tree s.now)) em.old em.new }
 {
     em.set_location(s.location);
-    classes::compile_decorated(em, s)?;
+    classes::compile_decorated::<E>(em, s)?;
     store_and_return(em, s.name.as_str())
 }

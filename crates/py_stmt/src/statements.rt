@@ -15,7 +15,7 @@ use crate::withs::compile_with;
 use py_base::CodegenError;
 use py_bytecode::Instruction;
 use py_emit::{Emitter, emit};
-use py_expr::{compile_deletes, compile_jump_if};
+use py_expr_calls::Expressions;
 use py_expr_parts::expressions::refuse_unsupported;
 use py_stmt_parts::{compile_break, compile_continue, compile_import, compile_import_from};
 use py_stmt_simple::{
@@ -29,53 +29,59 @@ use py_tree::{Stmt, StmtIf};
 /// # Errors
 /// The first compile fault of the statements, with its location; MissingCell; or OutOfMemory.
 #[cycle(code)]
-pub fn compile_statements(em: &mut Emitter, body: &[Stmt]) -> Result<(), CodegenError>
+pub fn compile_statements<E: Expressions>(
+    em: &mut Emitter,
+    body: &[Stmt],
+) -> Result<(), CodegenError>
     requires loops { AreMade (rest em.old).context.loop_blocks }
     ensures { Emits result (emission_of_stmts (stmts stmt_tree body.now)) em.old em.new }
 {
     for statement in body {
-        compile_statement(em, statement)?;
+        compile_statement::<E>(em, statement)?;
     }
     Ok(())
 }
 
 #[cycle(code)]
 #[tactic(auto, using(py_stmt_parts::proofs::Steps::step_steps))]
-pub(crate) fn compile_statement(em: &mut Emitter, statement: &Stmt) -> Result<(), CodegenError>
+pub(crate) fn compile_statement<E: Expressions>(
+    em: &mut Emitter,
+    statement: &Stmt,
+) -> Result<(), CodegenError>
     requires loops { AreMade (rest em.old).context.loop_blocks }
     ensures { Emits result (emission_of_stmt (stmt_tree statement.now)) em.old em.new }
 {
     em.set_location(statement.location());
-    compile_entered(em, statement)
+    compile_entered::<E>(em, statement)
 }
 
 /// Emits a statement, at whose location the emitter is.
 #[cycle(code)]
 #[tactic(auto, using(py_tree::proofs::View::trees, py_stmt_parts::proofs::Steps::step_steps))]
-fn compile_entered(em: &mut Emitter, statement: &Stmt) -> Result<(), CodegenError>
+fn compile_entered<E: Expressions>(em: &mut Emitter, statement: &Stmt) -> Result<(), CodegenError>
     requires loops { AreMade (rest em.old).context.loop_blocks }
     requires at { (state em.old).location ≡ stmt_location (stmt_tree statement.now) }
     ensures { Emits result (emission_of_stmt (stmt_tree statement.now)) em.old em.new }
 {
     match statement {
-        Stmt::FunctionDef(s) => compile_function_def(em, s),
-        Stmt::ClassDef(s) => compile_class_def(em, s),
-        Stmt::Return(s) => return_from_function(em, &s.value),
-        Stmt::Delete(s) => compile_deletes(em, s.targets.as_slice()),
-        Stmt::Assign(s) => compile_assign(em, s),
-        Stmt::TypeAlias(s) => compile_type_alias(em, s),
-        Stmt::AugAssign(s) => compile_aug_assign(em, s),
-        Stmt::AnnAssign(s) => compile_ann_assign(em, s),
-        Stmt::For(s) => compile_for(em, s),
-        Stmt::While(s) => compile_while(em, s),
-        Stmt::If(s) => compile_if(em, s),
-        Stmt::With(s) => compile_with(em, s),
-        Stmt::Raise(s) => compile_raise(em, s),
-        Stmt::Try(s) => compile_try(em, s),
-        Stmt::Assert(s) => compile_assert(em, s),
+        Stmt::FunctionDef(s) => compile_function_def::<E>(em, s),
+        Stmt::ClassDef(s) => compile_class_def::<E>(em, s),
+        Stmt::Return(s) => return_from_function::<E>(em, &s.value),
+        Stmt::Delete(s) => E::compile_deletes(em, s.targets.as_slice()),
+        Stmt::Assign(s) => compile_assign::<E>(em, s),
+        Stmt::TypeAlias(s) => compile_type_alias::<E>(em, s),
+        Stmt::AugAssign(s) => compile_aug_assign::<E>(em, s),
+        Stmt::AnnAssign(s) => compile_ann_assign::<E>(em, s),
+        Stmt::For(s) => compile_for::<E>(em, s),
+        Stmt::While(s) => compile_while::<E>(em, s),
+        Stmt::If(s) => compile_if::<E>(em, s),
+        Stmt::With(s) => compile_with::<E>(em, s),
+        Stmt::Raise(s) => compile_raise::<E>(em, s),
+        Stmt::Try(s) => compile_try::<E>(em, s),
+        Stmt::Assert(s) => compile_assert::<E>(em, s),
         Stmt::Import(s) => compile_import(em, s.names.as_slice()),
         Stmt::ImportFrom(s) => compile_import_from(em, s),
-        Stmt::Expr(s) => compile_expr_statement(em, s),
+        Stmt::Expr(s) => compile_expr_statement::<E>(em, s),
         Stmt::Break(_) => compile_break(em),
         Stmt::Continue(_) => compile_continue(em),
         Stmt::Global(_) | Stmt::Nonlocal(_) | Stmt::Pass(_) => Ok(()),
@@ -89,28 +95,28 @@ fn compile_entered(em: &mut Emitter, statement: &Stmt) -> Result<(), CodegenErro
 
 #[cycle(code)]
 #[tactic(auto, using(py_stmt_parts::proofs::Steps::step_steps))]
-fn compile_if(em: &mut Emitter, s: &StmtIf) -> Result<(), CodegenError>
+fn compile_if<E: Expressions>(em: &mut Emitter, s: &StmtIf) -> Result<(), CodegenError>
     requires loops { AreMade (rest em.old).context.loop_blocks }
     requires at { (state em.old).location ≡ s.now.location }
     ensures { Emits result (emission_of_stmt (if_tree s.now)) em.old em.new }
 {
     if s.orelse.is_empty() {
-        return compile_only(em, s);
+        return compile_only::<E>(em, s);
     }
-    compile_choice(em, s)
+    compile_choice::<E>(em, s)
 }
 
 /// Emits a body that runs where a test holds.
 #[cycle(code)]
 #[tactic(auto, using(py_stmt_parts::proofs::Steps::step_steps))]
-fn compile_only(em: &mut Emitter, s: &StmtIf) -> Result<(), CodegenError>
+fn compile_only<E: Expressions>(em: &mut Emitter, s: &StmtIf) -> Result<(), CodegenError>
     requires loops { AreMade (rest em.old).context.loop_blocks }
     ensures { Emits result (only (emission_of_test (expr_tree s.now.test.value))
         (emission_of_stmts (stmts stmt_tree s.now.body))) em.old em.new }
 {
     let end = em.new_block()?;
-    compile_jump_if(em, &s.test, false, end)?;
-    compile_statements(em, s.body.as_slice())?;
+    E::compile_jump_if(em, &s.test, false, end)?;
+    compile_statements::<E>(em, s.body.as_slice())?;
     em.switch_to_block(end);
     Ok(())
 }
@@ -118,7 +124,7 @@ fn compile_only(em: &mut Emitter, s: &StmtIf) -> Result<(), CodegenError>
 /// Emits a choice between two bodies.
 #[cycle(code)]
 #[tactic(auto, using(py_stmt_parts::proofs::Steps::step_steps))]
-fn compile_choice(em: &mut Emitter, s: &StmtIf) -> Result<(), CodegenError>
+fn compile_choice<E: Expressions>(em: &mut Emitter, s: &StmtIf) -> Result<(), CodegenError>
     requires loops { AreMade (rest em.old).context.loop_blocks }
     ensures { Emits result (choice (emission_of_test (expr_tree s.now.test.value))
         (emission_of_stmts (stmts stmt_tree s.now.body))
@@ -126,11 +132,11 @@ fn compile_choice(em: &mut Emitter, s: &StmtIf) -> Result<(), CodegenError>
 {
     let other = em.new_block()?;
     let end = em.new_block()?;
-    compile_jump_if(em, &s.test, false, other)?;
-    compile_statements(em, s.body.as_slice())?;
+    E::compile_jump_if(em, &s.test, false, other)?;
+    compile_statements::<E>(em, s.body.as_slice())?;
     emit!(em, Instruction::Jump => end);
     em.switch_to_block(other);
-    compile_statements(em, s.orelse.as_slice())?;
+    compile_statements::<E>(em, s.orelse.as_slice())?;
     em.switch_to_block(end);
     Ok(())
 }

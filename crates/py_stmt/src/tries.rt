@@ -10,6 +10,7 @@ use crate::statements::compile_statements;
 use py_base::CodegenError;
 use py_bytecode::Instruction;
 use py_emit::{Emitter, emit};
+use py_expr_calls::Expressions;
 use py_ir::BlockIdx;
 use py_stmt_parts::{enter_last, forget, leave_handler, set_up_last};
 use py_stmt_simple::compile_match;
@@ -18,18 +19,22 @@ use py_tree::{ExceptHandler, Stmt, StmtTry, Text};
 /// Emits a body, what handles its exceptions, an else part, and a finally block that runs on every way out.
 #[cycle(code)]
 #[tactic(auto, using(py_stmt_parts::proofs::Steps::step_steps))]
-pub(crate) fn compile_try(em: &mut Emitter, s: &StmtTry) -> Result<(), CodegenError>
+pub(crate) fn compile_try<E: Expressions>(em: &mut Emitter, s: &StmtTry) -> Result<(), CodegenError>
     requires loops { AreMade (rest em.old).context.loop_blocks }
     requires at { (state em.old).location ≡ s.now.location }
     ensures { Emits result (emission_of_stmt (try_tree s.now)) em.old em.new }
 {
-    compile_parts(em, s, !s.finalbody.is_empty())
+    compile_parts::<E>(em, s, !s.finalbody.is_empty())
 }
 
 /// Emits the parts of a `try`, which has a finally block where `last` says so.
 #[cycle(code)]
 #[tactic(auto, using(py_stmt_parts::proofs::Steps::step_steps))]
-fn compile_parts(em: &mut Emitter, s: &StmtTry, last: bool) -> Result<(), CodegenError>
+fn compile_parts<E: Expressions>(
+    em: &mut Emitter,
+    s: &StmtTry,
+    last: bool,
+) -> Result<(), CodegenError>
     requires loops { AreMade (rest em.old).context.loop_blocks }
     ensures { Emits result (try_body last (emission_of_stmts (stmts stmt_tree s.now.body))
         (emission_of_handlers (handler_trees stmt_tree s.now.handlers) last)
@@ -40,19 +45,19 @@ fn compile_parts(em: &mut Emitter, s: &StmtTry, last: bool) -> Result<(), Codege
     let catch = em.new_block()?;
     let other = em.new_block()?;
     let end = em.new_block()?;
-    compile_guarded(em, s.body.as_slice(), last, (catch, other, end))?;
+    compile_guarded::<E>(em, s.body.as_slice(), last, (catch, other, end))?;
     em.switch_to_block(catch);
-    compile_handlers(em, s.handlers.as_slice(), last, end)?;
+    compile_handlers::<E>(em, s.handlers.as_slice(), last, end)?;
     em.switch_to_block(other);
-    compile_unguarded(em, s.orelse.as_slice(), last)?;
+    compile_unguarded::<E>(em, s.orelse.as_slice(), last)?;
     em.switch_to_block(end);
-    compile_last(em, s.finalbody.as_slice())
+    compile_last::<E>(em, s.finalbody.as_slice())
 }
 
 /// Emits the body of a `try`: an exception goes to the first of the blocks, its end to the second, and every way out to the
 /// third where there is a finally block.
 #[cycle(code)]
-fn compile_guarded(
+fn compile_guarded<E: Expressions>(
     em: &mut Emitter,
     body: &[Stmt],
     last: bool,
@@ -69,7 +74,7 @@ fn compile_guarded(
     let (catch, other, end) = blocks;
     set_up_last(em, last, end)?;
     emit!(em, Instruction::SetupExcept => catch);
-    compile_statements(em, body)?;
+    compile_statements::<E>(em, body)?;
     emit!(em, Instruction::PopBlock);
     emit!(em, Instruction::Jump => other);
     Ok(())
@@ -77,18 +82,22 @@ fn compile_guarded(
 
 /// Emits an else part and what enters the finally block.
 #[cycle(code)]
-fn compile_unguarded(em: &mut Emitter, orelse: &[Stmt], last: bool) -> Result<(), CodegenError>
+fn compile_unguarded<E: Expressions>(
+    em: &mut Emitter,
+    orelse: &[Stmt],
+    last: bool,
+) -> Result<(), CodegenError>
     requires loops { AreMade (rest em.old).context.loop_blocks }
     ensures { Emits result (unguarded_else last (emission_of_stmts (stmts stmt_tree orelse.now)))
         em.old em.new }
 {
-    compile_statements(em, orelse)?;
+    compile_statements::<E>(em, orelse)?;
     enter_last(em, last)
 }
 
 /// Emits the finally block, where there is one.
 #[cycle(code)]
-fn compile_last(em: &mut Emitter, body: &[Stmt]) -> Result<(), CodegenError>
+fn compile_last<E: Expressions>(em: &mut Emitter, body: &[Stmt]) -> Result<(), CodegenError>
     requires loops { AreMade (rest em.old).context.loop_blocks }
     ensures { Emits result (emission_of_last (stmts stmt_tree body.now)
         (emission_of_stmts (stmts stmt_tree body.now))) em.old em.new }
@@ -96,14 +105,14 @@ fn compile_last(em: &mut Emitter, body: &[Stmt]) -> Result<(), CodegenError>
     if body.is_empty() {
         return Ok(());
     }
-    compile_statements(em, body)?;
+    compile_statements::<E>(em, body)?;
     emit!(em, Instruction::EndFinally);
     Ok(())
 }
 
 /// Emits handlers one after the other, and what raises an exception again that none of them takes.
 #[cycle(code)]
-fn compile_handlers(
+fn compile_handlers<E: Expressions>(
     em: &mut Emitter,
     handlers: &[ExceptHandler],
     last: bool,
@@ -115,7 +124,7 @@ fn compile_handlers(
         em.old em.new }
 {
     for handler in handlers {
-        compile_handler(em, handler, last, end)?;
+        compile_handler::<E>(em, handler, last, end)?;
     }
     emit!(em, Instruction::Raise, 2);
     Ok(())
@@ -124,7 +133,7 @@ fn compile_handlers(
 /// Emits one handler: an exception that it does not take goes on after it.
 #[cycle(code)]
 #[tactic(auto, using(py_stmt_parts::proofs::Steps::step_steps))]
-fn compile_handler(
+fn compile_handler<E: Expressions>(
     em: &mut Emitter,
     handler: &ExceptHandler,
     last: bool,
@@ -137,8 +146,8 @@ fn compile_handler(
         (stmts stmt_tree handler.now.body) last end.0) em.old em.new }
 {
     let next = em.new_block()?;
-    compile_match(em, &handler.type_, &handler.name, next)?;
-    compile_caught(em, handler)?;
+    compile_match::<E>(em, &handler.type_, &handler.name, next)?;
+    compile_caught::<E>(em, handler)?;
     leave_handler(em, last, end)?;
     em.switch_to_block(next);
     Ok(())
@@ -146,41 +155,52 @@ fn compile_handler(
 
 /// Emits the body of a handler. One without a type has no name.
 #[cycle(code)]
-fn compile_caught(em: &mut Emitter, handler: &ExceptHandler) -> Result<(), CodegenError>
+fn compile_caught<E: Expressions>(
+    em: &mut Emitter,
+    handler: &ExceptHandler,
+) -> Result<(), CodegenError>
     requires loops { AreMade (rest em.old).context.loop_blocks }
     ensures { Emits result (emission_of_caught
         (opt_box expr_tree handler.now.type_) handler.now.name
         (emission_of_stmts (stmts stmt_tree handler.now.body))) em.old em.new }
 {
     match &handler.type_ {
-        None => compile_statements(em, handler.body.as_slice()),
-        Some(_) => compile_named(em, &handler.name, handler.body.as_slice()),
+        None => compile_statements::<E>(em, handler.body.as_slice()),
+        Some(_) => compile_named::<E>(em, &handler.name, handler.body.as_slice()),
     }
 }
 
 /// Emits the body of a handler, whose name is forgotten on every way out.
 #[cycle(code)]
-fn compile_named(em: &mut Emitter, name: &Option<Text>, body: &[Stmt]) -> Result<(), CodegenError>
+fn compile_named<E: Expressions>(
+    em: &mut Emitter,
+    name: &Option<Text>,
+    body: &[Stmt],
+) -> Result<(), CodegenError>
     requires loops { AreMade (rest em.old).context.loop_blocks }
     ensures { Emits result (named_body name.now (emission_of_stmts (stmts stmt_tree body.now)))
         em.old em.new }
 {
     match name {
-        None => compile_statements(em, body),
-        Some(name) => compile_forgetting(em, name, body),
+        None => compile_statements::<E>(em, body),
+        Some(name) => compile_forgetting::<E>(em, name, body),
     }
 }
 
 #[cycle(code)]
 #[tactic(auto, using(py_stmt_parts::proofs::Steps::step_steps))]
-fn compile_forgetting(em: &mut Emitter, name: &Text, body: &[Stmt]) -> Result<(), CodegenError>
+fn compile_forgetting<E: Expressions>(
+    em: &mut Emitter,
+    name: &Text,
+    body: &[Stmt],
+) -> Result<(), CodegenError>
     requires loops { AreMade (rest em.old).context.loop_blocks }
     ensures { Emits result (finally_do (emission_of_stmts (stmts stmt_tree body.now))
         (handler_name_removal name.now)) em.old em.new }
 {
     let end = em.new_block()?;
     emit!(em, Instruction::SetupFinally => end);
-    compile_statements(em, body)?;
+    compile_statements::<E>(em, body)?;
     enter_last(em, true)?;
     em.switch_to_block(end);
     forget(em, name)?;

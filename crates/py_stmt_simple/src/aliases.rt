@@ -17,7 +17,7 @@ use crate::generics::compile_type_params;
 use py_base::CodegenError;
 use py_bytecode::{CodeObject, Instruction};
 use py_emit::{Emitter, NameUsage, emit};
-use py_expr::compile_expression;
+use py_expr_calls::Expressions;
 use py_expr_parts::targets::refuse_store;
 use py_stmt_parts::{enter_type_param_scope, load_text, make_type_param_scope};
 use py_tree::{Expr, StmtTypeAlias, TypeParam};
@@ -27,16 +27,19 @@ use py_tree::{Expr, StmtTypeAlias, TypeParam};
 /// # Errors
 /// The first compile fault of the alias, with its location; MissingCell; or OutOfMemory.
 #[tactic(auto, using(py_stmt_parts::proofs::Steps::step_steps))]
-pub fn compile_type_alias(em: &mut Emitter, s: &StmtTypeAlias) -> Result<(), CodegenError>
+pub fn compile_type_alias<E: Expressions>(
+    em: &mut Emitter,
+    s: &StmtTypeAlias,
+) -> Result<(), CodegenError>
     requires at { (state em.old).location ≡ s.now.location }
     ensures { Emits result (emission_of_stmt (type_alias_tree s.now)) em.old em.new }
 {
-    compile_alias(em, &s.name, s.type_params.as_slice(), &s.value)
+    compile_alias::<E>(em, &s.name, s.type_params.as_slice(), &s.value)
 }
 
 /// Emits an alias and its store. Only a name is an alias.
 #[tactic(auto, using(py_tree::proofs::View::trees))]
-fn compile_alias(
+fn compile_alias<E: Expressions>(
     em: &mut Emitter,
     target: &Expr,
     params: &[TypeParam],
@@ -46,13 +49,13 @@ fn compile_alias(
         (expr_tree value.now)) em.old em.new }
 {
     match target {
-        Expr::Name(e) => store_alias(em, e.id.as_str(), params, value),
+        Expr::Name(e) => store_alias::<E>(em, e.id.as_str(), params, value),
         _ => refuse_store(em, target),
     }
 }
 
 /// Emits the alias of this name, and its store.
-fn store_alias(
+fn store_alias<E: Expressions>(
     em: &mut Emitter,
     name: &str,
     params: &[TypeParam],
@@ -61,13 +64,13 @@ fn store_alias(
     ensures { Emits result (alias_value name.now (param_trees params.now) (expr_tree value.now)
         ▸ emission_of_stored name.now) em.old em.new }
 {
-    compile_alias_value(em, name, params, value)?;
+    compile_alias_value::<E>(em, name, params, value)?;
     em.compile_name(NameUsage::Store, name)
 }
 
 /// Emits the alias of this name. One with type parameters is made in a type-parameter scope (language reference, "Generic type
 /// aliases").
-fn compile_alias_value(
+fn compile_alias_value<E: Expressions>(
     em: &mut Emitter,
     name: &str,
     params: &[TypeParam],
@@ -77,16 +80,20 @@ fn compile_alias_value(
         em.old em.new }
 {
     match params {
-        [] => make_plain(em, name, value),
-        [_, ..] => call_generic(em, name, params, value),
+        [] => make_plain::<E>(em, name, value),
+        [_, ..] => call_generic::<E>(em, name, params, value),
     }
 }
 
 /// Emits an alias without type parameters, which has an empty tuple of them.
-fn make_plain(em: &mut Emitter, name: &str, value: &Expr) -> Result<(), CodegenError>
+fn make_plain<E: Expressions>(
+    em: &mut Emitter,
+    name: &str,
+    value: &Expr,
+) -> Result<(), CodegenError>
     ensures { Emits result (plain_alias name.now (emission (expr_tree value.now))) em.old em.new }
 {
-    compile_expression(em, value)?;
+    E::compile_expression(em, value)?;
     em.emit_count(Instruction::BuildTuple, 0)?;
     load_text(em, name)?;
     emit!(em, Instruction::TypeAlias);
@@ -94,7 +101,7 @@ fn make_plain(em: &mut Emitter, name: &str, value: &Expr) -> Result<(), CodegenE
 }
 
 /// Emits the function of a type-parameter scope, in which an alias is made, and its call.
-fn call_generic(
+fn call_generic<E: Expressions>(
     em: &mut Emitter,
     name: &str,
     params: &[TypeParam],
@@ -104,12 +111,12 @@ fn call_generic(
         (generic_alias name.now (emission_of_params (param_trees params.now))
         (emission (expr_tree value.now))) ▸ emit_count op.CallFunctionPositional 0) em.old em.new }
 {
-    make_generic(em, name, params, value)?;
+    make_generic::<E>(em, name, params, value)?;
     em.emit_count(Instruction::CallFunctionPositional, 0)
 }
 
 /// Emits the function of a type-parameter scope, in which an alias is made.
-fn make_generic(
+fn make_generic<E: Expressions>(
     em: &mut Emitter,
     name: &str,
     params: &[TypeParam],
@@ -119,12 +126,12 @@ fn make_generic(
         (generic_alias name.now (emission_of_params (param_trees params.now))
         (emission (expr_tree value.now)))) em.old em.new }
 {
-    let code = compile_alias_scope(em, name, params, value)?;
+    let code = compile_alias_scope::<E>(em, name, params, value)?;
     make_type_param_scope(em, name, code)
 }
 
 /// Emits the type-parameter scope of an alias, and lays its code out.
-fn compile_alias_scope(
+fn compile_alias_scope<E: Expressions>(
     em: &mut Emitter,
     name: &str,
     params: &[TypeParam],
@@ -137,12 +144,12 @@ fn compile_alias_scope(
     ensures same { Same result (rest em.new) (rest em.old) }
 {
     enter_type_param_scope(em, name, 0)?;
-    return_alias(em, name, params, value)?;
+    return_alias::<E>(em, name, params, value)?;
     em.leave_scope()
 }
 
 /// Emits an alias with type parameters, and its return.
-fn return_alias(
+fn return_alias<E: Expressions>(
     em: &mut Emitter,
     name: &str,
     params: &[TypeParam],
@@ -152,13 +159,13 @@ fn return_alias(
         (generic_alias name.now (emission_of_params (param_trees params.now))
         (emission (expr_tree value.now)))) em.old em.new }
 {
-    make_alias(em, name, params, value)?;
+    make_alias::<E>(em, name, params, value)?;
     emit!(em, Instruction::ReturnValue);
     Ok(())
 }
 
 /// Emits an alias with type parameters, which come before its value.
-fn make_alias(
+fn make_alias<E: Expressions>(
     em: &mut Emitter,
     name: &str,
     params: &[TypeParam],
@@ -167,8 +174,8 @@ fn make_alias(
     ensures { Emits result (generic_alias name.now (emission_of_params (param_trees params.now))
         (emission (expr_tree value.now))) em.old em.new }
 {
-    compile_type_params(em, params)?;
-    compile_expression(em, value)?;
+    compile_type_params::<E>(em, params)?;
+    E::compile_expression(em, value)?;
     emit!(em, Instruction::Rotate2);
     load_text(em, name)?;
     emit!(em, Instruction::TypeAlias);

@@ -10,7 +10,7 @@ use crate::notes::compile_noted;
 use py_base::{CodegenError, CodegenErrorType};
 use py_bytecode::Instruction;
 use py_emit::{Emitter, NameUsage, emit, is_debug, refuse};
-use py_expr::{compile_expression, compile_store};
+use py_expr_calls::Expressions;
 use py_expr_parts::targets::refuse_store;
 use py_expr_parts::yields::is_function;
 use py_node_values::operators::case_of;
@@ -26,35 +26,39 @@ use py_tree::{
 /// MalformedTree where there is no target; the first compile fault of the assignment, with its location; MissingCell;
 /// or OutOfMemory.
 #[tactic(auto, using(py_stmt_parts::proofs::Steps::step_steps))]
-pub fn compile_assign(em: &mut Emitter, s: &StmtAssign) -> Result<(), CodegenError>
+pub fn compile_assign<E: Expressions>(em: &mut Emitter, s: &StmtAssign) -> Result<(), CodegenError>
     requires at { (state em.old).location ≡ s.now.location }
     ensures { Emits result (emission_of_stmt (assign_tree s.now)) em.old em.new }
 {
-    compile_expression(em, &s.value)?;
-    compile_targets(em, s.targets.as_slice())
+    E::compile_expression(em, &s.value)?;
+    compile_targets::<E>(em, s.targets.as_slice())
 }
 
 /// Emits what stores the value that lies there to each target.
-fn compile_targets(em: &mut Emitter, targets: &[Expr]) -> Result<(), CodegenError>
+fn compile_targets<E: Expressions>(em: &mut Emitter, targets: &[Expr]) -> Result<(), CodegenError>
     ensures { Emits result (emission_of_assign (exprs expr_tree targets.now)) em.old em.new }
 {
     if targets.is_empty() {
         refuse!(em, CodegenErrorType::MalformedTree(Malformed::NoTarget));
     }
     for (i, target) in targets.iter().enumerate() {
-        compile_target(em, i + 1 < targets.len(), target)?;
+        compile_target::<E>(em, i + 1 < targets.len(), target)?;
     }
     Ok(())
 }
 
 /// Emits what stores the value that lies there to a target, and keeps it where more follow.
-fn compile_target(em: &mut Emitter, more: bool, target: &Expr) -> Result<(), CodegenError>
+fn compile_target<E: Expressions>(
+    em: &mut Emitter,
+    more: bool,
+    target: &Expr,
+) -> Result<(), CodegenError>
     ensures { Emits result (assigned_to more (expr_tree target.now)) em.old em.new }
 {
     if more {
         emit!(em, Instruction::Duplicate);
     }
-    compile_store(em, target)
+    E::compile_store(em, target)
 }
 
 /// Emits the present value of a target, the operand and the operation, and what stores the result where the first came from.
@@ -62,38 +66,45 @@ fn compile_target(em: &mut Emitter, more: bool, target: &Expr) -> Result<(), Cod
 /// # Errors
 /// The first compile fault of the assignment, with its location; MissingCell; or OutOfMemory.
 #[tactic(auto, using(py_tree::proofs::View::trees))]
-pub fn compile_aug_assign(em: &mut Emitter, s: &StmtAugAssign) -> Result<(), CodegenError>
+pub fn compile_aug_assign<E: Expressions>(
+    em: &mut Emitter,
+    s: &StmtAugAssign,
+) -> Result<(), CodegenError>
     ensures { Emits result (emission_of_augment (expr_tree s.now.target.value) s.now.op
         (emission (expr_tree s.now.value.value))) em.old em.new }
 {
     match &*s.target {
-        Expr::Name(e) => augment_name(em, e, s),
-        Expr::Attribute(e) => augment_attribute(em, e, s),
-        Expr::Subscript(e) => augment_subscript(em, e, s),
+        Expr::Name(e) => augment_name::<E>(em, e, s),
+        Expr::Attribute(e) => augment_attribute::<E>(em, e, s),
+        Expr::Subscript(e) => augment_subscript::<E>(em, e, s),
         other => refuse_store(em, other),
     }
 }
 
 /// Emits the operand of an augmented assignment, and its operation.
-fn compile_operand(em: &mut Emitter, s: &StmtAugAssign) -> Result<(), CodegenError>
+fn compile_operand<E: Expressions>(em: &mut Emitter, s: &StmtAugAssign) -> Result<(), CodegenError>
     ensures { Emits result (emission_of_operand s.now.op (emission (expr_tree s.now.value.value)))
         em.old em.new }
 {
-    compile_expression(em, &s.value)?;
+    E::compile_expression(em, &s.value)?;
     emit!(em, Instruction::BinaryOperationInplace, case_of(s.op));
     Ok(())
 }
 
-fn augment_name(em: &mut Emitter, e: &ExprName, s: &StmtAugAssign) -> Result<(), CodegenError>
+fn augment_name<E: Expressions>(
+    em: &mut Emitter,
+    e: &ExprName,
+    s: &StmtAugAssign,
+) -> Result<(), CodegenError>
     ensures { Emits result (emission_of_augment (name_tree e.now) s.now.op
         (emission (expr_tree s.now.value.value))) em.old em.new }
 {
     em.compile_name(NameUsage::Load, e.id.as_str())?;
-    compile_operand(em, s)?;
+    compile_operand::<E>(em, s)?;
     em.compile_name(NameUsage::Store, e.id.as_str())
 }
 
-fn augment_attribute(
+fn augment_attribute<E: Expressions>(
     em: &mut Emitter,
     e: &ExprAttribute,
     s: &StmtAugAssign,
@@ -104,15 +115,15 @@ fn augment_attribute(
     if is_debug(e.attr.as_str()) {
         refuse!(em, SyntaxError: "cannot assign to __debug__");
     }
-    compile_expression(em, &e.value)?;
+    E::compile_expression(em, &e.value)?;
     emit!(em, Instruction::Duplicate);
     em.emit_mangled(Instruction::LoadAttr, e.attr.as_str())?;
-    compile_operand(em, s)?;
+    compile_operand::<E>(em, s)?;
     emit!(em, Instruction::Rotate2);
     em.emit_mangled(Instruction::StoreAttr, e.attr.as_str())
 }
 
-fn augment_subscript(
+fn augment_subscript<E: Expressions>(
     em: &mut Emitter,
     e: &ExprSubscript,
     s: &StmtAugAssign,
@@ -120,11 +131,11 @@ fn augment_subscript(
     ensures { Emits result (emission_of_augment (subscript_tree e.now) s.now.op
         (emission (expr_tree s.now.value.value))) em.old em.new }
 {
-    compile_expression(em, &e.value)?;
-    compile_expression(em, &e.slice)?;
+    E::compile_expression(em, &e.value)?;
+    E::compile_expression(em, &e.slice)?;
     emit!(em, Instruction::Duplicate2);
     emit!(em, Instruction::Subscript);
-    compile_operand(em, s)?;
+    compile_operand::<E>(em, s)?;
     emit!(em, Instruction::Rotate3);
     emit!(em, Instruction::StoreSubscript);
     Ok(())
@@ -135,36 +146,42 @@ fn augment_subscript(
 /// # Errors
 /// The first compile fault of the assignment, with its location; MissingCell; or OutOfMemory.
 #[tactic(auto, using(py_stmt_parts::proofs::Steps::step_steps))]
-pub fn compile_ann_assign(em: &mut Emitter, s: &StmtAnnAssign) -> Result<(), CodegenError>
+pub fn compile_ann_assign<E: Expressions>(
+    em: &mut Emitter,
+    s: &StmtAnnAssign,
+) -> Result<(), CodegenError>
     requires at { (state em.old).location ≡ s.now.location }
     ensures { Emits result (emission_of_stmt (ann_assign_tree s.now)) em.old em.new }
 {
-    compile_declared(em, s)?;
-    compile_annotated(em, s)
+    compile_declared::<E>(em, s)?;
+    compile_annotated::<E>(em, s)
 }
 
 /// Emits an annotation and what keeps it, but in a function, which only has it scanned.
 #[tactic(auto, unfolding(py_emission_parts::specs::Emitting::by_context))]
-fn compile_annotated(em: &mut Emitter, s: &StmtAnnAssign) -> Result<(), CodegenError>
+fn compile_annotated<E: Expressions>(
+    em: &mut Emitter,
+    s: &StmtAnnAssign,
+) -> Result<(), CodegenError>
     ensures { Emits result (emission_of_annotated (expr_tree s.now.target.value)
         (expr_tree s.now.annotation.value)) em.old em.new }
 {
     if is_function(em.scope_type()) {
         return pass_annotation(em, &s.annotation);
     }
-    compile_noted(em, &s.annotation)?;
+    compile_noted::<E>(em, &s.annotation)?;
     compile_annotation(em, &s.target)
 }
 
 /// Emits the value of an annotated target and its store, where there is one. Else the target is only scanned.
-fn compile_declared(em: &mut Emitter, s: &StmtAnnAssign) -> Result<(), CodegenError>
+fn compile_declared<E: Expressions>(em: &mut Emitter, s: &StmtAnnAssign) -> Result<(), CodegenError>
     ensures { Emits result (emission_of_declared (expr_tree s.now.target.value)
         (opt_box expr_tree s.now.value)) em.old em.new }
 {
     match &s.value {
         Some(value) => {
-            compile_expression(em, value)?;
-            compile_store(em, &s.target)
+            E::compile_expression(em, value)?;
+            E::compile_store(em, &s.target)
         }
         None => pass_expression(em, &s.target),
     }

@@ -5,7 +5,7 @@ ghost use Rattle.py_stmt_simple.specs.Classes.{builder_called};
 
 use py_base::CodegenError;
 use py_emit::Emitter;
-use py_expr::compile_call_inner;
+use py_expr_calls::Expressions;
 use py_expr_parts::calls::emit_call;
 use py_stmt_parts::load_text;
 use py_tree::{Exprs, Keyword, List};
@@ -15,7 +15,7 @@ use py_tree::{Exprs, Keyword, List};
 ///
 /// # Errors
 /// The first compile fault of the bases and the keywords, with its location; MissingCell; or OutOfMemory.
-pub fn call_builder(
+pub fn call_builder<E: Expressions>(
     em: &mut Emitter,
     name: &str,
     bases: &Exprs,
@@ -25,6 +25,6 @@ pub fn call_builder(
         (keyword_trees expr_tree keywords.now)) em.old em.new }
 {
     load_text(em, name)?;
-    let call = compile_call_inner(em, 2, bases, keywords)?;
+    let call = E::compile_call_inner(em, 2, bases, keywords)?;
     emit_call(em, false, call)
 }

@@ -8,6 +8,7 @@ use crate::notes::compile_notes;
 use py_base::CodegenError;
 use py_bytecode::CodeObject;
 use py_emit::Emitter;
+use py_expr_calls::Expressions;
 use py_expr_scopes::functions::Defaults;
 use py_stmt_parts::{made_flags, make_named};
 use py_tree::StmtFunctionDef;
@@ -16,7 +17,7 @@ use py_tree::StmtFunctionDef;
 ///
 /// # Errors
 /// The first compile fault of the annotations, with its location; MissingCell; or OutOfMemory.
-pub fn make_noted(
+pub fn make_noted<E: Expressions>(
     em: &mut Emitter,
     s: &StmtFunctionDef,
     defaults: Defaults,
@@ -26,7 +27,7 @@ pub fn make_noted(
     ensures { Emits result (made_emission (given_flags defaults generic) s.now (object code)) em.old
         em.new }
 {
-    let annotated = compile_notes(em, &s.args, &s.returns)?;
+    let annotated = compile_notes::<E>(em, &s.args, &s.returns)?;
     let flags = made_flags(defaults, annotated, generic);
     make_named(em, s.name.as_str(), flags, code)
 }

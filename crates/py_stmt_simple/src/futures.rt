@@ -12,6 +12,7 @@ use crate::interactive::print_value;
 use py_base::CodegenError;
 use py_bytecode::Instruction;
 use py_emit::Emitter;
+use py_expr_calls::Expressions;
 use py_name_uses::names::is_future;
 use py_stmt_parts::{Opening, enter_future};
 use py_tree::{Stmt, StmtExpr, StmtImportFrom};
@@ -27,7 +28,10 @@ enum Begin<'a> {
 ///
 /// # Errors
 /// The first compile fault of these statements, with its location; MissingCell; or OutOfMemory.
-pub fn compile_openings(em: &mut Emitter, body: &[Stmt]) -> Result<Opening, CodegenError>
+pub fn compile_openings<E: Expressions>(
+    em: &mut Emitter,
+    body: &[Stmt],
+) -> Result<Opening, CodegenError>
     ensures opens { Prompts result (state em.old) (state em.new) body.now }
     ensures within { IfOk result (λ o. o.count ≤ length body.now) }
     ensures rest { IfOk result (λ o. rest em.new ≡ changed_rest o.postponed (rest em.old)) }
@@ -36,7 +40,7 @@ pub fn compile_openings(em: &mut Emitter, body: &[Stmt]) -> Result<Opening, Code
     let mut count = 0;
     let mut postponed = false;
     while let Some(begin) = begin_at(body, count) {
-        postponed = enter_begin(em, begin, postponed)?;
+        postponed = enter_begin::<E>(em, begin, postponed)?;
         count += 1;
     }
     Ok(Opening { count, postponed })
@@ -72,7 +76,11 @@ fn as_begin(statement: &Stmt, more: bool) -> Option<Begin<'_>>
 
 /// Emits what stands before other statements at a prompt, and postpones the annotations of what follows where it says
 /// so. Answers whether they are postponed by it or, as it is told, by one before.
-fn enter_begin(em: &mut Emitter, begin: Begin<'_>, postponed: bool) -> Result<bool, CodegenError>
+fn enter_begin<E: Expressions>(
+    em: &mut Emitter,
+    begin: Begin<'_>,
+    postponed: bool,
+) -> Result<bool, CodegenError>
     ensures entered { IfOk result (λ after.
         Entered (begin_emission begin.entry) (begin_postpones begin.entry) (state em.old)
         (state em.new) postponed after) }
@@ -83,12 +91,16 @@ fn enter_begin(em: &mut Emitter, begin: Begin<'_>, postponed: bool) -> Result<bo
 {
     match begin {
         Begin::Future(s) => enter_future(em, s, postponed),
-        Begin::Value(s) => enter_value(em, s, postponed),
+        Begin::Value(s) => enter_value::<E>(em, s, postponed),
     }
 }
 
 /// Emits an expression that stands at a prompt, and what prints it. Answers whether annotations are postponed, as it is told.
-fn enter_value(em: &mut Emitter, s: &StmtExpr, postponed: bool) -> Result<bool, CodegenError>
+fn enter_value<E: Expressions>(
+    em: &mut Emitter,
+    s: &StmtExpr,
+    postponed: bool,
+) -> Result<bool, CodegenError>
     ensures entered { IfOk result (λ after.
         Entered (emission (expr_tree s.now.value.value) ▸ emitting Instruction.PrintExpr 0) false
         (state em.old) (state em.new) postponed after) }
@@ -99,6 +111,6 @@ fn enter_value(em: &mut Emitter, s: &StmtExpr, postponed: bool) -> Result<bool, 
     ensures rest { IfOk result (λ after. AreChanged postponed after (rest em.old) (rest em.new)) }
     ensures told { IfErr result (λ e. IsReported e (rest em.old).path) }
 {
-    print_value(em, &s.value)?;
+    print_value::<E>(em, &s.value)?;
     Ok(postponed)
 }

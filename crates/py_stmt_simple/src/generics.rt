@@ -11,7 +11,7 @@ ghost use Rattle.py_stmt_simple.specs.Generics.{type_param_scope_called, some_pa
 use py_base::CodegenError;
 use py_bytecode::Instruction;
 use py_emit::{Emitter, emit};
-use py_expr::{compile_defaults, compile_expression};
+use py_expr_calls::Expressions;
 use py_stmt_parts::{compile_unbounded, keep_param, load_text, refuse_param};
 use py_tree::{Arguments, Expr, TypeParam, TypeParamTypeVar};
 
@@ -20,10 +20,13 @@ use py_tree::{Arguments, Expr, TypeParam, TypeParamTypeVar};
 /// # Errors
 /// The first compile fault of the parameters, with its location; MissingCell; or OutOfMemory.
 #[tactic(auto, using(crate::proofs::TypeParameterLemmas::many_params))]
-pub fn compile_type_params(em: &mut Emitter, params: &[TypeParam]) -> Result<(), CodegenError>
+pub fn compile_type_params<E: Expressions>(
+    em: &mut Emitter,
+    params: &[TypeParam],
+) -> Result<(), CodegenError>
     ensures { Emits result (emission_of_params (param_trees params.now)) em.old em.new }
 {
-    compile_each_param(em, params)?;
+    compile_each_param::<E>(em, params)?;
     em.emit_count(Instruction::BuildTuple, params.len())
 }
 
@@ -31,52 +34,65 @@ pub fn compile_type_params(em: &mut Emitter, params: &[TypeParam]) -> Result<(),
 ///
 /// # Errors
 /// The first compile fault of the parameters, with its location; MissingCell; or OutOfMemory.
-pub fn compile_some_params(em: &mut Emitter, params: &[TypeParam]) -> Result<(), CodegenError>
+pub fn compile_some_params<E: Expressions>(
+    em: &mut Emitter,
+    params: &[TypeParam],
+) -> Result<(), CodegenError>
     ensures { Emits result (some_params (param_trees params.now)) em.old em.new }
 {
     match params {
         [] => Ok(()),
-        [_, ..] => compile_type_params(em, params),
+        [_, ..] => compile_type_params::<E>(em, params),
     }
 }
 
 /// Emits type parameters in turn.
-fn compile_each_param(em: &mut Emitter, params: &[TypeParam]) -> Result<(), CodegenError>
+fn compile_each_param<E: Expressions>(
+    em: &mut Emitter,
+    params: &[TypeParam],
+) -> Result<(), CodegenError>
     ensures { Emits result (in_turn (param_emissions (param_trees params.now))) em.old em.new }
 {
     for param in params {
-        compile_param(em, param)?;
+        compile_param::<E>(em, param)?;
     }
     Ok(())
 }
 
 /// Emits a type parameter. Those that take many types are refused.
-fn compile_param(em: &mut Emitter, param: &TypeParam) -> Result<(), CodegenError>
+fn compile_param<E: Expressions>(em: &mut Emitter, param: &TypeParam) -> Result<(), CodegenError>
     ensures { Emits result (emission_of_param (type_param_tree param.now)) em.old em.new }
 {
     match param {
-        TypeParam::TypeVar(p) => compile_type_var(em, p),
+        TypeParam::TypeVar(p) => compile_type_var::<E>(em, p),
         TypeParam::ParamSpec(p) => refuse_param(em, p.location),
         TypeParam::TypeVarTuple(p) => refuse_param(em, p.location),
     }
 }
 
 /// Emits a type parameter that takes one type, its bound first where it has one.
-fn compile_type_var(em: &mut Emitter, p: &TypeParamTypeVar) -> Result<(), CodegenError>
+fn compile_type_var<E: Expressions>(
+    em: &mut Emitter,
+    p: &TypeParamTypeVar,
+) -> Result<(), CodegenError>
     ensures { Emits result (emission_of_param (type_var_tree p.now)) em.old em.new }
 {
     match &p.bound {
-        Some(bound) => compile_bounded(em, bound, p.name.as_str()),
+        Some(bound) => compile_bounded::<E>(em, bound, p.name.as_str()),
         None => compile_unbounded(em, p.name.as_str()),
     }
 }
 
 /// Emits a type parameter with a bound.
-fn compile_bounded(em: &mut Emitter, bound: &Expr, name: &str) -> Result<(), CodegenError>
+fn compile_bounded<E: Expressions>(
+    em: &mut Emitter,
+    bound: &Expr,
+    name: &str,
+) -> Result<(), CodegenError>
     ensures { Emits result (bounded_type_var (emission (expr_tree bound.now)) name.now) em.old
         em.new }
 {
-    compile_expression(em, bound)?;
+    E::compile_expression(em, bound)?;
     load_text(em, name)?;
     emit!(em, Instruction::TypeVarWithBound);
     keep_param(em, name)
@@ -87,7 +103,7 @@ fn compile_bounded(em: &mut Emitter, bound: &Expr, name: &str) -> Result<(), Cod
 ///
 /// # Errors
 /// The first compile fault of the defaults, with its location; MissingCell; or OutOfMemory.
-pub fn call_type_param_scope(
+pub fn call_type_param_scope<E: Expressions>(
     em: &mut Emitter,
     params: &Arguments,
     count: u32,
@@ -95,6 +111,6 @@ pub fn call_type_param_scope(
     ensures { Emits result (type_param_scope_called (arguments expr_tree params.now) count) em.old
         em.new }
 {
-    compile_defaults(em, params)?;
+    E::compile_defaults(em, params)?;
     em.emit_count(Instruction::CallFunctionPositional, count as usize)
 }

@@ -8,18 +8,18 @@ ghost use Rattle.py_emit.specs.States.{Emits};
 use py_base::CodegenError;
 use py_bytecode::Instruction;
 use py_emit::{Emitter, NameUsage, emit};
-use py_expr::compile_expression;
+use py_expr_calls::Expressions;
 use py_tree::Expr;
 
 /// Emits a value and what prints it.
 ///
 /// # Errors
 /// The first compile fault of the value, with its location; MissingCell; or OutOfMemory.
-pub fn print_value(em: &mut Emitter, value: &Expr) -> Result<(), CodegenError>
+pub fn print_value<E: Expressions>(em: &mut Emitter, value: &Expr) -> Result<(), CodegenError>
     ensures { Emits result (emission (expr_tree value.now) ▸ emitting Instruction.PrintExpr 0)
         em.old em.new }
 {
-    compile_expression(em, value)?;
+    E::compile_expression(em, value)?;
     emit!(em, Instruction::PrintExpr);
     Ok(())
 }
@@ -28,11 +28,11 @@ pub fn print_value(em: &mut Emitter, value: &Expr) -> Result<(), CodegenError>
 ///
 /// # Errors
 /// The first compile fault of the value, with its location; MissingCell; or OutOfMemory.
-pub fn show_value(em: &mut Emitter, value: &Expr) -> Result<(), CodegenError>
+pub fn show_value<E: Expressions>(em: &mut Emitter, value: &Expr) -> Result<(), CodegenError>
     ensures { Emits result (emission (expr_tree value.now) ▸ emitting Instruction.Duplicate 0
         ▸ emitting Instruction.PrintExpr 0 ▸ emitting Instruction.ReturnValue 0) em.old em.new }
 {
-    compile_expression(em, value)?;
+    E::compile_expression(em, value)?;
     emit!(em, Instruction::Duplicate);
     emit!(em, Instruction::PrintExpr);
     emit!(em, Instruction::ReturnValue);

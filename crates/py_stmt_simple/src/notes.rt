@@ -11,14 +11,14 @@ ghost use Rattle.py_expr_scopes.specs.Functions.{flag_if};
 use py_base::CodegenError;
 use py_bytecode::Instruction;
 use py_emit::Emitter;
-use py_expr::compile_expression;
+use py_expr_calls::Expressions;
 use py_expr_scopes::functions::build_some;
 use py_stmt_parts::{load_annotation, load_mangled};
 use py_tree::{Arg, ArgWithDefault, Arguments, Expr};
 
 /// Emits the map of the annotations of a function, that of what it returns first, where there are any. Answers whether
 /// there are.
-pub(crate) fn compile_notes(
+pub(crate) fn compile_notes<E: Expressions>(
     em: &mut Emitter,
     params: &Arguments,
     returns: &Option<Box<Expr>>,
@@ -29,13 +29,13 @@ pub(crate) fn compile_notes(
     ensures emits { Emits result (some_emitted (counted_build Instruction.BuildMap)
         (notes (arguments expr_tree params.now) (opt_box expr_tree returns.now))) em.old em.new }
 {
-    let count = compile_each_note(em, params, returns)?;
+    let count = compile_each_note::<E>(em, params, returns)?;
     build_some(em, Instruction::BuildMap, count)
 }
 
 /// Emits the annotations of a function in turn, each after its name. Answers how many there are.
 #[tactic(auto, using(crate::proofs::AnnotationLemmas::notes_are, crate::proofs::AnnotationLemmas::many_notes))]
-fn compile_each_note(
+fn compile_each_note<E: Expressions>(
     em: &mut Emitter,
     params: &Arguments,
     returns: &Option<Box<Expr>>,
@@ -48,16 +48,16 @@ fn compile_each_note(
     let posonly = params.posonlyargs.as_slice();
     let others = params.args.as_slice();
     let named = params.kwonlyargs.as_slice();
-    let count = compile_note(em, "return", returns, 0)?;
-    let count = compile_arg_notes(em, posonly, count)?;
-    let count = compile_arg_notes(em, others, count)?;
-    let count = compile_arg_notes(em, named, count)?;
-    let count = compile_opt_note(em, &params.vararg, count)?;
-    compile_opt_note(em, &params.kwarg, count)
+    let count = compile_note::<E>(em, "return", returns, 0)?;
+    let count = compile_arg_notes::<E>(em, posonly, count)?;
+    let count = compile_arg_notes::<E>(em, others, count)?;
+    let count = compile_arg_notes::<E>(em, named, count)?;
+    let count = compile_opt_note::<E>(em, &params.vararg, count)?;
+    compile_opt_note::<E>(em, &params.kwarg, count)
 }
 
 /// Emits the annotations of parameters in turn. Answers `count` and their number.
-fn compile_arg_notes(
+fn compile_arg_notes<E: Expressions>(
     em: &mut Emitter,
     items: &[ArgWithDefault],
     count: usize,
@@ -69,13 +69,13 @@ fn compile_arg_notes(
 {
     let mut sum = count;
     for item in items {
-        sum = compile_note(em, item.def.arg.as_str(), &item.def.annotation, sum)?;
+        sum = compile_note::<E>(em, item.def.arg.as_str(), &item.def.annotation, sum)?;
     }
     Ok(sum)
 }
 
 /// Emits the annotation of a parameter that may be missing. Answers `count` and their number.
-fn compile_opt_note(
+fn compile_opt_note<E: Expressions>(
     em: &mut Emitter,
     param: &Option<Box<Arg>>,
     count: usize,
@@ -88,14 +88,14 @@ fn compile_opt_note(
         em.new }
 {
     match param {
-        Some(param) => compile_note(em, param.arg.as_str(), &param.annotation, count),
+        Some(param) => compile_note::<E>(em, param.arg.as_str(), &param.annotation, count),
         None => Ok(count),
     }
 }
 
 /// Emits an annotation after its name, where there is one. Answers `count` and their number.
 #[tactic(auto, using(crate::proofs::AnnotationLemmas::one_note))]
-fn compile_note(
+fn compile_note<E: Expressions>(
     em: &mut Emitter,
     name: &str,
     annotation: &Option<Box<Expr>>,
@@ -112,17 +112,20 @@ fn compile_note(
         return Ok(count);
     };
     load_mangled(em, name)?;
-    compile_noted(em, annotation)?;
+    compile_noted::<E>(em, annotation)?;
     Ok(count + 1)
 }
 
 /// Emits an annotation, or its text where annotations are postponed.
 #[tactic(auto, unfolding(py_emission_parts::specs::Emitting::by_context, py_emit::specs::States::rest))]
-pub(crate) fn compile_noted(em: &mut Emitter, annotation: &Expr) -> Result<(), CodegenError>
+pub(crate) fn compile_noted<E: Expressions>(
+    em: &mut Emitter,
+    annotation: &Expr,
+) -> Result<(), CodegenError>
     ensures { Emits result (emission_of_note (expr_tree annotation.now)) em.old em.new }
 {
     if em.context().future_annotations {
         return load_annotation(em, annotation);
     }
-    compile_expression(em, annotation)
+    E::compile_expression(em, annotation)
 }

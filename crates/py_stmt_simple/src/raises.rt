@@ -11,7 +11,7 @@ ghost use Rattle.py_emit.specs.States.{Emits, state};
 use py_base::CodegenError;
 use py_bytecode::Instruction;
 use py_emit::{Emitter, emit};
-use py_expr::{compile_expression, compile_jump_if};
+use py_expr_calls::Expressions;
 use py_stmt_parts::pass_assertion;
 use py_tree::{Expr, StmtAssert, StmtRaise};
 
@@ -20,7 +20,7 @@ use py_tree::{Expr, StmtAssert, StmtRaise};
 /// # Errors
 /// The first compile fault of the statement, with its location; MissingCell; or OutOfMemory.
 #[tactic(auto, using(py_stmt_parts::proofs::Steps::step_steps))]
-pub fn compile_raise(em: &mut Emitter, s: &StmtRaise) -> Result<(), CodegenError>
+pub fn compile_raise<E: Expressions>(em: &mut Emitter, s: &StmtRaise) -> Result<(), CodegenError>
     requires at { (state em.old).location ≡ s.now.location }
     ensures { Emits result (emission_of_stmt (raise_tree s.now)) em.old em.new }
 {
@@ -29,20 +29,24 @@ pub fn compile_raise(em: &mut Emitter, s: &StmtRaise) -> Result<(), CodegenError
             emit!(em, Instruction::Raise, 2);
             Ok(())
         }
-        Some(exc) => raise_value(em, exc, &s.cause),
+        Some(exc) => raise_value::<E>(em, exc, &s.cause),
     }
 }
 
 /// Emits an exception and its cause, where it has one, and what raises it.
-fn raise_value(em: &mut Emitter, exc: &Expr, cause: &Option<Box<Expr>>) -> Result<(), CodegenError>
+fn raise_value<E: Expressions>(
+    em: &mut Emitter,
+    exc: &Expr,
+    cause: &Option<Box<Expr>>,
+) -> Result<(), CodegenError>
     ensures { Emits result (emission_of_raise (some_expr (expr_tree exc.now))
         (opt_box expr_tree cause.now)) em.old em.new }
 {
-    compile_expression(em, exc)?;
+    E::compile_expression(em, exc)?;
     match cause {
         None => emit!(em, Instruction::Raise),
         Some(cause) => {
-            compile_expression(em, cause)?;
+            E::compile_expression(em, cause)?;
             emit!(em, Instruction::Raise, 1);
         }
     }
@@ -54,26 +58,26 @@ fn raise_value(em: &mut Emitter, exc: &Expr, cause: &Option<Box<Expr>>) -> Resul
 /// # Errors
 /// The first compile fault of the assertion, with its location; MissingCell; or OutOfMemory.
 #[tactic(auto, unfolding(py_emit::specs::States::rest))]
-pub fn compile_assert(em: &mut Emitter, s: &StmtAssert) -> Result<(), CodegenError>
+pub fn compile_assert<E: Expressions>(em: &mut Emitter, s: &StmtAssert) -> Result<(), CodegenError>
     ensures { Emits result (emission_of_assert (expr_tree s.now.test.value)
         (opt_box expr_tree s.now.msg) (state em.old).node_context.context.level) em.old em.new }
 {
     if em.opts().optimize == 0 {
-        return compile_asserted(em, s);
+        return compile_asserted::<E>(em, s);
     }
     pass_assertion(em, s)
 }
 
 #[tactic(auto, using(py_stmt_parts::proofs::Steps::step_steps))]
-fn compile_asserted(em: &mut Emitter, s: &StmtAssert) -> Result<(), CodegenError>
+fn compile_asserted<E: Expressions>(em: &mut Emitter, s: &StmtAssert) -> Result<(), CodegenError>
     ensures { Emits result (assertion_of (emission_of_test (expr_tree s.now.test.value))
         (emission_of_message (opt_box expr_tree s.now.msg))
         (message_count (opt_box expr_tree s.now.msg))) em.old em.new }
 {
     let end = em.new_block()?;
-    compile_jump_if(em, &s.test, true, end)?;
+    E::compile_jump_if(em, &s.test, true, end)?;
     em.emit_name(Instruction::LoadGlobal, "AssertionError")?;
-    compile_message(em, &s.msg)?;
+    compile_message::<E>(em, &s.msg)?;
     em.emit_count(Instruction::CallFunctionPositional, count_of(&s.msg))?;
     emit!(em, Instruction::Raise);
     em.switch_to_block(end);
@@ -81,12 +85,15 @@ fn compile_asserted(em: &mut Emitter, s: &StmtAssert) -> Result<(), CodegenError
 }
 
 /// Emits the message of an assertion, where there is one.
-fn compile_message(em: &mut Emitter, msg: &Option<Box<Expr>>) -> Result<(), CodegenError>
+fn compile_message<E: Expressions>(
+    em: &mut Emitter,
+    msg: &Option<Box<Expr>>,
+) -> Result<(), CodegenError>
     ensures { Emits result (emission_of_message (opt_box expr_tree msg.now)) em.old em.new }
 {
     match msg {
         None => Ok(()),
-        Some(msg) => compile_expression(em, msg),
+        Some(msg) => E::compile_expression(em, msg),
     }
 }
 

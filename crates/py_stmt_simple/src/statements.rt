@@ -7,7 +7,7 @@ ghost use Rattle.py_emit.specs.States.{Emits, state};
 use py_base::CodegenError;
 use py_bytecode::Instruction;
 use py_emit::{Emitter, emit};
-use py_expr::compile_expression;
+use py_expr_calls::Expressions;
 use py_tree::StmtExpr;
 
 /// Emits an expression that stands as a statement, and drops its value.
@@ -15,11 +15,14 @@ use py_tree::StmtExpr;
 /// # Errors
 /// The first compile fault of the expression, with its location; MissingCell; or OutOfMemory.
 #[tactic(auto, using(py_stmt_parts::proofs::Steps::step_steps))]
-pub fn compile_expr_statement(em: &mut Emitter, s: &StmtExpr) -> Result<(), CodegenError>
+pub fn compile_expr_statement<E: Expressions>(
+    em: &mut Emitter,
+    s: &StmtExpr,
+) -> Result<(), CodegenError>
     requires at { (state em.old).location ≡ s.now.location }
     ensures { Emits result (emission_of_stmt (stmt_expr_tree s.now)) em.old em.new }
 {
-    compile_expression(em, &s.value)?;
+    E::compile_expression(em, &s.value)?;
     emit!(em, Instruction::Pop);
     Ok(())
 }

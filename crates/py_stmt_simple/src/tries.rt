@@ -9,7 +9,7 @@ ghost use Rattle.py_stmt_simple.specs.Parts.{emission_of_match};
 use py_base::CodegenError;
 use py_bytecode::Instruction;
 use py_emit::{Emitter, emit};
-use py_expr::compile_expression;
+use py_expr_calls::Expressions;
 use py_ir::BlockIdx;
 use py_stmt_parts::store_caught;
 use py_tree::{Expr, Text};
@@ -19,7 +19,7 @@ use py_tree::{Expr, Text};
 /// # Errors
 /// The first compile fault of the type, with its location; SyntaxError where there is a type and the name is
 /// `__debug__`; MissingCell; or OutOfMemory.
-pub fn compile_match(
+pub fn compile_match<E: Expressions>(
     em: &mut Emitter,
     type_: &Option<Box<Expr>>,
     name: &Option<Text>,
@@ -34,11 +34,11 @@ pub fn compile_match(
             emit!(em, Instruction::Pop);
             Ok(())
         }
-        Some(type_) => compile_typed(em, type_, name, next),
+        Some(type_) => compile_typed::<E>(em, type_, name, next),
     }
 }
 
-fn compile_typed(
+fn compile_typed<E: Expressions>(
     em: &mut Emitter,
     type_: &Expr,
     name: &Option<Text>,
@@ -49,7 +49,7 @@ fn compile_typed(
         (caught_name name.now) next.0) em.old em.new }
 {
     emit!(em, Instruction::Duplicate);
-    compile_expression(em, type_)?;
+    E::compile_expression(em, type_)?;
     emit!(em, Instruction::TestOperation, 4);
     emit!(em, Instruction::JumpIfFalse => next);
     store_caught(em, name)

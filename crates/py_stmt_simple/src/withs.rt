@@ -11,7 +11,7 @@ ghost use Rattle.py_stmt_simple.specs.Managing.{AreEntered, IsRefusing, item_ent
 use py_base::CodegenError;
 use py_bytecode::Instruction;
 use py_emit::{Emitter, emit};
-use py_expr::{compile_expression, compile_store};
+use py_expr_calls::Expressions;
 use py_ir::BlockIdx;
 use py_stmt_parts::keep_end;
 use py_tree::{Expr, List, SourceLocation, WithItem};
@@ -20,7 +20,7 @@ use py_tree::{Expr, List, SourceLocation, WithItem};
 ///
 /// # Errors
 /// The first compile fault of the items, with its location; MissingCell; or OutOfMemory.
-pub fn enter_items(
+pub fn enter_items<E: Expressions>(
     em: &mut Emitter,
     location: &SourceLocation,
     items: &[WithItem],
@@ -34,7 +34,7 @@ pub fn enter_items(
 {
     let mut ends = List::new(em.alloc());
     for item in items {
-        let end = enter_item(em, location, item)?;
+        let end = enter_item::<E>(em, location, item)?;
         keep_end(em, &mut ends, end)?;
     }
     Ok(ends)
@@ -42,7 +42,7 @@ pub fn enter_items(
 
 /// Emits an item, what enters it, and what stores the value that it gives. Answers the block at which it ends.
 #[tactic(auto, using(py_stmt_parts::proofs::Steps::step_steps))]
-fn enter_item(
+fn enter_item<E: Expressions>(
     em: &mut Emitter,
     location: &SourceLocation,
     item: &WithItem,
@@ -55,15 +55,18 @@ fn enter_item(
         (emission_of_item (opt_box expr_tree item.now.optional_vars))) em.old em.new }
 {
     let end = em.new_block()?;
-    compile_expression(em, &item.context_expr)?;
+    E::compile_expression(em, &item.context_expr)?;
     em.set_location(*location);
     emit!(em, Instruction::SetupWith => end);
-    store_entered(em, &item.optional_vars)?;
+    store_entered::<E>(em, &item.optional_vars)?;
     Ok(end)
 }
 
 /// Emits what stores the value that an item gives to its target, or drops it.
-fn store_entered(em: &mut Emitter, target: &Option<Box<Expr>>) -> Result<(), CodegenError>
+fn store_entered<E: Expressions>(
+    em: &mut Emitter,
+    target: &Option<Box<Expr>>,
+) -> Result<(), CodegenError>
     ensures { Emits result (emission_of_item (opt_box expr_tree target.now)) em.old em.new }
 {
     match target {
@@ -71,15 +74,15 @@ fn store_entered(em: &mut Emitter, target: &Option<Box<Expr>>) -> Result<(), Cod
             emit!(em, Instruction::Pop);
             Ok(())
         }
-        Some(target) => store_at(em, target),
+        Some(target) => store_at::<E>(em, target),
     }
 }
 
 /// Emits the store to a target, which stands where the target does.
 #[tactic(auto, using(py_stmt_parts::proofs::Steps::step_steps))]
-fn store_at(em: &mut Emitter, target: &Expr) -> Result<(), CodegenError>
+fn store_at<E: Expressions>(em: &mut Emitter, target: &Expr) -> Result<(), CodegenError>
     ensures { Emits result (stored_at (expr_tree target.now)) em.old em.new }
 {
     em.set_location(target.location());
-    compile_store(em, target)
+    E::compile_store(em, target)
 }

@@ -35,19 +35,19 @@ use Rattle.py_stmt.proofs.+code.Answers.Trying.{catch_begins, else_begins, forge
 use Rattle.py_stmt.proofs.+code.Goals as goal
 
 pub statements::compile_only-switch_to_block-requires : goal.statements::compile_only-switch_to_block-requires
-statements::compile_only-switch_to_block-requires t c =
+statements::compile_only-switch_to_block-requires g t c =
     let e = opens (emission_of_test (expr_tree c.deref.result.now) false c.in_ok-end.end.0) _ _ _ c.in_ok-compile_jump_if.ensures.goes c.in_ok-end.ensures.made in
     record { made = opens (emission_of_stmts (stmts stmt_tree c.as_slice.result.now)) _ _ _ c.in_ok-compile_statements.ensures.goes e; below = c.in_ok-end.ensures.below }
 
 pub statements::compile_choice-switch_to_block-requires : goal.statements::compile_choice-switch_to_block-requires
-statements::compile_choice-switch_to_block-requires t c =
+statements::compile_choice-switch_to_block-requires g t c =
     let a = block_opens _ _ _ c.in_ok-end.ensures.ok c.in_ok-other.ensures.made in
     let e = opens (emission_of_test (expr_tree c.deref.result.now) false c.in_ok-other.other.0) _ _ _ c.in_ok-compile_jump_if.ensures.goes a in
     let m = opens (emission_of_stmts (stmts stmt_tree c.as_slice.result.now)) _ _ _ c.in_ok-compile_statements.ensures.goes e in
     record { made = jump_opens op.Jump c.in_ok-end.end.0 _ _ _ c.in_Continue-emit-emit.ensures.goes m; below = c.in_ok-other.ensures.below }
 
 pub statements::compile_choice-switch_to_block-requires-2 : goal.statements::compile_choice-switch_to_block-requires-2
-statements::compile_choice-switch_to_block-requires-2 t c =
+statements::compile_choice-switch_to_block-requires-2 g t c =
     let out = c.in_ok-other.other.0 in
     let other = open_block_apart _ _ _ c.in_ok-other.ensures.made c.in_ok-end.ensures.number in
     let e = opens (emission_of_test (expr_tree c.deref.result.now) false out) _ _ _ c.in_ok-compile_jump_if.ensures.goes c.in_ok-end.ensures.made in
@@ -57,13 +57,13 @@ statements::compile_choice-switch_to_block-requires-2 t c =
     record { made = opens (emission_of_stmts (stmts stmt_tree c.as_slice-2.result.now)) _ _ _ c.in_ok-compile_statements-2.ensures.goes g; below = c.in_ok-end.ensures.below }
 
 pub loops::compile_while-switch_to_block-requires : goal.loops::compile_while-switch_to_block-requires
-loops::compile_while-switch_to_block-requires t c =
+loops::compile_while-switch_to_block-requires g t c =
     let a = block_opens _ _ _ c.in_ok-other.ensures.ok c.in_ok-start.ensures.made in
     let e = block_opens _ _ _ c.in_ok-end.ensures.ok a in
     record { made = opens (emit op.SetupLoop 0) _ _ _ c.in_Continue-emit-emit.ensures.goes e; below = c.in_ok-start.ensures.below }
 
 pub loops::compile_while-switch_to_block-requires-2 : goal.loops::compile_while-switch_to_block-requires-2
-loops::compile_while-switch_to_block-requires-2 t c =
+loops::compile_while-switch_to_block-requires-2 g t c =
     let start = c.in_ok-start.start.0 in
     let first = open_block_apart _ _ _ c.in_ok-start.ensures.made c.in_ok-other.ensures.number in
     let a = block_opens _ _ _ c.in_ok-end.ensures.ok c.in_ok-other.ensures.made in
@@ -74,7 +74,7 @@ loops::compile_while-switch_to_block-requires-2 t c =
     record { made = jump_opens op.Jump start _ _ _ c.in_Continue-emit-emit-2.ensures.goes m; below = c.in_ok-other.ensures.below }
 
 pub loops::compile_while-switch_to_block-requires-3 : goal.loops::compile_while-switch_to_block-requires-3
-loops::compile_while-switch_to_block-requires-3 t c =
+loops::compile_while-switch_to_block-requires-3 g t c =
     let start = c.in_ok-start.start.0 in
     let out = c.in_ok-other.other.0 in
     let a = block_opens _ _ _ c.in_ok-other.ensures.ok c.in_ok-start.ensures.made in
@@ -90,7 +90,7 @@ loops::compile_while-switch_to_block-requires-3 t c =
     record { made = opens (emission_of_stmts (stmts stmt_tree c.as_slice-2.result.now)) _ _ _ c.in_ok-compile_statements.ensures.goes q; below = c.in_ok-end.ensures.below }
 
 pub statements::compile_if-returns : goal.statements::compile_if-returns
-statements::compile_if-returns t c = record {
+statements::compile_if-returns g t c = record {
   goes =
       let test = emission_of_test (expr_tree c.args.s.now.test.value) in
       let body = emission_of_stmts (stmts stmt_tree c.args.s.now.body) in
@@ -106,7 +106,7 @@ statements::compile_if-returns t c = record {
 -- the loop of before stands around again
 pub loops::compile_loop_body-returns : goal.loops::compile_loop_body-returns
 unfolding in_loop rest
-loops::compile_loop_body-returns t c = record {
+loops::compile_loop_body-returns g t c = record {
   goes =
       let after : Action = λ r. Done (with_loops (state c.args.em.now).node_context.loops r) in
       ap (λ (s : State). on_done (run (emission_of_stmts (stmts stmt_tree c.args.body.now)) s) after) (sym c.set_loops-enclosing.ensures.state)
@@ -117,7 +117,7 @@ loops::compile_loop_body-returns t c = record {
 }
 
 pub statements::compile_statement-returns : goal.statements::compile_statement-returns
-statements::compile_statement-returns t c = record {
+statements::compile_statement-returns g t c = record {
   goes =
       let x = stmt_tree c.args.statement.now in
       let s = state c.args.em.now in

@@ -27,7 +27,7 @@ use Rattle.py_stmt_parts.proofs.ClassParts.{entered_path}
 use Rattle.py_stmt.proofs.+code.Goals as goal
 
 pub class_scope_left : goal.classes::compile_class_scope-returns
-class_scope_left t c =
+class_scope_left g t c =
     let name = c.args.name.now in
     let body = stmts stmt_tree c.args.body.now in
     let h = class_shape name in
@@ -49,7 +49,7 @@ class_scope_left t c =
     }
 
 pub class_scope_inner : goal.classes::compile_class_scope-leave_scope-requires
-class_scope_inner t c =
+class_scope_inner g t c =
     let name = c.args.name.now in
     record {
       inner = nested_inner kind.Class (naming.Class name c.args.path)
@@ -58,7 +58,7 @@ class_scope_inner t c =
     }
 
 pub class_scope_refused : goal.classes::compile_class_scope-returns-in_err-compile_inner
-class_scope_refused t c =
+class_scope_refused g t c =
     let name = c.args.name.now in
     let body = stmts stmt_tree c.args.body.now in
     let h = class_shape name in
@@ -79,7 +79,7 @@ class_scope_refused t c =
 
 -- no loop stands around in it, and its path is around the names within it
 pub scope_begins : goal.classes::compile_class_scope-compile_inner-requires
-scope_begins t c =
+scope_begins g t c =
     let s = state c.text.new.self in
     let made : AreMade (rest c.enter_class.new.em).context.loop_blocks = subst (λ (r : Rest). AreMade r.context.loop_blocks) (sym c.in_ok-enter_class.ensures.rest) tt in
     let path : c.in_ok-full.full ≡ (state c.enter_class.new.em).node_context.context.path =
@@ -90,7 +90,7 @@ scope_begins t c =
 
 -- a function is made of its code
 pub function_goes : goal.classes::compile_class_function-returns
-function_goes t c = record {
+function_goes g t c = record {
   goes =
       goes_as _ _ _ _
       (c.in_ok-code.ensures.goes (made_function c.args.flags.0 c.args.name.now))
@@ -99,7 +99,7 @@ function_goes t c = record {
 }
 
 pub function_refused : goal.classes::compile_class_function-returns-in_err-code
-function_refused t c = record {
+function_refused g t c = record {
   goes =
       let r : c.from_residual.result ≡ Err c.in_err-code.field-0.0 = grind arith in
       refuses_as _ _ _ _ _ r refl (c.in_err-code.ensures.goes (made_function c.args.flags.0 c.args.name.now));
@@ -108,7 +108,7 @@ function_refused t c = record {
 
 -- type parameters come before it
 pub part_goes : goal.classes::compile_part-returns
-part_goes t c = record {
+part_goes g t c = record {
   goes =
       let s = c.args.s.now in
       let path = c.args.path in
@@ -129,7 +129,7 @@ part_goes t c = record {
 -- its qualified name is that of the enclosing scope
 pub class_goes : goal.classes::compile_class-returns
 unfolding by_context
-class_goes t c = record {
+class_goes g t c = record {
   goes =
       let s = c.args.s.now in
       let path = c.in_ok-path.ensures.data ∙ ap (class_path (state c.args.em.now).node_context.context) c.as_str.ensures in
@@ -143,7 +143,7 @@ class_goes t c = record {
 
 -- one with type parameters
 pub some_goes : goal.classes::compile_placed-returns-in-len1-up
-some_goes t c = record {
+some_goes g t c = record {
   goes =
       let s = c.args.s.now in
       let many : 1 ≤ length s.type_params = subst (λ (xs : List TypeParam). 1 ≤ length xs) c.as_slice.ensures c.in-len1-up.len_at_least in
@@ -153,7 +153,7 @@ some_goes t c = record {
 
 -- a refusal of a class or of its decorators
 pub decorated_refused : goal.classes::compile_class_def-returns-in_err-compile_decorated
-decorated_refused t c = record {
+decorated_refused g t c = record {
   goes =
       let s = c.args.s.now in
       let d = decorated_value (values (all_emissions (exprs expr_tree s.decorator_list))) (class_emission s) in

@@ -46,7 +46,7 @@ defining_shaped n first name p q r is same = is
     (rest first)) same
 
 pub defining_scope_left : goal.functions::compile_function_scope-returns
-defining_scope_left t c =
+defining_scope_left g t c =
     let h = function_shape (params_of c.args.s.now) c.args.name in
     let n = naming.Function c.args.path in
     let entry = c.enter_function.new.em in
@@ -62,14 +62,14 @@ defining_scope_left t c =
     }
 
 pub defining_scope_inner : goal.functions::compile_function_scope-leave_scope-requires
-defining_scope_inner t c =
+defining_scope_inner g t c =
     let h = function_shape (params_of c.args.s.now) c.args.name in
     let n = naming.Function c.args.path in
     let into = defining_shaped n c.args.em.now c.args.name c.deref.result.now c.args.s.now.args.value (rest c.enter_function.new.em) c.in_ok-enter_function.ensures.rest c.deref.ensures in
     record { inner = nested_inner kind.Function n h c.args.em.now c.enter_function.new.em c.compile_inner.new.em into c.in_ok-compile_inner.ensures.same }
 
 pub defining_scope_refused : goal.functions::compile_function_scope-returns-in_err-compile_inner
-defining_scope_refused t c =
+defining_scope_refused g t c =
     let h = function_shape (params_of c.args.s.now) c.args.name in
     let n = naming.Function c.args.path in
     let entry = c.enter_function.new.em in
@@ -85,7 +85,7 @@ defining_scope_refused t c =
 
 -- no loop stands around in it
 pub scope_unlooped : goal.functions::compile_function_scope-compile_inner-requires
-scope_unlooped t c =
+scope_unlooped g t c =
     let made : AreMade (rest c.enter_function.new.em).context.loop_blocks = subst (λ (r : Rest). AreMade r.context.loop_blocks) (sym c.in_ok-enter_function.ensures.rest) tt in search (rules, made)
 
 -- parameters and the first constant come before the statements
@@ -96,7 +96,7 @@ inner_as s p r is =
     ∙ ap (λ (x : ArgumentsOf Expr). go_on (run (enter_parameters (parameters (arguments expr_tree x)) ▸ add_constant const.none) r) (body_emission (body_of s))) (sym is)
 
 pub inner_goes : goal.functions::compile_inner-returns
-inner_goes t c = record {
+inner_goes g t c = record {
   goes =
       let v = body_emission (body_of c.args.s.now) in
       goes_as _ _ _ _ (inner_as c.args.s.now c.deref.result.now (state c.args.em.now) c.deref.ensures ∙ went _ (run v) _ c.in_ok-begin_function.ensures.goes) c.compile_body.ensures.goes;
@@ -104,7 +104,7 @@ inner_goes t c = record {
 }
 
 pub inner_refused : goal.functions::compile_inner-returns-in_err-begin_function
-inner_refused t c = record {
+inner_refused g t c = record {
   goes =
       let r : c.from_residual.result ≡ Err c.in_err-begin_function.field-0.0 = grind arith in
       first_refuses _ _ _ _ _ (run (body_emission (body_of c.args.s.now))) r (inner_as c.args.s.now c.deref.result.now (state c.args.em.now) c.deref.ensures) c.in_err-begin_function.ensures.goes;
@@ -113,7 +113,7 @@ inner_refused t c = record {
 
 -- the scope stands where the function's qualified name says
 pub made_goes : goal.functions::compile_made-returns
-made_goes t c = record {
+made_goes g t c = record {
   goes =
       let s = c.args.s.now in
       let k = made_emission (given_flags c.args.defaults c.args.generic) s in
@@ -129,7 +129,7 @@ made_goes t c = record {
 }
 
 pub made_refused : goal.functions::compile_made-returns-in_err-code
-made_refused t c = record {
+made_refused g t c = record {
   goes =
       let s = c.args.s.now in
       let k = made_emission (given_flags c.args.defaults c.args.generic) s in
@@ -157,7 +157,7 @@ def_as s p r is =
     (value_emission (flags_of_defaults (default_emissions (arguments expr_tree x))) s)) (sym is)
 
 pub defaults_refused : goal.functions::compile_plain-returns-in_err-defaults
-defaults_refused t c = record {
+defaults_refused g t c = record {
   goes =
       let s = c.args.s.now in
       let r : c.from_residual.result ≡ Err c.in_err-defaults.field-0.0 = grind arith in
@@ -167,7 +167,7 @@ defaults_refused t c = record {
 }
 
 pub plain_goes : goal.functions::compile_plain-returns
-plain_goes t c = record {
+plain_goes g t c = record {
   goes =
       let s = c.args.s.now in
       let d = c.in_ok-defaults.defaults in
@@ -182,7 +182,7 @@ plain_goes t c = record {
 
 -- a refusal of what a function's own scope holds
 pub value_refused : goal.functions::compile_value-returns-in_err-compile_made
-value_refused t c = record {
+value_refused g t c = record {
   goes =
       let s = c.args.s.now in
       let r : c.from_residual.result ≡ Err c.in_err-compile_made.field-0.0 = grind arith in
@@ -192,7 +192,7 @@ value_refused t c = record {
 
 -- a function with type parameters
 pub some_goes : goal.functions::compile_function-returns-in-len1-up
-some_goes t c = record {
+some_goes g t c = record {
   goes =
       let s = c.args.s.now in
       let many : 1 ≤ length s.type_params = subst (λ (xs : List TypeParam). 1 ≤ length xs) c.as_slice.ensures c.in-len1-up.len_at_least in
@@ -202,7 +202,7 @@ some_goes t c = record {
 
 -- a refusal of a function or of its decorators
 pub decorated_refused : goal.functions::compile_function_def-returns-in_err-compile_decorated
-decorated_refused t c = record {
+decorated_refused g t c = record {
   goes =
       let s = c.args.s.now in
       let d = decorated_value (values (all_emissions (exprs expr_tree s.decorator_list))) (def_emission s) in
@@ -214,7 +214,7 @@ decorated_refused t c = record {
 
 -- the statements after a docstring
 pub rest_goes_on : goal.functions::compile_rest-loop-i-preserved
-rest_goes_on t c =
+rest_goes_on g t c =
     let lt : c.loop-i.i < length c.args.body.now = omega (arith, c.loop-i-test.true) in (
       c.in_ok-compile_statement.ensures.same ∙ c.loop-i.invariant.0,
       c.loop-i.invariant.1 ∙ ap (λ (v : Emission). run v (state c.loop-i.em))
@@ -223,7 +223,7 @@ rest_goes_on t c =
     )
 
 pub rest_refused : goal.functions::compile_rest-returns-in_err-compile_statement
-rest_refused t c = record {
+rest_refused g t c = record {
   goes =
       let lt : c.loop-i.i < length c.args.body.now = omega (arith, c.loop-i-test.true) in
       let r : c.from_residual.result ≡ Err c.in_err-compile_statement.field-0.0 = grind arith in
@@ -234,7 +234,7 @@ rest_refused t c = record {
 }
 
 pub rest_done : goal.functions::compile_rest-returns
-rest_done t c = record {
+rest_done g t c = record {
   goes =
       let last : c.loop-i.i ≡ length c.args.body.now = omega (arith, c.loop-i-test.false, c.loop-i.auto.i-end) in
       c.loop-i.invariant.1 ∙ ap (λ (v : Emission). run v (state c.loop-i.em)) (function_part_none_left c.args.body.now c.loop-i.i last);

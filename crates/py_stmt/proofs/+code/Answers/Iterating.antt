@@ -20,7 +20,7 @@ use Rattle.py_stmt.proofs.Parts.{three_made}
 use Rattle.py_stmt.proofs.+code.Goals as goal
 
 pub for_goes : goal.statements::compile_entered-returns-in-For
-for_goes t c = record {
+for_goes g t c = record {
   goes =
       let x = c.in-For.s in
       let s = state c.args.em.now in
@@ -37,13 +37,13 @@ for_goes t c = record {
 }
 
 pub turn_begins : goal.loops::compile_for-switch_to_block-requires
-turn_begins t c =
+turn_begins g t c =
     let a = block_opens _ _ _ c.in_ok-other.ensures.ok c.in_ok-start.ensures.made in
     let e = block_opens _ _ _ c.in_ok-end.ensures.ok a in
     record { made = opens (each_begun (emission (expr_tree c.deref.result.now))) _ _ _ c.in_ok-begin_each.ensures.goes e; below = c.in_ok-start.ensures.below }
 
 pub other_begins : goal.loops::compile_for-switch_to_block-requires-2
-other_begins t c =
+other_begins g t c =
     let start = c.in_ok-start.start.0 in
     let other = c.in_ok-other.other.0 in
     let end = c.in_ok-end.end.0 in
@@ -59,7 +59,7 @@ other_begins t c =
     }
 
 pub end_begins : goal.loops::compile_for-switch_to_block-requires-3
-end_begins t c =
+end_begins g t c =
     let start = c.in_ok-start.start.0 in
     let other = c.in_ok-other.other.0 in
     let end = c.in_ok-end.end.0 in
@@ -74,7 +74,7 @@ end_begins t c =
     record { made = opens (each_ended (emission_of_stmts (stmts stmt_tree c.as_slice.result.now))) _ _ _ c.in_ok-end_each.ensures.goes m; below = c.in_ok-end.ensures.below }
 
 pub turn_refused : goal.loops::compile_for-returns-in_err-compile_turn
-turn_refused t c = record {
+turn_refused g t c = record {
   goes =
       let start = c.in_ok-start.start.0 in
       let other = c.in_ok-other.other.0 in
@@ -97,7 +97,7 @@ turn_refused t c = record {
 }
 
 pub end_refused : goal.loops::compile_for-returns-in_err-end_each
-end_refused t c = record {
+end_refused g t c = record {
   goes =
       let start = c.in_ok-start.start.0 in
       let other = c.in_ok-other.other.0 in

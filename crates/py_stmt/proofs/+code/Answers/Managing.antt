@@ -17,7 +17,7 @@ use Rattle.py_stmt_parts.proofs.Steps.{itemless_is, none_stmts}
 use Rattle.py_stmt.proofs.+code.Goals as goal
 
 pub no_items : goal.withs::compile_with-returns-then-is_empty
-no_items t c = record {
+no_items g t c = record {
   goes =
       let none = itemless_is c.args.s.now.items c.is_empty.result c.is_empty.ensures.0 c.is_empty.ensures.1 ∙ c.if-is_empty.true in
       λ n. ap (λ (v : Emission). run v (state c.args.em.now))
@@ -30,7 +30,7 @@ no_items t c = record {
 }
 
 pub some_items : goal.withs::compile_with-returns
-some_items t c = record {
+some_items g t c = record {
   goes =
       let some = itemless_is c.args.s.now.items c.is_empty.result c.is_empty.ensures.0 c.is_empty.ensures.1 ∙ c.if-is_empty.false in
       goes_as _ _ _ _ (ap (λ (v : Emission). run v (state c.args.em.now))
@@ -40,7 +40,7 @@ some_items t c = record {
 }
 
 pub no_body : goal.withs::compile_body-returns-then-is_empty
-no_body t c = record {
+no_body g t c = record {
   goes =
       let none = none_stmts c.args.body.now ∙ sym c.is_empty.ensures ∙ c.if-is_empty.true in
       λ n. ap (λ (v : Emission). run v (state c.args.em.now)) (turn_if_so _ _ (emission_of_stmts (stmts stmt_tree c.args.body.now)) none)
@@ -51,7 +51,7 @@ no_body t c = record {
 }
 
 pub some_body : goal.withs::compile_body-returns
-some_body t c = record {
+some_body g t c = record {
   goes =
       let some = none_stmts c.args.body.now ∙ sym c.is_empty.ensures ∙ c.if-is_empty.false in
       goes_as _ _ _ _ (ap (λ (v : Emission). run v (state c.args.em.now)) (if_not _ _ (emission_of_stmts (stmts stmt_tree c.args.body.now)) some)) c.compile_statements.ensures.goes;
@@ -59,4 +59,4 @@ some_body t c = record {
 }
 
 pub left_open : goal.withs::compile_managed-leave_items-requires
-left_open t c = record { «open» = all_opens c.in_ok-ends.ends _ _ (λ b. opens (full_body (stmts stmt_tree c.as_slice-2.result.now)) _ _ b c.in_ok-compile_body.ensures.goes) c.in_ok-ends.ensures.open }
+left_open g t c = record { «open» = all_opens c.in_ok-ends.ends _ _ (λ b. opens (full_body (stmts stmt_tree c.as_slice-2.result.now)) _ _ b c.in_ok-compile_body.ensures.goes) c.in_ok-ends.ensures.open }

@@ -20,7 +20,7 @@ use Rattle.py_stmt_parts.proofs.Steps.{step_none_is}
 use Rattle.py_stmt.proofs.+code.Goals as goal
 
 pub try_goes : goal.tries::compile_try-returns
-try_goes t c = record {
+try_goes g t c = record {
   goes =
       let body = emission_of_stmts (stmts stmt_tree c.args.s.now.body) in
       let catches = handlers stmt_tree c.args.s.now.handlers in
@@ -36,7 +36,7 @@ try_goes t c = record {
 }
 
 pub catch_begins : goal.tries::compile_parts-switch_to_block-requires
-catch_begins t c =
+catch_begins g t c =
     let other = c.in_ok-other.other.0 in
     let end = c.in_ok-end.end.0 in
     let a = block_opens _ _ _ c.in_ok-other.ensures.ok c.in_ok-catch.ensures.made in
@@ -49,7 +49,7 @@ catch_begins t c =
     }
 
 pub else_begins : goal.tries::compile_parts-switch_to_block-requires-2
-else_begins t c =
+else_begins g t c =
     let catch = c.in_ok-catch.catch.0 in
     let other = c.in_ok-other.other.0 in
     let end = c.in_ok-end.end.0 in
@@ -60,7 +60,7 @@ else_begins t c =
     record { made = opens (emission_of_handlers (handlers stmt_tree c.as_slice-2.result.now) c.args.last end) _ _ _ c.in_ok-compile_handlers.ensures.goes g; below = c.in_ok-other.ensures.below }
 
 pub last_begins : goal.tries::compile_parts-switch_to_block-requires-3
-last_begins t c =
+last_begins g t c =
     let catch = c.in_ok-catch.catch.0 in
     let other = c.in_ok-other.other.0 in
     let end = c.in_ok-end.end.0 in
@@ -74,20 +74,20 @@ last_begins t c =
     record { made = opens (unguarded_else c.args.last (emission_of_stmts (stmts stmt_tree c.as_slice-3.result.now))) _ _ _ c.in_ok-compile_unguarded.ensures.goes m; below = c.in_ok-end.ensures.below }
 
 pub next_begins : goal.tries::compile_handler-switch_to_block-requires
-next_begins t c =
+next_begins g t c =
     let v = opt_box expr_tree c.args.handler.now.type_ in
     let e = opens (emission_of_match v c.args.handler.now.name c.in_ok-next.next.0) _ _ _ c.in_ok-compile_match.ensures.goes c.in_ok-next.ensures.made in
     let g = opens (emission_of_caught v c.args.handler.now.name (emission_of_stmts (stmts stmt_tree c.args.handler.now.body))) _ _ _ c.in_ok-compile_caught.ensures.goes e in
     record { made = opens (handler_exit c.args.last c.args.end.0) _ _ _ c.in_ok-leave_handler.ensures.goes g; below = c.in_ok-next.ensures.below }
 
 pub forgetting_begins : goal.tries::compile_forgetting-switch_to_block-requires
-forgetting_begins t c =
+forgetting_begins g t c =
     let e = jump_opens op.SetupFinally c.in_ok-end.end.0 _ _ _ c.in_Continue-emit-emit.ensures.goes c.in_ok-end.ensures.made in
     let g = opens (emission_of_stmts (stmts stmt_tree c.args.body.now)) _ _ _ c.in_ok-compile_statements.ensures.goes e in
     record { made = opens (to_last true) _ _ _ c.in_ok-enter_last.ensures.goes g; below = c.in_ok-end.ensures.below }
 
 pub handlers_go_on : goal.tries::compile_handlers-loop-handler-preserved
-handlers_go_on t c = (
+handlers_go_on g t c = (
   c.in_ok-compile_handler.ensures.same ∙ c.loop-handler.invariant.0,
   c.loop-handler.invariant.1
       ∙ handlers_at c.args.handlers.now c.loop-handler.handler-index _ c.handler-item.result c.args.last c.args.end.0 (state c.loop-handler.em) c.handler-item.is c.loop-handler-test.true
@@ -95,7 +95,7 @@ handlers_go_on t c = (
 )
 
 pub handler_refused : goal.tries::compile_handlers-returns-in_err-compile_handler
-handler_refused t c = record {
+handler_refused g t c = record {
   goes =
       let r : c.from_residual.result ≡ Err c.in_err-compile_handler.field-0.0 = grind arith in
       first_refuses _ _ _ _ _ _ r
@@ -106,7 +106,7 @@ handler_refused t c = record {
 }
 
 pub last_refused : goal.tries::compile_last-returns
-last_refused t c = record {
+last_refused g t c = record {
   goes =
       let some = sym c.is_empty.ensures ∙ c.if-is_empty.false in
       goes_as _ _ _ _ (ap (λ (v : Emission). run v (state c.args.em.now)) (last_some c.args.body.now (emission_of_stmts (stmts stmt_tree c.args.body.now)) some)) (search rules);
@@ -114,7 +114,7 @@ last_refused t c = record {
 }
 
 pub last_goes : goal.tries::compile_last-returns-2
-last_goes t c = record {
+last_goes g t c = record {
   goes =
       let some = sym c.is_empty.ensures ∙ c.if-is_empty.false in
       ap (λ (v : Emission). run v (state c.args.em.now)) (last_some c.args.body.now (emission_of_stmts (stmts stmt_tree c.args.body.now)) some)

@@ -36,7 +36,7 @@ type_param_scope_shaped first name other n m r is same many =
     (state first).location) (rest first))
 
 pub type_param_scope_left : goal.functions::compile_type_param_scope-returns
-type_param_scope_left t c =
+type_param_scope_left g t c =
     let s = c.args.s.now in
     let d = c.args.defaults in
     let h = type_param_scope_shape (length (handed_by d)) s.name in
@@ -54,14 +54,14 @@ type_param_scope_left t c =
     }
 
 pub type_param_scope_inner : goal.functions::compile_type_param_scope-leave_scope-requires
-type_param_scope_inner t c = record {
+type_param_scope_inner g t c = record {
   inner = nested_inner kind.TypeParams naming.AsEnclosing
       (type_param_scope_shape c.handed_count.result c.as_str.result.now) c.args.em.now c.enter_type_param_scope.new.em c.return_value.new.em
       c.in_ok-enter_type_param_scope.ensures.rest c.in_ok-return_value.ensures.same;
 }
 
 pub type_param_scope_refused : goal.functions::compile_type_param_scope-returns-in_err-return_value
-type_param_scope_refused t c =
+type_param_scope_refused g t c =
     let s = c.args.s.now in
     let d = c.args.defaults in
     let h = type_param_scope_shape (length (handed_by d)) s.name in
@@ -79,7 +79,7 @@ type_param_scope_refused t c =
 
 -- a function is made of the scope's code
 pub enclosing_goes : goal.functions::make_in_type_params-returns
-enclosing_goes t c = record {
+enclosing_goes g t c = record {
   goes =
       let s = c.args.s.now in
       goes_as _ _ _ _
@@ -90,7 +90,7 @@ enclosing_goes t c = record {
 }
 
 pub enclosing_refused : goal.functions::make_in_type_params-returns-in_err-code
-enclosing_refused t c = record {
+enclosing_refused g t c = record {
   goes =
       let s = c.args.s.now in
       let r : c.from_residual.result ≡ Err c.in_err-code.field-0.0 = grind arith in
@@ -100,7 +100,7 @@ enclosing_refused t c = record {
 
 -- and called
 pub generic_goes : goal.functions::compile_generic-returns
-generic_goes t c = record {
+generic_goes g t c = record {
   goes =
       let s = c.args.s.now in
       let d = c.given_defaults-defaults.result in
@@ -116,7 +116,7 @@ generic_goes t c = record {
 }
 
 pub generic_refused : goal.functions::compile_generic-returns-in_err-make_in_type_params
-generic_refused t c = record {
+generic_refused g t c = record {
   goes =
       let s = c.args.s.now in
       let d = c.given_defaults-defaults.result in
@@ -130,7 +130,7 @@ generic_refused t c = record {
 
 -- the same of a class
 pub class_left : goal.classes::compile_type_param_scope-returns
-class_left t c =
+class_left g t c =
     let s = c.args.s.now in
     let v = built_emission c.args.path s in
     let h = type_param_scope_shape 0 s.name in
@@ -148,14 +148,14 @@ class_left t c =
     }
 
 pub class_inner : goal.classes::compile_type_param_scope-leave_scope-requires
-class_inner t c = record {
+class_inner g t c = record {
   inner = nested_inner kind.TypeParams naming.AsEnclosing
       (type_param_scope_shape 0 c.as_str.result.now) c.args.em.now c.enter_type_param_scope.new.em c.return_built.new.em
       c.in_ok-enter_type_param_scope.ensures.rest c.in_ok-return_built.ensures.same;
 }
 
 pub class_refused : goal.classes::compile_type_param_scope-returns-in_err-return_built
-class_refused t c =
+class_refused g t c =
     let s = c.args.s.now in
     let v = built_emission c.args.path s in
     let h = type_param_scope_shape 0 s.name in
@@ -172,7 +172,7 @@ class_refused t c =
     }
 
 pub class_enclosing_goes : goal.classes::make_in_type_params-returns
-class_enclosing_goes t c = record {
+class_enclosing_goes g t c = record {
   goes =
       let s = c.args.s.now in
       goes_as _ _ _ _
@@ -183,7 +183,7 @@ class_enclosing_goes t c = record {
 }
 
 pub class_enclosing_refused : goal.classes::make_in_type_params-returns-in_err-code
-class_enclosing_refused t c = record {
+class_enclosing_refused g t c = record {
   goes =
       let s = c.args.s.now in
       let r : c.from_residual.result ≡ Err c.in_err-code.field-0.0 = grind arith in

@@ -13,7 +13,7 @@ use Rattle.py_stmt.proofs.PlacedStatementLemmas.{opened_flag, opened_goes, opene
 use Rattle.py_stmt.proofs.futures.compile_opened.Goals as goal
 
 pub returns : goal.returns
-returns c =
+returns g c =
     let first = c.args.em.now in
     let last = c.compile_statements.new.em in
     let all = c.args.body.now in

@@ -7,12 +7,12 @@ use Rattle.py_stmt.proofs.PlacedStatementLemmas.{emits_over}
 use Rattle.py_stmt.proofs.futures.compile_placed.Goals as goal
 
 pub returns-then-context : goal.returns-then-context
-returns-then-context c =
+returns-then-context g c =
     let over : (rest c.args.em.now).context.future_over ≡ true = ap (λ (x : EmitContext). x.future_over) (sym c.context.ensures) ∙ c.if-context.true in
     emits_over (stmts stmt_tree c.args.body.now) c.args.em.now c.compile_statements.new.em over c.compile_statements.result c.compile_statements.ensures
 
 pub returns : goal.returns
-returns c =
+returns g c =
     let ss = stmts stmt_tree c.args.body.now in
     let first = c.args.em.now in
     let unopened : (rest first).context.future_over ≡ false = ap (λ (x : EmitContext). x.future_over) (sym c.context.ensures) ∙ c.if-context.false in

@@ -9,7 +9,7 @@ use Rattle.py_emission_parts.specs.Running.{run}
 use Rattle.py_stmt.proofs.futures.compile_whole_block.Goals as goal
 
 pub returns : goal.returns
-returns c = record {
+returns g c = record {
   goes =
       let mid = state c.compile_futures.new.em in
       let all = ap (λ (xs : List Stmt). run (emission_of_block (stmts stmt_tree xs)) mid) (sym (slice_rest c.args.body.now c.in_ok-opening.opening.count)) ∙ c.in_ok-compile_block.ensures.goes in

@@ -6,7 +6,7 @@ use Rattle.py_stmt.proofs.Lasts.{block_parts}
 use Rattle.py_stmt.proofs.interactive.compile_block.Goals as goal
 
 pub returns : goal.returns
-returns c = record {
+returns g c = record {
   goes =
       let some : suc (length c.args.body.now - 1) ≡ length c.args.body.now = omega (arith, c.if-count-eq0.false) in
       goes_as _ _ _ _ (ap (λ (f : Action). f (state c.args.em.now))

@@ -6,6 +6,6 @@ use Rattle.py_emission_parts.specs.Running.{run}
 use Rattle.py_stmt.proofs.interactive.compile_prompted.Given as goal
 
 abbrev pub invariant-loop-statement : goal.invariant-loop-statement
-invariant-loop-statement l = (rest l.em ≡ rest l.initial.em)
+invariant-loop-statement g l = (rest l.em ≡ rest l.initial.em)
     × (run (all_prompted (stmts stmt_tree l.body)) (state l.initial.em)
     ≡ run (all_prompted (stmts stmt_tree (drop l.statement-index l.body))) (state l.em))

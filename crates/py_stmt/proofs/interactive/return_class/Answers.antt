@@ -13,7 +13,7 @@ use Rattle.py_stmt.specs.Classes.{class_emission}
 use Rattle.py_stmt.proofs.interactive.return_class.Goals as goal
 
 pub returns-in_err-compile_decorated : goal.returns-in_err-compile_decorated
-returns-in_err-compile_decorated c = record {
+returns-in_err-compile_decorated g c = record {
   goes =
       let s = c.args.s.now in
       let w = decorated_value (values (all_emissions (exprs expr_tree s.decorator_list))) (class_emission s) ▸ stored_and_returned s.name in

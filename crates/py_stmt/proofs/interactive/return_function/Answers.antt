@@ -13,7 +13,7 @@ use Rattle.py_stmt.specs.Functions.{def_emission}
 use Rattle.py_stmt.proofs.interactive.return_function.Goals as goal
 
 pub returns-in_err-compile_decorated : goal.returns-in_err-compile_decorated
-returns-in_err-compile_decorated c = record {
+returns-in_err-compile_decorated g c = record {
   goes =
       let s = c.args.s.now in
       let w = decorated_value (values (all_emissions (exprs expr_tree s.decorator_list))) (def_emission s) ▸ stored_and_returned s.name in

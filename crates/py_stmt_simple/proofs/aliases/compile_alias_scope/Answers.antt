@@ -11,7 +11,7 @@ use Rattle.py_stmt_simple.specs.Generics.{returned_value}
 use Rattle.py_stmt_simple.proofs.aliases.compile_alias_scope.Goals as goal
 
 pub returns : goal.returns
-returns c =
+returns g c =
     let name = c.args.name.now in
     let v = generic_alias name (emission_of_params (type_params c.args.params.now)) (emission (expr_tree c.args.value.now)) in
     let h = type_param_scope_shape 0 name in
@@ -29,14 +29,14 @@ returns c =
     }
 
 pub leave_scope-requires : goal.leave_scope-requires
-leave_scope-requires c = record {
+leave_scope-requires g c = record {
   inner = nested_inner kind.TypeParams naming.AsEnclosing
       (type_param_scope_shape 0 c.args.name.now) c.args.em.now c.enter_type_param_scope.new.em c.return_alias.new.em
       c.in_ok-enter_type_param_scope.ensures.rest c.in_ok-return_alias.ensures.same;
 }
 
 pub returns-in_err-return_alias : goal.returns-in_err-return_alias
-returns-in_err-return_alias c =
+returns-in_err-return_alias g c =
     let name = c.args.name.now in
     let v = generic_alias name (emission_of_params (type_params c.args.params.now)) (emission (expr_tree c.args.value.now)) in
     let h = type_param_scope_shape 0 name in

@@ -11,7 +11,7 @@ use Rattle.py_emission_parts.specs.Running.{run}
 use Rattle.py_stmt_simple.proofs.aliases.compile_type_alias.Goals as goal
 
 pub returns : goal.returns
-returns c = record {
+returns g c = record {
   goes =
       let s = c.args.s.now in
       let now = state c.args.em.now in

@@ -9,7 +9,7 @@ use Rattle.py_emission_parts.specs.Running.{run}
 use Rattle.py_stmt_simple.proofs.assignments.compile_declared.Goals as goal
 
 pub returns-in-None : goal.returns-in-None
-returns-in-None c = record {
+returns-in-None g c = record {
   goes =
       goes_as _ _ _ _ (ap (λ v. run (emission_of_declared (expr_tree c.args.s.now.target.value) (opt_box expr_tree v))
       (state c.args.em.now)) c.in-None.is

@@ -8,7 +8,7 @@ use Rattle.py_emission_parts.specs.Running.{Action, run}
 use Rattle.py_stmt_simple.proofs.assignments.compile_targets.Goals as goal
 
 pub returns-then-is_empty : goal.returns-then-is_empty
-returns-then-is_empty c = record {
+returns-then-is_empty g c = record {
   goes =
       λ n. ap (λ (v : Emission). run v (state c.args.em.now)) (assign_none c.args.targets.now (sym c.is_empty.ensures ∙ c.if-is_empty.true))
       ∙ refused_shape _ (state c.args.em.now) _ c.refuse-error.result c.refuse-error.ensures.told;
@@ -16,10 +16,10 @@ returns-then-is_empty c = record {
 }
 
 pub loop-i-init : goal.loop-i-init
-loop-i-init c = (refl, ap (λ (f : Action). f (state c.args.em.now)) (assign_some c.args.targets.now (sym c.is_empty.ensures ∙ c.if-is_empty.false)))
+loop-i-init g c = (refl, ap (λ (f : Action). f (state c.args.em.now)) (assign_some c.args.targets.now (sym c.is_empty.ensures ∙ c.if-is_empty.false)))
 
 pub loop-i-preserved : goal.loop-i-preserved
-loop-i-preserved c = (
+loop-i-preserved g c = (
   c.in_ok-compile_target.ensures.same ∙ c.loop-i.invariant.0,
   c.loop-i.invariant.1 ∙ ap (λ (v : Emission). run v (state c.loop-i.em))
       (assign_at c.args.targets.now c.loop-i.i _ c.index-targets-i.result c.index-targets-i.is c.loop-i-test.true)
@@ -27,7 +27,7 @@ loop-i-preserved c = (
 )
 
 pub returns-in_err-compile_target : goal.returns-in_err-compile_target
-returns-in_err-compile_target c = record {
+returns-in_err-compile_target g c = record {
   goes =
       let r : c.from_residual.result ≡ Err c.in_err-compile_target.field-0.0 = grind arith in
       first_refuses _ _ _ _ _ _ r (c.loop-i.invariant.1

@@ -18,7 +18,7 @@ use Rattle.py_emission_parts.specs.Running.{on_done, run}
 use Rattle.py_stmt_simple.proofs.functions.make_noted.Goals as goal
 
 pub returns : goal.returns
-returns c = record {
+returns g c = record {
   goes =
       let s = c.args.s.now in
       let o = object c.args.code in

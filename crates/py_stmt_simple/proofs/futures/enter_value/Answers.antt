@@ -10,7 +10,7 @@ use Rattle.py_emission_parts.specs.Running.{run}
 use Rattle.py_stmt_simple.proofs.futures.enter_value.Goals as goal
 
 pub returns-clause-entered : goal.returns-clause-entered
-returns-clause-entered c =
+returns-clause-entered g c =
     let s = state c.args.em.now in
     entered_on (emission (expr_tree c.args.s.now.value.value) ▸ emit op.PrintExpr 0) false s (state c.print_value.new.em) c.args.postponed
     (ap (λ (x : Expr). run (emission (expr_tree x) ▸ emit op.PrintExpr 0) s) (sym c.deref.ensures) ∙ c.in_ok-print_value.ensures.goes)

@@ -7,6 +7,6 @@ use Rattle.py_emission_parts.specs.Running.{run}
 use Rattle.py_stmt_simple.proofs.generics.compile_each_param.Given as goal
 
 abbrev pub invariant-loop-param : goal.invariant-loop-param
-invariant-loop-param l = (rest l.em ≡ rest l.initial.em)
+invariant-loop-param g l = (rest l.em ≡ rest l.initial.em)
     × (run (in_turn (param_emissions (type_params l.params))) (state l.initial.em)
     ≡ run (in_turn (param_emissions (type_params (drop l.param-index l.params)))) (state l.em))

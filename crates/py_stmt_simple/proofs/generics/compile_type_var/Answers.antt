@@ -13,7 +13,7 @@ use Rattle.py_emission_parts.specs.Running.{run}
 use Rattle.py_stmt_simple.proofs.generics.compile_type_var.Goals as goal
 
 pub returns-in-Some : goal.returns-in-Some
-returns-in-Some c = record {
+returns-in-Some g c = record {
   goes =
       let p = c.args.p.now in
       let s = state c.args.em.now in

@@ -10,7 +10,7 @@ use Rattle.py_emission_parts.specs.Running.{Action, run}
 use Rattle.py_stmt_simple.proofs.notes.compile_arg_notes.Goals as goal
 
 pub returns-in_err-sum-clause-emits : goal.returns-in_err-sum-clause-emits
-returns-in_err-sum-clause-emits c = record {
+returns-in_err-sum-clause-emits g c = record {
   goes =
       let r : c.from_residual.result ≡ Err c.in_err-sum.field-0.0 = grind arith in
       let note = opt_box expr_tree c.item-item.result.def.annotation in
@@ -22,7 +22,7 @@ returns-in_err-sum-clause-emits c = record {
 }
 
 pub loop-item-preserved : goal.loop-item-preserved
-loop-item-preserved c =
+loop-item-preserved g c =
     let note = opt_box expr_tree c.item-item.result.def.annotation in
     let rest = arg_notes (args expr_tree (drop (c.loop-item.item-index + 1) c.args.items.now)) in
     let turn = note_turn c.args.items.now c.loop-item.item-index c.item-item.result c.item-item.result c.item-item.is c.loop-item-test.true

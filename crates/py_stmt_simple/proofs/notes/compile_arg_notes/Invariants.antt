@@ -7,7 +7,7 @@ use Rattle.py_emission_parts.specs.Running.{run}
 use Rattle.py_stmt_simple.proofs.notes.compile_arg_notes.Given as goal
 
 abbrev pub invariant-loop-item : goal.invariant-loop-item
-invariant-loop-item l =
+invariant-loop-item g l =
     let all = arg_notes (args expr_tree l.items) in
     let left = arg_notes (args expr_tree (drop l.item-index l.items)) in
     (rest l.em ≡ rest l.initial.em) × (run (in_turn all) (state l.initial.em) ≡ run (in_turn left) (state l.em)) × (l.count + length all ≡ l.sum + length left)

@@ -17,7 +17,7 @@ use Rattle.py_stmt_simple.proofs.raises.compile_assert.Goals as goal
 
 pub returns : goal.returns
 unfolding rest
-returns c = record {
+returns g c = record {
   goes =
       let s = state c.args.em.now in
       let t = expr_tree c.args.s.now.test.value in

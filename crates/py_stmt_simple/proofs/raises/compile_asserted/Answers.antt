@@ -8,7 +8,7 @@ use Rattle.py_expr_scopes.proofs.OpenBlocks.{opens}
 use Rattle.py_stmt_simple.proofs.raises.compile_asserted.Goals as goal
 
 pub switch_to_block-requires : goal.switch_to_block-requires
-switch_to_block-requires c =
+switch_to_block-requires g c =
     let a = opens (emission_of_test (expr_tree c.deref.result.now) true c.in_ok-end.end.0) _ _ _ c.in_ok-compile_jump_if.ensures.goes c.in_ok-end.ensures.made in
     let e = opens (emit_name op.LoadGlobal (codes "AssertionError")) _ _ _ c.in_ok-emit_name.ensures.goes a in
     let m = opens (emission_of_message (opt_box expr_tree c.args.s.now.msg)) _ _ _ c.in_ok-compile_message.ensures.goes e in

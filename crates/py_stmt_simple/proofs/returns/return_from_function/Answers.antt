@@ -6,13 +6,13 @@ use Rattle.py_expr_parts.proofs.InFunctions.{inside_function}
 use Rattle.py_stmt_simple.proofs.returns.return_from_function.Goals as goal
 
 pub returns : goal.returns
-returns c = record {
+returns g c = record {
   goes = goes_as _ _ _ _ (inside_function error.InvalidReturn _ (state c.args.em.now) ∙ went _ _ _ c.in_ok-check_in_function.ensures.goes) c.compile_returned.ensures.goes;
   same = search rules;
 }
 
 pub returns-in_err-check_in_function : goal.returns-in_err-check_in_function
-returns-in_err-check_in_function c = record {
+returns-in_err-check_in_function g c = record {
   goes =
       let r : c.from_residual.result ≡ Err c.in_err-check_in_function.field-0.0 = grind arith in
       first_refuses _ _ _ _ _ _ r (inside_function error.InvalidReturn _ (state c.args.em.now)) c.in_err-check_in_function.ensures.goes;

@@ -12,7 +12,7 @@ use Rattle.py_emission_parts.specs.Running.{run}
 use Rattle.py_stmt_simple.proofs.tries.compile_match.Goals as goal
 
 pub returns-in-Some : goal.returns-in-Some
-returns-in-Some c = record {
+returns-in-Some g c = record {
   goes =
       goes_as _ _ _ _
       (ap (λ (v : Option (Box Expr Global)). run (emission_of_match (opt_box expr_tree v) c.args.name.now c.args.next.0) (state c.args.em.now)) c.in-Some.is

@@ -6,7 +6,7 @@ use Rattle.py_expr_scopes.proofs.OpenBlocks.{jump_opens, moved_opens, opens}
 use Rattle.py_stmt_simple.proofs.withs.enter_item.Goals as goal
 
 pub returns-2-clause-open : goal.returns-2-clause-open
-returns-2-clause-open c =
+returns-2-clause-open g c =
     let a = opens (emission (expr_tree c.deref.result.now)) _ _ _ c.in_ok-compile_expression.ensures.goes c.in_ok-end.ensures.made in
     let e = moved_opens c.args.location.now _ _ _ c.set_location.ensures.state a in
     let m = jump_opens op.SetupWith c.in_ok-end.end.0 _ _ _ c.in_Continue-emit-emit.ensures.goes e in

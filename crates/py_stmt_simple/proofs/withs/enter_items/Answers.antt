@@ -12,7 +12,7 @@ use Rattle.py_emission_parts.specs.Running.{◌▹◌, run}
 use Rattle.py_stmt_simple.proofs.withs.enter_items.Goals as goal
 
 pub returns-in_err-end-clause-refused : goal.returns-in_err-end-clause-refused
-returns-in_err-end-clause-refused c =
+returns-in_err-end-clause-refused g c =
     let at = c.args.location.now in
     let item = c.item-item.result in
     let e = expr_tree item.context_expr.value in
@@ -29,7 +29,7 @@ returns-in_err-end-clause-refused c =
     })
 
 pub loop-item-preserved : goal.loop-item-preserved
-loop-item-preserved c =
+loop-item-preserved g c =
     let at = c.args.location.now in
     let item = c.item-item.result in
     let e = expr_tree item.context_expr.value in

@@ -8,7 +8,7 @@ use Rattle.py_emission_parts.specs.Running.{◌▹◌, run}
 use Rattle.py_stmt_simple.proofs.withs.enter_items.Given as goal
 
 abbrev pub invariant-loop-item : goal.invariant-loop-item
-invariant-loop-item l =
+invariant-loop-item g l =
     (rest l.em ≡ rest l.initial.em)
     × AllOpen l.ends (state l.em)
     × ((body : Emission) → run (emission_of_items l.location (with_items l.items) body) (state l.initial.em)
