@@ -1,0 +1,3 @@
+pub mod BareRuns
+pub mod BareKids
+pub mod BareAgreement

@@ -1,0 +1,4 @@
+pub mod BareParts
+pub mod SameExprs
+pub mod SameStmts
+pub mod SameBodies
