@@ -1,5 +1,5 @@
 #!/usr/bin/env python3
-"""Tries the wrong bodies that rt ci passes over, of crates whose check takes long: crates/NAME/must-fail/*.md.
+"""Tries the wrong bodies that rt ci passes over, of crates whose check takes long or that have many: crates/NAME/must-fail/*.md.
 
 usage: try_wrong_bodies.py [--together] NAME..
 
