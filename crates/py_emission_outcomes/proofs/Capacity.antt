@@ -26,6 +26,7 @@ mod FitDefinitions
 mod FitHandlers
 mod FitImports
 pub mod FitStmts
+mod EvenTables
 mod FitFutures
 mod FitMods
 pub mod Premises

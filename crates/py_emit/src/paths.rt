@@ -1,5 +1,5 @@
 //! Qualified names.
-ghost use Rattle.std.specs.Prelude.{◌≡◌, ◌++◌, ◌∷◌, [], IfErr, IfOk, OnOk};
+ghost use Rattle.std.specs.Prelude.{◌≡◌, ◌++◌, ◌∷◌, [], string_bytes, IfErr, IfOk, OnOk};
 ghost use Rattle.py_emission_parts.specs.NestedScopes.{class_path as path_of_class, is_global as is_declared_global};
 ghost use Rattle.py_emission_parts.specs.Context.{after_dot, function_path as path_of_function, mangled_by, qualified_under as qualified_name, scope_of};
 ghost use Rattle.py_emit.specs.States.{IsOutOfMemory, dotted, rest, state};
@@ -115,10 +115,11 @@ pub(crate) fn joined(alloc: Global, parts: &[Text]) -> Result<Text, AllocError>
     ensures { IfOk result (λ full. full ≡ dotted parts.now) }
 {
     let mut full = String::new(alloc);
-    if let Some((first, others)) = parts.split_first() {
-        full.push_str(first.as_str())?;
-        push_parts(&mut full, others)?;
-    }
+    let Some((first, others)) = parts.split_first() else {
+        return Ok(Text::from_string(full));
+    };
+    full.push_str(first.as_str())?;
+    push_parts(&mut full, others)?;
     Ok(Text::from_string(full))
 }
 
@@ -127,7 +128,8 @@ pub(crate) fn joined(alloc: Global, parts: &[Text]) -> Result<Text, AllocError>
 /// # Errors
 /// There is no memory for it.
 fn push_parts(full: &mut String, parts: &[Text]) -> Result<(), AllocError>
-    ensures { OnOk result (full.new ≡ full.old ++ each_after_dot parts.now) }
+    ensures { OnOk result (string_bytes full.new ≡ string_bytes full.old
+        ++ each_after_dot parts.now) }
 {
     for part in parts {
         full.push_str(".")?;
