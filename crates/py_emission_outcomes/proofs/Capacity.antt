@@ -12,7 +12,7 @@ mod FitLambdas
 pub mod AvailableCellLemmas
 mod StandingForms
 mod StandingExprs
-mod Scopeless
+pub mod Scopeless
 mod Hands
 mod FitPieces
 pub mod FitExprs
@@ -26,7 +26,6 @@ mod FitDefinitions
 mod FitHandlers
 mod FitImports
 pub mod FitStmts
-mod EvenTables
 mod FitFutures
 mod FitMods
 pub mod Premises

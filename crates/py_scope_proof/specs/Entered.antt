@@ -14,7 +14,7 @@ use Rattle.py_scan.specs.Scan.{scan_program, scan_value}
 use Rattle.py_meaning.specs.Faults.{faults}
 use Rattle.py_meaning.specs.Scanned.{scopes_of}
 use Rattle.py_scope_proof.specs.ScopeNodes.{ScopeNode, Whole, Value, Own, TypeParamScope, ScopeForest, Bare, Grown, Placed, size}
-use Rattle.py_scope_proof.specs.StmtScopeNodes.{grove_of, scope_nodes_of}
+use Rattle.py_scope_proof.specs.StmtScopeNodes.{scope_forest_of, scope_nodes_of}
 
 -- what a scope is, its name, and the line where its node begins
 pub record ScopeReport : Type 0 where
@@ -108,4 +108,4 @@ ends_of_whole g = suc (size g) ∷ ends_of 1 g
 
 -- the scopes of the table of a tree without faults stand in one another as its nodes do
 abbrev pub TableHasGroves : Type 0
-TableHasGroves = (t : tree.Mod) (m : Mode) (level : ℕ) → faults t m level ≡ [] → map end_in_table (scopes_of t) ≡ ends_of_whole (grove_of t m)
+TableHasGroves = (t : tree.Mod) (m : Mode) (level : ℕ) → faults t m level ≡ [] → map end_in_table (scopes_of t) ≡ ends_of_whole (scope_forest_of t m)

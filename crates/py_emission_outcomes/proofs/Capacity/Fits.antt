@@ -348,7 +348,6 @@ unfolding pass_over fit_taken
 pass_fits {c} {k} n = record { fits = λ s h r. go s h (are_whole s.node_context.context.scopes s.next n) }
   where
     go : (s : State) → FitStands c k s → (b : Bool) → FitsIn c (k + n) (fit_taken s + 0) (if b then Done (record s { next = s.next + n }) else Refused mismatch (Some s.location))
-    unfolding fit_taken
     go s h true = (record { node_context = h.node_context; next = ap (λ j. j + n) h.next; short = h.short }, omega arith)
     go s h false = tt
 

@@ -1,5 +1,5 @@
 -- The emission of a tree without faults is done, and its tables are small.
-use Rattle.py_emission_outcomes.proofs.Capacity.EvenTables.{tables_even}
+use Rattle.py_emission_outcomes.proofs.Tables.EvenTables.{tables_even}
 use Rattle.std.proofs.Common.{◌≡◌, ◌≢◌, refl, sym, ◌∙◌, subst, ℕ, ◌+◌, ◌*◌, ◌<◌, ◌≤◌, ◌^◌, List, [], ◌∷◌, arith}
 use Rattle.py_base.specs.declared.errors.CodegenErrorType.{CodegenErrorType}
 use Rattle.py_base.specs.declared.errors.CodegenErrorType.TheVariants as error

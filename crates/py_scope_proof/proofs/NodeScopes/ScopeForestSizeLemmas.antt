@@ -19,14 +19,14 @@ use Rattle.py_scope_proof.proofs.NodeScopes.ListedTables.{ListedTableFlat, flat_
 use Rattle.py_scope_proof.proofs.NodeScopes.ScopeListLemmas.{gathered_lists}
 
 -- how many scopes each node has with those nested in it, in order
-abbrev grove_sizes : ScopeForest → List ℕ
-grove_sizes Bare = []
-grove_sizes (Grown o nested after) = suc (size nested) ∷ (grove_sizes nested ++ grove_sizes after)
+abbrev forest_sizes : ScopeForest → List ℕ
+forest_sizes Bare = []
+forest_sizes (Grown o nested after) = suc (size nested) ∷ (forest_sizes nested ++ forest_sizes after)
 
-length_sizes : (g : ScopeForest) → length (grove_sizes g) ≡ size g
+length_sizes : (g : ScopeForest) → length (forest_sizes g) ≡ size g
 length_sizes Bare = refl
 length_sizes (Grown o nested after) =
-    let a = length-append (grove_sizes nested) (grove_sizes after) in
+    let a = length-append (forest_sizes nested) (forest_sizes after) in
     let b = length_sizes nested in
     let d = length_sizes after in
     omega (arith, a, b, d)
@@ -46,12 +46,12 @@ length_ended k [] = refl
 length_ended k (x ∷ xs) = ap suc (length_ended (suc k) xs)
 
 -- those of a scope forest in other words
-ends_sized : (n : ℕ) (g : ScopeForest) → ended_from n (grove_sizes g) ≡ ends_of n g
+ends_sized : (n : ℕ) (g : ScopeForest) → ended_from n (forest_sizes g) ≡ ends_of n g
 ends_sized n Bare = refl
 ends_sized n (Grown o nested after) =
     let l = length_sizes nested in
-    (λ i. (let e : n + suc (size nested) ≡ suc n + size nested = omega arith in e i) ∷ ended_append (suc n) (grove_sizes nested) (grove_sizes after) i)
-    ∙ (λ i. (suc n + size nested) ∷ (ends_sized (suc n) nested i ++ ended_from (suc n + l i) (grove_sizes after)))
+    (λ i. (let e : n + suc (size nested) ≡ suc n + size nested = omega arith in e i) ∷ ended_append (suc n) (forest_sizes nested) (forest_sizes after) i)
+    ∙ (λ i. (suc n + size nested) ∷ (ends_sized (suc n) nested i ++ ended_from (suc n + l i) (forest_sizes after)))
     ∙ ap (λ xs. (suc n + size nested) ∷ (ends_of (suc n) nested ++ xs)) (ends_sized (suc n + size nested) after)
 
 -- how many scopes each of these has with those nested in it: of each scope those of it and of those in it, numbered from n on
@@ -103,36 +103,36 @@ module _ (o : ScopeNode) (nested after : ScopeForest) (c n : ℕ) (bs : List ℕ
   none_sized j a b =
       size_passed after j c size_far bs b (λ e. let h : c ≡ j = e in absurd (omega (arith, h))) ∙ ap (λ k. sizes_in j k bs) (omega arith) ∙ clear j a (omega arith)
 
-  sized_next : (SizesClear (suc n) (size nested) (size_outer ++ bs) → sizes_in n (suc n) (size_inner ++ (size_outer ++ bs)) ≡ grove_sizes nested ++ sizes_in n size_far (size_outer ++ bs))
-      → (SizesClear size_far (size after) bs → sizes_in c size_far (size_outer ++ bs) ≡ grove_sizes after ++ sizes_in c (size_far + size after) bs)
-      → sizes_in c n (enclosing_numbers c n (Grown o nested after) ++ bs) ≡ grove_sizes (Grown o nested after) ++ sizes_in c size_last bs
+  sized_next : (SizesClear (suc n) (size nested) (size_outer ++ bs) → sizes_in n (suc n) (size_inner ++ (size_outer ++ bs)) ≡ forest_sizes nested ++ sizes_in n size_far (size_outer ++ bs))
+      → (SizesClear size_far (size after) bs → sizes_in c size_far (size_outer ++ bs) ≡ forest_sizes after ++ sizes_in c (size_far + size after) bs)
+      → sizes_in c n (enclosing_numbers c n (Grown o nested after) ++ bs) ≡ forest_sizes (Grown o nested after) ++ sizes_in c size_last bs
   sized_next first next =
       size_taken c n ((size_inner ++ size_outer) ++ bs)
       ∙ ap (λ ms. suc (length (sizes_in n (suc n) ms)) ∷ (sizes_in n (suc n) ms ++ sizes_in c (suc n) ms)) (append_assoc size_inner size_outer bs)
       ∙ (λ i. suc (length (in_first i)) ∷ (in_first i ++ in_enclosing i))
-      ∙ ap (λ k. suc k ∷ (grove_sizes nested ++ (grove_sizes after ++ sizes_in c size_last bs))) (length_sizes nested)
-      ∙ ap (λ xs. suc (size nested) ∷ xs) (sym (append_assoc (grove_sizes nested) (grove_sizes after) (sizes_in c size_last bs)))
+      ∙ ap (λ k. suc k ∷ (forest_sizes nested ++ (forest_sizes after ++ sizes_in c size_last bs))) (length_sizes nested)
+      ∙ ap (λ xs. suc (size nested) ∷ xs) (sym (append_assoc (forest_sizes nested) (forest_sizes after) (sizes_in c size_last bs)))
     where
-      in_first : sizes_in n (suc n) (size_inner ++ (size_outer ++ bs)) ≡ grove_sizes nested
-      in_first = first (λ j a b. none_sized j (omega arith) (omega arith)) ∙ ap (λ xs. grove_sizes nested ++ xs) (none_sized n (omega arith) (omega arith)) ∙ append-nil (grove_sizes nested)
+      in_first : sizes_in n (suc n) (size_inner ++ (size_outer ++ bs)) ≡ forest_sizes nested
+      in_first = first (λ j a b. none_sized j (omega arith) (omega arith)) ∙ ap (λ xs. forest_sizes nested ++ xs) (none_sized n (omega arith) (omega arith)) ∙ append-nil (forest_sizes nested)
 
-      in_enclosing : sizes_in c (suc n) (size_inner ++ (size_outer ++ bs)) ≡ grove_sizes after ++ sizes_in c size_last bs
+      in_enclosing : sizes_in c (suc n) (size_inner ++ (size_outer ++ bs)) ≡ forest_sizes after ++ sizes_in c size_last bs
       in_enclosing =
           size_passed nested c n (suc n) (size_outer ++ bs) (omega arith) (λ e. let h : n ≡ c = e in absurd (omega (arith, h)))
           ∙ next (λ j a b. ap (λ k. sizes_in j k bs) (omega arith) ∙ clear j (omega arith) (omega arith))
-          ∙ ap (λ k. grove_sizes after ++ sizes_in c k bs) (omega arith)
+          ∙ ap (λ k. forest_sizes after ++ sizes_in c k bs) (omega arith)
 
 -- the scopes of a scope forest stand in the enclosing scope
-sized_grove : (g : ScopeForest) (c n : ℕ) (bs : List ℕ) → c < n → SizesClear n (size g) bs → sizes_in c n (enclosing_numbers c n g ++ bs) ≡ grove_sizes g ++ sizes_in c (n + size g) bs
-sized_grove Bare c n bs l clear = ap (λ k. sizes_in c k bs) (omega arith)
-sized_grove (Grown o nested after) c n bs l clear =
+sized_forest : (g : ScopeForest) (c n : ℕ) (bs : List ℕ) → c < n → SizesClear n (size g) bs → sizes_in c n (enclosing_numbers c n g ++ bs) ≡ forest_sizes g ++ sizes_in c (n + size g) bs
+sized_forest Bare c n bs l clear = ap (λ k. sizes_in c k bs) (omega arith)
+sized_forest (Grown o nested after) c n bs l clear =
     sized_next o nested after c n bs l clear
-    (λ z. sized_grove nested n (suc n) (enclosing_numbers c (suc n + size nested) after ++ bs) (omega arith) z)
-    (λ z. sized_grove after c (suc n + size nested) bs (omega arith) z)
+    (λ z. sized_forest nested n (suc n) (enclosing_numbers c (suc n + size nested) after ++ bs) (omega arith) z)
+    (λ z. sized_forest after c (suc n + size nested) bs (omega arith) z)
 
 -- those of a whole tree
-sized_whole : (g : ScopeForest) → sizes_in 0 1 (enclosing_numbers 0 1 g) ≡ grove_sizes g
-sized_whole g = ap (sizes_in 0 1) (sym (append-nil (enclosing_numbers 0 1 g))) ∙ sized_grove g 0 1 [] (omega arith) (λ j a b. refl) ∙ append-nil (grove_sizes g)
+sized_whole : (g : ScopeForest) → sizes_in 0 1 (enclosing_numbers 0 1 g) ≡ forest_sizes g
+sized_whole g = ap (sizes_in 0 1) (sym (append-nil (enclosing_numbers 0 1 g))) ∙ sized_forest g 0 1 [] (omega arith) (λ j a b. refl) ∙ append-nil (forest_sizes g)
 
 -- each table ends as its scopes say
 abbrev AllEnd : List SymbolTable → List (List ℕ) → Type 0

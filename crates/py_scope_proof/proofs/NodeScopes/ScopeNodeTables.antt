@@ -21,10 +21,10 @@ use Rattle.py_scan.specs.Scan.{scan_program, scan_value}
 use Rattle.py_meaning.specs.Faults.{faults, unsupported_tree}
 use Rattle.py_meaning.specs.Scanned.{entries_of, fault_as, scopes_of}
 use Rattle.py_scope_proof.specs.ScopeNodes.{ScopeForest}
-use Rattle.py_scope_proof.specs.StmtScopeNodes.{in_whole, scope_nodes_of, grove_of}
+use Rattle.py_scope_proof.specs.StmtScopeNodes.{in_whole, scope_nodes_of, scope_forest_of}
 use Rattle.py_scope_proof.specs.Entered.{ScansTo, TableHasScopeNodes, ScopeReport, kind_in_table, kind_of_scope_node, report_of_node, report_of_row, TableHasGroves, end_in_table, ends_of_whole}
 use Rattle.py_scope_proof.proofs.NodeScopes.ScanEntryLemmas.{Came}
-use Rattle.py_scope_proof.proofs.NodeScopes.EnteringPrograms.{parts_none, scan_came, scan_grove}
+use Rattle.py_scope_proof.proofs.NodeScopes.EnteringPrograms.{parts_none, scan_came, scan_forest}
 use Rattle.py_scope_proof.proofs.NodeScopes.ListedTables.{kind_alone, kinds_kept, table_listed}
 
 -- lifts and looks leave a scope what it is, and the enclosing scope
@@ -126,10 +126,10 @@ table_ends_so q os o s e c =
     now : List Row
     now = settled_rows (lifted_rows rows order) order
 
-ends_done : (t : tree.Mod) (m : Mode) (level : ℕ) (s : State) → faults t m level ≡ [] → ScansTo t s → map end_in_table (scopes_of t) ≡ ends_of_whole (grove_of t m)
-ends_done (tree.Module stmts) m level s h e = let x = scan_grove (tree.Module stmts) m level s h e in table_ends_so x.0 (grove_of (tree.Module stmts) m) (scan_program stmts) s e x.1
-ends_done (tree.Interactive stmts) m level s h e = let x = scan_grove (tree.Interactive stmts) m level s h e in table_ends_so x.0 (grove_of (tree.Interactive stmts) m) (scan_program stmts) s e x.1
-ends_done (tree.Expression value) m level s h e = let x = scan_grove (tree.Expression value) m level s h e in table_ends_so x.0 (grove_of (tree.Expression value) m) (scan_value value) s e x.1
+ends_done : (t : tree.Mod) (m : Mode) (level : ℕ) (s : State) → faults t m level ≡ [] → ScansTo t s → map end_in_table (scopes_of t) ≡ ends_of_whole (scope_forest_of t m)
+ends_done (tree.Module stmts) m level s h e = let x = scan_forest (tree.Module stmts) m level s h e in table_ends_so x.0 (scope_forest_of (tree.Module stmts) m) (scan_program stmts) s e x.1
+ends_done (tree.Interactive stmts) m level s h e = let x = scan_forest (tree.Interactive stmts) m level s h e in table_ends_so x.0 (scope_forest_of (tree.Interactive stmts) m) (scan_program stmts) s e x.1
+ends_done (tree.Expression value) m level s h e = let x = scan_forest (tree.Expression value) m level s h e in table_ends_so x.0 (scope_forest_of (tree.Expression value) m) (scan_value value) s e x.1
 ends_done (tree.FunctionType argtypes returns) m level s h e = absurd e
 
 pub table_has_groves : TableHasGroves
