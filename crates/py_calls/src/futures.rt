@@ -27,6 +27,7 @@ pub fn compile_future_features(em: &mut Emitter, features: &List<Alias>) -> Resu
         refuse!(em, CodegenErrorType::InvalidFuturePlacement);
     }
     py_stmt_parts::compile_future_features(em, features.as_slice())?;
-    em.set_postponed(context.future_annotations || names_annotations(features.as_slice()));
+    let named = names_annotations(features.as_slice());
+    em.set_postponed(context.future_annotations || named);
     Ok(())
 }

@@ -1,5 +1,5 @@
 //! One statement, and statements from a place on.
-ghost use Rattle.std.specs.Prelude.{◌≤◌, drop, length};
+ghost use Rattle.std.specs.Prelude.{◌≤◌, drop, length, OnOk};
 ghost use Rattle.py_tree.specs.View.{stmt_tree, stmts};
 ghost use Rattle.py_tree.specs.Tree.{more_stmts, no_stmts};
 ghost use Rattle.py_emit.specs.States.{AreMade, rest};
@@ -20,10 +20,11 @@ use std::slice;
 /// The first compile fault of the statement, with its location; MissingCell; or OutOfMemory.
 pub fn compile_statement(em: &mut Emitter, statement: &Stmt) -> Result<(), CodegenError>
     requires loops { AreMade (rest em.old).context.loop_blocks }
-    ensures { EmitsInto result (emission_placed (rest em.old).context.future_over
+    ensures emits { EmitsInto result (emission_placed (rest em.old).context.future_over
         (more_stmts (stmt_tree statement.now) no_stmts))
         (context_after (rest em.old).context (more_stmts (stmt_tree statement.now) no_stmts)) em.old
         em.new }
+    ensures loops { OnOk result (AreMade (rest em.new).context.loop_blocks) }
 {
     compile_placed(em, slice::from_ref(statement))
 }
@@ -36,9 +37,10 @@ pub fn compile_statement(em: &mut Emitter, statement: &Stmt) -> Result<(), Codeg
 pub fn compile_statements(em: &mut Emitter, body: &Stmts, from: usize) -> Result<(), CodegenError>
     requires loops { AreMade (rest em.old).context.loop_blocks }
     requires within { from ≤ length body.now }
-    ensures { EmitsInto result (emission_placed (rest em.old).context.future_over
+    ensures emits { EmitsInto result (emission_placed (rest em.old).context.future_over
         (stmts stmt_tree (drop from body.now)))
         (context_after (rest em.old).context (stmts stmt_tree (drop from body.now))) em.old em.new }
+    ensures loops { OnOk result (AreMade (rest em.new).context.loop_blocks) }
 {
     compile_placed(em, statements_from(body, from))
 }

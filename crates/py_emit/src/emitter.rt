@@ -235,7 +235,7 @@ impl Emitter {
     ///
     /// # Errors
     /// OutOfMemory alone.
-    #[tactic(auto, unfolding(py_emission_parts::specs::Emitting::emit, py_emission_parts::specs::Running::put))]
+    #[tactic(auto, unfolding(py_emission_parts::specs::Emitting::emit, py_emission_parts::specs::Running::put_instruction))]
     pub fn emit_arg(&mut self, instr: Instruction, arg: u32) -> Result<(), CodegenError>
         ensures { Emits result (emission_of instr arg) self.old self.new }
     {

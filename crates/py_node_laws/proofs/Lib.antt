@@ -8,4 +8,5 @@ pub mod LoadSamples
 pub mod Scopes
 pub mod ScopeSamples
 pub mod Faults
+pub mod PlacedCalls
 pub mod Levels

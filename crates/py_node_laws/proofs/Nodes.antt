@@ -86,14 +86,14 @@ pub enters_ready : EntersReady
 unfolding inside
 enters_ready typ number c at next = record { cells = refl; frees = refl }
 
-node_stands : (s : State) → IsReady s → EmissionSequenceStands s.node_context s
+pub node_stands : (s : State) → IsReady s → EmissionSequenceStands s.node_context s
 node_stands s h = record { node_context = refl; settled = record { cells = h.cells; frees = h.frees } }
 
-looped_in : (x : Option LoopBlocks) (n : ℕ) → LoopIsMade x n → InLoop x (labels_of x) n
+pub looped_in : (x : Option LoopBlocks) (n : ℕ) → LoopIsMade x n → InLoop x (labels_of x) n
 looped_in None n h = tt
 looped_in (Some x) n h = (refl, h.0, h.1)
 
-node_held_is : (x : Option LoopBlocks) → control_held x ≡ (labels_of x).inside
+pub node_held_is : (x : Option LoopBlocks) → control_held x ≡ (labels_of x).inside
 node_held_is None = refl
 node_held_is (Some x) = refl
 

@@ -19,7 +19,7 @@ abbrev pub TellsFirst : {A : Type 0} → Result A (LocatedError CodegenErrorType
 TellsFirst (Ok a) fs = fs ≡ []
 TellsFirst (Err e) fs = e.error ≢ error.OutOfMemory → e.error ≢ error.MissingCell → e.error ≢ mismatch → (rest : List Fault) × (fs ≡ record { error = e.error; location = e.location } ∷ rest)
 
--- `compile_expression` and its like, `compile_jump_if`, `compile_store`, `compile_delete`, `compile_deletes`, `compile_statement` and `compile_statements`
+-- `compile_expression` and its like, `compile_jump_if`, `compile_store`, `compile_delete`, `compile_deletes`, and `compile_statements` of py_stmt
 abbrev pub ExpressionCalls : Type 0
 ExpressionCalls =
     (answer : Result (Unit {0}) (LocatedError CodegenErrorType)) (class : Option (List ℕ)) (e : tree.Expr) (before after : Emitter)

@@ -62,7 +62,7 @@ EnteringCalls =
     → IfErr answer (λ e. e.error ≢ error.OutOfMemory → entry params (state before) ≡ Refused e.error e.location)
     → arguments_shapes class params ≡ [] → TellsFirst answer (entry_faults (in_function (state before)) (state before).location params)
 
--- `compile_future_features`
+-- `compile_future_features` of py_stmt_parts
 abbrev pub FeatureCalls : Type 0
 FeatureCalls =
     (answer : Result (Unit {0}) (LocatedError CodegenErrorType)) (names : List Alias) (before after : Emitter)

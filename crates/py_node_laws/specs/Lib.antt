@@ -7,5 +7,6 @@ pub mod NodeFaults
 pub mod CallFaults
 pub mod CallPartFaults
 pub mod MissingCells
+pub mod PlacedCalls
 pub mod GivenErrors
 pub mod Levels

@@ -47,7 +47,7 @@ FindsCells (Err e) = e.error ≢ error.MissingCell
 abbrev pub Answer : Type 0
 Answer = Result (Unit {0}) (LocatedError CodegenErrorType)
 
--- `compile_expression` and its like, `compile_jump_if`, `compile_store`, `compile_delete`, `compile_statement` and `compile_statements`
+-- `compile_expression` and its like, `compile_jump_if`, `compile_store`, `compile_delete`, and `compile_statements` of py_stmt
 abbrev pub ExpressionsFindCells : Type 0
 ExpressionsFindCells =
     (answer : Answer) (e : tree.Expr) (before after : Emitter) → Emits answer (emission e) before after

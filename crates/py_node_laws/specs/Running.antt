@@ -140,7 +140,7 @@ BodiesRun = (ts : tree.Stmts) → stmts_size ts < 2 ^ 22 → (s r : State) → I
 abbrev pub FinishedHold : Type 0
 FinishedHold = (em : Emitter) (level : ℕ) (code : CodeObject) → IsFinal level (info em) code → Hold (state em) (map plain (info em).blocks) (tables_of (info em))
 
--- of a call that answers Ok: `compile_expression`, `compile_jump_if`, `compile_store`, `compile_statements`, and those that follow
+-- of a call that answers Ok: `compile_expression`, `compile_jump_if`, `compile_store`, `compile_statements` of py_stmt, and those that follow
 abbrev pub Answer : Type 0
 Answer = Result (Unit {0}) (LocatedError CodegenErrorType)
 
@@ -167,7 +167,7 @@ BodyCallsRun =
     → IsReady (state before) → LoopIsMade (state before).node_context.loops (state before).blocks
     → OnOk answer ((bs : List Blk) (tables : Tables) → Hold (state after) bs tables → BodyRuns ts (state before) (state after) bs tables)
 
--- `compile_statement`
+-- one statement
 abbrev pub StatementCallsRun : Type 0
 StatementCallsRun =
     (answer : Answer) (t : tree.Stmt) (before after : Emitter) → Emits answer (emission_of_stmt t) before after → stmt_size t < 2 ^ 22

@@ -1,5 +1,6 @@
 //! Laws of runs of the code of nodes. Their bodies do nothing.
 ghost use Rattle.py_node_laws.specs.Running.{ArgumentCallsRun, BodiesRun, BodyCallsRun, ComprehensionCallsRun, DeletionCallsRun, ExpressionCallsRun, ExprsRun, FinishedHold, StatementCallsRun, StatementsRun, StoreCallsRun, TargetsRun, TestCallsRun, TestsRun};
+ghost use Rattle.py_node_laws.specs.PlacedCalls.{PlacedCallsRun};
 
 /// Where the emission of a node is done, blocks that hold what is emitted then or later do what the node's form says, from any
 /// fit state at the place where the emission began.
@@ -13,7 +14,8 @@ pub fn nodes_run()
 
 /// The same of calls that emit a node and answer Ok. A target that is deleted runs as the statement of this one target, and a
 /// comprehension by its parts as the expression, that stand where the emitter does. Arguments after what is called, before the
-/// instruction of the call, run as the call.
+/// instruction of the call, run as the call. Statements where a future import may stand first run as these imports and what
+/// follows them.
 pub fn calls_run()
     ensures expressions { ExpressionCallsRun }
     ensures tests { TestCallsRun }
@@ -21,6 +23,7 @@ pub fn calls_run()
     ensures deletions { DeletionCallsRun }
     ensures statements { StatementCallsRun }
     ensures bodies { BodyCallsRun }
+    ensures placed { PlacedCallsRun }
     ensures comprehensions { ComprehensionCallsRun }
     ensures arguments { ArgumentCallsRun }
 {}

@@ -11,7 +11,7 @@ use py_tree::Alias;
 use std::alloc::{AllocError, Global};
 
 /// What stands after the first dot of a path.
-#[tactic(auto, using(crate::proofs::Segments::after_is, crate::proofs::Segments::none_further, crate::proofs::Segments::is_nearer))]
+#[tactic(auto, using(crate::proofs::Segments::segment_after_is, crate::proofs::Segments::none_further, crate::proofs::Segments::is_nearer))]
 pub fn after_dot(path: &str) -> Option<&str>
     ensures parts { MatchOption result (further_segments path.now ≡ [])
         (λ after. further_segments path.now ≡ package_name after.now ∷ further_segments after.now) }

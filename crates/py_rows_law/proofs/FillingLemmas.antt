@@ -23,7 +23,7 @@ use Rattle.py_rows_slots.specs.Slots.{Made}
 use Rattle.py_rows_slots.specs.Taking as list
 use Rattle.py_rows_law.proofs.FormLemmas.{is_part}
 use Rattle.py_rows_law.proofs.TakingLemmas.{EachPair, Gives, GivesMaybe, Reads, ReadsMaybe}
-use Rattle.py_rows_law.proofs.TieLemmas.{Same, Tied, Ties, among_after, numbers_after, list_of, list_with, number, other_list, other_row}
+use Rattle.py_rows_law.proofs.TieLemmas.{Same, Tied, Ties, among_after, numbers_after, list_of, list_with, number_of_sort, other_list, other_row}
 use Rattle.py_rows_law.proofs.TieLemmas.{part_number, rows_with, same_sort, tied_other, with_list, within}
 
 -- ---- a field, and then the rest
@@ -118,7 +118,7 @@ are_of_each_maybe s made [] vs g = tt
 are_of_each_maybe s made (o ∷ os) [] g = absurd g
 are_of_each_maybe s made (o ∷ os) (v ∷ vs) g = are_of-append s made (names_or_none (node s) o) (flat_map (names_or_none (node s)) os) (are_of_maybe s made o v g.0) (are_of_each_maybe s made os vs g.1)
 
-tied_after : (s t : Sort) (made : List format.Made) (rows : List Row) (xs : List (Option (Node t))) → (number s == number t) ≡ false → (ks names : List ℕ)
+tied_after : (s t : Sort) (made : List format.Made) (rows : List Row) (xs : List (Option (Node t))) → (number_of_sort s == number_of_sort t) ≡ false → (ks names : List ℕ)
     → AreOf s made ks → Tied t names made rows xs → Tied t (numbers_after ks names) made rows xs
 tied_after s t made rows xs other [] names a tied = tied
 tied_after s t made rows xs other (k ∷ ks) names a tied = tied_after s t made rows xs other ks (k ∷ names) a.1 (tied_other s t names made rows xs other tied k a.0.0 a.0.1)
@@ -144,10 +144,10 @@ ties_with s part made nodes names ks rest ties are tied = record {
   same = subst (Same made) (sym (rows_with s rest nodes)) ties.same;
   earlier = λ k e. either_true (is_among k ks) (is_among k names) (sym (among_after k ks names) ∙ e) (among_within s made ks are k) (ties.earlier k);
   unnamed = λ k x e. among_after k ks names ∙ rw (not_among s made ks are part k x e) (ties.unnamed k x e);
-  lists = λ t pt. subst (λ rows. Tied t (numbers_after ks names) made rows (list_of t (with_list s rest nodes))) (sym (rows_with s rest nodes)) (by t pt (number s == number t) refl);
+  lists = λ t pt. subst (λ rows. Tied t (numbers_after ks names) made rows (list_of t (with_list s rest nodes))) (sym (rows_with s rest nodes)) (by t pt (number_of_sort s == number_of_sort t) refl);
 }
   where
-    by : (t : Sort) → is_part t ≡ true → (b : Bool) → (number s == number t) ≡ b → Tied t (numbers_after ks names) made nodes.rows (list_of t (with_list s rest nodes))
+    by : (t : Sort) → is_part t ≡ true → (b : Bool) → (number_of_sort s == number_of_sort t) ≡ b → Tied t (numbers_after ks names) made nodes.rows (list_of t (with_list s rest nodes))
     by t pt true e = subst (λ t. Tied t (numbers_after ks names) made nodes.rows (list_of t (with_list s rest nodes))) (same_sort s t e)
         (subst (Tied s (numbers_after ks names) made nodes.rows) (sym (list_with s rest nodes part)) tied)
     by t pt false e = subst (Tied t (numbers_after ks names) made nodes.rows) (sym (other_list s t rest nodes e)) (tied_after s t made nodes.rows (list_of t nodes) e ks names are (ties.lists t pt))

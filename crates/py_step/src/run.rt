@@ -29,7 +29,7 @@ pub struct StepReport {
 ///
 /// # Errors
 /// There is no memory for the runs.
-#[tactic(auto, using(py_interp::proofs::Interpreted::interprets_meanings))]
+#[tactic(auto, using(py_interp::proofs::InterpreterLemmas::interprets_meanings))]
 pub fn run_script(
     alloc: Global,
     code: &CodeObject,

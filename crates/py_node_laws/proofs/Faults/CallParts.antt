@@ -203,7 +203,7 @@ entering_calls (Ok flags) class params name before after entered refused shapes 
 entering_calls (Err e) class params name before after entered refused shapes =
     λ n. subst (Tells (entry_faults (node.in_function (state before)) (state before).location params)) (refused n) (entry_tells class params shapes (state before))
 
-features_end : (c : NodeContext) (p : SourceLocation) (names : List Alias) → RefusalEndsAs c (check_features names) p p (feature_faults p names)
+pub features_end : (c : NodeContext) (p : SourceLocation) (names : List Alias) → RefusalEndsAs c (check_features names) p p (feature_faults p names)
 features_end c p [] = nothing_passes
 features_end c p (a ∷ rest) = function_or (is_feature a.name) (error.InvalidFutureFeature a.name) (features_end c p rest)
 

@@ -38,7 +38,7 @@ other_error : error.MissingCell ≡ error.OutOfMemory → ⊥
 other_error e = cc
 
 -- an emission that misses no cell is not refused for one
-finds : {A : Type 0} (answer : Result A (LocatedError CodegenErrorType)) (after : State) (c : NodeContext) (l b : ℕ) (o : Outcome) → Goes answer after o → FitsIn c l b o → FindsCells answer
+pub finds : {A : Type 0} (answer : Result A (LocatedError CodegenErrorType)) (after : State) (c : NodeContext) (l b : ℕ) (o : Outcome) → Goes answer after o → FitsIn c l b o → FindsCells answer
 finds (Ok a) after c l b o goes h = tt
 finds (Err e) after c l b o goes h = λ q. subst IsOfTree q (subst (FitsIn c l b) (goes (λ r. other_error (sym q ∙ r))) h)
 
@@ -55,16 +55,16 @@ short_of (const.ellipsis ∷ cs) h = (tt, short_of cs h)
 short_of (const.code o ∷ cs) h = (h.0, short_of cs h.1)
 
 module _ (s : State) (within : List Scope) (w : ℕ) (p : IsPlaced s within w) where
-  missing_ready : AccessReady s.node_context
+  pub missing_ready : AccessReady s.node_context
   missing_ready = record { cells = p.cells; frees = p.frees; few = p.few }
 
-  missing_here : AllOf (Here s.node_context) within
+  pub missing_here : AllOf (Here s.node_context) within
   missing_here = deep_all (λ n x. StandUpTo s.node_context.context.scopes s.node_context.context.here n x) within p.stand
 
-  missing_stands : FitStands s.node_context s.next s
+  pub missing_stands : FitStands s.node_context s.next s
   missing_stands = record { node_context = refl; next = refl; short = short_of s.constants p.short }
 
-  missing_room : fit_taken s + w < 2 ^ 30
+  pub missing_room : fit_taken s + w < 2 ^ 30
   unfolding fit_taken
   missing_room = p.room
 

@@ -1,4 +1,5 @@
 use Rattle.py_node_laws.proofs.Calls.{argument_calls_run, body_calls_run, comprehension_calls_run, deletion_calls_run, expression_calls_run, statement_calls_run, store_calls_run, test_calls_run}
+use Rattle.py_node_laws.proofs.PlacedCalls.{placed_calls_run}
 use Rattle.py_node_laws.proofs.laws_of_runs.calls_run.Goals as goal
 
 pub returns : goal.returns
@@ -10,6 +11,7 @@ returns c = record {
       deletion_calls_run;
   statements = statement_calls_run;
   bodies = body_calls_run;
+  placed = placed_calls_run;
   comprehensions = comprehension_calls_run;
   arguments =
       argument_calls_run;
