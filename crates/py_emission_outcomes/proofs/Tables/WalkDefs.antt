@@ -28,7 +28,8 @@ use Rattle.py_scope_proof.specs.ScopeNodes.{ScopeNode, ScopeForest, Bare, Grown,
 use Rattle.py_scope_proof.specs.ScopeNodes.{scope_nodes_in_arg, scope_nodes_in_defaults, scope_nodes_in_keywords, scope_nodes_in_notes}
 use Rattle.py_scope_proof.specs.ScopeNodes.{scope_nodes_in_opt_arg, scope_nodes_in_returns}
 use Rattle.py_scope_proof.specs.StmtScopeNodes.{function_with_type_params, scope_nodes_in_all_notes, scope_nodes_in_param, scope_nodes_in_params, with_type_params}
-use Rattle.py_emission_outcomes.proofs.Tables.Walks.{Walks, beside_beside, cell_walks, child_walks, constant_walks, context_walks, count_walks}
+use Rattle.py_scope_proof.proofs.NodeScopes.ScopeForestLemmas.{beside_assoc}
+use Rattle.py_emission_outcomes.proofs.Tables.Walks.{Walks, cell_walks, child_walks, constant_walks, context_walks, count_walks}
 use Rattle.py_emission_outcomes.proofs.Tables.Walks.{emit_walks, if_walks, keep_walks, level_walks, name_walks, postponed_walks, refuse_walks}
 use Rattle.py_emission_outcomes.proofs.Tables.Walks.{stored_walks, then_walks, two_parts, varname_walks, walks_alone}
 use Rattle.py_emission_outcomes.proofs.Tables.WalkParts.{Chain, ElementWalks, built_walks, call_walks, chain_as, elements_walk, join_chain}
@@ -38,7 +39,7 @@ use Rattle.py_emission_outcomes.proofs.Tables.WalkExprs.{defaults_walked, expr_w
 -- some and then others, each with its own scopes
 join_beside : {A : Type 0} (P : A → ScopeForest → ScopeForest → Type 0) (xs ys : List A) (f g h : ScopeForest) → Chain P xs (f & (g & h)) (g & h) → Chain P ys (g & h) h
     → Chain P (xs ++ ys) ((f & g) & h) h
-join_beside P xs ys f g h x y = chain_as P (xs ++ ys) (beside_beside f g h) (join_chain P xs ys x y)
+join_beside P xs ys f g h x y = chain_as P (xs ++ ys) (beside_assoc f g h) (join_chain P xs ys x y)
 
 -- annotations
 text_of_walks : {p : Bool} {g : ScopeForest} (text : Option (List ℕ)) → Walks p (emission_of_text text) g g
@@ -121,7 +122,7 @@ all_params_walk : (p : Bool) (h : ScopeForest) (ts : tree.TypeParams) → Chain 
 all_params_walk p h tree.no_type_params = refl
 all_params_walk p h (tree.more_type_params t ts) =
     let r = scope_nodes_in_params p ts in
-    chain_as (Walks p) (param_emissions (tree.more_type_params t ts)) (beside_beside (scope_nodes_in_param p t) r h) (r & h, param_walks p (r & h) t, all_params_walk p h ts)
+    chain_as (Walks p) (param_emissions (tree.more_type_params t ts)) (beside_assoc (scope_nodes_in_param p t) r h) (r & h, param_walks p (r & h) t, all_params_walk p h ts)
 
 params_walk : (p : Bool) (h : ScopeForest) (ts : tree.TypeParams) → Walks p (emission_of_params ts) (scope_nodes_in_params p ts & h) h
 params_walk p h ts = built_walks p op.BuildTuple (param_emissions ts) (all_params_walk p h ts)
@@ -221,7 +222,7 @@ class_call_walks {p} {function} h name bases keywords x =
     let text : Emission = emit_constant op.LoadConst (const.str name) in
     call_walks p (Function (emit op.LoadBuildClass 0)) (after_name (counted_build op.BuildTuple) function text els) (keyword_emissions keywords) (emit_walks op.LoadBuildClass 0)
     (after_name_walks function text els x (constant_walks op.LoadConst (const.str name))
-    (chain_as (ElementWalks p) els (beside_beside (scope_nodes_in_all p bases) k h) (elements_walk p (all_emissions bases) (exprs_walk p (k & h) bases)))) (keywords_walk p h keywords)
+    (chain_as (ElementWalks p) els (beside_assoc (scope_nodes_in_all p bases) k h) (elements_walk p (all_emissions bases) (exprs_walk p (k & h) bases)))) (keywords_walk p h keywords)
 
 -- the scopes of what a class is called with
 abbrev pub called : Bool → tree.Exprs → tree.Keywords → ScopeForest

@@ -23,8 +23,9 @@ use Rattle.py_scope_proof.specs.ScopeNodes.{scope_nodes_in_all, scope_nodes_in_a
 use Rattle.py_scope_proof.specs.ScopeNodes.{scope_nodes_in_clauses, scope_nodes_in_defaults, scope_nodes_in_each, scope_nodes_in_first}
 use Rattle.py_scope_proof.specs.ScopeNodes.{scope_nodes_in_keys, scope_nodes_in_keywords, scope_nodes_in_opt}
 use Rattle.py_scope_proof.proofs.NodeScopes.Lengths.{length_all, length_annotations}
+use Rattle.py_scope_proof.proofs.NodeScopes.ScopeForestLemmas.{beside_assoc}
 use Rattle.py_emission_outcomes.proofs.Capacity.Scopeless.{texts_scopeless}
-use Rattle.py_emission_outcomes.proofs.Tables.Walks.{Walks, accessed_walks, at_walks, beside_beside, constant_walks, debug_walks, deleted_walks}
+use Rattle.py_emission_outcomes.proofs.Tables.Walks.{Walks, accessed_walks, at_walks, constant_walks, debug_walks, deleted_walks}
 use Rattle.py_emission_outcomes.proofs.Tables.Walks.{emit_walks, generating_walks, if_walks, in_function_walks, keep_walks, load_walks}
 use Rattle.py_emission_outcomes.proofs.Tables.Walks.{mangled_walks, refuse_walks, stored_walks, then_walks, two_parts, unless_debug_walks}
 use Rattle.py_emission_outcomes.proofs.Tables.Walks.{walks_alone, walks_as}
@@ -63,7 +64,7 @@ unsupported_walks at = at_walks at (refuse_walks error.NotImplementedYet tt)
 
 -- three scope forests and what stands behind them
 pub three_beside : (f g h k : ScopeForest) → (f & (g & h)) & k ≡ f & (g & (h & k))
-three_beside f g h k = beside_beside f (g & h) k ∙ ap (λ x. f & x) (beside_beside g h k)
+three_beside f g h k = beside_assoc f (g & h) k ∙ ap (λ x. f & x) (beside_assoc g h k)
 
 -- each walks from its own scopes, with others behind them, to these others
 mutual
@@ -125,7 +126,7 @@ mutual
       let els = elements (all_emissions args) in
       whole_walks at (two_parts (scope_nodes_in p func) (a & k)
       (call_walks p (emissions func).callee els (keyword_emissions keywords) (expr_walks p ((a & k) & h) func).callee
-      (chain_as (ElementWalks p) els (beside_beside a k h) (elements_walk p (all_emissions args) (exprs_walk p (k & h) args))) (keywords_walk p h keywords)))
+      (chain_as (ElementWalks p) els (beside_assoc a k h) (elements_walk p (all_emissions args) (exprs_walk p (k & h) args))) (keywords_walk p h keywords)))
   expr_walks p h (tree.FormattedValue at value c spec) =
       let s = scope_nodes_in_opt p spec in
       whole_walks at (two_parts (scope_nodes_in p value) s
@@ -157,13 +158,13 @@ mutual
       let s = scope_nodes_in_opt p step in
       whole_walks at (two_parts (scope_nodes_in_opt p lower) (u & s)
       (slice_walks p (opt_emission lower) (opt_emission upper) (opt_emission step) (opt_walks p ((u & s) & h) lower)
-      (subst (λ n. SomeWalks p (opt_emission upper) n (s & h)) (sym (beside_beside u s h)) (opt_walks p (s & h) upper)) (opt_walks p h step)))
+      (subst (λ n. SomeWalks p (opt_emission upper) n (s & h)) (sym (beside_assoc u s h)) (opt_walks p (s & h) upper)) (opt_walks p h step)))
 
   pub exprs_walk : (p : Bool) (h : ScopeForest) (es : tree.Exprs) → Chain (WalksWell p) (all_emissions es) (scope_nodes_in_all p es & h) h
   exprs_walk p h tree.no_exprs = refl
   exprs_walk p h (tree.more_exprs e es) =
       let r = scope_nodes_in_all p es in
-      chain_as (WalksWell p) (all_emissions (tree.more_exprs e es)) (beside_beside (scope_nodes_in p e) r h) (r & h, expr_walks p (r & h) e, exprs_walk p h es)
+      chain_as (WalksWell p) (all_emissions (tree.more_exprs e es)) (beside_assoc (scope_nodes_in p e) r h) (r & h, expr_walks p (r & h) e, exprs_walk p h es)
 
   pub opt_walks : (p : Bool) (h : ScopeForest) (o : tree.OptExpr) → SomeWalks p (opt_emission o) (scope_nodes_in_opt p o & h) h
   opt_walks p h tree.no_expr = refl
@@ -178,7 +179,7 @@ mutual
   entries_walk p h (tree.more_opts tree.no_expr os) (tree.more_exprs e es) even =
       let r = by_turns (scope_nodes_in_keys p os) (scope_nodes_in_each p es) in
       chain_as (OneWalks (PairWalks p) p) (pairs (opt_emissions (tree.more_opts tree.no_expr os)) (values (all_emissions (tree.more_exprs e es))))
-      (beside_beside (scope_nodes_in p e) r h) (r & h, (expr_walks p (r & h) e).value, entries_walk p h os es (omega (arith, even)))
+      (beside_assoc (scope_nodes_in p e) r h) (r & h, (expr_walks p (r & h) e).value, entries_walk p h os es (omega (arith, even)))
   entries_walk p h (tree.more_opts (tree.some_expr t) os) (tree.more_exprs e es) even =
       let r = by_turns (scope_nodes_in_keys p os) (scope_nodes_in_each p es) in
       let v = scope_nodes_in p e in
@@ -190,10 +191,10 @@ mutual
   keywords_walk p h tree.no_keywords = refl
   keywords_walk p h (tree.more_keywords None e ks) =
       let r = scope_nodes_in_keywords p ks in
-      chain_as (KeywordWalks p) (keyword_emissions (tree.more_keywords None e ks)) (beside_beside (scope_nodes_in p e) r h) (r & h, (expr_walks p (r & h) e).value, keywords_walk p h ks)
+      chain_as (KeywordWalks p) (keyword_emissions (tree.more_keywords None e ks)) (beside_assoc (scope_nodes_in p e) r h) (r & h, (expr_walks p (r & h) e).value, keywords_walk p h ks)
   keywords_walk p h (tree.more_keywords (Some name) e ks) =
       let r = scope_nodes_in_keywords p ks in
-      chain_as (KeywordWalks p) (keyword_emissions (tree.more_keywords (Some name) e ks)) (beside_beside (scope_nodes_in p e) r h) (r & h, (expr_walks p (r & h) e).value, keywords_walk p h ks)
+      chain_as (KeywordWalks p) (keyword_emissions (tree.more_keywords (Some name) e ks)) (beside_assoc (scope_nodes_in p e) r h) (r & h, (expr_walks p (r & h) e).value, keywords_walk p h ks)
 
   -- the clauses of a comprehension without the first iterable, the further ones, and that iterable
   clauses_walked : (p : Bool) (h : ScopeForest) (gs : tree.Generators) → ClausesWalk p (clause_emissions gs) (scope_nodes_in_after p gs & h) h
@@ -211,7 +212,7 @@ mutual
       let i = scope_nodes_in_all p ifs in
       let r = scope_nodes_in_clauses p gs in
       chain_as (ClauseWalks p) (clause_emissions (tree.more_generators target iter ifs is_async gs))
-      (beside_beside (scope_nodes_in p iter) (t & (i & r)) h ∙ ap (λ x. scope_nodes_in p iter & x) (three_beside t i r h)) (
+      (beside_assoc (scope_nodes_in p iter) (t & (i & r)) h ∙ ap (λ x. scope_nodes_in p iter & x) (three_beside t i r h)) (
         r & h,
         record {
           behind = t & (i & (r & h));
@@ -242,7 +243,7 @@ mutual
   positional_walk p h (tree.more_args a tree.no_expr rest) = positional_walk p h rest
   positional_walk p h (tree.more_args a (tree.some_expr e) rest) =
       let r = scope_nodes_in_args p rest in
-      chain_as (Walks p) (positional_emissions (tree.more_args a (tree.some_expr e) rest)) (beside_beside (scope_nodes_in p e) r h)
+      chain_as (Walks p) (positional_emissions (tree.more_args a (tree.some_expr e) rest)) (beside_assoc (scope_nodes_in p e) r h)
       (r & h, (expr_walks p (r & h) e).value, positional_walk p h rest)
 
   keyword_only_walk : (p : Bool) (h : ScopeForest) (args : tree.Args) → Chain (NamedWalks p) (keyword_only_emissions args) (scope_nodes_in_args p args & h) h
@@ -250,7 +251,7 @@ mutual
   keyword_only_walk p h (tree.more_args a tree.no_expr rest) = keyword_only_walk p h rest
   keyword_only_walk p h (tree.more_args (tree.arg at name annotation) (tree.some_expr e) rest) =
       let r = scope_nodes_in_args p rest in
-      chain_as (NamedWalks p) (keyword_only_emissions (tree.more_args (tree.arg at name annotation) (tree.some_expr e) rest)) (beside_beside (scope_nodes_in p e) r h)
+      chain_as (NamedWalks p) (keyword_only_emissions (tree.more_args (tree.arg at name annotation) (tree.some_expr e) rest)) (beside_assoc (scope_nodes_in p e) r h)
       (r & h, (expr_walks p (r & h) e).value, keyword_only_walk p h rest)
 
   pub stores_walk : (p : Bool) (h : ScopeForest) (e : tree.Expr) → StoresWalk p (stores e) (scope_nodes_in p e & h) h
@@ -268,7 +269,7 @@ mutual
   all_stores_walk p h tree.no_exprs = refl
   all_stores_walk p h (tree.more_exprs e es) =
       let r = scope_nodes_in_all p es in
-      chain_as (ElementWalks p) (all_stores (tree.more_exprs e es)) (beside_beside (scope_nodes_in p e) r h) (r & h, (stores_walk p (r & h) e).element, all_stores_walk p h es)
+      chain_as (ElementWalks p) (all_stores (tree.more_exprs e es)) (beside_assoc (scope_nodes_in p e) r h) (r & h, (stores_walk p (r & h) e).element, all_stores_walk p h es)
 
 -- a deletion, a list or a tuple element by element
 mutual

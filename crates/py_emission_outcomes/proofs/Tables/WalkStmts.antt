@@ -35,7 +35,7 @@ use Rattle.py_scope_proof.proofs.NodeScopes.ScopeForestLemmas.{scope_forest_join
 use Rattle.py_scope_proof.proofs.NodeScopes.Lengths.{length_annotation, length_in, length_opt}
 use Rattle.py_scope_proof.proofs.NodeScopes.StmtLengths.{length_stmt}
 use Rattle.py_emission_outcomes.proofs.Capacity.Scopeless.{doc_scopeless}
-use Rattle.py_emission_outcomes.proofs.Tables.Walks.{Walks, at_walks, beside_beside, constant_walks, context_walks, emit_walks, if_walks}
+use Rattle.py_emission_outcomes.proofs.Tables.Walks.{Walks, at_walks, constant_walks, context_walks, emit_walks, if_walks}
 use Rattle.py_emission_outcomes.proofs.Tables.Walks.{in_function_walks, jump_walks, keep_walks, level_walks, load_walks, loop_walks, loops_walk}
 use Rattle.py_emission_outcomes.proofs.Tables.Walks.{mangled_walks, move_walks, name_walks, refuse_walks, scopes_walk, stored_walks, then_walks}
 use Rattle.py_emission_outcomes.proofs.Tables.Walks.{three_walk, told_walks, two_parts, unless_debug_walks, walks_alone, walks_as}

@@ -34,6 +34,7 @@ use Rattle.py_emission_parts.specs.Sealed.{Head, assembled_object}
 use Rattle.py_emission_parts.specs.TableParts.{debug_constant, is_debug}
 use Rattle.py_emission_parts.specs.Tables.{are_whole, beyond, ends_before, is_bare, leads_to}
 use Rattle.py_scope_proof.specs.ScopeNodes.{ScopeNode, ScopeForest, Bare, Grown, ◌&◌, size}
+use Rattle.py_scope_proof.proofs.NodeScopes.ScopeForestLemmas.{beside_assoc, beside_bare, size_beside}
 
 -- an error that does not say that the tables are not those of the tree
 abbrev pub IsOfTables : CodegenErrorType → Type 0
@@ -150,15 +151,11 @@ module _ (es : List ScopeEntry) where
       go (are_whole s.node_context.context.scopes s.next n)
       ((λ i. are_whole (x.scopes i) s.next (sym e i)) ∙ they_are_whole es s.next w h x.ends)
     where
-      long : (v u : ScopeForest) → size (v & u) ≡ size v + size u
-      long Bare u = refl
-      long (Grown o nested after) u = let z = long after u in omega (arith, z)
-
       go : (b : Bool) → b ≡ true → WalkedTo es p end h (if b then Done (record s { next = s.next + n }) else Refused mismatch (Some s.location))
       go true q = record {
         scopes = x.scopes;
         postponed = x.postponed;
-        end = (let y = x.end in let z = long w h in omega (arith, y, z, e));
+        end = (let y = x.end in let z = size_beside w h in omega (arith, y, z, e));
         ends = subst (λ m. HaveEnds es (s.next + m) h) e (ends_after es s.next w h x.ends);
       }
       go false q = absurd cc
@@ -288,19 +285,11 @@ refuse_walks e x = record { steps = x }
 pub walks_as : {p : Bool} {a : Emission} {f g h : ScopeForest} → f ≡ g → Walks p a g h → Walks p a f h
 walks_as {p} {a} {h = h} e x = subst (λ k. Walks p a k h) (sym e) x
 
-beside_beside : (g h k : ScopeForest) → (g & h) & k ≡ g & (h & k)
-beside_beside Bare h k = refl
-beside_beside (Grown o nested after) h k = ap (Grown o nested) (beside_beside after h k)
-
 -- two parts, one after the other
 pub two_parts : {p : Bool} {a : Emission} (f g : ScopeForest) {k h : ScopeForest} → Walks p a (f & (g & k)) h → Walks p a ((f & g) & k) h
-two_parts f g {k} x = walks_as (beside_beside f g k) x
+two_parts f g {k} x = walks_as (beside_assoc f g k) x
 
 -- and without anything behind
-pub beside_bare : (g : ScopeForest) → g & Bare ≡ g
-beside_bare Bare = refl
-beside_bare (Grown o nested after) = ap (Grown o nested) (beside_bare after)
-
 pub walks_alone : {p : Bool} {a : Emission} {g : ScopeForest} → Walks p a (g & Bare) Bare → Walks p a g Bare
 walks_alone {g = g} x = walks_as (sym (beside_bare g)) x
 
