@@ -39,7 +39,7 @@ use Rattle.py_emission_outcomes.proofs.Tables.WalkExprs.{defaults_walked, expr_w
 -- some and then others, each with its own scopes
 join_beside : {A : Type 0} (P : A → ScopeForest → ScopeForest → Type 0) (xs ys : List A) (f g h : ScopeForest) → Chain P xs (f & (g & h)) (g & h) → Chain P ys (g & h) h
     → Chain P (xs ++ ys) ((f & g) & h) h
-join_beside P xs ys f g h x y = chain_as P (xs ++ ys) (beside_assoc f g h) (join_chain P xs ys x y)
+join_beside P xs ys f g h x y = chain_as P ((f & g) & h) (f & (g & h)) h (xs ++ ys) (beside_assoc f g h) (join_chain P (f & (g & h)) (g & h) h xs ys x y)
 
 -- annotations
 text_of_walks : {p : Bool} {g : ScopeForest} (text : Option (List ℕ)) → Walks p (emission_of_text text) g g
@@ -105,7 +105,7 @@ unfolding inside with_path
 function_value_walks {p} h o flags name params stmts returns x =
     then_walks
     (child_walks (function_inside name) (function_shape params name) (λ c n. refl) (λ c n. refl) (scope_walks p (parameters params) x)
-    (λ b. function_made_walks p flags (notes params returns) name b (notes_walk p h params returns)))
+    (λ b. function_made_walks p (noted p params returns & h) h flags (notes params returns) name b (notes_walk p h params returns)))
     (level_walks (λ l. documented_walks p (doc_of l stmts)))
 
 -- type parameters
@@ -122,10 +122,11 @@ all_params_walk : (p : Bool) (h : ScopeForest) (ts : tree.TypeParams) → Chain 
 all_params_walk p h tree.no_type_params = refl
 all_params_walk p h (tree.more_type_params t ts) =
     let r = scope_nodes_in_params p ts in
-    chain_as (Walks p) (param_emissions (tree.more_type_params t ts)) (beside_assoc (scope_nodes_in_param p t) r h) (r & h, param_walks p (r & h) t, all_params_walk p h ts)
+    chain_as (Walks p) ((scope_nodes_in_param p t & r) & h) (scope_nodes_in_param p t & (r & h)) h (param_emissions (tree.more_type_params t ts)) (beside_assoc (scope_nodes_in_param p t) r h)
+    (r & h, param_walks p (r & h) t, all_params_walk p h ts)
 
 params_walk : (p : Bool) (h : ScopeForest) (ts : tree.TypeParams) → Walks p (emission_of_params ts) (scope_nodes_in_params p ts & h) h
-params_walk p h ts = built_walks p op.BuildTuple (param_emissions ts) (all_params_walk p h ts)
+params_walk p h ts = built_walks p (scope_nodes_in_params p ts & h) h op.BuildTuple (param_emissions ts) (all_params_walk p h ts)
 
 handed_walk : {p : Bool} {g : ScopeForest} (names : List (List ℕ)) → Walks p (load_handed names) g g
 handed_walk [] = keep_walks
@@ -206,23 +207,25 @@ unfolding inside with_path nested_in_class
 class_function_walks {p} h o path flags name stmts x =
     child_walks (nested_class path name) (class_shape name) (λ c n. refl) (λ c n. refl) (class_scope_walks stmts x) (λ b. made_walks p flags name b)
 
-after_name_walks : {p : Bool} {g m h : ScopeForest} (f x : Emission) (es : List (Element Emission Emission)) → Walks p f g m → Walks p x m m → Chain (ElementWalks p) es m h
+after_name_walks : (p : Bool) (g m h : ScopeForest) (f x : Emission) (es : List (Element Emission Emission)) → Walks p f g m → Walks p x m m → Chain (ElementWalks p) es m h
     → Chain (ElementWalks p) (after_name (counted_build op.BuildTuple) f x es) g h
-after_name_walks {p} {g} {m} {h} f x es y z w = go (has_starred es)
+after_name_walks p g m h f x es y z w = go (has_starred es)
   where
     go : (b : Bool) → Chain (ElementWalks p) (if b then Spread (counted_build op.BuildTuple (f ∷ x ∷ [])) ∷ es else Single f ∷ Single x ∷ es) g h
-    go true = (m, built_walks p op.BuildTuple (f ∷ x ∷ []) (m, y, (m, z, refl)), w)
+    go true = (m, built_walks p g m op.BuildTuple (f ∷ x ∷ []) (m, y, (m, z, refl)), w)
     go false = (m, y, (m, z, w))
 
 class_call_walks : {p : Bool} {function : Emission} {g : ScopeForest} (h : ScopeForest) (name : List ℕ) (bases : tree.Exprs) (keywords : tree.Keywords)
     → Walks p function g ((scope_nodes_in_all p bases & scope_nodes_in_keywords p keywords) & h) → Walks p (class_call name function bases keywords) g h
-class_call_walks {p} {function} h name bases keywords x =
+class_call_walks {p} {function} {g} h name bases keywords x =
+    let b = scope_nodes_in_all p bases in
     let k = scope_nodes_in_keywords p keywords in
     let els = elements (all_emissions bases) in
     let text : Emission = emit_constant op.LoadConst (const.str name) in
-    call_walks p (Function (emit op.LoadBuildClass 0)) (after_name (counted_build op.BuildTuple) function text els) (keyword_emissions keywords) (emit_walks op.LoadBuildClass 0)
-    (after_name_walks function text els x (constant_walks op.LoadConst (const.str name))
-    (chain_as (ElementWalks p) els (beside_assoc (scope_nodes_in_all p bases) k h) (elements_walk p (all_emissions bases) (exprs_walk p (k & h) bases)))) (keywords_walk p h keywords)
+    call_walks p g g (k & h) h (Function (emit op.LoadBuildClass 0)) (after_name (counted_build op.BuildTuple) function text els) (keyword_emissions keywords) (emit_walks op.LoadBuildClass 0)
+    (after_name_walks p g ((b & k) & h) (k & h) function text els x (constant_walks op.LoadConst (const.str name))
+    (chain_as (ElementWalks p) ((b & k) & h) (b & (k & h)) (k & h) els (beside_assoc b k h)
+    (elements_walk p (b & (k & h)) (k & h) (all_emissions bases) (exprs_walk p (k & h) bases)))) (keywords_walk p h keywords)
 
 -- the scopes of what a class is called with
 abbrev pub called : Bool → tree.Exprs → tree.Keywords → ScopeForest

@@ -29,28 +29,28 @@ use Rattle.py_emission_outcomes.proofs.Tables.WalkParts.{Chain, NamedWalks, Walk
 
 module _ (p : Bool) where
   -- a function of a code object
-  loads_walk : {g : ScopeForest} (xs : List (List ℕ)) → Chain (Walks p) (cell_loads xs) g g
-  loads_walk [] = refl
-  loads_walk {g} (x ∷ xs) = (g, cell_walks x, loads_walk xs)
+  loads_walk : (g : ScopeForest) (xs : List (List ℕ)) → Chain (Walks p) (cell_loads xs) g g
+  loads_walk g [] = refl
+  loads_walk g (x ∷ xs) = (g, cell_walks x, loads_walk g xs)
 
-  closure_walks : {g : ScopeForest} (xs : List (List ℕ)) → Walks p (closure xs) g g
-  closure_walks [] = keep_walks
-  closure_walks (x ∷ xs) = built_walks p op.BuildTuple (cell_loads (x ∷ xs)) (loads_walk (x ∷ xs))
+  closure_walks : (g : ScopeForest) (xs : List (List ℕ)) → Walks p (closure xs) g g
+  closure_walks g [] = keep_walks
+  closure_walks g (x ∷ xs) = built_walks p g g op.BuildTuple (cell_loads (x ∷ xs)) (loads_walk g (x ∷ xs))
 
   pub made_walks : {g : ScopeForest} (flags : ℕ) (name : List ℕ) (o : Object) → Walks p (made_function flags name o) g g
-  made_walks flags name o =
-      then_walks (closure_walks (free_names o))
+  made_walks {g} flags name o =
+      then_walks (closure_walks g (free_names o))
       (then_walks (constant_walks op.LoadConst (const.code o))
       (then_walks (constant_walks op.LoadConst (const.str name)) (emit_walks op.MakeFunction (flags + some_flag 0x01 (free_names o)))))
 
   -- what is built of values, where there are any
-  pub some_built_walks : {g h : ScopeForest} (i : Instruction) (vs : List Emission) → Chain (Walks p) vs g h → Walks p (some_emitted (counted_build i) vs) g h
-  some_built_walks i [] x = walks_as x keep_walks
-  some_built_walks i (v ∷ vs) x = built_walks p i (v ∷ vs) x
+  pub some_built_walks : (g h : ScopeForest) (i : Instruction) (vs : List Emission) → Chain (Walks p) vs g h → Walks p (some_emitted (counted_build i) vs) g h
+  some_built_walks g h i [] x = walks_as x keep_walks
+  some_built_walks g h i (v ∷ vs) x = built_walks p g h i (v ∷ vs) x
 
-  some_map_walks : {g h : ScopeForest} (ps : List (List ℕ × Emission)) → Chain (NamedWalks p) ps g h → Walks p (some_emitted map_of ps) g h
-  some_map_walks [] x = walks_as x keep_walks
-  some_map_walks (v ∷ vs) x = map_walks p (v ∷ vs) x
+  some_map_walks : (g h : ScopeForest) (ps : List (List ℕ × Emission)) → Chain (NamedWalks p) ps g h → Walks p (some_emitted map_of ps) g h
+  some_map_walks g h [] x = walks_as x keep_walks
+  some_map_walks g h (v ∷ vs) x = map_walks p g h (v ∷ vs) x
 
   -- the defaults of a function
   pub record DefaultsWalk (d : DefaultEmissions) (g h : ScopeForest) : Type 0 where
@@ -59,7 +59,7 @@ module _ (p : Bool) where
     pub keyword : Chain (NamedWalks p) d.keyword between h
 
   pub defaults_walk : {g h : ScopeForest} (d : DefaultEmissions) → DefaultsWalk d g h → Walks p (emission_of_defaults d) g h
-  defaults_walk d x = then_walks (some_built_walks op.BuildTuple d.positional x.positional) (some_map_walks d.keyword x.keyword)
+  defaults_walk {g} {h} d x = then_walks (some_built_walks g x.between op.BuildTuple d.positional x.positional) (some_map_walks x.between h d.keyword x.keyword)
 
   -- a function's scope
   parameters_walk : {g : ScopeForest} (xs : List (List ℕ)) → Walks p (enter_parameters xs) g g
@@ -73,8 +73,8 @@ module _ (p : Bool) where
   pub noted_walks : {v : Emission} {g h : ScopeForest} (name : List ℕ) → Walks p v g h → Walks p (named_annotation name v) g h
   noted_walks name x = then_walks (context_walks (λ c. constant_walks op.LoadConst (const.str (mangled_by c name)))) x
 
-  pub function_made_walks : {g h : ScopeForest} (flags : ℕ) (notes : List Emission) (name : List ℕ) (o : Object) → Chain (Walks p) notes g h → Walks p (function_made flags notes name o) g h
-  function_made_walks flags notes name o x = then_walks (some_built_walks op.BuildMap notes x) (context_walks (λ c. made_walks (flags + some_flag 0x02 notes) (qualified_under c name) o))
+  pub function_made_walks : (g h : ScopeForest) (flags : ℕ) (notes : List Emission) (name : List ℕ) (o : Object) → Chain (Walks p) notes g h → Walks p (function_made flags notes name o) g h
+  function_made_walks g h flags notes name o x = then_walks (some_built_walks g h op.BuildMap notes x) (context_walks (λ c. made_walks (flags + some_flag 0x02 notes) (qualified_under c name) o))
 
   -- a docstring, and decorators
   pub documented_walks : {g : ScopeForest} (doc : Option (List ℕ)) → Walks p (docstring_store doc) g g
@@ -87,8 +87,8 @@ module _ (p : Bool) where
   decorations_walk [] = keep_walks
   decorations_walk (d ∷ ds) = then_walks (count_walks op.CallFunctionPositional 1) (decorations_walk ds)
 
-  pub decorated_walks : {v : Emission} {g m h : ScopeForest} (ds : List Emission) → Chain (Walks p) ds g m → Walks p v m h → Walks p (decorated_value ds v) g h
-  decorated_walks ds x y = then_walks (turn_walks p ds x) (then_walks y (decorations_walk ds))
+  pub decorated_walks : {v : Emission} (g m h : ScopeForest) (ds : List Emission) → Chain (Walks p) ds g m → Walks p v m h → Walks p (decorated_value ds v) g h
+  decorated_walks g m h ds x y = then_walks (turn_walks p g m ds x) (then_walks y (decorations_walk ds))
 
 -- a lambda; its annotations are passed
 pub lambda_walks : {p : Bool} {returned : Emission} {g nested h : ScopeForest} (o : ScopeNode) (notes : ScopeForest) (params : tree.Arguments) (d : DefaultEmissions)
@@ -121,33 +121,33 @@ ClausesWalk p [] g h = g ≡ h
 ClausesWalk p (c ∷ cs) g h = (m : ScopeForest) × RestWalks p c g m × Chain (ClauseWalks p) cs m h
 
 module _ (p : Bool) where
-  conditions_walk : {g h : ScopeForest} (es : List Emissions) (start : ℕ) → Chain (WalksWell p) es g h → Walks p (conditions es start) g h
-  conditions_walk [] start x = walks_as x keep_walks
-  conditions_walk (e ∷ es) start x = then_walks (x.1.test false start) (conditions_walk es start x.2)
+  conditions_walk : (g h : ScopeForest) (es : List Emissions) (start : ℕ) → Chain (WalksWell p) es g h → Walks p (conditions es start) g h
+  conditions_walk g h [] start x = walks_as x keep_walks
+  conditions_walk g h (e ∷ es) start x = then_walks (x.1.test false start) (conditions_walk x.0 h es start x.2)
 
   clause_walks : {iterator nested : Emission} {g i j h : ScopeForest} (c : ClauseEmissions) → Walks p iterator g i → RestWalks p c i j → Walks p nested j h → Walks p (clause iterator c nested) g h
-  clause_walks c x y z =
+  clause_walks {j = j} c x y z =
       two_walk (λ start end. x) (λ start end. then_walks (jump_walks op.ForIter end)
-      (then_walks y.target (then_walks (conditions_walk c.conditions start y.conditions) (then_walks z (jump_walks op.Jump start)))))
+      (then_walks y.target (then_walks (conditions_walk y.between j c.conditions start y.conditions) (then_walks z (jump_walks op.Jump start)))))
       (λ start end. keep_walks)
 
-  further_walk : {nested : Emission} {g m h : ScopeForest} (cs : List ClauseEmissions) → Chain (ClauseWalks p) cs g m → Walks p nested m h → Walks p (further_clauses cs nested) g h
-  further_walk [] x y = walks_as x y
-  further_walk (c ∷ cs) x y = clause_walks c (then_walks x.1.iterable (emit_walks op.GetIter 0)) x.1.rest (further_walk cs x.2 y)
+  further_walk : {nested : Emission} (g m h : ScopeForest) (cs : List ClauseEmissions) → Chain (ClauseWalks p) cs g m → Walks p nested m h → Walks p (further_clauses cs nested) g h
+  further_walk g m h [] x y = walks_as x y
+  further_walk g m h (c ∷ cs) x y = clause_walks c (then_walks x.1.iterable (emit_walks op.GetIter 0)) x.1.rest (further_walk x.0 m h cs x.2 y)
 
-  clauses_walk : {nested : Emission} {g m h : ScopeForest} (cs : List ClauseEmissions) → ClausesWalk p cs g m → Walks p nested m h → Walks p (clauses cs nested) g h
-  clauses_walk [] x y = walks_as x y
-  clauses_walk (c ∷ cs) x y = clause_walks c (varname_walks op.LoadFast (codes ".0")) x.1 (further_walk cs x.2 y)
+  clauses_walk : {nested : Emission} (g m h : ScopeForest) (cs : List ClauseEmissions) → ClausesWalk p cs g m → Walks p nested m h → Walks p (clauses cs nested) g h
+  clauses_walk g m h [] x y = walks_as x y
+  clauses_walk g m h (c ∷ cs) x y = clause_walks c (varname_walks op.LoadFast (codes ".0")) x.1 (further_walk x.0 m h cs x.2 y)
 
   -- the scopes of comprehensions
-  pub gathered_walks : {element : Emission} {g m h : ScopeForest} (build append : Instruction) (cs : List ClauseEmissions) → ClausesWalk p cs g m → Walks p element m h
+  pub gathered_walks : {element : Emission} (g m h : ScopeForest) (build append : Instruction) (cs : List ClauseEmissions) → ClausesWalk p cs g m → Walks p element m h
       → Walks p (collection_scope build append cs element) g h
-  gathered_walks build append cs x y =
-      then_walks (emit_walks build 0) (then_walks (clauses_walk cs x (then_walks y (emit_walks append (length cs)))) (emit_walks op.ReturnValue 0))
+  gathered_walks g m h build append cs x y =
+      then_walks (emit_walks build 0) (then_walks (clauses_walk g m h cs x (then_walks y (emit_walks append (length cs)))) (emit_walks op.ReturnValue 0))
 
-  pub generated_walks : {element : Emission} {g m h : ScopeForest} (cs : List ClauseEmissions) → ClausesWalk p cs g m → Walks p element m h → Walks p (generator_body cs element) g h
-  generated_walks cs x y =
-      then_walks (clauses_walk cs x (then_walks y (then_walks generating_walks (then_walks (emit_walks op.YieldValue 0) (emit_walks op.Pop 0)))))
+  pub generated_walks : {element : Emission} (g m h : ScopeForest) (cs : List ClauseEmissions) → ClausesWalk p cs g m → Walks p element m h → Walks p (generator_body cs element) g h
+  generated_walks g m h cs x y =
+      then_walks (clauses_walk g m h cs x (then_walks y (then_walks generating_walks (then_walks (emit_walks op.YieldValue 0) (emit_walks op.Pop 0)))))
       (constant_walks op.ReturnConst const.none)
 
   -- and what is made of them
@@ -163,7 +163,7 @@ module _ (p : Bool) where
   FirstWalks [] g h = Unit {0}
   FirstWalks (c ∷ cs) g h = Walks p c.iterable g h
 
-  pub comprehension_walks : {scope : Emission} {nested after h : ScopeForest} (o : ScopeNode) (awaited : Bool) (name : List ℕ) (cs : List ClauseEmissions)
+  pub comprehension_walks : {scope : Emission} {nested : ScopeForest} (after h : ScopeForest) (o : ScopeNode) (awaited : Bool) (name : List ℕ) (cs : List ClauseEmissions)
       → Walks p scope nested Bare → FirstWalks cs after h → Walks p (comprehension awaited name cs scope) (Grown o nested after) h
-  comprehension_walks o awaited name [] x y = refuse_walks (error.MalformedTree shape.NoGenerator) tt
-  comprehension_walks o awaited name (c ∷ cs) x y = if_walks awaited (refuse_walks error.NotImplementedYet tt) (called_walks o name x y)
+  comprehension_walks after h o awaited name [] x y = refuse_walks (error.MalformedTree shape.NoGenerator) tt
+  comprehension_walks after h o awaited name (c ∷ cs) x y = if_walks awaited (refuse_walks error.NotImplementedYet tt) (called_walks o name x y)

@@ -162,8 +162,9 @@ module _ (p : Bool) where
       let s = tree.FunctionDef at name params body decorators returns generic in
       let own = Grown (Own s) (scope_nodes_in_stmts p body) (noted p params returns) in
       let f = function_with_type_params (TypeParamScope s) (scope_nodes_in_params p generic) (scope_nodes_in_defaults p params) own generic in
-      two_parts (scope_nodes_in_all p decorators) f
-      (decorated_walks p (values (all_emissions decorators)) (values_walk p (all_emissions decorators) (exprs_walk p (f & h) decorators))
+      let d = scope_nodes_in_all p decorators in
+      two_parts d f
+      (decorated_walks p (d & (f & h)) (f & h) h (values (all_emissions decorators)) (values_walk p (d & (f & h)) (f & h) (all_emissions decorators) (exprs_walk p (f & h) decorators))
       (function_walks h (TypeParamScope s) (Own s) name params body returns generic (walks_alone (then_walks x (end_walks (after_doc body))))))
 
   pub class_value_walks : (h : ScopeForest) (at : SourceLocation) (name : List ℕ) (bases : tree.Exprs) (keywords : tree.Keywords) (body : tree.Stmts) (decorators : tree.Exprs)
@@ -174,8 +175,9 @@ module _ (p : Bool) where
       let s = tree.ClassDef at name bases keywords body decorators generic in
       let own = Grown (Own s) (scope_nodes_in_stmts p body) (called p bases keywords) in
       let f = with_type_params (TypeParamScope s) (scope_nodes_in_params p generic) own generic in
-      two_parts (scope_nodes_in_all p decorators) f
-      (decorated_walks p (values (all_emissions decorators)) (values_walk p (all_emissions decorators) (exprs_walk p (f & h) decorators))
+      let d = scope_nodes_in_all p decorators in
+      two_parts d f
+      (decorated_walks p (d & (f & h)) (f & h) h (values (all_emissions decorators)) (values_walk p (d & (f & h)) (f & h) (all_emissions decorators) (exprs_walk p (f & h) decorators))
       (built_class_walks h (TypeParamScope s) (Own s) name bases keywords body generic (walks_alone x)))
 
 mutual

@@ -57,36 +57,36 @@ choice_walks t x y = two_walk (λ other end. then_walks (t false other) (then_wa
 
 module _ (p : Bool) where
   -- `and` and `or`
-  shorts_walk : {g h : ScopeForest} (o : BoolOp) (end : ℕ) (es : List Emissions) → Chain (WalksWell p) es g h → Walks p (shorts o end es) g h
-  shorts_walk o end [] x = walks_as x keep_walks
-  shorts_walk {g} o end (e ∷ []) x = subst (λ n. Walks p e.value g n) x.2 x.1.value
-  shorts_walk o end (e ∷ f ∷ fs) x = then_walks x.1.value (then_walks (jump_walks (keeping_jump (deciding_truth o)) end) (shorts_walk o end (f ∷ fs) x.2))
+  shorts_walk : (g h : ScopeForest) (o : BoolOp) (end : ℕ) (es : List Emissions) → Chain (WalksWell p) es g h → Walks p (shorts o end es) g h
+  shorts_walk g h o end [] x = walks_as x keep_walks
+  shorts_walk g h o end (e ∷ []) x = subst (λ n. Walks p e.value g n) x.2 x.1.value
+  shorts_walk g h o end (e ∷ f ∷ fs) x = then_walks x.1.value (then_walks (jump_walks (keeping_jump (deciding_truth o)) end) (shorts_walk x.0 h o end (f ∷ fs) x.2))
 
-  some_values_walk : {g h : ScopeForest} (o : BoolOp) (es : List Emissions) → Chain (WalksWell p) es g h → Walks p (some_values o es) g h
-  some_values_walk o es x = one_walks (λ end. shorts_walk o end es x) (λ end. keep_walks)
+  some_values_walk : (g h : ScopeForest) (o : BoolOp) (es : List Emissions) → Chain (WalksWell p) es g h → Walks p (some_values o es) g h
+  some_values_walk g h o es x = one_walks (λ end. shorts_walk g h o end es x) (λ end. keep_walks)
 
-  bool_value_walks : {g h : ScopeForest} (o : BoolOp) (es : List Emissions) → Chain (WalksWell p) es g h → Walks p (bool_value o es) g h
-  bool_value_walks o es x = if_walks (nat_eq (length es) 0) (refuse_walks (error.MalformedTree shape.NoOperand) tt) (some_values_walk o es x)
+  bool_value_walks : (g h : ScopeForest) (o : BoolOp) (es : List Emissions) → Chain (WalksWell p) es g h → Walks p (bool_value o es) g h
+  bool_value_walks g h o es x = if_walks (nat_eq (length es) 0) (refuse_walks (error.MalformedTree shape.NoOperand) tt) (some_values_walk g h o es x)
 
-  tests_walk : {g h : ScopeForest} (stop : Bool) (out : ℕ) (c : Bool) (to : ℕ) (es : List Emissions) → Chain (WalksWell p) es g h → Walks p (tests stop out c to es) g h
-  tests_walk stop out c to [] x = walks_as x keep_walks
-  tests_walk {g} stop out c to (e ∷ []) x = subst (λ n. Walks p (e.test c to) g n) x.2 (x.1.test c to)
-  tests_walk stop out c to (e ∷ f ∷ fs) x = then_walks (x.1.test stop out) (tests_walk stop out c to (f ∷ fs) x.2)
+  tests_walk : (g h : ScopeForest) (stop : Bool) (out : ℕ) (c : Bool) (to : ℕ) (es : List Emissions) → Chain (WalksWell p) es g h → Walks p (tests stop out c to es) g h
+  tests_walk g h stop out c to [] x = walks_as x keep_walks
+  tests_walk g h stop out c to (e ∷ []) x = subst (λ n. Walks p (e.test c to) g n) x.2 (x.1.test c to)
+  tests_walk g h stop out c to (e ∷ f ∷ fs) x = then_walks (x.1.test stop out) (tests_walk x.0 h stop out c to (f ∷ fs) x.2)
 
-  past_walks : {g h : ScopeForest} (stop c : Bool) (es : List Emissions) (to : ℕ) → Chain (WalksWell p) es g h → Walks p (past_tests stop c es to) g h
-  past_walks stop c es to x = one_walks (λ end. tests_walk stop end c to es x) (λ end. keep_walks)
+  past_walks : (g h : ScopeForest) (stop c : Bool) (es : List Emissions) (to : ℕ) → Chain (WalksWell p) es g h → Walks p (past_tests stop c es to) g h
+  past_walks g h stop c es to x = one_walks (λ end. tests_walk g h stop end c to es x) (λ end. keep_walks)
 
-  some_test_walks : {g h : ScopeForest} (stop c : Bool) (es : List Emissions) (to : ℕ) → Chain (WalksWell p) es g h → Walks p (some_test stop c es to) g h
-  some_test_walks false false es to x = tests_walk false to false to es x
-  some_test_walks true true es to x = tests_walk true to true to es x
-  some_test_walks false true es to x = past_walks false true es to x
-  some_test_walks true false es to x = past_walks true false es to x
+  some_test_walks : (g h : ScopeForest) (stop c : Bool) (es : List Emissions) (to : ℕ) → Chain (WalksWell p) es g h → Walks p (some_test stop c es to) g h
+  some_test_walks g h false false es to x = tests_walk g h false to false to es x
+  some_test_walks g h true true es to x = tests_walk g h true to true to es x
+  some_test_walks g h false true es to x = past_walks g h false true es to x
+  some_test_walks g h true false es to x = past_walks g h true false es to x
 
-  bool_test_walks : {g h : ScopeForest} (o : BoolOp) (es : List Emissions) (c : Bool) (to : ℕ) → Chain (WalksWell p) es g h → Walks p (bool_test o es c to) g h
-  bool_test_walks o es c to x = if_walks (nat_eq (length es) 0) (refuse_walks (error.MalformedTree shape.NoOperand) tt) (some_test_walks (deciding_truth o) c es to x)
+  bool_test_walks : (g h : ScopeForest) (o : BoolOp) (es : List Emissions) (c : Bool) (to : ℕ) → Chain (WalksWell p) es g h → Walks p (bool_test o es c to) g h
+  bool_test_walks g h o es c to x = if_walks (nat_eq (length es) 0) (refuse_walks (error.MalformedTree shape.NoOperand) tt) (some_test_walks g h (deciding_truth o) c es to x)
 
-  pub bool_walks : {g h : ScopeForest} (at : SourceLocation) (o : BoolOp) (es : List Emissions) → Chain (WalksWell p) es g h → WalksWell p (bool_emissions at o es) g h
-  bool_walks at o es x = ordinary_walks (at_walks at (bool_value_walks o es x)) (λ c to. bool_test_walks o es c to x)
+  pub bool_walks : (g h : ScopeForest) (at : SourceLocation) (o : BoolOp) (es : List Emissions) → Chain (WalksWell p) es g h → WalksWell p (bool_emissions at o es) g h
+  bool_walks g h at o es x = ordinary_walks (at_walks at (bool_value_walks g h o es x)) (λ c to. bool_test_walks g h o es c to x)
 
   unary_value_walks : {g h : ScopeForest} (at : SourceLocation) (u : UnaryOp) (e : Emissions) → WalksWell p e g h → Walks p (unary_value at u e) g h
   unary_value_walks at u e x = at_walks at (then_walks x.value (emit_walks op.UnaryOperation (unary_case u)))
@@ -98,33 +98,33 @@ module _ (p : Bool) where
   unary_walks at unary.USub e x = tested_walks (unary_value_walks at unary.USub e x)
 
   -- as many comparisons as values
-  links_walk : {g h : ScopeForest} (out : ℕ) (ops : List CmpOp) (es : List Emissions) → length ops ≡ length es → Chain (WalksWell p) es g h → Walks p (links out ops es) g h
-  links_walk out [] [] even x = walks_as x keep_walks
-  links_walk out [] (e ∷ es) even x = absurd (omega (arith, even))
-  links_walk out (o ∷ ops) [] even x = absurd (omega (arith, even))
-  links_walk out (o ∷ []) (e ∷ []) even x = then_walks x.1.value (walks_as x.2 (comparison_walks o))
-  links_walk out (o ∷ []) (e ∷ f ∷ es) even x = absurd (omega (arith, even))
-  links_walk out (o ∷ q ∷ ops) (e ∷ es) even x = then_walks x.1.value (then_walks (link_walks o out) (links_walk out (q ∷ ops) es (omega (arith, even)) x.2))
+  links_walk : (g h : ScopeForest) (out : ℕ) (ops : List CmpOp) (es : List Emissions) → length ops ≡ length es → Chain (WalksWell p) es g h → Walks p (links out ops es) g h
+  links_walk g h out [] [] even x = walks_as x keep_walks
+  links_walk g h out [] (e ∷ es) even x = absurd (omega (arith, even))
+  links_walk g h out (o ∷ ops) [] even x = absurd (omega (arith, even))
+  links_walk g h out (o ∷ []) (e ∷ []) even x = then_walks x.1.value (walks_as x.2 (comparison_walks o))
+  links_walk g h out (o ∷ []) (e ∷ f ∷ es) even x = absurd (omega (arith, even))
+  links_walk g h out (o ∷ q ∷ ops) (e ∷ es) even x = then_walks x.1.value (then_walks (link_walks o out) (links_walk x.0 h out (q ∷ ops) es (omega (arith, even)) x.2))
 
   first_walks : {g : ScopeForest} (ops : List CmpOp) → Walks p (first_comparison ops) g g
   first_walks [] = keep_walks
   first_walks (o ∷ ops) = comparison_walks o
 
-  chain_walks : {left : Emission} {g m h : ScopeForest} (ops : List CmpOp) (es : List Emissions) → length ops ≡ length es → Walks p left g m → Chain (WalksWell p) es m h
+  chain_walks : {left : Emission} (g m h : ScopeForest) (ops : List CmpOp) (es : List Emissions) → length ops ≡ length es → Walks p left g m → Chain (WalksWell p) es m h
       → Walks p (chain left ops es) g h
-  chain_walks ops es even x y =
-      two_walk (λ out end. then_walks x (then_walks (links_walk out ops es even y) (jump_walks op.Jump end)))
+  chain_walks g m h ops es even x y =
+      two_walk (λ out end. then_walks x (then_walks (links_walk m h out ops es even y) (jump_walks op.Jump end)))
       (λ out end. then_walks (emit_walks op.Rotate2 0) (emit_walks op.Pop 0)) (λ out end. keep_walks)
 
-  comparisons_walk : {left : Emission} {g m h : ScopeForest} (ops : List CmpOp) (es : List Emissions) → length ops ≡ length es → Walks p left g m → Chain (WalksWell p) es m h
+  comparisons_walk : {left : Emission} (g m h : ScopeForest) (ops : List CmpOp) (es : List Emissions) → length ops ≡ length es → Walks p left g m → Chain (WalksWell p) es m h
       → Walks p (comparisons left ops es) g h
-  comparisons_walk ops es even x y =
-      if_walks (nat_lt 1 (length ops)) (chain_walks ops es even x y) (then_walks x (then_walks (turn_walks p (values es) (values_walk p es y)) (first_walks ops)))
+  comparisons_walk g m h ops es even x y =
+      if_walks (nat_lt 1 (length ops)) (chain_walks g m h ops es even x y) (then_walks x (then_walks (turn_walks p m h (values es) (values_walk p m h es y)) (first_walks ops)))
 
   -- they are refused where they are not as many as the values
-  pub compare_walks : {left : Emission} {g m h : ScopeForest} (ops : List CmpOp) (es : List Emissions) → Walks p left g m → Chain (WalksWell p) es m h
+  pub compare_walks : {left : Emission} (g m h : ScopeForest) (ops : List CmpOp) (es : List Emissions) → Walks p left g m → Chain (WalksWell p) es m h
       → Walks p (emission_of_compare left ops es) g h
-  compare_walks ops es x y =
+  compare_walks g m h ops es x y =
       if_walks (nat_eq (length ops) 0) (refuse_walks (error.MalformedTree shape.NoOperand) tt)
-      (told_walks (nat_eq (length ops) (length es)) (λ e. comparisons_walk ops es (equal_numbers (length ops) (length es) e) x y)
+      (told_walks (nat_eq (length ops) (length es)) (λ e. comparisons_walk g m h ops es (equal_numbers (length ops) (length es) e) x y)
       (λ e. refuse_walks (error.MalformedTree shape.UnevenLists) tt))

@@ -286,8 +286,8 @@ pub walks_as : {p : Bool} {a : Emission} {f g h : ScopeForest} → f ≡ g → W
 walks_as {p} {a} {h = h} e x = subst (λ k. Walks p a k h) (sym e) x
 
 -- two parts, one after the other
-pub two_parts : {p : Bool} {a : Emission} (f g : ScopeForest) {k h : ScopeForest} → Walks p a (f & (g & k)) h → Walks p a ((f & g) & k) h
-two_parts f g {k} x = walks_as (beside_assoc f g k) x
+pub two_parts : {p : Bool} {a : Emission} {k h : ScopeForest} (f g : ScopeForest) → Walks p a (f & (g & k)) h → Walks p a ((f & g) & k) h
+two_parts {k = k} f g x = walks_as (beside_assoc f g k) x
 
 -- and without anything behind
 pub walks_alone : {p : Bool} {a : Emission} {g : ScopeForest} → Walks p a (g & Bare) Bare → Walks p a g Bare
