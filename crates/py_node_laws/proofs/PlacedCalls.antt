@@ -155,10 +155,10 @@ placed_calls_run (Ok a) over ts x before after h few ready loop =
     let s = state before in
     let d = done_before x.future_annotations (run (emission_placed over ts) s) (state after) h.goes in
     λ bs tables held.
-        subst (λ r. PlacedRuns over ts s r bs tables) (sym d.state_is)
-        (runs_after x.future_annotations over ts s d.mid bs tables
-        (placed_run over ts few s d.mid ready loop d.done bs tables
-        (held_before x.future_annotations d.mid bs tables (subst (λ r. Hold r bs tables) d.state_is held))))
+    subst (λ r. PlacedRuns over ts s r bs tables) (sym d.state_is)
+    (runs_after x.future_annotations over ts s d.mid bs tables
+    (placed_run over ts few s d.mid ready loop d.done bs tables
+    (held_before x.future_annotations d.mid bs tables (subst (λ r. Hold r bs tables) d.state_is held))))
 placed_calls_run (Err e) over ts x before after h few ready loop = tt
 
 -- what follows a future import ends as its faults say

@@ -15,6 +15,6 @@ returns-then-future_over c = record {
       let names = c.args.features.now in
       let over : (rest c.args.em.now).context.future_over ≡ true = ap (λ (x : EmitContext). x.future_over) (sym c.context.ensures) ∙ c.if-future_over.true in
       λ n. refused_after _ (run (emission_of_features (rest c.args.em.now).context.future_over names) s) _ _
-          (ap (λ b. run (emission_of_features b names) s) over ∙ refused_by error.InvalidFuturePlacement s _ _ c.refuse-error.ensures.told);
+      (ap (λ b. run (emission_of_features b names) s) over ∙ refused_by error.InvalidFuturePlacement s _ _ c.refuse-error.ensures.told);
   same = search rules;
 }

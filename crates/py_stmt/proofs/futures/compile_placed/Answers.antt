@@ -15,6 +15,6 @@ pub returns : goal.returns
 returns c =
     let ss = stmts stmt_tree c.args.body.now in
     let first = c.args.em.now in
-    let open : (rest first).context.future_over ≡ false = ap (λ (x : EmitContext). x.future_over) (sym c.context.ensures) ∙ c.if-future_over.false in
+    let unopened : (rest first).context.future_over ≡ false = ap (λ (x : EmitContext). x.future_over) (sym c.context.ensures) ∙ c.if-future_over.false in
     subst (λ (b : Bool). EmitsInto c.compile_opened.result (emission_placed b ss) (context_after (rest first).context ss) first c.compile_opened.new.em)
-    (sym open) c.compile_opened.ensures
+    (sym unopened) c.compile_opened.ensures
