@@ -256,11 +256,11 @@ fn compile_mod(
 fn is_of_tables(error: &CodegenErrorType) -> bool
     ensures told { result ≡ true → error.now ≢ CodegenErrorType.OutOfMemory }
     ensures present { result ≡ false → error.now ≢ CodegenErrorType.MissingCell }
-    ensures even { result ≡ false → error.now ≢ CodegenErrorType.AsyncYieldFrom }
+    ensures even { result ≡ false → error.now ≢ CodegenErrorType.TableMismatch }
 {
     matches!(
         error,
-        CodegenErrorType::MissingCell | CodegenErrorType::AsyncYieldFrom
+        CodegenErrorType::MissingCell | CodegenErrorType::TableMismatch
     )
 }
 

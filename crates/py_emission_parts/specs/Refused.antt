@@ -23,7 +23,7 @@ no_unpacking = codes "iterable unpacking cannot be used in comprehension"
 
 -- the tables of the scopes are not those of the tree
 abbrev pub mismatch : CodegenErrorType
-mismatch = error.AsyncYieldFrom
+mismatch = error.TableMismatch
 
 abbrev pub rewritten : CodegenErrorType → CodegenErrorType
 rewritten error.InvalidStarExpr = error.SyntaxError no_unpacking

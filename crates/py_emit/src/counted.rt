@@ -75,7 +75,7 @@ impl Emitter {
         ensures few { steps.new ≤ steps.old + (number - (state self.old).next) }
     {
         if !are_tables(&self.scopes, self.next_scope(), number, steps) {
-            return Err(self.error(CodegenErrorType::AsyncYieldFrom));
+            return Err(self.error(CodegenErrorType::TableMismatch));
         }
         self.go_on_from(number);
         Ok(())

@@ -371,7 +371,7 @@ impl Emitter {
         };
         let scope = mem::replace(&mut self.scope, enclosing);
         if !is_even(&self.scopes, self.scope.next, scope.next) {
-            return Err(self.error(CodegenErrorType::AsyncYieldFrom));
+            return Err(self.error(CodegenErrorType::TableMismatch));
         }
         self.scope.next = scope.next;
         if !has_short_tables(&scope.code) {

@@ -38,13 +38,13 @@ use Rattle.py_scope_proof.proofs.NodeScopes.ScopeForestLemmas.{beside_assoc, bes
 
 -- an error that does not say that the tables are not those of the tree
 abbrev pub IsOfTables : CodegenErrorType → Type 0
-IsOfTables error.AsyncYieldFrom = ⊥
+IsOfTables error.TableMismatch = ⊥
 IsOfTables other = Unit {0}
 
 -- it says no more in other words
 told_even : (e : CodegenErrorType) → IsOfTables e → IsOfTables (rewritten e)
 told_even error.InvalidStarExpr h = tt
-told_even error.AsyncYieldFrom h = h
+told_even error.TableMismatch h = h
 told_even other h = tt
 
 -- the tables from a number on end as a scope forest says whose first scope has that number
