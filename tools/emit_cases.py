@@ -73,10 +73,10 @@ CALLS = [
     ("module 0", ["set_path f/<locals> -> []", "set_path A -> [\"f\", \"<locals>\"]", "set_path -> [\"A\"]", "qualified_name -> \"\""]),
     ("module 0", ["set_path A/b.c -> []", "qualified_name -> \"A.b.c\"", "pop_path -> ok", "qualified_name -> \"A\"", "push_path d.e -> ok",
                   "push_path f -> ok", "qualified_name -> \"A.d.e.f\"", "set_path -> [\"A\", \"d.e\", \"f\"]"]),
-    ("# a scope that is left with its code", []),
+    ("# a scope that is left with its code, and one that has no table", []),
     ("module 0", ["at 2 1 -> ok",
                   "function -> code 'f' from 'm.py' line 2 flags 35 args 0 0 0 depth 0\nconstants: None\n0 2:1 ReturnConst 0 None\n",
-                  "scope -> Module, next 2"]),
+                  "scope -> Module, next 2", "function -> \"m.py\" 2:1 the symbol tables are not those of the tree"]),
 ]
 
 # Names of cases, what they are about, and their answers.

@@ -113,6 +113,9 @@ class Rewriting(unittest.TestCase):
                      "use rshim::{Vec, vec};\nuse rshim::alloc::{AllocError, Global};\n\n"
                      "fn f(a: Global) -> Result<Vec<u8>, AllocError> {\n    vec![in a; 1]\n}\n")  # fmt: skip
 
+    def test_a_type_that_may_stand_for_any_is_that_of_rshim(self) -> None:
+        self.becomes("use std::marker::{Brand, Model};\n\nfn f(a: Brand) {}\n", "use rshim::marker::Brand;\n\nfn f(_a: Brand) {}\n")
+
     def test_calls_that_take_an_allocator_are_those_of_rshim(self) -> None:
         self.becomes("fn f() {\n    Box::new(a, 1);\n    Box::into_inner(b);\n    c.collect(a);\n    d.to_vec(a);\n}\n",
                      "\nuse rshim::{CollectIn, CopyIn};\nfn f() {\n    rshim::boxed(a, 1);\n    rshim::unboxed(b);\n"

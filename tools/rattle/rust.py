@@ -34,6 +34,7 @@ STD_PATHS: Dict[str, str] = {
     "fmt": "std",
     "hash": "std",
     "io": "rshim",
+    "marker::Brand": "rshim",
     "marker::Model": "",
     "mem": "std",
     "ops": "std",

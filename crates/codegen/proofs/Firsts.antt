@@ -1,4 +1,6 @@
 -- The first fault of a tree.
+use Rattle.py_emission_parts.specs.Tables.{is_bare}
+use Rattle.py_emission_parts.specs.Refused.{mismatch}
 use Rattle.std.proofs.Common.{◌≡◌, ◌≢◌, ℕ, List, [], ◌∷◌, ◌++◌, Option, Some, None, Result, Ok, Err, IfErr, OnOk, inl, inr, refl, sym, ap, ◌∙◌, subst}
 use Rattle.py_tree.specs.Tree as tree
 use Rattle.py_shapes.specs.Valid.{shapes}
@@ -16,7 +18,7 @@ use Rattle.py_meaning.specs.Scanned.{scan_faults, scopes_of}
 use Rattle.codegen.specs.Calls.{IsChecked, IsWhole}
 use Rattle.codegen.specs.Compiled.{IsFirst, IsRefused, IsScan, IsScanned, tree_context}
 use Rattle.py_scope.specs.declared.flat.ScopeEntry.{ScopeEntry}
-use Rattle.py_emission_parts.specs.Context.{outermost}
+use Rattle.py_emission_parts.specs.Context.{inside, outermost}
 use Rattle.py_scope.specs.declared.error.ScanFault.{ScanFault}
 use Rattle.py_scope.specs.declared.error.ScanFault.TheVariants as fault
 use Rattle.py_scope.specs.declared.error.SymbolTableError.{SymbolTableError}
@@ -53,32 +55,37 @@ first_refused_first e t m l w (inr h) known =
     let f = h.1 known in
     (f.0, compiled t m l w ∙ ap (λ fs. fs ++ compile_faults m l t) h.0 ∙ f.1)
 
--- what is emitted of a tree without faults misses no cell
-missing_faulty : (t : tree.Mod) (m : Mode) (l : ℕ) (path : List ℕ) (at : Option SourceLocation) → IsWhole t m → scan_faults t ≡ []
-    → emission_outcome t m (tree_context t path l) ≡ Refused error.MissingCell at → compile_faults m l t ≢ []
-missing_faulty t m l path at w clean r none =
+-- what is emitted of a tree without faults is not refused
+refused_faulty : (t : tree.Mod) (m : Mode) (l : ℕ) (path : List ℕ) (e : CodegenErrorType) (at : Option SourceLocation) → IsWhole t m → scan_faults t ≡ []
+    → emission_outcome t m (tree_context t path l) ≡ Refused e at → compile_faults m l t ≢ []
+refused_faulty t m l path e at w clean r none =
     let f = trees_fit uses_are_few t m l path (compiled t m l w ∙ (λ i. clean i ++ none i)) in
-    let same : ◌≡◌ {A = Outcome} (Refused error.MissingCell at) (Done f.0) = sym r ∙ f.1 in
+    let same : ◌≡◌ {A = Outcome} (Refused e at) (Done f.0) = sym r ∙ f.1 in
     cc
 
--- so where a call says that one is missing, there is a fault
-pub missing_is_faulty : (e : LocatedError CodegenErrorType) (t : tree.Mod) (m : Mode) (l : ℕ) (path : List ℕ) (scopes : List ScopeEntry) → IsWhole t m
-    → scan_faults t ≡ [] → scopes ≡ scopes_of t → e.error ≡ error.MissingCell → IsRefused e (emission_outcome t m (outermost l path scopes))
+-- so where a call answers an error, but out of memory, there is a fault
+pub refused_is_faulty : (e : LocatedError CodegenErrorType) (t : tree.Mod) (m : Mode) (l : ℕ) (path : List ℕ) (scopes : List ScopeEntry) → IsWhole t m
+    → scan_faults t ≡ [] → scopes ≡ scopes_of t → e.error ≢ error.OutOfMemory → IsRefused e (emission_outcome t m (outermost l path scopes))
     → compile_faults m l t ≢ []
-missing_is_faulty e t m l path scopes w clean s q refused =
-    missing_faulty t m l path e.location w clean
-    (subst (λ x. emission_outcome t m (outermost l path x) ≡ Refused error.MissingCell e.location) s
-    (refused (λ o. let z : error.MissingCell ≡ error.OutOfMemory = sym q ∙ o in cc) ∙ ap (λ x. Refused x e.location) q))
+refused_is_faulty e t m l path scopes w clean s known refused =
+    refused_faulty t m l path e.error e.location w clean
+    (subst (λ x. emission_outcome t m (outermost l path x) ≡ Refused e.error e.location) s (refused known))
 
--- over any scopes where no cell is missing, a refusal is for the first fault of the nodes that are compiled
+-- over any scopes where no cell is missing and the tables are those of the tree, a refusal is for the first fault of the nodes that are compiled
 pub refused_over : (e : LocatedError CodegenErrorType) (t : tree.Mod) (m : Mode) (l : ℕ) (path : List ℕ) (scopes : List ScopeEntry) → IsWhole t m
-    → e.error ≢ error.MissingCell → IsRefused e (emission_outcome t m (outermost l path scopes)) → IsFirst e (compile_faults m l t)
-refused_over e t m l path scopes w other refused known = refusal_heads t m l path scopes e.error e.location w.2 (refused known) other
+    → e.error ≢ error.MissingCell → e.error ≢ mismatch → IsRefused e (emission_outcome t m (outermost l path scopes)) → IsFirst e (compile_faults m l t)
+refused_over e t m l path scopes w present even refused known = refusal_heads t m l path scopes e.error e.location w.2 (refused known) present (λ b. even)
+
+-- without scopes there are no tables
+no_tables : {e : CodegenErrorType} (l : ℕ) (path : List ℕ) → is_bare (outermost l path []).scopes ≡ false → e ≢ mismatch
+unfolding inside
+no_tables l path h = absurd cc
 
 -- without scopes none is
 pub refused_without : (e : LocatedError CodegenErrorType) (t : tree.Mod) (m : Mode) (l : ℕ) (path : List ℕ) → IsWhole t m
     → IsRefused e (emission_outcome t m (outermost l path [])) → IsFirst e (compile_faults m l t)
-refused_without e t m l path w refused known = refusal_heads t m l path [] e.error e.location w.2 (refused known) (refused_without_scopes t m l path e.error e.location w.1 (refused known))
+refused_without e t m l path w refused known = refusal_heads t m l path [] e.error e.location w.2 (refused known)
+    (refused_without_scopes t m l path e.error e.location w.1 (refused known)) (no_tables l path)
 
 emitted_faultless : (code : CodeObject) (path : List ℕ) (t : tree.Mod) (m : Mode) (l : ℕ) (o : Outcome) → emission_outcome t m (tree_context t path l) ≡ o
     → shapes t m ≡ [] → IsEmitted code (tree_context t path l) o → compile_faults m l t ≡ []

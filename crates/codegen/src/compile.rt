@@ -220,8 +220,9 @@ fn compile_scanned(
     }
 }
 
-/// The code of a program with these scopes, which are those of its scan. Where it has no fault, each cell is there; so
-/// where one is missing, its first fault is reported, which is the same without scopes.
+/// The code of a program with these scopes, which are those of its scan. Where it has no fault, each cell is there and the
+/// tables are those of the tree; so where one is missing or they are not, its first fault is reported, which is the same
+/// without scopes.
 fn compile_mod(
     alloc: Global,
     program: &Program<'_>,
@@ -245,18 +246,22 @@ fn compile_mod(
         Ok(code) => return Ok(code),
         Err(error) => error,
     };
-    if is_missing_cell(&error.error) {
+    if is_of_tables(&error.error) {
         return Err(first_fault(alloc, program, error.source_path, mode, opts));
     }
     Err(error)
 }
 
-/// Whether the error says that a cell is not there.
-fn is_missing_cell(error: &CodegenErrorType) -> bool
-    ensures missing { result ≡ true → error.now ≡ CodegenErrorType.MissingCell }
-    ensures other { result ≡ false → error.now ≢ CodegenErrorType.MissingCell }
+/// Whether the error says nothing of the tree: that a cell is not there, or that the tables are not those of the tree.
+fn is_of_tables(error: &CodegenErrorType) -> bool
+    ensures told { result ≡ true → error.now ≢ CodegenErrorType.OutOfMemory }
+    ensures present { result ≡ false → error.now ≢ CodegenErrorType.MissingCell }
+    ensures even { result ≡ false → error.now ≢ CodegenErrorType.TableMismatch }
 {
-    matches!(error, CodegenErrorType::MissingCell)
+    matches!(
+        error,
+        CodegenErrorType::MissingCell | CodegenErrorType::TableMismatch
+    )
 }
 
 /// The code of a program over these scopes.
@@ -304,7 +309,8 @@ fn first_fault(
     }
 }
 
-/// Emits a program without scopes, where no name comes from outside, so no cell is asked for. Its faults are the same.
+/// Emits a program without scopes, where no name comes from outside, so no cell is asked for, and no table is another than
+/// the tree says. Its faults are the same.
 fn emit_without_scopes(
     alloc: Global,
     program: &Program<'_>,

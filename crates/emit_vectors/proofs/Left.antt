@@ -5,7 +5,8 @@ use Rattle.py_scope.specs.declared.flat.ScopeEntry.{ScopeEntry}
 use Rattle.py_scope.specs.Flat.{all_flat, flat_step, flat_table}
 use Rattle.py_emission_parts.specs.Context.{inside, outermost}
 use Rattle.py_emission_parts.specs.Emitting.{State, nothing}
-use Rattle.py_emit.specs.Tables.{AreLeft, Stand, beyond}
+use Rattle.py_emission_parts.specs.Tables.{beyond}
+use Rattle.py_emit.specs.Tables.{AreLeft, Stand}
 
 abbrev LeftFlat : Type 0
 LeftFlat = ℕ → List ScopeEntry

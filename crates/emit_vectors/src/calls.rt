@@ -1,17 +1,16 @@
 //! Calls of an emitter, one after the other.
-ghost use Rattle.std.specs.Prelude.{◌≢◌, [], OnOk};
+ghost use Rattle.std.specs.Prelude.{◌≢◌, []};
 ghost use Rattle.py_emit.specs.States.{rest};
 
-use crate::emitters::{head_of_function, text};
+use crate::emitters::{head_of_function, open, text};
 use crate::failure::{Failure, error_text, place_text};
 use crate::instructions::instruction;
 use crate::values::{code_of, constant};
 use py_base::{CodegenError, CodegenErrorType, List, Names, OneIndexed, SourceLocation, Text};
 use py_bytecode::{CodeObject, ConstantData, OpArg};
-use py_emit::{EmitContext, Emitter, NameUsage, Naming, ScopeHead};
+use py_emit::{EmitContext, Emitter, NameUsage, ScopeHead};
 use py_ir::{BlockIdx, InstructionInfo};
 use py_listing::listing;
-use py_scope::SymbolTableType;
 use std::alloc::{AllocError, Global};
 
 /// The answers to the calls, which `; ` divides, in their order, each after the one before it.
@@ -248,14 +247,6 @@ fn close_over(alloc: Global, em: &mut Emitter, free: &str) -> Result<String, Fai
     let code = code_of(alloc, free)?;
     let closed = em.build_closure(&code)?;
     Ok(format!(in alloc; "{closed}")?)
-}
-
-/// Goes into a function.
-#[tactic(auto, using(py_emit::proofs::NestedScopes::nested_inner))]
-fn open(em: &mut Emitter, head: ScopeHead) -> Result<(), CodegenError>
-    ensures { OnOk result ((rest em.new).outer ≢ []) }
-{
-    em.open_scope(head, SymbolTableType::Function, Naming::AsEnclosing)
 }
 
 /// Leaves a generator that returns None.

@@ -1,12 +1,17 @@
 //! Emitters over the table of one file.
+ghost use Rattle.std.specs.Prelude.{◌≡◌, ◌≢◌, ◌<◌, [], IfOk, OnOk};
+ghost use Rattle.py_scope.specs.declared.table.SymbolTable.{out-SymbolTable};
+ghost use Rattle.py_emit.specs.States.{rest};
 
 use crate::failure::Failure;
 use bitflags::Flags;
-use py_base::{List, SourceLocation, Text};
+use py_base::{CodegenError, List, SourceLocation, Text};
 use py_bytecode::CodeFlags;
 use py_emit::{CompileOpts, Emitter, Naming, ScopeHead};
-use py_scope::{Role, ScopeBuilder, SymbolTable, SymbolTableType, Symbols};
+use py_scope::{Role, ScopeBuilder, Steps, SymbolTable, SymbolTableType, Symbols};
 use std::alloc::{AllocError, Global};
+use std::marker::Brand;
+use std::sync::ledger::{Blank, Ledger};
 
 /// This text.
 pub fn text(alloc: Global, s: &str) -> Result<Text, AllocError> {
@@ -51,16 +56,30 @@ fn table(alloc: Global) -> Result<SymbolTable, Failure> {
     Ok(builder.finish()?)
 }
 
-/// An emitter of a module without names.
-pub fn in_module(alloc: Global, optimize: u8) -> Result<Emitter, Failure> {
-    let table = SymbolTable {
-        name: text(alloc, "top")?,
-        typ: SymbolTableType::Module,
+/// A table without names, with these within.
+pub fn nameless(
+    alloc: Global,
+    typ: SymbolTableType,
+    sub_tables: List<SymbolTable>,
+) -> Result<SymbolTable, AllocError>
+    ensures { IfOk result (λ table. (out-SymbolTable table).sub_tables ≡ sub_tables) }
+{
+    Ok(SymbolTable {
+        name: text(alloc, "f")?,
+        typ,
         line_number: 0,
         is_nested: false,
         symbols: Symbols::new(alloc),
-        sub_tables: List::new(alloc),
-    };
+        sub_tables,
+    })
+}
+
+/// An emitter of a module without names, with one function.
+pub fn in_module(alloc: Global, optimize: u8) -> Result<Emitter, Failure> {
+    let function = nameless(alloc, SymbolTableType::Function, List::new(alloc))?;
+    let mut within = Vec::new(alloc);
+    within.push(function)?;
+    let table = nameless(alloc, SymbolTableType::Module, List::from_vec(within))?;
     let path = text(alloc, "m.py")?;
     Ok(Emitter::new(alloc, CompileOpts { optimize }, path, table)?)
 }
@@ -76,8 +95,37 @@ pub fn in_file(alloc: Global, optimize: u8) -> Result<Emitter, Failure> {
 pub fn in_function(alloc: Global, optimize: u8) -> Result<Emitter, Failure> {
     let head = head_of_function(alloc)?;
     let mut em = in_file(alloc, optimize)?;
-    match em.open_scope(head, SymbolTableType::Function, Naming::AsEnclosing) {
+    match open(&mut em, head) {
         Ok(()) => Ok(em),
         Err(error) => Err(Failure::Refused(error)),
     }
+}
+
+/// Goes into a function.
+pub fn open(em: &mut Emitter, head: ScopeHead) -> Result<(), CodegenError>
+    ensures { OnOk result ((rest em.new).outer ≢ []) }
+{
+    open_counted::<Brand>(em, head, Blank::new(1))
+}
+
+/// Goes into a function, and counts the step to its table.
+#[tactic(auto, using(py_emit::proofs::NestedScopes::nested_inner))]
+fn open_counted<L: Ledger>(
+    em: &mut Emitter,
+    head: ScopeHead,
+    blank: Blank,
+) -> Result<(), CodegenError>
+    requires name { blank.name ≡ L.name }
+    requires parts { blank.parts ≡ L.parts }
+    requires shared { 0 < blank.parts }
+    ensures { OnOk result ((rest em.new).outer ≢ []) }
+{
+    let (book, share) = blank.open::<L>();
+    let mut steps = Steps::new(book, share);
+    em.open_scope(
+        head,
+        SymbolTableType::Function,
+        Naming::AsEnclosing,
+        &mut steps,
+    )
 }

@@ -4,41 +4,23 @@ ghost use Rattle.py_scope.specs.declared.table.SymbolTable.{out-SymbolTable};
 ghost use Rattle.py_emit.specs.States.{state};
 ghost use Rattle.py_emit.specs.Tables.{AreLeft};
 
-use crate::emitters::{head_of_function, text};
+use crate::emitters::{head_of_function, nameless, text};
 use crate::failure::Failure;
 use py_base::{CodegenError, List};
 use py_emit::{CompileOpts, Emitter, ScopeHead};
-use py_scope::{Steps, SymbolTable, SymbolTableType, Symbols};
+use py_scope::{Steps, SymbolTableType};
 use std::alloc::{AllocError, Global};
 use std::marker::Brand;
 use std::sync::ledger::{Blank, Ledger};
-
-/// A table without names, with these within.
-fn table(
-    alloc: Global,
-    typ: SymbolTableType,
-    sub_tables: List<SymbolTable>,
-) -> Result<SymbolTable, AllocError>
-    ensures { IfOk result (λ table. (out-SymbolTable table).sub_tables ≡ sub_tables) }
-{
-    Ok(SymbolTable {
-        name: text(alloc, "f")?,
-        typ,
-        line_number: 0,
-        is_nested: false,
-        symbols: Symbols::new(alloc),
-        sub_tables,
-    })
-}
 
 /// An emitter of a file with one function.
 fn emitter(alloc: Global) -> Result<Emitter, Failure>
     ensures { IfOk result (λ em. AreLeft 1 (state em)) }
 {
-    let function = table(alloc, SymbolTableType::Function, List::new(alloc))?;
+    let function = nameless(alloc, SymbolTableType::Function, List::new(alloc))?;
     let mut within = Vec::new(alloc);
     within.push(function)?;
-    let top = table(alloc, SymbolTableType::Module, List::from_vec(within))?;
+    let top = nameless(alloc, SymbolTableType::Module, List::from_vec(within))?;
     let em = Emitter::new(alloc, CompileOpts::default(), text(alloc, "m.py")?, top)?;
     Ok(em)
 }

@@ -30,4 +30,5 @@ message (error.MalformedTree s) = codes "malformed tree: " ++ shape_name s
 message (error.TooLarge limit.Nodes) = codes "tree is too large: nodes"
 message (error.TooLarge limit.Depth) = codes "tree is too large: nesting"
 message error.MissingCell = codes "a function has a name from outside that is no cell around it"
+message error.TableMismatch = codes "the symbol tables are not those of the tree"
 message error.OutOfMemory = codes "out of memory"

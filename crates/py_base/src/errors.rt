@@ -56,6 +56,9 @@ pub enum CodegenErrorType {
     /// from outside either. So it may be where an emitter is over a table that is not the tree's, or where the next
     /// scope is not the node's. Never given by the compile calls.
     MissingCell,
+    /// The scopes within a node do not end where its symbol table does. So it may be where an emitter is over a table that
+    /// is not the tree's, or where the next table is not the node's. Never given by the compile calls.
+    TableMismatch,
     /// There was no memory. Alone of all, this says nothing of the tree.
     OutOfMemory,
 }
@@ -101,6 +104,7 @@ impl fmt::Display for CodegenErrorType {
             Self::TooLarge(TreeLimit::Nodes) => "tree is too large: nodes",
             Self::TooLarge(TreeLimit::Depth) => "tree is too large: nesting",
             Self::MissingCell => "a function has a name from outside that is no cell around it",
+            Self::TableMismatch => "the symbol tables are not those of the tree",
             Self::OutOfMemory => "out of memory",
         };
         f.write_str(message)

@@ -38,7 +38,7 @@ pub enum ComprehensionParts<'a> {
 ///
 /// # Errors
 /// MalformedTree where there is no clause; NotImplementedYet where a clause is async or the element of a generator
-/// awaits; the first compile fault of the parts, with its location; MissingCell; or OutOfMemory.
+/// awaits; the first compile fault of the parts, with its location; MissingCell or TableMismatch; or OutOfMemory.
 pub fn compile_comprehension(
     em: &mut Emitter,
     parts: ComprehensionParts<'_>,

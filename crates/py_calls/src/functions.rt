@@ -21,7 +21,7 @@ use py_tree::Arguments;
 ///
 /// # Errors
 /// The first compile fault of a default, with its location; SyntaxError where a parameter is named `__debug__`;
-/// MissingCell; or OutOfMemory.
+/// MissingCell or TableMismatch; or OutOfMemory.
 pub fn enter_function(
     em: &mut Emitter,
     name: &str,

@@ -17,7 +17,7 @@ use std::slice;
 /// annotations of what follows where it says so.
 ///
 /// # Errors
-/// The first compile fault of the statement, with its location; MissingCell; or OutOfMemory.
+/// The first compile fault of the statement, with its location; MissingCell or TableMismatch; or OutOfMemory.
 pub fn compile_statement(em: &mut Emitter, statement: &Stmt) -> Result<(), CodegenError>
     requires loops { AreMade (rest em.old).context.loop_blocks }
     ensures emits { EmitsInto result (emission_placed (rest em.old).context.future_over
@@ -33,7 +33,7 @@ pub fn compile_statement(em: &mut Emitter, statement: &Stmt) -> Result<(), Codeg
 /// innermost loop of this scope goes. An import from `__future__` is taken where it may still stand.
 ///
 /// # Errors
-/// The first compile fault of these statements, with its location; MissingCell; or OutOfMemory.
+/// The first compile fault of these statements, with its location; MissingCell or TableMismatch; or OutOfMemory.
 pub fn compile_statements(em: &mut Emitter, body: &Stmts, from: usize) -> Result<(), CodegenError>
     requires loops { AreMade (rest em.old).context.loop_blocks }
     requires within { from ≤ length body.now }

@@ -12,7 +12,7 @@ mod FitLambdas
 pub mod AvailableCellLemmas
 mod StandingForms
 mod StandingExprs
-mod Scopeless
+pub mod Scopeless
 mod Hands
 mod FitPieces
 pub mod FitExprs

@@ -1,3 +1,4 @@
 pub mod Faults
 pub mod Nesting
+pub mod Tables
 pub mod Capacity

@@ -1,6 +1,6 @@
 -- What holds of all constants holds of those that an emission adds, where each that it names is as is asked and each code object is that of
 -- a scope whose constants are: the law of constants (py_emission_outcomes) and the law of nested codes are instances.
-use Rattle.std.proofs.Common.{ℕ, suc, ◌^◌, List, [], ◌∷◌, ◌++◌, Bool, true, false, Some, None}
+use Rattle.std.proofs.Common.{ℕ, suc, ◌+◌, ◌^◌, List, [], ◌∷◌, ◌++◌, Bool, true, false, Some, None}
 use Rattle.std.specs.Prelude.{nat_lt, if◌then◌else◌}
 use Rattle.std.specs.List.{list_any}
 use Rattle.py_bytecode.specs.declared.instruction.Instruction.{Instruction}
@@ -12,9 +12,10 @@ use Rattle.py_emission_parts.specs.Emitting.{OfVarname, OfConstant, AddsVarname,
 use Rattle.py_emission_parts.specs.Emitting.{One, Two, Three, ByContext, ByLoops, InLoop, Postpones, Rewritten, Nested, initial_state}
 use Rattle.py_emission_parts.specs.Emitting.{place_in, with_step, with_block, with_name, with_varname, with_constant, with_location}
 use Rattle.py_emission_parts.specs.Emitting.{with_loops, with_postponed}
-use Rattle.py_emission_parts.specs.Running.{Action, ◌▹◌, begin, begins, after_child, code_head, on_done, on_sealed, put_instruction, rewritten_in, run}
+use Rattle.py_emission_parts.specs.Running.{Action, ◌▹◌, begin, begins, after_child, code_head, ended, on_done, on_sealed, put_instruction, rewritten_in, run}
 use Rattle.py_emission_parts.specs.Sealed.{Head, assembled_object}
-use Rattle.py_emission_parts.proofs.EmissionLawLemmas.{EmissionLawHolds}
+use Rattle.py_emission_parts.specs.Tables.{are_whole}
+use Rattle.py_emission_parts.proofs.EmissionLawLemmas.{EmissionLawHolds, ended_holds, holds_unless}
 
 abbrev pub All : (Const → Type 0) → List Const → Type 0
 All C [] = Unit {0}
@@ -93,7 +94,7 @@ module _ (C : ℕ → Const → Type 0) (O : ℕ → Object → Type 0) where
     stays_good (AddsVarname y) k s x g = g
     stays_good (AddsConstant c) k s x g = all_entered (C k) s.constants c g x
     stays_good Generates k s x g = g
-    stays_good (Passes n) k s x g = g
+    stays_good (Passes n) k s x g = holds_unless (ConstantLawGood k) (are_whole s.node_context.context.scopes s.next n) (Done (record s { next = s.next + n })) _ _ g
     stays_good (Moves at) k s x g = g
     stays_good (Refuses e) k s x g = tt
     stays_good (Faults e) k s x g = tt
@@ -126,4 +127,5 @@ module _ (C : ℕ → Const → Type 0) (O : ℕ → Object → Type 0) where
     stays_good (Nested w h body f) k s x g =
         let c = w s.node_context.context s.next in
         let b = initial_state c s.location (suc s.next) in
-        on_scope k x.0 c.level (code_head c h s.location) s (run body b) (λ o. run (f o)) g (stays_good body x.0 b x.1 tt) (λ o t y z. stays_good (f o) k t (x.2 o y) z)
+        on_scope k x.0 c.level (code_head c h s.location) s (ended s.node_context.context.scopes s.next (run body b)) (λ o. run (f o)) g
+        (ended_holds (ConstantLawGood x.0) s.node_context.context.scopes s.next (run body b) (stays_good body x.0 b x.1 tt)) (λ o t y z. stays_good (f o) k t (x.2 o y) z)

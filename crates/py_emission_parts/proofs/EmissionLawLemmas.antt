@@ -1,5 +1,5 @@
 -- What holds of each step of an emission, and of one after another, holds of every emission: one arm for each constructor.
-use Rattle.std.proofs.Common.{ℕ, suc, ◌+◌, ◌≤◌, ◌^◌, List, Bool, true, false, Option, Some, None, arith}
+use Rattle.std.proofs.Common.{◌≡◌, ℕ, suc, ◌+◌, ◌≤◌, ◌^◌, List, Bool, true, false, Option, Some, None, refl, subst, arith}
 use Rattle.std.specs.Prelude.{nat_lt, if◌then◌else◌}
 use Rattle.py_base.specs.declared.location.SourceLocation.{SourceLocation}
 use Rattle.py_bytecode.specs.declared.instruction.Instruction.{Instruction}
@@ -11,14 +11,40 @@ use Rattle.py_emission_parts.specs.Emitting.{OfName, OfVarname, OfConstant, Adds
 use Rattle.py_emission_parts.specs.Emitting.{Faults, One, Two, Three, ByContext, ByLoops, InLoop, Postpones, Rewritten, Nested}
 use Rattle.py_emission_parts.specs.Emitting.{initial_state, place_in, with_step, with_block, with_name, with_varname, with_constant}
 use Rattle.py_emission_parts.specs.Emitting.{with_location, with_loops, with_postponed}
-use Rattle.py_emission_parts.specs.Running.{Action, ◌▹◌, begin, begins, after_child, code_head, on_done, on_sealed, put_instruction, rewritten_in, run}
+use Rattle.py_emission_parts.specs.Running.{Action, ◌▹◌, begin, begins, after_child, code_head, ended, on_done, on_sealed, put_instruction, rewritten_in, run}
+use Rattle.py_emission_parts.specs.Refused.{mismatch}
 use Rattle.py_emission_parts.specs.Sealed.{Head, assembled_object}
+use Rattle.py_emission_parts.specs.Tables.{are_whole, ends_before}
+use Rattle.py_scope.specs.declared.flat.ScopeEntry.{ScopeEntry}
+use Rattle.py_base.specs.declared.errors.CodegenErrorType.{CodegenErrorType}
 
 -- of a state that is reached; nothing is asked where none is
 abbrev pub EmissionLawHolds : (State → Type 0) → Outcome → Type 0
 EmissionLawHolds P (Done s) = P s
 EmissionLawHolds P TooWide = Unit {0}
 EmissionLawHolds P (Refused e at) = Unit {0}
+
+-- so of one that is refused where a test fails
+pub holds_unless : (P : State → Type 0) (b : Bool) (o : Outcome) (e : CodegenErrorType) (at : Option SourceLocation) → EmissionLawHolds P o → EmissionLawHolds P (if b then o else Refused e at)
+holds_unless P true o e at h = h
+holds_unless P false o e at h = tt
+
+-- and of a child that ends with its table
+pub ended_holds : (P : State → Type 0) (scopes : List ScopeEntry) (n : ℕ) (o : Outcome) → EmissionLawHolds P o → EmissionLawHolds P (ended scopes n o)
+ended_holds P scopes n (Done t) h = holds_unless P (ends_before scopes n t.next) (Done t) _ _ h
+ended_holds P scopes n TooWide h = tt
+ended_holds P scopes n (Refused e at) h = tt
+
+-- where it is done, so was what it came to
+pub ended_done : (scopes : List ScopeEntry) (n : ℕ) (o : Outcome) (r : State) → ended scopes n o ≡ Done r → (o ≡ Done r) × (ends_before scopes n r.next ≡ true)
+ended_done scopes n (Done t) r e = go (ends_before scopes n t.next) refl e
+  where
+    go : (b : Bool) → ends_before scopes n t.next ≡ b → (if b then Done t else Refused mismatch (Some t.location)) ≡ Done r
+        → (◌≡◌ {A = Outcome} (Done t) (Done r)) × (ends_before scopes n r.next ≡ true)
+    go true h e = (e, subst (λ (o : Outcome). EmissionLawHolds (λ u. ends_before scopes n u.next ≡ true) o) e h)
+    go false h e = absurd cc
+ended_done scopes n TooWide r e = absurd cc
+ended_done scopes n (Refused x at) r e = absurd cc
 
 -- a relation of the states before and after that each step keeps to, and one step after another
 pub record Law (R : State → State → Type 0) : Type 0 where
@@ -108,7 +134,7 @@ all_hold R law (OfConstant i c) s = put_holds R law s (with_constant c s) i (pla
 all_hold R law (AddsVarname x) s = law.varnamed s (mangled_by s.node_context.context x)
 all_hold R law (AddsConstant c) s = law.constant s c
 all_hold R law Generates s = law.generated s
-all_hold R law (Passes n) s = law.numbered s (s.next + n) (omega arith)
+all_hold R law (Passes n) s = holds_unless (R s) (are_whole s.node_context.context.scopes s.next n) (Done (record s { next = s.next + n })) _ _ (law.numbered s (s.next + n) (omega arith))
 all_hold R law (Moves at) s = law.placed s at
 all_hold R law (Refuses e) s = tt
 all_hold R law (Faults e) s = tt
@@ -160,5 +186,6 @@ all_hold R law (Rewritten a) s = told_holds R law s (run a s) (all_hold R law a 
 all_hold R law (Nested nested h body k) s =
     let c = nested s.node_context.context s.next in
     let b = initial_state c s.location (suc s.next) in
-    sealed_holds R law s c.level (code_head c h s.location) (run body b) (λ o. run (k o)) (all_hold (λ u t. u.next ≤ t.next) next_law body b)
+    sealed_holds R law s c.level (code_head c h s.location) (ended s.node_context.context.scopes s.next (run body b)) (λ o. run (k o))
+    (ended_holds (λ t. suc s.next ≤ t.next) s.node_context.context.scopes s.next (run body b) (all_hold (λ u t. u.next ≤ t.next) next_law body b))
     (λ x t e. on_from R law s t (run (k x) t) e (all_hold R law (k x) t))

@@ -4,10 +4,10 @@ use Rattle.py_bytecode.specs.Objects.{Object}
 use Rattle.py_emission_parts.specs.Emitting.{State, Outcome, Done, TooWide, Refused, Emission, Then, One, Two, Three, ByContext, ByLoops}
 use Rattle.py_emission_parts.specs.Emitting.{InLoop, Postpones, Rewritten, Nested, initial_state, with_block, with_loops, with_postponed}
 use Rattle.py_emission_parts.specs.Emitting.{with_step}
-use Rattle.py_emission_parts.specs.Running.{Action, begins, after_child, code_head, on_done, on_sealed, rewritten_in, run}
+use Rattle.py_emission_parts.specs.Running.{Action, begins, after_child, code_head, ended, on_done, on_sealed, rewritten_in, run}
 use Rattle.py_emission_parts.specs.Growth.{After, Passes}
 use Rattle.py_emission_parts.specs.Sealed.{Head, assembled_object}
-use Rattle.py_emission_parts.proofs.EmissionLawLemmas.{EmissionLawHolds}
+use Rattle.py_emission_parts.proofs.EmissionLawLemmas.{EmissionLawHolds, ended_done}
 use Rattle.py_emission_parts.proofs.GrowthLemmas.{numbers_grow}
 
 -- one part after another
@@ -88,8 +88,9 @@ passed_numbers (Nested nested h body k) s r t e p =
     let c = nested s.node_context.context s.next in
     let b = initial_state c s.location (suc s.next) in
     let d = code_head c h s.location in
-    sealed_parts c.level d s (run body b) (λ o. run (k o)) r t (Passes body b t) (λ m. Passes (k (assembled_object c.level d m)) (after_child s m) t) e
-    (λ m x q. passed_numbers body b m t x q) (λ m x. numbers_grow (k (assembled_object c.level d m)) (after_child s m) r x)
+    sealed_parts c.level d s (ended s.node_context.context.scopes s.next (run body b)) (λ o. run (k o)) r t (Passes body b t) (λ m. Passes (k (assembled_object c.level d m)) (after_child s m) t) e
+    (λ m x q. passed_numbers body b m t (ended_done s.node_context.context.scopes s.next (run body b) m x).0 q)
+    (λ m x. numbers_grow (k (assembled_object c.level d m)) (after_child s m) r x)
     (λ m x q. passed_numbers (k (assembled_object c.level d m)) (after_child s m) r t x q) p
 passed_numbers (Two f g h) s r t e p =
     let n = s.blocks in

@@ -19,7 +19,9 @@ use Rattle.py_emission_parts.specs.Emitting.{initial_state, by_context, by_level
 use Rattle.py_emission_parts.specs.Emitting.{emit_name, emit_varname, generator_mark, in_loop, jump, keep, with_location, move, one_block}
 use Rattle.py_emission_parts.specs.Emitting.{pass_over, place_in, postponed_part, refuse, three_blocks, two_blocks, with_block}
 use Rattle.py_emission_parts.specs.Emitting.{with_constant, with_loops, with_name, with_postponed, with_step, with_varname}
-use Rattle.py_emission_parts.specs.Running.{Action, ◌▹◌, begin, code_head, on_done, on_sealed, put_instruction, rewritten_in, run}
+use Rattle.py_emission_parts.specs.Refused.{mismatch}
+use Rattle.py_emission_parts.specs.Tables.{are_whole}
+use Rattle.py_emission_parts.specs.Running.{Action, ◌▹◌, begin, code_head, ended, on_done, on_sealed, put_instruction, rewritten_in, run}
 use Rattle.py_emission_parts.specs.NestedScopes.{Shape}
 
 -- a block is made, which begins later
@@ -76,8 +78,8 @@ generating_is : (s : State) → run generator_mark s ≡ Done (record s { genera
 unfolding generator_mark
 generating_is s = refl
 
-passed_is : (n : ℕ) (s : State) → run (pass_over n) s ≡ Done (record s { next = s.next + n })
-unfolding pass_over
+passed_is : (n : ℕ) (s : State) → run (pass_over n) s ≡ (if are_whole s.node_context.context.scopes s.next n then Done (record s { next = s.next + n }) else run (refuse mismatch) s)
+unfolding pass_over refuse
 passed_is n s = refl
 
 move_is : (at : SourceLocation) (s : State) → run (move at) s ≡ Done (with_location at s)
@@ -125,7 +127,7 @@ run_equation_cell_is x s = run_equation_chosen (list_any (text_eq x) (s.node_con
 
 child_is : (nested : Context → (number : ℕ) → Context) (h : Shape) (body : Emission) (k : Object → Emission) (s : State) →
     run (child nested h body k) s ≡ (let c = nested s.node_context.context s.next in on_sealed c.level (code_head c h s.location) s
-    (run body (initial_state c s.location (suc s.next))) (λ o. run (k o)))
+    (ended s.node_context.context.scopes s.next (run body (initial_state c s.location (suc s.next)))) (λ o. run (k o)))
 unfolding child
 child_is nested h body k s = refl
 

@@ -2,7 +2,7 @@
 use Rattle.std.specs.Prelude.{◌≡◌, ◌⊎◌, suc, List, ◌++◌, Some, true}
 use Rattle.py_emission_parts.specs.Emitting.{State, Outcome, Done, TooWide, Refused, Emission, Then, One, Two, Three, ByContext, ByLoops}
 use Rattle.py_emission_parts.specs.Emitting.{InLoop, Postpones, Rewritten, Nested, initial_state, with_block, with_loops, with_postponed}
-use Rattle.py_emission_parts.specs.Running.{after_child, begins, code_head, run}
+use Rattle.py_emission_parts.specs.Running.{after_child, begins, code_head, ended, run}
 use Rattle.py_emission_parts.specs.Sealed.{assembled_object}
 
 -- this state is passed first, or one of those after it, where it is done
@@ -38,7 +38,8 @@ Passes (Rewritten a) s t = Passes a s t
 Passes (Nested nested h body k) s t =
     let c = nested s.node_context.context s.next in
     Passes body (initial_state c s.location (suc s.next)) t
-    ⊎ After (run body (initial_state c s.location (suc s.next))) (λ m. Passes (k (assembled_object c.level (code_head c h s.location) m)) (after_child s m) t)
+    ⊎ After (ended s.node_context.context.scopes s.next (run body (initial_state c s.location (suc s.next))))
+    (λ m. Passes (k (assembled_object c.level (code_head c h s.location) m)) (after_child s m) t)
 Passes other s t = t ≡ s
 
 -- the second is the first and more

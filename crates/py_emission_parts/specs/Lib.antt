@@ -15,3 +15,4 @@ pub mod Classes
 pub mod TypeParameters
 pub mod NestedScopes
 pub mod Refused
+pub mod Tables

@@ -21,6 +21,10 @@ lone_star = codes "starred assignment target must be in a list or tuple"
 abbrev pub no_unpacking : List ℕ
 no_unpacking = codes "iterable unpacking cannot be used in comprehension"
 
+-- the tables of the scopes are not those of the tree
+abbrev pub mismatch : CodegenErrorType
+mismatch = error.TableMismatch
+
 abbrev pub rewritten : CodegenErrorType → CodegenErrorType
 rewritten error.InvalidStarExpr = error.SyntaxError no_unpacking
 rewritten other = other

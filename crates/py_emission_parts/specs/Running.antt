@@ -1,5 +1,5 @@
 -- What an emission does to a state. It goes on from where another has reached, and the first refusal ends it.
-use Rattle.std.specs.Prelude.{ℕ, suc, ◌+◌, ◌^◌, Some, None, nat_lt, true, if◌then◌else◌}
+use Rattle.std.specs.Prelude.{ℕ, suc, ◌+◌, ◌^◌, List, Some, None, nat_lt, true, if◌then◌else◌}
 use Rattle.py_base.specs.declared.location.SourceLocation.{SourceLocation}
 use Rattle.py_bytecode.specs.declared.instruction.Instruction.{Instruction}
 use Rattle.py_bytecode.specs.Equality.{const_eq, text_eq}
@@ -10,9 +10,11 @@ use Rattle.py_emission_parts.specs.Emitting.{OfName, OfVarname, OfConstant, Adds
 use Rattle.py_emission_parts.specs.Emitting.{Faults, One, Two, Three, ByContext, ByLoops, InLoop, Postpones, Rewritten, Nested}
 use Rattle.py_emission_parts.specs.Emitting.{initial_state, place_in, with_step, with_block, with_name, with_varname, with_constant}
 use Rattle.py_emission_parts.specs.Emitting.{with_location, with_loops, with_postponed}
-use Rattle.py_emission_parts.specs.Refused.{rewritten}
+use Rattle.py_emission_parts.specs.Refused.{mismatch, rewritten}
 use Rattle.py_emission_parts.specs.Sealed.{Head, assembled_object}
+use Rattle.py_emission_parts.specs.Tables.{are_whole, ends_before}
 use Rattle.py_emission_parts.specs.NestedScopes.{Shape}
+use Rattle.py_scope.specs.declared.flat.ScopeEntry.{ScopeEntry}
 
 -- what is done to a state
 abbrev pub Action : Type 0
@@ -52,6 +54,12 @@ code_head c h at = record {
 abbrev pub after_child : (parent child : State) → State
 after_child s t = record s { location = t.location; next = t.next }
 
+-- a child whose scopes end where its table does, which has this number; else the tables are not those of the tree
+abbrev pub ended : List ScopeEntry → (number : ℕ) → Outcome → Outcome
+ended scopes n (Done t) = if ends_before scopes n t.next then Done t else Refused mismatch (Some t.location)
+ended scopes n TooWide = TooWide
+ended scopes n (Refused e at) = Refused e at
+
 -- what a child reaches is sealed, and what follows goes on with its code object
 abbrev pub on_sealed : (level : ℕ) → Head → (parent : State) → Outcome → (Object → Action) → Outcome
 on_sealed level h s (Done t) k = k (assembled_object level h t) (after_child s t)
@@ -81,7 +89,7 @@ run (OfConstant i c) s = put_instruction i (place_in const_eq s.constants c) (wi
 run (AddsVarname x) s = Done (with_varname (mangled_by s.node_context.context x) s)
 run (AddsConstant c) s = Done (with_constant c s)
 run Generates s = Done (record s { generator = true })
-run (Passes n) s = Done (record s { next = s.next + n })
+run (Passes n) s = if are_whole s.node_context.context.scopes s.next n then Done (record s { next = s.next + n }) else Refused mismatch (Some s.location)
 run (Moves at) s = Done (with_location at s)
 run (Refuses e) s = Refused e (Some s.location)
 run (Faults e) s = Refused e None
@@ -102,7 +110,7 @@ run (Postpones a) s = on_done (run a (with_postponed true s)) (λ t. Done (with_
 run (Rewritten a) s = rewritten_in (run a s)
 run (Nested nested h body k) s =
     let c = nested s.node_context.context s.next in
-    on_sealed c.level (code_head c h s.location) s (run body (initial_state c s.location (suc s.next))) (λ o. run (k o))
+    on_sealed c.level (code_head c h s.location) s (ended s.node_context.context.scopes s.next (run body (initial_state c s.location (suc s.next)))) (λ o. run (k o))
 
 -- what comes next goes on from what is emitted, unless that is refused
 abbrev pub go_on : Outcome → Emission → Outcome

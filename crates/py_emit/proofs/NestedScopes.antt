@@ -1,5 +1,6 @@
 -- A scope within that is entered, emitted and left.
-use Rattle.std.proofs.Common.{◌≡◌, ℕ, suc, List, [], ◌∷◌, ◌++◌, None, refl, sym, ap, ◌∙◌}
+use Rattle.std.proofs.Common.{◌≡◌, ℕ, suc, List, [], ◌∷◌, ◌++◌, Bool, true, false, Some, None, refl, sym, ap, ◌∙◌}
+use Rattle.std.specs.Prelude.{if◌then◌else◌}
 use Rattle.py_base.specs.declared.location.SourceLocation.{SourceLocation}
 use Rattle.py_bytecode.specs.Objects.{Object}
 use Rattle.py_bytecode.specs.View.{object}
@@ -7,13 +8,15 @@ use Rattle.py_bytecode.specs.declared.code.CodeObject.{CodeObject}
 use Rattle.py_scope.specs.declared.table_type.SymbolTableType.{SymbolTableType}
 use Rattle.py_scope.specs.declared.table_type.SymbolTableType.TheVariants as kind
 use Rattle.py_emission_parts.specs.Children.{child}
-use Rattle.py_emission_parts.specs.Running.{after_child, code_head, on_sealed, run}
+use Rattle.py_emission_parts.specs.Refused.{mismatch}
+use Rattle.py_emission_parts.specs.Running.{after_child, code_head, ended, on_sealed, run}
+use Rattle.py_emission_parts.specs.Tables.{beyond, ends_before}
 use Rattle.py_emission_parts.specs.NestedScopes.{Shape}
 use Rattle.py_emission_parts.specs.Context.{cells_among, frees_among, inside, outermost, symbols_in, with_path, nested_in_class}
-use Rattle.py_emission_parts.specs.Emitting.{Done, Emission, State, initial_state}
+use Rattle.py_emission_parts.specs.Emitting.{Done, Emission, Refused, State, initial_state}
 use Rattle.py_emission_parts.specs.Sealed.{Head, assembled_object}
-use Rattle.py_emit.specs.States.{Rest, Source, context_of, dotted, nested_context, entered_rest, head_in, left_scope, left_rest}
-use Rattle.py_emit.specs.States.{module_head, module_shape, named_in, no_context, parts_in, rest, state, unlooped_context}
+use Rattle.py_emit.specs.States.{Rest, Source, context_of, dotted, nested_context, entered_rest, head_in, is_even, left_scope, left_rest}
+use Rattle.py_emit.specs.States.{module_head, module_shape, named_in, no_context, parts_in, rest, state, unlooped_context, waiting}
 use Rattle.py_emit.specs.declared.context.Naming.{Naming}
 use Rattle.py_emit.specs.declared.context.Naming.TheVariants as naming
 use Rattle.py_emit.specs.declared.emitter.Emitter.{Emitter}
@@ -125,41 +128,72 @@ module _ (typ : SymbolTableType) (n : Naming) (h : Shape) (first : Emitter) (ent
   head = code_head (nested_context typ n (state first)) h (state first).location
 
   module _ (into : rest entry ≡ entered_rest n first.scope head (rest first)) (same : rest last ≡ rest entry) where
+    abbrev pub left_node_context : OpenScope
+    left_node_context = waiting (rest first).scopes first.scope
+
     waits : rest last ≡ entered_rest n first.scope head (rest first)
     waits = same ∙ into
 
     -- the enclosing scope waits last
-    pub outer_is : (rest last).outer ≡ (rest first).outer ++ first.scope ∷ []
+    pub outer_is : (rest last).outer ≡ (rest first).outer ++ left_node_context ∷ []
     outer_is = ap (λ (r : Rest). r.outer) waits
 
     pub nested_inner : (rest last).outer ≡ [] → ⊥
     nested_inner e = none (rest first).outer (sym outer_is ∙ e)
       where
-        none : (xs : List OpenScope) → xs ++ first.scope ∷ [] ≡ [] → ⊥
+        none : (xs : List OpenScope) → xs ++ left_node_context ∷ [] ≡ [] → ⊥
         none [] e = absurd cc
         none (x ∷ xs) e = absurd cc
 
     -- the enclosing scope goes on as it was
-    pub left_same : (r : Rest) → r ≡ left_rest (rest first).outer first.scope (rest last) → r ≡ rest first
+    pub left_same : (r : Rest) → r ≡ left_rest (rest first).outer left_node_context (rest last) → r ≡ rest first
     unfolding rest
-    left_same r e = e ∙ ap (left_rest (rest first).outer first.scope) waits
+    left_same r e = e ∙ ap (left_rest (rest first).outer left_node_context) waits
 
-    pub left_state : (s : State) → s ≡ left_scope (rest last) first.scope (state last) → s ≡ after_child (state first) (state last)
+    pub left_state : (s : State) → s ≡ left_scope (rest last) left_node_context (state last) → s ≡ after_child (state first) (state last)
     unfolding rest
-    left_state s e = e ∙ ap (λ (r : Rest). left_scope r first.scope (state last)) waits
+    left_state s e = e ∙ ap (λ (r : Rest). left_scope r left_node_context (state last)) waits
 
     sealed_so : (o : Object) → o ≡ assembled_object (rest last).opts.optimize (rest last).head (state last) → o ≡ assembled_object (nested_context typ n (state first)).level head (state last)
     unfolding rest
     sealed_so o e = e ∙ ap (λ (r : Rest). assembled_object r.opts.optimize r.head (state last)) waits ∙ ap (λ l. assembled_object l head (state last)) (sym (nested_level typ n (state first)))
 
+    -- what it reaches, by whether it ends with its table
+    evens : ends_before (state first).node_context.context.scopes (state first).next (state last).next ≡ is_even (rest last).scopes left_node_context.next (state last).next
+    unfolding rest
+    evens = ap (λ (r : Rest). is_even r.scopes (beyond first.scopes first.scope.next) (state last).next) (sym waits)
+
+    child_ends : (body : Emission) (k : Object → Emission)
+        → state entry ≡ initial_state (nested_context typ n (state first)) (state first).location (suc (state first).next)
+        → run body (state entry) ≡ Done (state last)
+        → run (child (λ c m. inside typ m (named_in n c)) h body k) (state first)
+        ≡ on_sealed (nested_context typ n (state first)).level head (state first) (ended (state first).node_context.context.scopes (state first).next (Done (state last))) (λ x. run (k x))
+    unfolding child
+    child_ends body k begins done =
+        ap (λ q. on_sealed (nested_context typ n (state first)).level head (state first)
+        (ended (state first).node_context.context.scopes (state first).next (run body q)) (λ x. run (k x))) (sym begins)
+        ∙ ap (λ o. on_sealed (nested_context typ n (state first)).level head (state first) (ended (state first).node_context.context.scopes (state first).next o) (λ x. run (k x))) done
+
+    child_tested : (k : Object → Emission) (b : Bool) → is_even (rest last).scopes left_node_context.next (state last).next ≡ b
+        → on_sealed (nested_context typ n (state first)).level head (state first) (ended (state first).node_context.context.scopes (state first).next (Done (state last))) (λ x. run (k x))
+        ≡ on_sealed (nested_context typ n (state first)).level head (state first) (if b then Done (state last) else Refused mismatch (Some (state last).location)) (λ x. run (k x))
+    child_tested k b e =
+        ap (λ (b : Bool). on_sealed (nested_context typ n (state first)).level head (state first)
+        (if b then Done (state last) else Refused mismatch (Some (state last).location)) (λ x. run (k x))) (evens ∙ e)
+
     -- what is emitted of it and after it
     pub child_goes : (body : Emission) (k : Object → Emission) (code : CodeObject) (s : State)
         → state entry ≡ initial_state (nested_context typ n (state first)) (state first).location (suc (state first).next)
         → run body (state entry) ≡ Done (state last) → object code ≡ assembled_object (rest last).opts.optimize (rest last).head (state last)
-        → s ≡ left_scope (rest last) first.scope (state last)
+        → is_even (rest last).scopes left_node_context.next (state last).next ≡ true → s ≡ left_scope (rest last) left_node_context (state last)
         → run (child (λ c m. inside typ m (named_in n c)) h body k) (state first) ≡ run (k (object code)) s
-    unfolding child
-    child_goes body k code s begins done is after =
-        ap (λ q. on_sealed (nested_context typ n (state first)).level head (state first) (run body q) (λ x. run (k x))) (sym begins)
-        ∙ ap (λ o. on_sealed (nested_context typ n (state first)).level head (state first) o (λ x. run (k x))) done
+    child_goes body k code s begins done is even after =
+        child_ends body k begins done ∙ child_tested k true even
         ∙ (λ i. run (k (sym (sealed_so (object code) is) i)) (sym (left_state s after) i))
+
+    -- or it does not end with its table
+    pub child_parts : (body : Emission) (k : Object → Emission)
+        → state entry ≡ initial_state (nested_context typ n (state first)) (state first).location (suc (state first).next)
+        → run body (state entry) ≡ Done (state last) → is_even (rest last).scopes left_node_context.next (state last).next ≡ false
+        → run (child (λ c m. inside typ m (named_in n c)) h body k) (state first) ≡ Refused mismatch (Some (state last).location)
+    child_parts body k begins done uneven = child_ends body k begins done ∙ child_tested k false uneven

@@ -70,4 +70,4 @@ scope_holds x o at next = record {
 
 pub info_holds : (e : Emitter) → Holds (info e) (rest e).head (state e)
 unfolding info rest
-info_holds e = scope_holds (source_of e) e.scope e.location e.next
+info_holds e = scope_holds (source_of e) e.scope e.location e.scope.next

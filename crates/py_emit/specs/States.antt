@@ -1,5 +1,5 @@
 -- What an emitter holds: what is emitted, and the rest, which steps of an emission leave as it is.
-use Rattle.std.specs.Prelude.{◌≡◌, ◌≢◌, ◌<◌, ℕ, List, [], ◌∷◌, ◌++◌, length, map, codes, Bool, false, Option, Some, None, Result, Ok, Err}
+use Rattle.std.specs.Prelude.{◌≡◌, ◌≢◌, ◌<◌, ℕ, List, [], ◌∷◌, ◌++◌, ◌||◌, length, map, codes, Bool, false, nat_eq, Option, Some, None, Result, Ok, Err}
 use Rattle.std.specs.List.{join_with_byte}
 use Rattle.py_base.specs.declared.location.SourceLocation.{SourceLocation}
 use Rattle.py_base.specs.declared.location.LocatedError.{LocatedError}
@@ -21,6 +21,8 @@ use Rattle.py_emission_parts.specs.Context.{Context, cells_among, frees_among, i
 use Rattle.py_emission_parts.specs.Emitting.{NodeContext, Emission, State, LoopBlocks, Outcome, Done, Refused}
 use Rattle.py_emission_parts.specs.Sealed.{Head, flags_of}
 use Rattle.py_emission_parts.specs.Running.{Action, code_head, run}
+use Rattle.py_emission_parts.specs.Refused.{mismatch}
+use Rattle.py_emission_parts.specs.Tables.{beyond, is_bare}
 use Rattle.py_emission_parts.specs.NestedScopes.{Shape}
 use Rattle.py_base.specs.declared.errors.CodegenErrorType.{CodegenErrorType}
 use Rattle.py_base.specs.declared.errors.CodegenErrorType.TheVariants as error
@@ -84,7 +86,7 @@ abbrev pub source_of : Emitter → Source
 source_of e = record { opts = e.opts; path = e.source_path; scopes = e.scopes }
 
 abbrev pub state : Emitter → State
-state e = state_of (source_of e) e.scope e.location e.next
+state e = state_of (source_of e) e.scope e.location e.scope.next
 
 abbrev pub head_of : FlatCode → Head
 head_of c = record {
@@ -181,6 +183,16 @@ pub record IsOutOfMemory (e : LocatedError CodegenErrorType) (path : List ℕ) :
   pub location_is : e.location ≡ None
   pub path_is : e.source_path ≡ path
 
+-- the scopes within one end where the one around waits, after its table; where there are no tables at all they do
+abbrev pub is_even : List ScopeEntry → (waiting next : ℕ) → Bool
+is_even scopes w n = is_bare scopes || nat_eq n w
+
+-- the error says that the tables are not those of the tree, at this location, where they are not
+pub record IsParted (e : LocatedError CodegenErrorType) (at : SourceLocation) (scopes : List ScopeEntry) (waiting next : ℕ) : Type 0 where
+  pub error_is : e.error ≡ mismatch
+  pub location_is : e.location ≡ Some at
+  pub uneven : is_even scopes waiting next ≡ false
+
 -- where a call is Ok, the emission has reached this state; where it is not, the emission is refused so, unless memory is wanting
 abbrev pub Goes : {A : Type 0} → Result A (LocatedError CodegenErrorType) → State → Outcome → Type 0
 Goes (Ok a) s o = o ≡ Done s
@@ -245,9 +257,13 @@ head_in h source line symbols = record {
 abbrev pub shape_of : ScopeHead → Shape
 shape_of h = record { flags = h.flags.0; posonlyarg_count = h.posonlyarg_count; arg_count = h.arg_count; kwonlyarg_count = h.kwonlyarg_count; obj_name = h.obj_name }
 
+-- a scope that waits goes on after the table of the one that was entered
+abbrev pub waiting : List ScopeEntry → OpenScope → OpenScope
+waiting scopes o = record o { next = beyond scopes o.next }
+
 -- the enclosing scope waits
 abbrev pub entered_rest : Naming → (scope : OpenScope) → Head → Rest → Rest
-entered_rest n o h r = record r { context = unlooped_context r.context; parts = parts_in n r.parts; head = h; outer = r.outer ++ o ∷ [] }
+entered_rest n o h r = record r { context = unlooped_context r.context; parts = parts_in n r.parts; head = h; outer = r.outer ++ waiting r.scopes o ∷ [] }
 
 abbrev pub source_in : Rest → Source
 source_in r = record { opts = r.opts; path = r.path; scopes = r.scopes }

@@ -1,15 +1,12 @@
 -- The tables that are left within the present scope, in the flat list of all scopes.
 use Rattle.std.specs.Prelude.{ℕ, zero, suc, ◌<◌, List, length, Some, None}
-use Rattle.py_scope.specs.Flat.{next_at, typ_at}
+use Rattle.py_scope.specs.Flat.{typ_at}
 use Rattle.py_scope.specs.declared.flat.ScopeEntry.{ScopeEntry}
 use Rattle.py_scope.specs.declared.table_type.SymbolTableType.{SymbolTableType}
 use Rattle.py_scope.specs.declared.table_type.SymbolTableType.TheVariants as kind
 use Rattle.py_emission_parts.specs.Context.{Context, inside}
 use Rattle.py_emission_parts.specs.Emitting.{State}
-
--- the number after the scope with this number and those inside it
-abbrev pub beyond : List ScopeEntry → ℕ → ℕ
-beyond entries i = elim (next_at entries i) [ None ↦ i | Some n ↦ n ]
+use Rattle.py_emission_parts.specs.Tables.{beyond}
 
 -- the number after so many scopes that stand side by side from number k on
 abbrev pub number_after_scopes : List ScopeEntry → (count k : ℕ) → ℕ

@@ -1,5 +1,5 @@
 //! The emitter.
-ghost use Rattle.std.specs.Prelude.{◌≡◌, ◌≢◌, ◌<◌, ◌++◌, ◌∷◌, [], ℕ, suc, None, Some, IfOk, IfErr, OnOk, List as Scopes};
+ghost use Rattle.std.specs.Prelude.{◌≡◌, ◌≢◌, ◌<◌, ◌≤◌, ◌+◌, ◌++◌, ◌∷◌, [], ℕ, suc, true, length, None, Some, IfOk, IfErr, OnOk, List as Scopes};
 ghost use Rattle.py_bytecode.specs.View.{object};
 ghost use Rattle.py_ir.specs.Chain.{block_number};
 ghost use Rattle.py_ir.specs.Final.{IsFinal};
@@ -9,10 +9,11 @@ ghost use Rattle.py_emission_parts.specs.Running.{code_head, run};
 ghost use Rattle.py_emission_parts.specs.Context.{inside, outermost, symbols_in};
 ghost use Rattle.py_emission_parts.specs.Emitting.{Begin, Done, Put, initial_state, emit as emission_of, emit_count, generator_mark, jump as jumping, with_location, nothing, with_block, with_loops, with_postponed, with_step};
 ghost use Rattle.py_emission_parts.specs.Sealed.{assembled_object};
-ghost use Rattle.py_emit.specs.States.{Emits, Goes, IsFirst, IsOutOfMemory, IsUnrefused, nested_context, entered_rest, first_rest, head_in, head_of, info, left_scope, left_rest, loop_blocks, looped_rest, module_shape, named_in, parts_in, placed_error, postponed_rest, rest, shape_of, source_of, state, state_of, told_rest, unlooped_context, without_path, without_source};
+ghost use Rattle.py_emit.specs.States.{Emits, Goes, IsFirst, IsParted, IsOutOfMemory, IsReported, IsUnrefused, nested_context, entered_rest, first_rest, head_in, head_of, info, is_even, left_scope, left_rest, loop_blocks, looped_rest, module_shape, named_in, parts_in, placed_error, postponed_rest, rest, shape_of, source_of, state, state_of, told_rest, unlooped_context, without_path, without_source};
 ghost use Rattle.py_emit.specs.Steps.{IsOpen, step_of};
 
 use crate::context::{CompileOpts, EmitContext, Naming, ScopeHead};
+use crate::counted::{is_even, number_beyond};
 use crate::paths::{alone, copied};
 use crate::refusals::{has_short_tables, only_out_of_memory, out_of_memory};
 use crate::scopes::{OpenScope, first_code, laid_out};
@@ -21,9 +22,10 @@ use py_base::{
 };
 use py_bytecode::{CodeFlags, CodeObject, Instruction, OpArg};
 use py_ir::{BlockIdx, FlatCode, InstructionInfo};
-use py_scope::{FlatScopes, SymbolTable, SymbolTableType};
+use py_scope::{FlatScopes, Steps, SymbolTable, SymbolTableType};
 use std::alloc::{AllocError, Global};
 use std::mem;
+use std::sync::ledger::Ledger;
 
 /// The number of values that no instruction counts.
 const COUNT_LIMIT: usize = 1 << 30;
@@ -38,8 +40,6 @@ pub struct Emitter {
     source_path: Text,
     pub(crate) scopes: FlatScopes,
     location: SourceLocation,
-    /// The number of the next nested scope, in the order in which they are compiled.
-    next: usize,
     pub(crate) scope: OpenScope,
     outer: Vec<OpenScope>,
 }
@@ -94,12 +94,12 @@ impl Emitter {
             source_path,
             scopes,
             location: SourceLocation::default(),
-            next: 1,
             scope: OpenScope {
                 code,
                 generator: false,
                 typ: SymbolTableType::Module,
                 here: 0,
+                next: 1,
                 class: None,
                 path: Names::new(alloc),
                 context: EmitContext::OUTERMOST,
@@ -300,16 +300,18 @@ impl Emitter {
     }
 
     /// Goes into a nested scope, whose number is that of the next one. It has this head, the cells and the free names that
-    /// its symbols say, the row of the present location as its first line, and one empty block; the enclosing scope waits.
+    /// its symbols say, the row of the present location as its first line, and one empty block. The enclosing scope waits
+    /// after the table of the nested one, which is reached by one step, where there is such a table.
     ///
     /// # Errors
     /// OutOfMemory alone.
     #[tactic(auto, unfolding(crate::specs::States::rest))]
-    pub fn open_scope(
+    pub fn open_scope<L: Ledger>(
         &mut self,
         head: ScopeHead,
         typ: SymbolTableType,
         naming: Naming,
+        steps: &mut Steps<L>,
     ) -> Result<(), CodegenError>
         ensures state { OnOk result (state self.new
             ≡ initial_state (nested_context typ naming (state self.old)) (state self.old).location
@@ -319,28 +321,30 @@ impl Emitter {
             (code_head (nested_context typ naming (state self.old)) (shape_of head)
             (state self.old).location) (rest self.old)) }
         ensures err { IfErr result (λ e. IsOutOfMemory e (rest self.old).path) }
+        ensures step { (state self.old).next < length (rest self.old).scopes
+            → steps.new ≡ steps.old + 1 }
+        ensures few { steps.new ≤ steps.old + 1 }
     {
-        let number = self.next;
+        let number = self.scope.next;
+        let next = number_beyond(&self.scopes, number, steps);
         let Ok(scope) = self.nested_scope(head, typ, naming, number) else {
             return Err(self.error(CodegenErrorType::OutOfMemory));
         };
-        let Some(next) = number.checked_add(1) else {
-            return Err(self.error(CodegenErrorType::OutOfMemory));
-        };
-        let enclosing = mem::replace(&mut self.scope, scope);
+        let mut enclosing = mem::replace(&mut self.scope, scope);
+        enclosing.next = next;
         let Ok(()) = push_scope(&mut self.outer, enclosing) else {
             return Err(self.error(CodegenErrorType::OutOfMemory));
         };
-        self.next = next;
         Ok(())
     }
 
     /// Leaves the present scope, which stands within another, and lays its code out at the level of the options. The scope
-    /// around goes on.
+    /// around goes on where it waits, after the table of the present scope.
     ///
     /// # Errors
-    /// OutOfMemory alone: a table of 2^31 entries, and blocks that have no code, count as that. The part "Out of memory"
-    /// of docs/DECISIONS.md says what no tree without faults reaches.
+    /// TableMismatch where the scopes within the present one do not end with its table, at the present location; else
+    /// OutOfMemory: a table of 2^31 entries, and blocks that have no code, count as that. The part "Out of memory" of
+    /// docs/DECISIONS.md says what no tree without faults reaches.
     #[tactic(auto, unfolding(crate::specs::States::rest))]
     pub fn leave_scope(&mut self) -> Result<CodeObject, CodegenError>
         requires inner { (rest self.old).outer ≢ [] }
@@ -353,12 +357,23 @@ impl Emitter {
         ensures rest { OnOk result ((outer : Scopes OpenScope) (o : OpenScope)
             → (rest self.old).outer ≡ outer ++ o ∷ []
             → rest self.new ≡ left_rest outer o (rest self.old)) }
-        ensures err { IfErr result (λ e. IsOutOfMemory e (rest self.old).path) }
+        ensures even { OnOk result ((outer : Scopes OpenScope) (o : OpenScope)
+            → (rest self.old).outer ≡ outer ++ o ∷ []
+            → is_even (rest self.old).scopes o.next (state self.old).next ≡ true) }
+        ensures parted { IfErr result (λ e. e.error ≢ CodegenErrorType.OutOfMemory
+            → (outer : Scopes OpenScope) (o : OpenScope) → (rest self.old).outer ≡ outer ++ o ∷ []
+            → IsParted e (state self.old).location (rest self.old).scopes o.next
+            (state self.old).next) }
+        ensures told { IfErr result (λ e. IsReported e (rest self.old).path) }
     {
         let Some(enclosing) = self.outer.pop() else {
             unreachable!();
         };
         let scope = mem::replace(&mut self.scope, enclosing);
+        if !is_even(&self.scopes, self.scope.next, scope.next) {
+            return Err(self.error(CodegenErrorType::TableMismatch));
+        }
+        self.scope.next = scope.next;
         if !has_short_tables(&scope.code) {
             return Err(self.error(CodegenErrorType::OutOfMemory));
         }
@@ -372,16 +387,16 @@ impl Emitter {
     pub fn next_scope(&self) -> usize
         ensures { result ≡ (state self.now).next }
     {
-        self.next
+        self.scope.next
     }
 
-    /// The scopes up to this number stand in parts that are scanned and not compiled, and are passed over.
+    /// The next nested scope has this number.
     #[tactic(auto, unfolding(crate::specs::States::rest))]
-    pub fn pass_scopes(&mut self, number: usize)
+    pub(crate) fn go_on_from(&mut self, number: usize)
         ensures state { state self.new ≡ record (state self.old) { next = number } }
         ensures rest { rest self.new ≡ rest self.old }
     {
-        self.next = number;
+        self.scope.next = number;
     }
 
     /// The scope's code is a generator.
@@ -419,7 +434,6 @@ impl Emitter {
             source_path,
             scopes: _,
             location: _,
-            next: _,
             scope,
             outer: _,
         } = self;
@@ -449,6 +463,7 @@ impl Emitter {
             (symbols_in self.now.scopes number)) }
         ensures context { IfOk result (λ o. o.context ≡ unlooped_context self.now.scope.context) }
         ensures parts { IfOk result (λ o. o.path ≡ parts_in naming self.now.scope.path) }
+        ensures next { IfOk result (λ o. o.next ≡ suc number) }
     {
         let line = self.location.row;
         let code = first_code(
@@ -460,11 +475,13 @@ impl Emitter {
             number,
         )?;
         let (class, path) = self.names_within(naming)?;
+        let next = first_within(number)?;
         Ok(OpenScope {
             code,
             generator: false,
             typ,
             here: number,
+            next,
             class,
             path,
             context: EmitContext {
@@ -497,6 +514,19 @@ impl Emitter {
             Some(name) => Ok(Some(name.try_clone(self.alloc)?)),
             None => Ok(None),
         }
+    }
+}
+
+/// The number after this one.
+///
+/// # Errors
+/// There is none, which counts as out of memory.
+fn first_within(number: usize) -> Result<usize, AllocError>
+    ensures { IfOk result (λ next. next ≡ suc number) }
+{
+    match number.checked_add(1) {
+        Some(next) => Ok(next),
+        None => Err(AllocError),
     }
 }
 

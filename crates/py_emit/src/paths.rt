@@ -128,7 +128,8 @@ pub(crate) fn joined(alloc: Global, parts: &[Text]) -> Result<Text, AllocError>
 /// # Errors
 /// There is no memory for it.
 fn push_parts(full: &mut String, parts: &[Text]) -> Result<(), AllocError>
-    ensures { OnOk result (string_bytes full.new ≡ string_bytes full.old ++ each_after_dot parts.now) }
+    ensures { OnOk result (string_bytes full.new ≡ string_bytes full.old
+        ++ each_after_dot parts.now) }
 {
     for part in parts {
         full.push_str(".")?;

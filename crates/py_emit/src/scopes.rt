@@ -26,6 +26,8 @@ pub struct OpenScope {
     pub(crate) typ: SymbolTableType,
     /// The number of the scope among all.
     pub(crate) here: usize,
+    /// The number of the next nested scope; where it waits, of the one after that which was entered.
+    pub(crate) next: usize,
     /// The innermost class, by which names are mangled.
     pub(crate) class: Option<Text>,
     /// The parts of the qualified name of the context of the names of this scope.
@@ -43,6 +45,7 @@ impl OpenScope {
             generator,
             typ: _,
             here: _,
+            next: _,
             class: _,
             path: _,
             context: _,

@@ -71,7 +71,7 @@ fn compile_call_arguments(em: &mut Emitter, e: &ExprCall) -> Result<CallType, Co
 /// Emits arguments as those of a call, after `additional` values that lie there. Answers what the call takes with these.
 ///
 /// # Errors
-/// The first compile fault of the arguments, with its location; MissingCell; or OutOfMemory.
+/// The first compile fault of the arguments, with its location; MissingCell or TableMismatch; or OutOfMemory.
 pub fn compile_call_inner(
     em: &mut Emitter,
     additional: u32,

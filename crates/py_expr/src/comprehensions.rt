@@ -76,7 +76,7 @@ pub(crate) fn compile_generator_exp(
 ///
 /// # Errors
 /// MalformedTree where there is no clause; NotImplementedYet where a clause is async or the element of a generator
-/// awaits; the first compile fault of the parts, with its location; MissingCell; or OutOfMemory.
+/// awaits; the first compile fault of the parts, with its location; MissingCell or TableMismatch; or OutOfMemory.
 #[cycle(code)]
 pub fn compile_comprehension(
     em: &mut Emitter,

@@ -90,7 +90,7 @@ fn compile_short(
 /// a value. The target is a block that was made.
 ///
 /// # Errors
-/// The first compile fault of the expression, with its location; MissingCell; or OutOfMemory.
+/// The first compile fault of the expression, with its location; MissingCell or TableMismatch; or OutOfMemory.
 pub fn compile_jump_if(
     em: &mut Emitter,
     expr: &Expr,

@@ -28,7 +28,7 @@ use py_tree::{Expr, ExprAttribute, ExprBinOp, ExprIfExp, ExprSubscript, ExprUnar
 /// Emits the code that pushes an expression's value.
 ///
 /// # Errors
-/// The first compile fault of the expression, with its location; MissingCell; or OutOfMemory.
+/// The first compile fault of the expression, with its location; MissingCell or TableMismatch; or OutOfMemory.
 #[cycle(code)]
 #[tactic(auto, using(py_expr_parts::proofs::Steps::step_steps))]
 pub fn compile_expression(em: &mut Emitter, expr: &Expr) -> Result<(), CodegenError>
@@ -145,7 +145,7 @@ fn compile_subscript(em: &mut Emitter, e: &ExprSubscript) -> Result<(), CodegenE
 /// Emits expressions one after the other.
 ///
 /// # Errors
-/// The first compile fault of an expression, with its location; MissingCell; or OutOfMemory.
+/// The first compile fault of an expression, with its location; MissingCell or TableMismatch; or OutOfMemory.
 #[cycle(code)]
 pub fn compile_expressions(em: &mut Emitter, items: &[Expr]) -> Result<(), CodegenError>
     ensures { Emits result (emission_of_exprs (exprs expr_tree items.now)) em.old em.new }

@@ -59,7 +59,7 @@ fn compile_lambda_scope(
 /// there are any.
 ///
 /// # Errors
-/// The first compile fault of a default, with its location; MissingCell; or OutOfMemory.
+/// The first compile fault of a default, with its location; MissingCell or TableMismatch; or OutOfMemory.
 #[cycle(code)]
 pub fn compile_defaults(em: &mut Emitter, params: &Arguments) -> Result<Defaults, CodegenError>
     ensures flags { IfOk result (λ d. flags_of_defaults

@@ -20,7 +20,7 @@ use py_tree::{Expr, ExprJoinedStr};
 /// Emits the code that returns an expression's value: a constant by one instruction.
 ///
 /// # Errors
-/// The first compile fault of the expression, with its location; MissingCell; or OutOfMemory.
+/// The first compile fault of the expression, with its location; MissingCell or TableMismatch; or OutOfMemory.
 #[cycle(code)]
 #[tactic(auto, using(py_tree::proofs::View::trees, py_expr_parts::proofs::Steps::step_steps))]
 pub fn compile_return(em: &mut Emitter, expr: &Expr) -> Result<(), CodegenError>

@@ -19,7 +19,8 @@ use py_tree::{Expr, ExprAttribute, ExprNamedExpr, ExprSubscript, SourceLocation}
 /// Emits the code that stores the value that lies there to an expression.
 ///
 /// # Errors
-/// The first compile fault of the expression as a target, with its location; MissingCell; or OutOfMemory.
+/// The first compile fault of the expression as a target, with its location; MissingCell or TableMismatch; or
+/// OutOfMemory.
 #[cycle(code)]
 #[tactic(auto, using(py_tree::proofs::View::trees))]
 pub fn compile_store(em: &mut Emitter, target: &Expr) -> Result<(), CodegenError>
@@ -114,7 +115,8 @@ fn compile_element_store(em: &mut Emitter, elt: &Expr) -> Result<(), CodegenErro
 /// Emits the code that deletes an expression, a list or a tuple element by element.
 ///
 /// # Errors
-/// The first compile fault of the expression as what is deleted, with its location; MissingCell; or OutOfMemory.
+/// The first compile fault of the expression as what is deleted, with its location; MissingCell or TableMismatch; or
+/// OutOfMemory.
 #[cycle(deletions)]
 #[tactic(auto, using(py_tree::proofs::View::trees))]
 pub fn compile_delete(em: &mut Emitter, target: &Expr) -> Result<(), CodegenError>
@@ -138,7 +140,8 @@ pub fn compile_delete(em: &mut Emitter, target: &Expr) -> Result<(), CodegenErro
 /// Emits the code that deletes each target in turn.
 ///
 /// # Errors
-/// The first compile fault of the targets as what is deleted, with its location; MissingCell; or OutOfMemory.
+/// The first compile fault of the targets as what is deleted, with its location; MissingCell or TableMismatch; or
+/// OutOfMemory.
 #[cycle(deletions)]
 pub fn compile_deletes(em: &mut Emitter, targets: &[Expr]) -> Result<(), CodegenError>
     ensures { Emits result (emission_of_deletes (exprs expr_tree targets.now)) em.old em.new }

@@ -20,7 +20,7 @@ use Rattle.py_emission.specs.Emission.{clause_emissions, emission}
 use Rattle.py_emit.specs.States.{state}
 use Rattle.py_emit.specs.Steps.{IsOpen}
 use Rattle.py_emit.specs.declared.emitter.Emitter.{Emitter}
-use Rattle.py_emission_parts.specs.Running.{Action, ◌▹◌, code_head, on_done, on_sealed, rewritten_in, run}
+use Rattle.py_emission_parts.specs.Running.{Action, ◌▹◌, code_head, ended, on_done, on_sealed, rewritten_in, run}
 use Rattle.py_emit.proofs.Joined.{joined_actions}
 use Rattle.py_expr_scopes.specs.Comprehensions.{added_element, comprehension_of, element_of, first_iterable, is_awaited, name_of, scope_of}
 use Rattle.py_expr_scopes.specs.declared.comprehensions.ComprehensionElement.{ComprehensionElement}
@@ -69,7 +69,7 @@ scope_alike true name (c ∷ cs) v w s e = refl
 scope_alike false name (c ∷ cs) v w s e =
     let x = comprehension_inside s.node_context.context s.next in
     ap (λ (f : Action). on_done (on_sealed x.level (code_head x (comprehension_shape name) s.location) s
-    (f (initial_state x s.location (suc s.next))) (λ o. run (made_function 0 name o)))
+    (ended s.node_context.context.scopes s.next (f (initial_state x s.location (suc s.next)))) (λ o. run (made_function 0 name o)))
     (run (c.iterable ▸ emit op.GetIter 0 ▸ emit_count op.CallFunctionPositional 1))) e
 
 -- an element, in which a star is reported in other words

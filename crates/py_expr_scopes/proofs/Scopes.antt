@@ -1,5 +1,5 @@
 -- A scope within that is entered, emitted and left, or refused.
-use Rattle.std.proofs.Common.{◌≡◌, ◌≢◌, ℕ, suc, List, [], ◌∷◌, ◌++◌, Option, Ok, Err, Result, sym, ap, ◌∙◌, subst}
+use Rattle.std.proofs.Common.{◌≡◌, ◌≢◌, ℕ, suc, List, [], ◌∷◌, ◌++◌, Option, Ok, Err, Result, true, sym, ap, ◌∙◌, subst}
 use Rattle.std.specs.Prelude.{IfErr, IfOk, OnOk, codes}
 use Rattle.py_scope_counts.specs.Counts.{scopes_in_annotations}
 use Rattle.py_tree.specs.Tree as tree
@@ -13,7 +13,7 @@ use Rattle.py_base.specs.declared.errors.CodegenErrorType.TheVariants as error
 use Rattle.py_scope.specs.declared.table_type.SymbolTableType.{SymbolTableType}
 use Rattle.py_bytecode.specs.Objects as const
 use Rattle.py_emission_parts.specs.Children.{DefaultEmissions, child, emission_of_defaults, enter_parameters, flags_of_defaults, function_scope, made_function}
-use Rattle.py_emission_parts.specs.Running.{Action, code_head, on_sealed, run}
+use Rattle.py_emission_parts.specs.Running.{Action, code_head, ended, on_sealed, run}
 use Rattle.py_emission_parts.specs.NestedScopes.{Shape, lambda_inside}
 use Rattle.py_emission_parts.specs.Context.{Context, inside}
 use Rattle.py_emission_parts.specs.Emitting.{Done, Emission, Refused, State, ◌▸◌, add_constant, initial_state}
@@ -21,19 +21,21 @@ use Rattle.py_emission_parts.specs.EmissionParts.{pass_scopes}
 use Rattle.py_emission_parts.specs.Sealed.{assembled_object}
 use Rattle.py_emission.specs.Emission.{lambda_value}
 use Rattle.py_emission.specs.Parameters.{function_shape, parameters}
-use Rattle.py_emit.specs.States.{IsOutOfMemory, IsReported, Rest, Same, nested_context, entered_rest, left_scope, left_rest, named_in, rest, state}
+use Rattle.py_emit.specs.States.{IsParted, IsReported, Rest, Same, nested_context, entered_rest, is_even, left_scope, left_rest, named_in, rest, state}
 use Rattle.py_emit.specs.declared.context.Naming.{Naming}
 use Rattle.py_emit.specs.declared.emitter.Emitter.{Emitter}
 use Rattle.py_emit.specs.declared.scopes.OpenScope.{OpenScope}
 use Rattle.py_emit.proofs.Joined.{joined_actions, joined_refused_first, went}
-use Rattle.py_emit.proofs.NestedScopes.{child_goes, left_same, outer_is}
+use Rattle.py_emit.proofs.NestedScopes.{child_goes, child_parts, left_node_context, left_same, outer_is}
 use Rattle.py_expr_scopes.specs.Functions.{Gives}
 
 -- a nested scope by another name of the context
 pub child_as : (v w : Context → (number : ℕ) → Context) (h : Shape) (body : Emission) (k : Object → Emission) (s : State)
     → v s.node_context.context s.next ≡ w s.node_context.context s.next → run (child v h body k) s ≡ run (child w h body k) s
 unfolding child
-child_as v w h body k s e = ap (λ (c : Context). on_sealed c.level (code_head c h s.location) s (run body (initial_state c s.location (suc s.next))) (λ o. run (k o))) e
+child_as v w h body k s e = ap
+    (λ (c : Context). on_sealed c.level (code_head c h s.location) s
+    (ended s.node_context.context.scopes s.next (run body (initial_state c s.location (suc s.next)))) (λ o. run (k o))) e
 
 -- what is refused within is refused
 pub child_refused : (nested : Context → (number : ℕ) → Context) (h : Shape) (body : Emission) (k : Object → Emission) (s : State) (e : CodegenErrorType) (at : Option SourceLocation)
@@ -41,7 +43,7 @@ pub child_refused : (nested : Context → (number : ℕ) → Context) (h : Shape
 unfolding child
 child_refused nested h body k s e at r =
     let c = nested s.node_context.context s.next in
-    ap (λ o. on_sealed c.level (code_head c h s.location) s o (λ x. run (k x))) r
+    ap (λ o. on_sealed c.level (code_head c h s.location) s (ended s.node_context.context.scopes s.next o) (λ x. run (k x))) r
 
 -- the parameters and the first constant of a function come first
 module _ (xs : List (List ℕ)) (v : Emission) (s : State) where
@@ -78,12 +80,18 @@ module _ (typ : SymbolTableType) (n : Naming) (h : Shape) (first entry : Emitter
     -- it is left, and what follows goes on with its code object
     pub left_gives : (body : Emission) (r : Result CodeObject (LocatedError CodegenErrorType)) → run body (state entry) ≡ Done (state last)
         → IfOk r (λ code. object code ≡ assembled_object (rest last).opts.optimize (rest last).head (state last))
+        → OnOk r ((outer : List OpenScope) (o : OpenScope) → (rest last).outer ≡ outer ++ o ∷ [] → is_even (rest last).scopes o.next (state last).next ≡ true)
         → OnOk r ((outer : List OpenScope) (o : OpenScope) → (rest last).outer ≡ outer ++ o ∷ [] → state after ≡ left_scope (rest last) o (state last))
-        → IfErr r (λ e. IsOutOfMemory e (rest last).path) → Gives r (state after) (λ k. run (inner_child body k) (state first))
-    left_gives body (Ok code) done is goes err = λ k.
-        child_goes typ n h first entry last into same body k code (state after) begins done is
-        (goes (rest first).outer first.scope (outer_is typ n h first entry last into same))
-    left_gives body (Err e) done is goes err = λ k ne. absurd (ne err.error_is)
+        → IfErr r (λ e. e.error ≢ error.OutOfMemory → (outer : List OpenScope) (o : OpenScope) → (rest last).outer ≡ outer ++ o ∷ []
+        → IsParted e (state last).location (rest last).scopes o.next (state last).next)
+        → Gives r (state after) (λ k. run (inner_child body k) (state first))
+    left_gives body (Ok code) done is even goes parted =
+        let node_context = left_node_context typ n h first entry last into same in
+        let waits = outer_is typ n h first entry last into same in
+        λ k. child_goes typ n h first entry last into same body k code (state after) begins done is (even (rest first).outer node_context waits) (goes (rest first).outer node_context waits)
+    left_gives body (Err e) done is even goes parted = λ k ne.
+        let p = parted ne (rest first).outer (left_node_context typ n h first entry last into same) (outer_is typ n h first entry last into same) in
+        child_parts typ n h first entry last into same body k begins done p.uneven ∙ (λ i. Refused (sym p.error_is i) (sym p.location_is i))
 
     -- an error names the path of the enclosing scope
     pub same_path : (r : Result CodeObject (LocatedError CodegenErrorType)) (x : LocatedError CodegenErrorType) (s : Rest) → r ≡ Err x → IsReported x (rest last).path → Same r s (rest first)
@@ -92,9 +100,10 @@ module _ (typ : SymbolTableType) (n : Naming) (h : Shape) (first entry : Emitter
     -- the enclosing scope goes on as it was
     pub left_keeps : (r : Result CodeObject (LocatedError CodegenErrorType))
         → OnOk r ((outer : List OpenScope) (o : OpenScope) → (rest last).outer ≡ outer ++ o ∷ [] → rest after ≡ left_rest outer o (rest last))
-        → IfErr r (λ e. IsOutOfMemory e (rest last).path) → Same r (rest after) (rest first)
-    left_keeps (Ok code) goes err = left_same typ n h first entry last into same (rest after) (goes (rest first).outer first.scope (outer_is typ n h first entry last into same))
-    left_keeps (Err e) goes err = (err.path_is ∙ ap (λ (x : Rest). x.path) (same ∙ into), λ o. err.location_is)
+        → IfErr r (λ e. IsReported e (rest last).path) → Same r (rest after) (rest first)
+    left_keeps (Ok code) goes told = left_same typ n h first entry last into same (rest after)
+        (goes (rest first).outer (left_node_context typ n h first entry last into same) (outer_is typ n h first entry last into same))
+    left_keeps (Err e) goes told = (told.0 ∙ ap (λ (x : Rest). x.path) (same ∙ into), told.1)
 
 -- a lambda of these parameters, whose body is returned so
 module _ (p : tree.Arguments) (v : Emission) where

@@ -12,6 +12,7 @@ ghost use Rattle.py_emit.specs.States.{Emits, IsOutOfMemory, nested_context, ent
 ghost use Rattle.py_expr_scopes.specs.Comprehensions.{added_element, collection, final_return, is_awaited, name_of};
 
 use crate::awaits::contains_await;
+use crate::functions::enter_next;
 use bitflags::Flags;
 use py_base::{CodegenError, CodegenErrorType, LocatedError};
 use py_bytecode::{CodeFlags, CodeObject, ConstantData, Instruction, MakeFunctionFlags};
@@ -105,7 +106,12 @@ pub fn enter_comprehension(em: &mut Emitter, name: Text) -> Result<(), CodegenEr
         kwonlyarg_count: 0,
         obj_name: name,
     };
-    em.open_scope(head, SymbolTableType::Comprehension, Naming::AsEnclosing)
+    enter_next(
+        em,
+        head,
+        SymbolTableType::Comprehension,
+        Naming::AsEnclosing,
+    )
 }
 
 /// Emits the empty collection, where there is one.

@@ -1,16 +1,16 @@
 //! What lambdas share with the definitions of functions: the nested scope, its flags, names of defaults, and the scopes that are
 //! passed over.
-ghost use Rattle.std.specs.Prelude.{◌≡◌, ◌+◌, ℕ, Bool, suc, codes, IfErr, IfOk, OnOk};
+ghost use Rattle.std.specs.Prelude.{◌≡◌, ◌<◌, ◌+◌, ℕ, Bool, suc, codes, IfErr, IfOk, OnOk};
 ghost use Rattle.py_scope_counts.specs.Counts.{IsSum, scopes_in_annotations as annotation_scopes};
 ghost use Rattle.py_tree.specs.View.{arguments, expr_tree};
 ghost use Rattle.py_bytecode.specs.Objects as object;
 ghost use Rattle.py_bytecode.specs.View.{object as code_object};
 ghost use Rattle.py_emission_parts.specs.Children.{enter_parameters, made_function};
 ghost use Rattle.py_emission_parts.specs.Running.{code_head, run};
-ghost use Rattle.py_emission_parts.specs.Emitting.{◌▸◌, add_constant, initial_state, emit_constant};
+ghost use Rattle.py_emission_parts.specs.Emitting.{◌▸◌, add_constant, initial_state, emit_constant, pass_over};
 ghost use Rattle.py_emission_parts.specs.EmissionParts.{pass_scopes};
 ghost use Rattle.py_emission.specs.Parameters.{function_shape, parameters};
-ghost use Rattle.py_emit.specs.States.{Emits, Goes, IsOutOfMemory, Same, nested_context, entered_rest, rest, state};
+ghost use Rattle.py_emit.specs.States.{Emits, Goes, IsOutOfMemory, Same, nested_context, entered_rest, rest, shape_of, state};
 ghost use Rattle.py_expr_scopes.specs.Functions.{closed_by, default_name, flag_if, is_some};
 ghost use Rattle.py_bytecode.specs.Objects.{str};
 
@@ -18,10 +18,12 @@ use crate::parameters::{enter_names, function_head};
 use bitflags::Flags;
 use py_base::{CodegenError, CodegenErrorType};
 use py_bytecode::{CodeObject, ConstantData, Instruction, MakeFunctionFlags};
-use py_emit::{Emitter, Naming, refuse};
-use py_scope::SymbolTableType;
+use py_emit::{Emitter, Naming, ScopeHead, refuse};
+use py_scope::{Steps, SymbolTableType};
 use py_scope_counts::scopes_in_annotations;
 use py_tree::{Arguments, Text};
+use std::marker::Brand;
+use std::sync::ledger::{Blank, Ledger};
 
 /// Which defaults lie there: a tuple of those of positional parameters, and a map of those of keyword-only ones.
 #[derive(Clone, Copy, PartialEq, Eq, Debug)]
@@ -32,10 +34,10 @@ pub struct Defaults {
     pub keyword: bool,
 }
 
-/// Makes a function of a lambda's code, and passes the scopes of its annotations over.
+/// Makes a function of a lambda's code, and drops the tables of its annotations.
 ///
 /// # Errors
-/// MissingCell, as `Emitter::make_function` has it, or OutOfMemory.
+/// TableMismatch, as `pass_counted` has it; MissingCell, as `Emitter::make_function` has it; or OutOfMemory.
 pub fn make_lambda(
     em: &mut Emitter,
     params: &Arguments,
@@ -73,7 +75,55 @@ pub fn enter_function(
     ensures err { IfErr result (λ e. IsOutOfMemory e (rest em.old).path) }
 {
     let head = function_head(em, params, name)?;
-    em.open_scope(head, SymbolTableType::Function, naming)
+    enter_next(em, head, SymbolTableType::Function, naming)
+}
+
+/// Goes into the scope of the next table, which is of this kind; the enclosing scope waits after that table. The step to
+/// there is counted by a counter of its own.
+///
+/// # Errors
+/// OutOfMemory alone.
+pub fn enter_next(
+    em: &mut Emitter,
+    head: ScopeHead,
+    typ: SymbolTableType,
+    naming: Naming,
+) -> Result<(), CodegenError>
+    ensures state { OnOk result (state em.new
+        ≡ initial_state (nested_context typ naming (state em.old)) (state em.old).location
+        (suc (state em.old).next)) }
+    ensures rest { OnOk result (rest em.new
+        ≡ entered_rest naming em.old.scope
+        (code_head (nested_context typ naming (state em.old)) (shape_of head)
+        (state em.old).location) (rest em.old)) }
+    ensures err { IfErr result (λ e. IsOutOfMemory e (rest em.old).path) }
+{
+    enter_counted::<Brand>(em, head, typ, naming, Blank::new(1))
+}
+
+/// Goes into that scope, and counts the step.
+fn enter_counted<L: Ledger>(
+    em: &mut Emitter,
+    head: ScopeHead,
+    typ: SymbolTableType,
+    naming: Naming,
+    blank: Blank,
+) -> Result<(), CodegenError>
+    requires name { blank.name ≡ L.name }
+    requires parts { blank.parts ≡ L.parts }
+    requires shared { 0 < blank.parts }
+    ensures state { OnOk result (state em.new
+        ≡ initial_state (nested_context typ naming (state em.old)) (state em.old).location
+        (suc (state em.old).next)) }
+    ensures rest { OnOk result (rest em.new
+        ≡ entered_rest naming em.old.scope
+        (code_head (nested_context typ naming (state em.old)) (shape_of head)
+        (state em.old).location) (rest em.old)) }
+    ensures err { IfErr result (λ e. IsOutOfMemory e (rest em.old).path) }
+{
+    let (book, share) = blank.open::<L>();
+    let mut steps = Steps::new(book, share);
+    em.open_scope(head, typ, naming, &mut steps)
 }
 
 /// Begins the scope of a function: its parameters are the first names of the code object's own, and None is its first
@@ -90,10 +140,10 @@ pub fn begin_function(em: &mut Emitter, params: &Arguments) -> Result<(), Codege
     em.enter_constant(ConstantData::None)
 }
 
-/// Passes the scopes over that stand in the annotations of parameters, which a lambda cannot have and a compiled tree may.
+/// Drops the tables of the scopes in the annotations of parameters, which a lambda cannot have and a compiled tree may.
 ///
 /// # Errors
-/// OutOfMemory alone.
+/// TableMismatch, as `pass_counted` has it; or OutOfMemory.
 #[tactic(auto, unfolding(py_emit::specs::States::rest))]
 pub fn pass_annotations(em: &mut Emitter, params: &Arguments) -> Result<(), CodegenError>
     ensures { Emits result (pass_scopes
@@ -104,11 +154,11 @@ pub fn pass_annotations(em: &mut Emitter, params: &Arguments) -> Result<(), Code
     pass_counted(em, next)
 }
 
-/// Passes over the scopes that were counted from the next one on. None says that their number has no usize.
+/// Drops the tables of the scopes that were counted from the next one on. None says that their number has no usize.
 ///
 /// # Errors
-/// OutOfMemory alone.
-#[tactic(auto, unfolding(py_emission_parts::specs::Emitting::by_context, py_emission_parts::specs::Emitting::pass_over))]
+/// TableMismatch where these scopes are not those of whole tables, at the present location; or OutOfMemory.
+#[tactic(auto, unfolding(py_emission_parts::specs::Emitting::by_context))]
 pub fn pass_counted(em: &mut Emitter, next: Option<usize>) -> Result<(), CodegenError>
     ensures goes { (count : (postponed : Bool) → ℕ)
         → IsSum next ((state em.old).next + count (state em.old).node_context.context.postponed)
@@ -118,8 +168,25 @@ pub fn pass_counted(em: &mut Emitter, next: Option<usize>) -> Result<(), Codegen
     let Some(number) = next else {
         refuse!(em, CodegenErrorType::OutOfMemory);
     };
-    em.pass_scopes(number);
-    Ok(())
+    drop_counted::<Brand>(em, number, Blank::new(1))
+}
+
+/// Drops the tables before this number, and counts the steps.
+fn drop_counted<L: Ledger>(
+    em: &mut Emitter,
+    number: usize,
+    blank: Blank,
+) -> Result<(), CodegenError>
+    requires name { blank.name ≡ L.name }
+    requires parts { blank.parts ≡ L.parts }
+    requires shared { 0 < blank.parts }
+    ensures goes { (count : ℕ) → number ≡ (state em.old).next + count
+        → Goes result (state em.new) (run (pass_over count) (state em.old)) }
+    ensures same { Same result (rest em.new) (rest em.old) }
+{
+    let (book, share) = blank.open::<L>();
+    let mut steps = Steps::new(book, share);
+    em.drop_up_to(number, &mut steps)
 }
 
 /// What `MakeFunction` takes beside code and name.

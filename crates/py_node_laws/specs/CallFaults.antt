@@ -1,4 +1,5 @@
 -- What a call that emits a node answers, by the node's faults.
+use Rattle.py_emission_parts.specs.Refused.{mismatch}
 use Rattle.std.specs.Prelude.{◌≡◌, ◌≢◌, ℕ, List, [], ◌∷◌, Bool, Option, Result, Ok, Err}
 use Rattle.py_tree.specs.Tree as tree
 use Rattle.py_base.specs.declared.errors.CodegenErrorType.{CodegenErrorType}
@@ -16,7 +17,7 @@ use Rattle.py_node_laws.specs.NodeFaults.{in_function, in_loop, setting_in}
 -- Ok only where there is no fault; an error is the first of them, with its location, unless it says that there was no memory, or that a cell is not there
 abbrev pub TellsFirst : {A : Type 0} → Result A (LocatedError CodegenErrorType) → List Fault → Type 0
 TellsFirst (Ok a) fs = fs ≡ []
-TellsFirst (Err e) fs = e.error ≢ error.OutOfMemory → e.error ≢ error.MissingCell → (rest : List Fault) × (fs ≡ record { error = e.error; location = e.location } ∷ rest)
+TellsFirst (Err e) fs = e.error ≢ error.OutOfMemory → e.error ≢ error.MissingCell → e.error ≢ mismatch → (rest : List Fault) × (fs ≡ record { error = e.error; location = e.location } ∷ rest)
 
 -- `compile_expression` and its like, `compile_jump_if`, `compile_store`, `compile_delete`, `compile_deletes`, and `compile_statements` of py_stmt
 abbrev pub ExpressionCalls : Type 0

@@ -10,11 +10,12 @@ use Rattle.py_meaning.specs.ExprFaults.{Fault, deletes_faults, expr_faults, faul
 use Rattle.py_meaning.specs.Faults.{faults, stmt_faults, stmts_faults}
 use Rattle.py_meaning.specs.StmtEnds.{Setting}
 
--- no error of what stands in an async function, since async functions are refused themselves, and none of a cell that is not there, since no arm of `faults` has that error
+-- no error of what stands in an async function, since async functions are refused themselves, and none of a cell that is not there or of other tables, since no arm of `faults` has such an error
 abbrev pub IsGiven : CodegenErrorType → Type 0
 IsGiven error.AsyncYieldFrom = ⊥
 IsGiven error.AsyncReturnValue = ⊥
 IsGiven error.MissingCell = ⊥
+IsGiven error.TableMismatch = ⊥
 IsGiven _ = Unit {0}
 
 -- all of these faults have one that may come

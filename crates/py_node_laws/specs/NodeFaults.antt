@@ -1,4 +1,5 @@
 -- Where the emission of a node is refused for anything but a missing cell, it is for the first of the node's faults, and where it is done there are none.
+use Rattle.py_emission_parts.specs.Refused.{mismatch}
 use Rattle.std.specs.Prelude.{◌≡◌, ◌≢◌, ℕ, List, [], ◌∷◌, Bool, true, false, Option, Some, None}
 use Rattle.py_tree.specs.Tree as tree
 use Rattle.py_base.specs.declared.errors.CodegenErrorType.TheVariants as error
@@ -19,7 +20,7 @@ use Rattle.py_meaning.specs.StmtEnds.{Setting, setting_of, stmt_end, stmts_end}
 abbrev pub EndsBy : (before : State) → List Fault → (end : SourceLocation) → Outcome → Type 0
 EndsBy s fs q (Done r) = (fs ≡ []) × (r.location ≡ q) × (r.node_context ≡ s.node_context)
 EndsBy s fs q TooWide = Unit {0}
-EndsBy s fs q (Refused e at) = e ≢ error.MissingCell → (rest : List Fault) × (fs ≡ record { error = e; location = at } ∷ rest)
+EndsBy s fs q (Refused e at) = e ≢ error.MissingCell → e ≢ mismatch → (rest : List Fault) × (fs ≡ record { error = e; location = at } ∷ rest)
 
 -- whether what is emitted stands in a function, and in a loop of its own scope
 abbrev pub in_function : State → Bool

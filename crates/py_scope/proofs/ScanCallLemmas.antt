@@ -13,7 +13,7 @@ use Rattle.py_scope.specs.Names.{Name}
 use Rattle.py_scope.specs.Outward.{chain, enclosing_scopes, parents, parent_of, IsNumbered}
 use Rattle.py_scope.specs.Lifts.{kind_of}
 use Rattle.py_scope.specs.Scanned.{Scanned, order_of, entered_row, entered_scan, used_in, changed_at, with_use, gone_out, inner, nests, IsWithin}
-use Rattle.py_scope.specs.InOrder.{IsFresh, IsScanned}
+use Rattle.py_scope.specs.InOrder.{IsFresh, IsScanned, AreEnclosing, outermost_first}
 use Rattle.py_scope.proofs.Chains.{outward, tells_same, tells_apart, equal_numbers, unequal_numbers}
 use Rattle.py_scope.proofs.Freshness.{fresh_empty, fresh_used}
 
@@ -293,3 +293,45 @@ order_within s old = All-append (λ k. k < length s.rows) s.left (s.current ∷ 
     rest : All (λ k. k < length s.rows) (s.current ∷ enclosing_scopes (parents s.rows) s.current)
     rest zero d h = old.inside
     rest (suc k) d h = let i = old.inside in let b = chain_below (parents s.rows) s.current (parents s.rows s.current) k d (omega arith) in omega (arith, b, i)
+
+-- lists that are alike have the same last value, and the same before it
+same_last : (xs ys : List ℕ) (x y : ℕ) → xs ++ x ∷ [] ≡ ys ++ y ∷ [] → (xs ≡ ys) × (x ≡ y)
+same_last [] [] x y e = (refl, cc)
+same_last [] (b ∷ []) x y e = absurd cc
+same_last [] (b ∷ c ∷ ys) x y e = absurd cc
+same_last (a ∷ []) [] x y e = absurd cc
+same_last (a ∷ c ∷ xs) [] x y e = absurd cc
+same_last (a ∷ xs) (b ∷ ys) x y e =
+    let h : a ≡ b = cc in
+    let t : xs ++ x ∷ [] ≡ ys ++ y ∷ [] = cc in
+    let r = same_last xs ys x y t in
+    ((λ i. h i ∷ r.0 i), r.1)
+
+-- the last of the enclosing scopes is the one that is open where the present one is left
+pub enclosing_left : (s : Scanned) (enclosing rest : List ℕ) (last : ℕ) → IsScanned s → 0 < s.current → AreEnclosing s.rows s.current enclosing → enclosing ≡ rest ++ last ∷ []
+    → (last ≡ parents s.rows s.current) × AreEnclosing s.rows last rest
+enclosing_left s enclosing rest last old above h e =
+    let p = parents s.rows s.current in
+    let below : p < s.current = old.numbered s.current above old.inside in
+    let same = sym e ∙ h ∙ ap outermost_first (outward (parents s.rows) s.current p refl below) in
+    let r = same_last rest (outermost_first (enclosing_scopes (parents s.rows) p)) last p same in
+    (r.1, r.0 ∙ ap (λ j. outermost_first (enclosing_scopes (parents s.rows) j)) (sym r.1))
+
+pub gone_to : (s : Scanned) (parent : ℕ) (left : List ℕ) → parent ≡ parents s.rows s.current → left ≡ s.left ++ s.current ∷ [] → scanned_rows s.rows parent left ≡ gone_out s
+gone_to s parent left e h = λ i. scanned_rows s.rows (e i) (h i)
+
+-- the open scope stands last around one that is entered
+pub enclosing_entered : (s : Scanned) (row : Row) (enclosing : List ℕ) → IsScanned s → row.parent ≡ s.current → AreEnclosing s.rows s.current enclosing
+    → AreEnclosing (s.rows ++ row ∷ []) (length s.rows) (enclosing ++ s.current ∷ [])
+enclosing_entered s row enclosing old e h =
+    let all = s.rows ++ row ∷ [] in
+    let inside = old.inside in
+    let own : parents all (length s.rows) ≡ s.current = ap parent_of (get_push_new s.rows row) ∙ e in
+    ap (λ xs. xs ++ s.current ∷ []) h
+    ∙ ap (λ xs. outermost_first xs ++ s.current ∷ []) (sym (enclosing_same (parents all) (parents s.rows) s.current (λ j l. ap parent_of (get_push_old s.rows row j (omega (arith, l, inside))))))
+    ∙ ap outermost_first (sym (outward (parents all) (length s.rows) s.current own inside))
+
+-- a use changes no enclosing scope
+pub enclosing_used : (s : Scanned) (n : Name) (role : Role) (enclosing : List ℕ) → IsScanned s
+    → AreEnclosing s.rows s.current enclosing → AreEnclosing (with_use s n role).rows s.current enclosing
+enclosing_used s n role enclosing old h = h ∙ ap (λ (p : ℕ → ℕ). outermost_first (enclosing_scopes p s.current)) (sym (scan_call_same_parents s n role old))

@@ -1,11 +1,11 @@
 -- What is so of scopes that were collected by calls in order.
-use Rattle.std.specs.Prelude.{◌≡◌, ℕ, ◌<◌, Bool, true, false, List, [], Option, Some, None, length, slice_get, nat_eq, All}
+use Rattle.std.specs.Prelude.{◌≡◌, ℕ, ◌<◌, Bool, true, false, List, [], ◌∷◌, ◌++◌, Option, Some, None, length, slice_get, nat_eq, All}
 use Rattle.std.specs.List.{list_any}
 use Rattle.py_scope.specs.declared.table_type.SymbolTableType.TheVariants.{Module}
 use Rattle.py_scope.specs.declared.rows.Row.{Row}
 use Rattle.py_scope.specs.declared.rows.Entry.{Entry}
 use Rattle.py_scope.specs.Names.{Name}
-use Rattle.py_scope.specs.Outward.{IsNumbered}
+use Rattle.py_scope.specs.Outward.{IsNumbered, enclosing_scopes, parents}
 use Rattle.py_scope.specs.Lifts.{holds_opt, kind_of, is_comprehension, walruses_of}
 use Rattle.py_scope.specs.Entries.{entry_of}
 use Rattle.py_scope.specs.Declarations.{bits_of}
@@ -46,3 +46,12 @@ pub record IsScanned (s : Scanned) : Type 0 where
   pub below : All (λ k. k < length s.rows) s.left
   pub complete : (k : ℕ) → k < length s.rows → list_any (nat_eq k) (order_of s) ≡ true
   pub fresh : (k : ℕ) → IsFresh (slice_get s.rows k)
+
+-- these from the last to the first
+abbrev pub outermost_first : List ℕ → List ℕ
+outermost_first [] = []
+outermost_first (x ∷ xs) = outermost_first xs ++ x ∷ []
+
+-- these are the scopes around the one that is open, the outermost first
+abbrev pub AreEnclosing : List Row → (current : ℕ) → (enclosing : List ℕ) → Type 0
+AreEnclosing rows current enclosing = enclosing ≡ outermost_first (enclosing_scopes (parents rows) current)

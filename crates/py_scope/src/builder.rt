@@ -15,6 +15,7 @@ use crate::refusal::{Fault, Refusal};
 use crate::resolution::{close, resolve_rows};
 use crate::roles::{Role, register_at};
 use crate::rows::{Entries, Entry, Head, Row};
+use crate::stack::StackStack;
 use crate::table::SymbolTable;
 use crate::table_type::SymbolTableType;
 use py_base::{SourceLocation, Text};
@@ -26,19 +27,21 @@ use std::marker::Model;
 pub struct ScopeBuilder {
     alloc: Global,
     rows: Vec<Row>,
+    /// The scopes around the open one, the outermost first.
+    enclosing: StackStack<usize>,
     current: usize,
     left: Vec<usize>,
 }
 
 impl Model for ScopeBuilder {
     ghost use Rattle.py_scope.specs.Scanned.{Scanned};
-    ghost use Rattle.py_scope.specs.InOrder.{IsScanned};
+    ghost use Rattle.py_scope.specs.InOrder.{AreEnclosing, IsScanned};
 
     ghost Value = { Scanned };
 
     ghost view = { λ a. record { rows = a.rows.items; current = a.current; left = a.left.items } };
 
-    ghost invariant = { λ a. IsScanned (record { rows = a.rows.items; current = a.current; left = a.left.items }) };
+    ghost invariant = { λ a. IsScanned (record { rows = a.rows.items; current = a.current; left = a.left.items }) × AreEnclosing a.rows.items a.current a.enclosing };
 }
 
 fn nests(row: &Row) -> bool
@@ -156,6 +159,7 @@ impl ScopeBuilder {
         Ok(ScopeBuilder {
             alloc,
             rows,
+            enclosing: StackStack::new(alloc),
             current: 0,
             left: Vec::new(alloc),
         })
@@ -189,9 +193,19 @@ impl ScopeBuilder {
             entries: Entries::new(self.alloc),
         };
         let number = self.rows.len();
-        self.rows.push(row)?;
-        self.current = number;
-        Ok(())
+        let Ok(()) = self.enclosing.put_last(self.current) else {
+            return Err(AllocError);
+        };
+        match self.rows.push(row) {
+            Ok(()) => {
+                self.current = number;
+                Ok(())
+            }
+            Err(_) => {
+                self.enclosing.take_last();
+                Err(AllocError)
+            }
+        }
     }
 
     /// Notes a use of the name in the open scope.
@@ -250,8 +264,10 @@ impl ScopeBuilder {
         ensures ok { OnOk result (self.new ≡ gone_out self.old) }
         ensures err { OnErr result (self.new ≡ self.old) }
     {
-        let parent = self.rows[self.current].parent;
         self.left.push(self.current)?;
+        let Some(parent) = self.enclosing.take_last() else {
+            unreachable!();
+        };
         self.current = parent;
         Ok(())
     }
@@ -271,6 +287,7 @@ impl ScopeBuilder {
         let ScopeBuilder {
             alloc,
             rows,
+            enclosing: _,
             current,
             mut left,
         } = self;

@@ -1,5 +1,5 @@
 //! A stack of scopes.
-ghost use Rattle.std.specs.Prelude.{◌≡◌, ◌++◌, ◌∷◌, [], ◌+◌, ◌↔◌, List, length, IsTrue, IfOk, IfErr, OnOk, OnErr};
+ghost use Rattle.std.specs.Prelude.{◌≡◌, ◌++◌, ◌∷◌, [], ◌+◌, ◌↔◌, List, length, IsTrue, IfOk, IfErr, MatchOption, OnOk, OnErr};
 ghost use Rattle.std.specs.Borrow.{Array, Lends, follows, sem};
 ghost use Rattle.std.specs.Iterator.Adapters.{IterMutYieldsInOrder};
 ghost use Rattle.std.specs.List.{refill};
@@ -57,6 +57,26 @@ impl<T> StackStack<T> {
         StackStack {
             items: Vec::new(alloc),
         }
+    }
+
+    /// Appends a value, until it is taken out again.
+    ///
+    /// # Errors
+    /// For out of memory alone the value comes back, and nothing has changed.
+    pub(crate) fn put_last(&mut self, x: T) -> Result<(), T>
+        ensures ok { OnOk result (self.new ≡ self.old ++ x ∷ []) }
+        ensures back { IfErr result (λ y. y ≡ x) }
+        ensures err { OnErr result (self.new ≡ self.old) }
+    {
+        push(&mut self.items, x)
+    }
+
+    /// Takes the last value out. None exactly where there is none.
+    pub(crate) fn take_last(&mut self) -> Option<T>
+        ensures { MatchOption result ((self.old ≡ []) × (self.new ≡ []))
+            (λ last. self.old ≡ self.new ++ last ∷ []) }
+    {
+        self.items.pop()
     }
 
     /// Appends a value, calls the function, and takes the last value out again. The answer is the function's and that

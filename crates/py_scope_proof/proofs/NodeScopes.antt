@@ -10,6 +10,7 @@ pub mod EnteringStatements
 pub mod EnteringPrograms
 pub mod ScopeListLemmas
 pub mod ListedTables
+mod ScopeForestSizeLemmas
 pub mod ScopeNodeTables
 pub mod ScopeNodeSamples
 pub mod Lengths

@@ -1,5 +1,5 @@
 -- A scan enters the scopes of the nodes that have one, in their order: the scope with a number is that of the node at that place, and stands in the scope that the node stands in.
-use Rattle.std.specs.Prelude.{◌≡◌, ℕ, [], map, codes}
+use Rattle.std.specs.Prelude.{◌≡◌, ℕ, suc, ◌+◌, List, [], ◌∷◌, ◌++◌, map, codes}
 use Rattle.py_base.specs.declared.location.SourceLocation.{SourceLocation}
 use Rattle.py_tree.specs.Tree as tree
 use Rattle.py_tree.specs.declared.modules.Mode.{Mode}
@@ -13,8 +13,8 @@ use Rattle.py_name_uses.specs.Parts.{alias_name, generic_name, plain_name}
 use Rattle.py_scan.specs.Scan.{scan_program, scan_value}
 use Rattle.py_meaning.specs.Faults.{faults}
 use Rattle.py_meaning.specs.Scanned.{scopes_of}
-use Rattle.py_scope_proof.specs.ScopeNodes.{ScopeNode, Whole, Value, Own, TypeParamScope, Placed}
-use Rattle.py_scope_proof.specs.StmtScopeNodes.{scope_nodes_of}
+use Rattle.py_scope_proof.specs.ScopeNodes.{ScopeNode, Whole, Value, Own, TypeParamScope, ScopeForest, Bare, Grown, Placed, size}
+use Rattle.py_scope_proof.specs.StmtScopeNodes.{scope_forest_of, scope_nodes_of}
 
 -- what a scope is, its name, and the line where its node begins
 pub record ScopeReport : Type 0 where
@@ -92,3 +92,20 @@ kind_of_scope_node p = (report_of_scope_node p.scope_node).kind
 -- the scopes of the table of such a tree are those of its nodes, in their order
 abbrev pub TableHasScopeNodes : Type 0
 TableHasScopeNodes = (t : tree.Mod) (m : Mode) (level : ℕ) → faults t m level ≡ [] → map kind_in_table (scopes_of t) ≡ map kind_of_scope_node (scope_nodes_of t m)
+
+-- the number after the last scope inside
+abbrev pub end_in_table : ScopeEntry → ℕ
+end_in_table e = e.next
+
+-- that of each node of a scope forest, where the first has this number: its own, one, and as many as are nested in it
+abbrev pub ends_of : (number : ℕ) → ScopeForest → List ℕ
+ends_of n Bare = []
+ends_of n (Grown o nested after) = (suc n + size nested) ∷ (ends_of (suc n) nested ++ ends_of (suc n + size nested) after)
+
+-- and that of a whole tree with this scope forest in it
+abbrev pub ends_of_whole : ScopeForest → List ℕ
+ends_of_whole g = suc (size g) ∷ ends_of 1 g
+
+-- the scopes of the table of a tree without faults stand in one another as its nodes do
+abbrev pub TableHasGroves : Type 0
+TableHasGroves = (t : tree.Mod) (m : Mode) (level : ℕ) → faults t m level ≡ [] → map end_in_table (scopes_of t) ≡ ends_of_whole (scope_forest_of t m)

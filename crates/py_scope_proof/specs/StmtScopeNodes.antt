@@ -129,3 +129,10 @@ scope_nodes_of (tree.Module stmts) m = in_whole (scope_nodes_after false (after_
 scope_nodes_of (tree.Interactive stmts) m = in_whole (scope_nodes_entered m stmts)
 scope_nodes_of (tree.Expression value) m = in_whole (scope_nodes_in false value)
 scope_nodes_of other m = in_whole Bare
+
+-- the same nodes as they stand in one another
+abbrev pub scope_forest_of : tree.Mod → Mode → ScopeForest
+scope_forest_of (tree.Module stmts) m = scope_nodes_after false (after_doc stmts)
+scope_forest_of (tree.Interactive stmts) m = scope_nodes_entered m stmts
+scope_forest_of (tree.Expression value) m = scope_nodes_in false value
+scope_forest_of other m = Bare

@@ -15,4 +15,6 @@ pub use laws_of_names::{
     never_global_and_local, nonlocals_resolve, refused_by_uses, refused_exactly,
 };
 pub use laws_of_nodes::each_scope_is_its_own;
-pub use laws_of_scans::{faultless_scans_end, scan_enters_scope_nodes, table_has_scope_nodes};
+pub use laws_of_scans::{
+    faultless_scans_end, scan_enters_scope_nodes, table_has_groves, table_has_scope_nodes,
+};

@@ -9,7 +9,7 @@ use Rattle.py_tree.specs.declared.statements.TypeParam.{TypeParam}
 use Rattle.py_bytecode.specs.declared.instruction.Instruction.TheVariants as op
 use Rattle.py_bytecode.specs.Objects as const
 use Rattle.py_emission_parts.specs.Children.{child, emission_of_defaults, made_function}
-use Rattle.py_emission_parts.specs.Running.{Action, ◌▹◌, code_head, on_done, on_sealed, run}
+use Rattle.py_emission_parts.specs.Running.{Action, ◌▹◌, code_head, on_done, on_sealed, run, ended}
 use Rattle.py_emission_parts.specs.NestedScopes.{after_name, class_path, type_param_scope_inside, type_param_scope_name}
 use Rattle.py_emission_parts.specs.Elements.{Element, Function, Single, Spread, bare, groups, has_starred}
 use Rattle.py_emission_parts.specs.Emitting.{Emission, State, ◌▸◌, initial_state, by_context, emit, emit_constant, emit_count, keep}
@@ -135,7 +135,7 @@ unfolding child
 type_param_scope_same name v w e = λ i s.
     let c = type_param_scope_inside s.node_context.context s.next in
     on_done (on_sealed c.level (code_head c (type_param_scope_shape 0 name) s.location) s
-    ((e i ▹ run (emit op.ReturnValue 0)) (initial_state c s.location (suc s.next)))
+    (ended s.node_context.context.scopes s.next ((e i ▹ run (emit op.ReturnValue 0)) (initial_state c s.location (suc s.next))))
     (λ o. run (made_function 0 (type_param_scope_name name) o)))
     (run (emission_of_defaults no_defaults ▸ emit_count op.CallFunctionPositional 0))
 

@@ -18,7 +18,7 @@ use py_tree::Stmt;
 /// Emits the statements of a file, future imports first.
 ///
 /// # Errors
-/// The first compile fault of the statements, with its location; MissingCell; or OutOfMemory.
+/// The first compile fault of the statements, with its location; MissingCell or TableMismatch; or OutOfMemory.
 pub fn compile_file(em: &mut Emitter, body: &[Stmt]) -> Result<(), CodegenError>
     requires loops { AreMade (rest em.old).context.loop_blocks }
     ensures { Emits result (emission_after emission_of_stmts (stmts stmt_tree body.now)) em.old
@@ -34,7 +34,7 @@ pub fn compile_file(em: &mut Emitter, body: &[Stmt]) -> Result<(), CodegenError>
 /// Emits a block after future imports: the value of its last statement is returned.
 ///
 /// # Errors
-/// The first compile fault of the statements, with its location; MissingCell; or OutOfMemory.
+/// The first compile fault of the statements, with its location; MissingCell or TableMismatch; or OutOfMemory.
 pub fn compile_whole_block(em: &mut Emitter, body: &[Stmt]) -> Result<(), CodegenError>
     requires loops { AreMade (rest em.old).context.loop_blocks }
     ensures { Emits result (emission_after emission_of_block (stmts stmt_tree body.now)) em.old
@@ -51,7 +51,7 @@ pub fn compile_whole_block(em: &mut Emitter, body: &[Stmt]) -> Result<(), Codege
 /// another last statement None is returned. Future imports stand before all but expressions.
 ///
 /// # Errors
-/// The first compile fault of the statements, with its location; MissingCell; or OutOfMemory.
+/// The first compile fault of the statements, with its location; MissingCell or TableMismatch; or OutOfMemory.
 pub fn compile_prompt(em: &mut Emitter, body: &[Stmt]) -> Result<(), CodegenError>
     requires loops { AreMade (rest em.old).context.loop_blocks }
     ensures { Emits result (emission_of_prompt (stmts stmt_tree body.now)) em.old em.new }
@@ -67,7 +67,7 @@ pub fn compile_prompt(em: &mut Emitter, body: &[Stmt]) -> Result<(), CodegenErro
 /// postpone the annotations of all that follows where they say so; after another statement none may stand any more.
 ///
 /// # Errors
-/// The first compile fault of the statements, with its location; MissingCell; or OutOfMemory.
+/// The first compile fault of the statements, with its location; MissingCell or TableMismatch; or OutOfMemory.
 #[tactic(auto, using(crate::proofs::PlacedStatementLemmas::emits_over))]
 pub fn compile_placed(em: &mut Emitter, body: &[Stmt]) -> Result<(), CodegenError>
     requires loops { AreMade (rest em.old).context.loop_blocks }

@@ -20,7 +20,7 @@ use py_tree::{Stmt, StmtClassDef, StmtFunctionDef};
 /// another last statement None is returned.
 ///
 /// # Errors
-/// The first compile fault of the statements, with its location; MissingCell; or OutOfMemory.
+/// The first compile fault of the statements, with its location; MissingCell or TableMismatch; or OutOfMemory.
 #[tactic(auto, using(py_bytecode::proofs::View::views))]
 pub(crate) fn compile_single(em: &mut Emitter, body: &[Stmt]) -> Result<(), CodegenError>
     requires loops { AreMade (rest em.old).context.loop_blocks }
@@ -93,7 +93,7 @@ fn compile_ended(em: &mut Emitter, statement: &Stmt) -> Result<(), CodegenError>
 /// that a definition stores; after another None is returned.
 ///
 /// # Errors
-/// The first compile fault of the statements, with its location; MissingCell; or OutOfMemory.
+/// The first compile fault of the statements, with its location; MissingCell or TableMismatch; or OutOfMemory.
 #[tactic(auto, using(py_bytecode::proofs::View::views))]
 pub(crate) fn compile_block(em: &mut Emitter, body: &[Stmt]) -> Result<(), CodegenError>
     requires loops { AreMade (rest em.old).context.loop_blocks }

@@ -27,7 +27,7 @@ use py_tree::{Stmt, StmtIf};
 /// Emits statements one after the other. The context has the blocks to which the innermost loop of this scope goes.
 ///
 /// # Errors
-/// The first compile fault of the statements, with its location; MissingCell; or OutOfMemory.
+/// The first compile fault of the statements, with its location; MissingCell or TableMismatch; or OutOfMemory.
 #[cycle(code)]
 pub fn compile_statements(em: &mut Emitter, body: &[Stmt]) -> Result<(), CodegenError>
     requires loops { AreMade (rest em.old).context.loop_blocks }

@@ -17,6 +17,7 @@ use bitflags::Flags;
 use py_base::{CodegenError, CodegenErrorType};
 use py_bytecode::{CodeFlags, CodeObject, ConstantData, Instruction, MakeFunctionFlags};
 use py_emit::{Emitter, Naming, ScopeHead, emit, refuse};
+use py_expr_scopes::functions::enter_next;
 use py_scope::SymbolTableType;
 use py_tree::{Stmts, Text};
 
@@ -59,7 +60,8 @@ pub fn enter_class(em: &mut Emitter, name: &str, path: Text) -> Result<(), Codeg
         kwonlyarg_count: 0,
         obj_name,
     };
-    em.open_scope(head, SymbolTableType::Class, Naming::Class { name, path })
+    let naming = Naming::Class { name, path };
+    enter_next(em, head, SymbolTableType::Class, naming)
 }
 
 /// Emits the names with which a class begins, around whose names this path stands. Answers the place at which the

@@ -19,7 +19,7 @@ use py_base::{CodegenError, CodegenErrorType};
 use py_bytecode::{CodeFlags, CodeObject, ConstantData, Instruction, MakeFunctionFlags};
 use py_emit::{Emitter, NameUsage, Naming, ScopeHead, emit};
 use py_expr_parts::expressions::refuse_unsupported;
-use py_expr_scopes::functions::Defaults;
+use py_expr_scopes::functions::{Defaults, enter_next};
 use py_name_uses::type_params::has_default;
 use py_scope::SymbolTableType;
 use py_tree::{Arguments, SourceLocation, Text, TypeParam};
@@ -157,7 +157,7 @@ pub fn enter_type_param_scope(em: &mut Emitter, name: &str, count: u32) -> Resul
         kwonlyarg_count: 0,
         obj_name,
     };
-    em.open_scope(head, SymbolTableType::TypeParams, Naming::AsEnclosing)
+    enter_next(em, head, SymbolTableType::TypeParams, Naming::AsEnclosing)
 }
 
 /// Makes a function of the code of a type-parameter scope, under the name of the scope.

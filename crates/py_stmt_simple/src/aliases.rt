@@ -25,7 +25,7 @@ use py_tree::{Expr, StmtTypeAlias, TypeParam};
 /// Emits an alias, and what stores it under its name.
 ///
 /// # Errors
-/// The first compile fault of the alias, with its location; MissingCell; or OutOfMemory.
+/// The first compile fault of the alias, with its location; MissingCell or TableMismatch; or OutOfMemory.
 #[tactic(auto, using(py_stmt_parts::proofs::Steps::step_steps))]
 pub fn compile_type_alias(em: &mut Emitter, s: &StmtTypeAlias) -> Result<(), CodegenError>
     requires at { (state em.old).location ≡ s.now.location }

@@ -23,8 +23,8 @@ use py_tree::{
 /// Emits a value and what stores it to each target.
 ///
 /// # Errors
-/// MalformedTree where there is no target; the first compile fault of the assignment, with its location; MissingCell;
-/// or OutOfMemory.
+/// MalformedTree where there is no target; the first compile fault of the assignment, with its location; MissingCell or
+/// TableMismatch; or OutOfMemory.
 #[tactic(auto, using(py_stmt_parts::proofs::Steps::step_steps))]
 pub fn compile_assign(em: &mut Emitter, s: &StmtAssign) -> Result<(), CodegenError>
     requires at { (state em.old).location ≡ s.now.location }
@@ -60,7 +60,7 @@ fn compile_target(em: &mut Emitter, more: bool, target: &Expr) -> Result<(), Cod
 /// Emits the present value of a target, the operand and the operation, and what stores the result where the first came from.
 ///
 /// # Errors
-/// The first compile fault of the assignment, with its location; MissingCell; or OutOfMemory.
+/// The first compile fault of the assignment, with its location; MissingCell or TableMismatch; or OutOfMemory.
 #[tactic(auto, using(py_tree::proofs::View::trees))]
 pub fn compile_aug_assign(em: &mut Emitter, s: &StmtAugAssign) -> Result<(), CodegenError>
     ensures { Emits result (emission_of_augment (expr_tree s.now.target.value) s.now.op
@@ -133,7 +133,7 @@ fn augment_subscript(
 /// Emits an annotated assignment: the value and its store, where there is one, and the annotation.
 ///
 /// # Errors
-/// The first compile fault of the assignment, with its location; MissingCell; or OutOfMemory.
+/// The first compile fault of the assignment, with its location; MissingCell or TableMismatch; or OutOfMemory.
 #[tactic(auto, using(py_stmt_parts::proofs::Steps::step_steps))]
 pub fn compile_ann_assign(em: &mut Emitter, s: &StmtAnnAssign) -> Result<(), CodegenError>
     requires at { (state em.old).location ≡ s.now.location }

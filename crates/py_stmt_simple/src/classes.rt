@@ -14,7 +14,8 @@ use py_tree::{Exprs, Keyword, List};
 /// are the other arguments, with its keywords.
 ///
 /// # Errors
-/// The first compile fault of the bases and the keywords, with its location; MissingCell; or OutOfMemory.
+/// The first compile fault of the bases and the keywords, with its location; MissingCell or TableMismatch; or
+/// OutOfMemory.
 pub fn call_builder(
     em: &mut Emitter,
     name: &str,

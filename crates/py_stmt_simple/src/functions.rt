@@ -15,7 +15,7 @@ use py_tree::StmtFunctionDef;
 /// Emits the annotations of a function and what makes it of its code.
 ///
 /// # Errors
-/// The first compile fault of the annotations, with its location; MissingCell; or OutOfMemory.
+/// The first compile fault of the annotations, with its location; MissingCell or TableMismatch; or OutOfMemory.
 pub fn make_noted(
     em: &mut Emitter,
     s: &StmtFunctionDef,

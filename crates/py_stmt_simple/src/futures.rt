@@ -26,7 +26,7 @@ enum Begin<'a> {
 /// expression. Answers where the others begin, and whether annotations are postponed from there on.
 ///
 /// # Errors
-/// The first compile fault of these statements, with its location; MissingCell; or OutOfMemory.
+/// The first compile fault of these statements, with its location; MissingCell or TableMismatch; or OutOfMemory.
 pub fn compile_openings(em: &mut Emitter, body: &[Stmt]) -> Result<Opening, CodegenError>
     ensures opens { Prompts result (state em.old) (state em.new) body.now }
     ensures within { IfOk result (λ o. o.count ≤ length body.now) }

@@ -18,7 +18,7 @@ use py_tree::{Arguments, Expr, TypeParam, TypeParamTypeVar};
 /// Emits the tuple of type parameters.
 ///
 /// # Errors
-/// The first compile fault of the parameters, with its location; MissingCell; or OutOfMemory.
+/// The first compile fault of the parameters, with its location; MissingCell or TableMismatch; or OutOfMemory.
 #[tactic(auto, using(crate::proofs::TypeParameterLemmas::many_params))]
 pub fn compile_type_params(em: &mut Emitter, params: &[TypeParam]) -> Result<(), CodegenError>
     ensures { Emits result (emission_of_params (param_trees params.now)) em.old em.new }
@@ -30,7 +30,7 @@ pub fn compile_type_params(em: &mut Emitter, params: &[TypeParam]) -> Result<(),
 /// Emits the tuple of type parameters, where there are any.
 ///
 /// # Errors
-/// The first compile fault of the parameters, with its location; MissingCell; or OutOfMemory.
+/// The first compile fault of the parameters, with its location; MissingCell or TableMismatch; or OutOfMemory.
 pub fn compile_some_params(em: &mut Emitter, params: &[TypeParam]) -> Result<(), CodegenError>
     ensures { Emits result (some_params (param_trees params.now)) em.old em.new }
 {
@@ -86,7 +86,7 @@ fn compile_bounded(em: &mut Emitter, bound: &Expr, name: &str) -> Result<(), Cod
 /// it). They make so many values.
 ///
 /// # Errors
-/// The first compile fault of the defaults, with its location; MissingCell; or OutOfMemory.
+/// The first compile fault of the defaults, with its location; MissingCell or TableMismatch; or OutOfMemory.
 pub fn call_type_param_scope(
     em: &mut Emitter,
     params: &Arguments,

@@ -14,7 +14,7 @@ use py_tree::Expr;
 /// Emits a value and what prints it.
 ///
 /// # Errors
-/// The first compile fault of the value, with its location; MissingCell; or OutOfMemory.
+/// The first compile fault of the value, with its location; MissingCell or TableMismatch; or OutOfMemory.
 pub fn print_value(em: &mut Emitter, value: &Expr) -> Result<(), CodegenError>
     ensures { Emits result (emission (expr_tree value.now) ▸ emitting Instruction.PrintExpr 0)
         em.old em.new }
@@ -27,7 +27,7 @@ pub fn print_value(em: &mut Emitter, value: &Expr) -> Result<(), CodegenError>
 /// Emits a value, what prints it, and its return.
 ///
 /// # Errors
-/// The first compile fault of the value, with its location; MissingCell; or OutOfMemory.
+/// The first compile fault of the value, with its location; MissingCell or TableMismatch; or OutOfMemory.
 pub fn show_value(em: &mut Emitter, value: &Expr) -> Result<(), CodegenError>
     ensures { Emits result (emission (expr_tree value.now) ▸ emitting Instruction.Duplicate 0
         ▸ emitting Instruction.PrintExpr 0 ▸ emitting Instruction.ReturnValue 0) em.old em.new }

@@ -13,7 +13,7 @@ use py_tree::Expr;
 /// Emits what takes the iterator of a value, in a block of its own.
 ///
 /// # Errors
-/// The first compile fault of the value, with its location; MissingCell; or OutOfMemory.
+/// The first compile fault of the value, with its location; MissingCell or TableMismatch; or OutOfMemory.
 pub fn begin_each(em: &mut Emitter, iter: &Expr) -> Result<(), CodegenError>
     ensures { Emits result (each_begun (emission (expr_tree iter.now))) em.old em.new }
 {

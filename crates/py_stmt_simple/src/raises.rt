@@ -18,7 +18,7 @@ use py_tree::{Expr, StmtAssert, StmtRaise};
 /// Emits what raises an exception: with its cause, alone, or again the one that is handled.
 ///
 /// # Errors
-/// The first compile fault of the statement, with its location; MissingCell; or OutOfMemory.
+/// The first compile fault of the statement, with its location; MissingCell or TableMismatch; or OutOfMemory.
 #[tactic(auto, using(py_stmt_parts::proofs::Steps::step_steps))]
 pub fn compile_raise(em: &mut Emitter, s: &StmtRaise) -> Result<(), CodegenError>
     requires at { (state em.old).location ≡ s.now.location }
@@ -52,7 +52,7 @@ fn raise_value(em: &mut Emitter, exc: &Expr, cause: &Option<Box<Expr>>) -> Resul
 /// Emits an assertion, at level 0. Above it is only scanned.
 ///
 /// # Errors
-/// The first compile fault of the assertion, with its location; MissingCell; or OutOfMemory.
+/// The first compile fault of the assertion, with its location; MissingCell or TableMismatch; or OutOfMemory.
 #[tactic(auto, unfolding(py_emit::specs::States::rest))]
 pub fn compile_assert(em: &mut Emitter, s: &StmtAssert) -> Result<(), CodegenError>
     ensures { Emits result (emission_of_assert (expr_tree s.now.test.value)

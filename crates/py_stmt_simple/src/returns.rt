@@ -14,8 +14,8 @@ use py_tree::Expr;
 /// Emits the return of a value, or of None where it is missing, and refuses it outside of functions.
 ///
 /// # Errors
-/// InvalidReturn outside of functions; the first compile fault of the value, with its location; MissingCell; or
-/// OutOfMemory.
+/// InvalidReturn outside of functions; the first compile fault of the value, with its location; MissingCell or
+/// TableMismatch; or OutOfMemory.
 pub fn return_from_function(em: &mut Emitter, value: &Option<Box<Expr>>) -> Result<(), CodegenError>
     ensures { Emits result (only_in_function CodegenErrorType.InvalidReturn
         (emission_of_returned (opt_box expr_tree value.now))) em.old em.new }

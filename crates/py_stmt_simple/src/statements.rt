@@ -13,7 +13,7 @@ use py_tree::StmtExpr;
 /// Emits an expression that stands as a statement, and drops its value.
 ///
 /// # Errors
-/// The first compile fault of the expression, with its location; MissingCell; or OutOfMemory.
+/// The first compile fault of the expression, with its location; MissingCell or TableMismatch; or OutOfMemory.
 #[tactic(auto, using(py_stmt_parts::proofs::Steps::step_steps))]
 pub fn compile_expr_statement(em: &mut Emitter, s: &StmtExpr) -> Result<(), CodegenError>
     requires at { (state em.old).location ≡ s.now.location }

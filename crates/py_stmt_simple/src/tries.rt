@@ -18,7 +18,7 @@ use py_tree::{Expr, Text};
 ///
 /// # Errors
 /// The first compile fault of the type, with its location; SyntaxError where there is a type and the name is
-/// `__debug__`; MissingCell; or OutOfMemory.
+/// `__debug__`; MissingCell or TableMismatch; or OutOfMemory.
 pub fn compile_match(
     em: &mut Emitter,
     type_: &Option<Box<Expr>>,

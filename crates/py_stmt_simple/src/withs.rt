@@ -19,7 +19,7 @@ use py_tree::{Expr, List, SourceLocation, WithItem};
 /// Emits what enters items one after the other. Answers the block at which each of them ends.
 ///
 /// # Errors
-/// The first compile fault of the items, with its location; MissingCell; or OutOfMemory.
+/// The first compile fault of the items, with its location; MissingCell or TableMismatch; or OutOfMemory.
 pub fn enter_items(
     em: &mut Emitter,
     location: &SourceLocation,

@@ -1,6 +1,8 @@
 -- Nested scopes fit, each with room of its own that counts in the enclosing scope too: functions, lambdas and comprehensions.
-use Rattle.std.proofs.Common.{◌≡◌, refl, sym, ap, ◌∙◌, subst, ℕ, suc, ◌+◌, ◌<◌, ◌≤◌, ◌^◌, List, [], ◌∷◌, length, Bool, false, arith}
-use Rattle.std.specs.Prelude.{codes}
+use Rattle.py_scope.specs.declared.flat.ScopeEntry.{ScopeEntry}
+use Rattle.py_emission_parts.specs.Tables.{ends_before}
+use Rattle.std.proofs.Common.{◌≡◌, refl, sym, ap, ◌∙◌, subst, ℕ, suc, ◌+◌, ◌<◌, ◌≤◌, ◌^◌, List, [], ◌∷◌, length, Bool, false, arith, true}
+use Rattle.std.specs.Prelude.{codes, if◌then◌else◌}
 use Rattle.py_base.specs.declared.shapes.Malformed.TheVariants as shape
 use Rattle.py_base.specs.declared.errors.CodegenErrorType.{CodegenErrorType}
 use Rattle.py_base.specs.declared.errors.CodegenErrorType.TheVariants as error
@@ -10,14 +12,14 @@ use Rattle.py_bytecode.specs.Objects as const
 use Rattle.py_bytecode.specs.Objects.{Object}
 use Rattle.py_scope.specs.declared.table_type.SymbolTableType.TheVariants as kind
 use Rattle.py_emission_parts.specs.Children.{DefaultEmissions, child, emission_of_defaults, enter_parameters, flags_of_defaults, free_names, function_scope, some_emitted}
-use Rattle.py_emission_parts.specs.Running.{after_child, code_head, on_sealed, rewritten_in, run}
+use Rattle.py_emission_parts.specs.Running.{after_child, code_head, on_sealed, rewritten_in, run, ended}
 use Rattle.py_emission_parts.specs.Comprehensions.{ClauseEmissions, as_element, called_at_once, clause, clauses, comprehension}
 use Rattle.py_emission_parts.specs.Comprehensions.{comprehension_shape, conditions, further_clauses, collection_scope, generator_body}
 use Rattle.py_emission_parts.specs.Context.{Context}
 use Rattle.py_emission_parts.specs.Emitting.{NodeContext, Emission, Outcome, State, Done, TooWide, Refused, initial_state}
 use Rattle.py_emission_parts.specs.EmissionParts.{Emissions, counted_build, map_of}
 use Rattle.py_emission_parts.specs.Everywhere.{Everywhere}
-use Rattle.py_emission_parts.specs.Refused.{no_assignment, rewritten}
+use Rattle.py_emission_parts.specs.Refused.{no_assignment, rewritten, mismatch}
 use Rattle.py_emission_parts.specs.Sealed.{Head, assembled_object}
 use Rattle.py_emission_parts.specs.NestedScopes.{Shape, comprehension_inside, some_flag}
 use Rattle.py_emission_outcomes.specs.Fitting.{HasShortTables}
@@ -50,6 +52,16 @@ seals {c} {k} {m} {w} {d} {follow} inner l b level h s (Done t) st g small cells
 seals inner l b level h s TooWide st g small cells few i r y = g
 seals inner l b level h s (Refused z at) st g small cells few i r y = g
 
+-- a child that ends with its table; another is refused
+ended_fits : (c : NodeContext) (l b n : ℕ) (scopes : List ScopeEntry) (o : Outcome) → FitsIn c l b o → FitsIn c l b (ended scopes n o)
+ended_fits c l b n scopes (Done t) h = go (ends_before scopes n t.next)
+  where
+    go : (x : Bool) → FitsIn c l b (if x then Done t else Refused mismatch (Some t.location))
+    go true = h
+    go false = tt
+ended_fits c l b n scopes TooWide h = h
+ended_fits c l b n scopes (Refused e at) h = h
+
 -- a nested scope that has few parameters where there is room for its body, and what follows of its code object, whose tables are short
 pub child_fits : {c : NodeContext} {k l m v w : ℕ} {body : Emission} {follow : Object → Emission} (nested : Context → ℕ → Context) (h : Shape)
     → AccessReady (access_outside (nested c.context k)) → EmissionFits (access_outside (nested c.context k)) (suc k) l v body → (v < 2 ^ 30 → HasFew h)
@@ -66,7 +78,9 @@ child_fits {c} {k} {l} {m} {v} {w} {body} {follow} nested h q x few y = record {
       let own = x2.fits (initial_state d s.location (suc s.next)) (record { node_context = refl; next = refl; short = tt }) (omega (arith, r)) in
       let parameters = few (omega (arith, r)) in
       seals (access_outside d) l (fit_taken (initial_state d s.location (suc s.next)) + v) d.level (code_head d h s.location) s
-      (run body (initial_state d s.location (suc s.next))) st own (omega (arith, r)) cells parameters (omega arith) r
+      (ended s.node_context.context.scopes s.next (run body (initial_state d s.location (suc s.next)))) st
+      (ended_fits (access_outside d) l (fit_taken (initial_state d s.location (suc s.next)) + v) s.next s.node_context.context.scopes
+      (run body (initial_state d s.location (suc s.next))) own) (omega (arith, r)) cells parameters (omega arith) r
       (λ o e short. y o (e ∙ ap (λ (z : Context). z.frees) same) short);
 }
 

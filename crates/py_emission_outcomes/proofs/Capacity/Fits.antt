@@ -18,6 +18,8 @@ use Rattle.py_emission_parts.specs.Emitting.{pass_over, place_in, postponed_part
 use Rattle.py_emission_parts.specs.Emitting.{with_constant, with_loops, with_name, with_postponed, with_step, with_varname}
 use Rattle.py_emission_proof.proofs.Additions.EmissionSequenceLemmas.{new_block, emission_sequence_looping, emission_sequence_postponed_node_context}
 use Rattle.py_emission_parts.specs.Running.{Action, ◌▹◌, begin, on_done, put_instruction, run}
+use Rattle.py_emission_parts.specs.Refused.{mismatch}
+use Rattle.py_emission_parts.specs.Tables.{are_whole}
 use Rattle.py_emission_parts.specs.EmissionParts.{only_in_function, pass_scopes, unless_debug}
 use Rattle.py_emission_parts.specs.TableParts.{is_debug}
 use Rattle.py_emission_outcomes.proofs.Capacity.ShortTables.{IsShort, entered_short}
@@ -343,7 +345,11 @@ postponing_fits {c} {k} {l} {w} {a} y = record {
 -- scopes that are passed over
 pub pass_fits : {c : NodeContext} {k : ℕ} (n : ℕ) → EmissionFits c k (k + n) 0 (pass_over n)
 unfolding pass_over fit_taken
-pass_fits n = record { fits = λ s h r. (record { node_context = h.node_context; next = ap (λ j. j + n) h.next; short = h.short }, omega arith) }
+pass_fits {c} {k} n = record { fits = λ s h r. go s h (are_whole s.node_context.context.scopes s.next n) }
+  where
+    go : (s : State) → FitStands c k s → (b : Bool) → FitsIn c (k + n) (fit_taken s + 0) (if b then Done (record s { next = s.next + n }) else Refused mismatch (Some s.location))
+    go s h true = (record { node_context = h.node_context; next = ap (λ j. j + n) h.next; short = h.short }, omega arith)
+    go s h false = tt
 
 -- as many as annotations that are postponed have
 pub scopes_fit : {c : NodeContext} {k : ℕ} (count : (postponed : Bool) → ℕ) → EmissionFits c k (k + count c.context.postponed) 0 (pass_scopes count)

@@ -1,4 +1,5 @@
 -- The emission of a tree without faults is done, and its tables are small.
+use Rattle.py_emission_outcomes.proofs.Tables.EvenTables.{tables_even}
 use Rattle.std.proofs.Common.{◌≡◌, ◌≢◌, refl, sym, ◌∙◌, subst, ℕ, ◌+◌, ◌*◌, ◌<◌, ◌≤◌, ◌^◌, List, [], ◌∷◌, arith}
 use Rattle.py_base.specs.declared.errors.CodegenErrorType.{CodegenErrorType}
 use Rattle.py_base.specs.declared.errors.CodegenErrorType.TheVariants as error
@@ -89,6 +90,6 @@ trees_fit uses t m level path h =
     go TooWide e l b n i f = absurd f
     go (Refused r at) e l b n i f =
         let z = parts_none t m level h in
-        let heads = refusal_heads t m level path (scopes_of t) r at z.0 e (another r f) in
+        let heads = refusal_heads t m level path (scopes_of t) r at z.0 e (another r f) (λ b q. tables_even t m level path h at (e ∙ ap (λ (x : CodegenErrorType). Refused x at) q)) in
         let first : Fault = record { error = r; location = at } in
         absurd (some_none first heads.0 (compile_faults m level t) heads.1 z.2)

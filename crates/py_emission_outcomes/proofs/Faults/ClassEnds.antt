@@ -24,6 +24,7 @@ use Rattle.py_emission_parts.specs.EmissionParts.{counted_build, elements}
 use Rattle.py_emission_outcomes.proofs.Faults.RefusalLemmas.{RefusalEndsAs, Passes, cell_passes, child_ends, constant_passes, context_ends}
 use Rattle.py_emission_outcomes.proofs.Faults.RefusalLemmas.{count_passes, emit_passes, ends_so, refusal_in_function, last_ends, level_ends}
 use Rattle.py_emission_outcomes.proofs.Faults.RefusalLemmas.{name_passes, nothing_passes, refusal_outside, own_context_ends, then_ends}
+use Rattle.py_emission_outcomes.proofs.Faults.RefusalLemmas.{class_scopes}
 use Rattle.py_emission_outcomes.proofs.Faults.RefusingCalls.{ArgsEnd, any_call_ends}
 use Rattle.py_emission_outcomes.proofs.Faults.RefusingDefaults.{made_passes}
 use Rattle.py_emission_outcomes.proofs.Faults.RefusingDisplays.{bare_ends, refusing_display_groups_end, tuples_end}
@@ -79,8 +80,8 @@ module _ (c : NodeContext) where
       → ((n : ℕ) → RefusalEndsAs (refusal_outside (nested_class path name c.context n)) body p q fs)
       → RefusalEndsAs c (class_function path flags name stmts body) p q fs
   class_function_ends {body = body} {fs = fs} path flags name stmts x =
-      ends_so (append-nil fs) (child_ends (nested_class path name) (class_shape name) (class_scope stmts body) (made_function flags name)
-      (λ n. class_scope_ends stmts (x n)) (λ o. made_passes flags name o))
+      ends_so (append-nil fs) (child_ends (nested_class path name) (class_scopes path name) (class_shape name) (class_scope stmts body)
+      (made_function flags name) (λ n. class_scope_ends stmts (x n)) (λ o. made_passes flags name o))
 
 module _ (class : Option (List ℕ)) (c : NodeContext) where
   -- a class whose function ends so

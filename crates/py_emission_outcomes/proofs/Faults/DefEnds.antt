@@ -21,7 +21,7 @@ use Rattle.py_emission.specs.Parameters.{function_shape, parameters}
 use Rattle.py_emission.specs.Texts.{doc_of}
 use Rattle.py_emission_outcomes.proofs.Faults.RefusalLemmas.{RefusalEndsAs, Passes, child_ends, constant_passes, context_ends, count_passes}
 use Rattle.py_emission_outcomes.proofs.Faults.RefusalLemmas.{emit_passes, ends_so, if_ends, refusal_in_function, last_ends, level_ends}
-use Rattle.py_emission_outcomes.proofs.Faults.RefusalLemmas.{name_passes, nothing_passes, refusal_outside, then_ends}
+use Rattle.py_emission_outcomes.proofs.Faults.RefusalLemmas.{name_passes, nothing_passes, refusal_outside, then_ends, function_scopes}
 use Rattle.py_emission_outcomes.proofs.Faults.RefusingDefaults.{defaults_end, made_passes, scope_ends, some_built_ends}
 use Rattle.py_emission_outcomes.proofs.Faults.RefusingExprs.{defaults_ending}
 use Rattle.py_emission_outcomes.proofs.Faults.NoteEnds.{notes_end}
@@ -62,9 +62,9 @@ module _ (class : Option (List ℕ)) (c : NodeContext) where
       → RefusalEndsAs c (function_value flags name params stmts returns body) p (last_of q (note_ends c.context.postponed params returns))
       (parameter_faults p (parameters params) ++ (fs ++ notes_faults c.context.postponed (refusal_in_function c) q params returns))
   function_value_ends {body = body} {p = p} {q = q} {fs = fs} flags name params stmts returns h g x =
-      let own = child_ends (function_inside name) (function_shape params name) (function_scope (parameters params) body)
-      (λ o. function_made flags (notes params returns) name o) (λ n. scope_ends (parameters params) (x n))
-      (λ o. made_ends flags params returns name o h g) in
+      let own = child_ends (function_inside name) (function_scopes name) (function_shape params name)
+      (function_scope (parameters params) body) (λ o. function_made flags (notes params returns) name o)
+      (λ n. scope_ends (parameters params) (x n)) (λ o. made_ends flags params returns name o h g) in
       ends_so (append_assoc (parameter_faults p (parameters params)) fs (notes_faults c.context.postponed (refusal_in_function c) q params returns))
       (last_ends own (level_ends (λ l. docstring_store (doc_of l stmts)) (λ l. documented_passes (doc_of l stmts))))
 

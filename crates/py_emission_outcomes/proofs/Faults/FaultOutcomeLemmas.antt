@@ -1,4 +1,6 @@
 -- The emission of a tree with no wrong shapes ends as its faults say.
+use Rattle.py_emission_parts.specs.Tables.{is_bare}
+use Rattle.py_emission_parts.specs.Refused.{mismatch}
 use Rattle.std.proofs.Common.{◌≡◌, ◌≢◌, ℕ, List, [], ◌∷◌, Option, Some, None, codes, refl, sym, ap, ◌∙◌, subst}
 use Rattle.py_tree.specs.Tree as tree
 use Rattle.py_shapes.specs.Valid.{expr_shapes, is_prompt, stmt_shapes, stmts_shapes, shapes, when}
@@ -22,7 +24,7 @@ use Rattle.py_scope.specs.declared.flat.ScopeEntry.{ScopeEntry}
 use Rattle.py_emission_parts.specs.Context.{Context, inside, outermost}
 use Rattle.py_emission_parts.specs.Emitting.{NodeContext, State, Outcome, Done, Refused, nothing}
 use Rattle.py_emission_outcomes.proofs.Faults.RefusalLemmas.{RefusalEnds, Wide, Misses, Stops, GoesOn, Passes, constant_passes, last_ends}
-use Rattle.py_emission_outcomes.proofs.Faults.RefusalLemmas.{level_ends, name_passes, nothing_passes, refusal_outside, then_ends}
+use Rattle.py_emission_outcomes.proofs.Faults.RefusalLemmas.{level_ends, name_passes, nothing_passes, refusal_outside, then_ends, Parts}
 use Rattle.py_emission_outcomes.proofs.Faults.ClassEnds.{setup_passes}
 use Rattle.py_emission_outcomes.proofs.Faults.FutureEnds.{future_after_ends, end_after}
 use Rattle.py_emission_outcomes.proofs.Faults.InteractiveEnds.{interactive_ends}
@@ -74,30 +76,32 @@ module _ (k : Context) (m : Mode) where
   fault_outcome_value_ends e h = ((expr_ends None (refusal_outside k) e h).returned (nothing k).location).ends (nothing k) refl refl
 
 refused_by : (c : NodeContext) (q : SourceLocation) (fs : List Fault) (o : Outcome) (e : CodegenErrorType) (at : Option SourceLocation)
-    → RefusalEnds c fs q o → o ≡ Refused e at → e ≢ error.MissingCell
+    → RefusalEnds c fs q o → o ≡ Refused e at → e ≢ error.MissingCell → (is_bare c.context.scopes ≡ false → e ≢ mismatch)
     → (rest : List Fault) × (fs ≡ record { error = e; location = at } ∷ rest)
-refused_by c q fs o e at (Wide p) r n = absurd cc
-refused_by c q fs o e at (Misses there p) r n = let same : e ≡ error.MissingCell = cc in absurd (n same)
-refused_by c q fs o e at (Stops d there rest p f) r n =
+refused_by c q fs o e at (Wide p) r n w = absurd cc
+refused_by c q fs o e at (Misses there p) r n w = let same : e ≡ error.MissingCell = cc in absurd (n same)
+refused_by c q fs o e at (Parts there h p) r n w = let same : e ≡ mismatch = cc in absurd (w h same)
+refused_by c q fs o e at (Stops d there rest p f) r n w =
     let same : d ≡ e = cc in
     let place : Some there ≡ at = cc in
     (rest, f ∙ (λ i. record { error = same i; location = place i } ∷ rest))
-refused_by c q fs o e at (GoesOn t p z d f) r n = absurd cc
+refused_by c q fs o e at (GoesOn t p z d f) r n w = absurd cc
 
 done_by : (c : NodeContext) (q : SourceLocation) (fs : List Fault) (o : Outcome) (r : State) → RefusalEnds c fs q o → o ≡ Done r → fs ≡ []
 done_by c q fs o r (Wide p) d = absurd cc
 done_by c q fs o r (Misses at p) d = absurd cc
+done_by c q fs o r (Parts at h p) d = absurd cc
 done_by c q fs o r (Stops e there rest p f) d = absurd cc
 done_by c q fs o r (GoesOn t p z g f) d = f
 
 heads : (t : tree.Mod) (m : Mode) (k : Context) (e : CodegenErrorType) (at : Option SourceLocation) → shapes t m ≡ []
-    → emission_outcome t m k ≡ Refused e at → e ≢ error.MissingCell
+    → emission_outcome t m k ≡ Refused e at → e ≢ error.MissingCell → (is_bare k.scopes ≡ false → e ≢ mismatch)
     → (rest : List Fault) × (faults_with m (setting_of k) t ≡ record { error = e; location = at } ∷ rest)
-heads (tree.Module ts) m k e at h r n = refused_by (refusal_outside k) _ _ _ e at (file_ends k m ts h) r n
-heads (tree.Interactive ts) m k e at h r n = refused_by (refusal_outside k) _ _ _ e at
-    (prompt_ends k m ts (refusing_expr_both_none (when (not (is_prompt m)) WrongMode) (stmts_shapes None ts) h).1).1 r n
-heads (tree.Expression v) m k e at h r n = refused_by (refusal_outside k) _ _ _ e at (fault_outcome_value_ends k m v h) r n
-heads other m k e at h r n =
+heads (tree.Module ts) m k e at h r n w = refused_by (refusal_outside k) _ _ _ e at (file_ends k m ts h) r n w
+heads (tree.Interactive ts) m k e at h r n w = refused_by (refusal_outside k) _ _ _ e at
+    (prompt_ends k m ts (refusing_expr_both_none (when (not (is_prompt m)) WrongMode) (stmts_shapes None ts) h).1).1 r n w
+heads (tree.Expression v) m k e at h r n w = refused_by (refusal_outside k) _ _ _ e at (fault_outcome_value_ends k m v h) r n w
+heads other m k e at h r n w =
     let same : error.NotImplementedYet ≡ e = cc in
     let place : None ≡ at = cc in
     ([], λ i. record { error = same i; location = place i } ∷ [])
@@ -123,11 +127,12 @@ faults_are : (t : tree.Mod) (m : Mode) (l : ℕ) (path : List ℕ) (scopes : Lis
 faults_are t m l path scopes = ap (λ s. faults_with m s t) (setting_is l path scopes) ∙ faults_first m l t
 
 module _ (t : tree.Mod) (m : Mode) (l : ℕ) (path : List ℕ) (scopes : List ScopeEntry) where
-  -- a refusal is the first fault, unless a cell is not there
+  -- a refusal is the first fault, unless a cell is not there, or the tables are not those of the tree
   pub refusal_heads : (e : CodegenErrorType) (at : Option SourceLocation) → shapes t m ≡ []
       → emission_outcome t m (outermost l path scopes) ≡ Refused e at → e ≢ error.MissingCell
+      → (is_bare (outermost l path scopes).scopes ≡ false → e ≢ mismatch)
       → (rest : List Fault) × (compile_faults m l t ≡ record { error = e; location = at } ∷ rest)
-  refusal_heads e at h r n = subst (λ fs. (rest : List Fault) × (fs ≡ record { error = e; location = at } ∷ rest)) (faults_are t m l path scopes) (heads t m (outermost l path scopes) e at h r n)
+  refusal_heads e at h r n w = subst (λ fs. (rest : List Fault) × (fs ≡ record { error = e; location = at } ∷ rest)) (faults_are t m l path scopes) (heads t m (outermost l path scopes) e at h r n w)
 
   -- what is emitted to its end has none
   pub done_faultless : (r : State) → shapes t m ≡ [] → emission_outcome t m (outermost l path scopes) ≡ Done r → compile_faults m l t ≡ []

@@ -27,7 +27,7 @@ use Rattle.py_emission_parts.specs.TypeParameters.{generic_alias, in_type_param_
 use Rattle.py_emission_outcomes.proofs.Faults.RefusalLemmas.{RefusalEndsAs, Passes, accessed_passes, child_ends, constant_passes}
 use Rattle.py_emission_outcomes.proofs.Faults.RefusalLemmas.{count_passes, emit_passes, ends_so, ends_there, refusal_in_function, last_ends}
 use Rattle.py_emission_outcomes.proofs.Faults.RefusalLemmas.{moved_ends, nothing_passes, refusal_outside, own_context_ends, refusal_ends}
-use Rattle.py_emission_outcomes.proofs.Faults.RefusalLemmas.{then_ends, unless_debug_last, varname_passes}
+use Rattle.py_emission_outcomes.proofs.Faults.RefusalLemmas.{then_ends, unless_debug_last, varname_passes, type_param_scope_scopes}
 use Rattle.py_emission_outcomes.proofs.Faults.RefusingDefaults.{defaults_end, made_passes}
 use Rattle.py_emission_outcomes.proofs.Faults.RefusingDisplays.{last_append}
 use Rattle.py_emission_outcomes.proofs.Faults.RefusingExprs.{refusing_expr_both_none, defaults_ending, expr_ends}
@@ -87,9 +87,9 @@ module _ (c : NodeContext) where
       → RefusalEndsAs c (in_type_param_scope name d value) p q (fs ++ gs)
   type_param_scope_ends {value = value} {fs = fs} name d x y =
       let count = length (passed_defaults d.positional d.keyword) in
-      let own = child_ends type_param_scope_inside (type_param_scope_shape count name) (value ▸ emit op.ReturnValue 0)
-      (made_function 0 (type_param_scope_name name)) (λ n. last_ends (x n) (emit_passes op.ReturnValue 0))
-      (λ o. made_passes 0 (type_param_scope_name name) o) in
+      let own = child_ends type_param_scope_inside type_param_scope_scopes (type_param_scope_shape count name)
+      (value ▸ emit op.ReturnValue 0) (made_function 0 (type_param_scope_name name))
+      (λ n. last_ends (x n) (emit_passes op.ReturnValue 0)) (λ o. made_passes 0 (type_param_scope_name name) o) in
       then_ends (ends_so (append-nil fs) own) (last_ends y (count_passes op.CallFunctionPositional count))
 
   -- without defaults

@@ -1,5 +1,8 @@
 -- An emission goes on from some place, or ends as the faults say.
-use Rattle.std.proofs.Common.{◌≡◌, ℕ, ◌^◌, List, [], ◌∷◌, ◌++◌, Bool, true, false, Option, Some, None, refl, sym, ap, ◌∙◌, subst, append-nil, append_assoc}
+use Rattle.py_scope.specs.declared.flat.ScopeEntry.{ScopeEntry}
+use Rattle.py_emission_parts.specs.Refused.{mismatch}
+use Rattle.py_emission_parts.specs.Tables.{are_whole, ends_before, is_bare}
+use Rattle.std.proofs.Common.{◌≡◌, ℕ, ◌^◌, List, [], ◌∷◌, ◌++◌, Bool, true, false, Option, Some, None, refl, sym, ap, ◌∙◌, subst, append-nil, append_assoc, ◌+◌, ◌||◌}
 use Rattle.std.specs.Prelude.{suc, nat_lt, not, if◌then◌else◌}
 use Rattle.std.specs.List.{list_any}
 use Rattle.py_base.specs.declared.location.SourceLocation.{SourceLocation}
@@ -14,9 +17,9 @@ use Rattle.py_bytecode.specs.Values.{Usage, Load, Store, Delete, Kind, Unsaid, F
 use Rattle.py_control.specs.Form.{Resolved}
 use Rattle.py_emission_parts.specs.Children.{child, load_cell}
 use Rattle.py_emission_proof.proofs.Additions.EmissionSequenceLemmas.{new_block, kept_on, emission_sequence_looping, emission_sequence_postponed_node_context}
-use Rattle.py_emission_parts.specs.Running.{Action, ◌▹◌, begin, after_child, code_head, on_done, on_sealed, put_instruction, run}
-use Rattle.py_emission_parts.specs.NestedScopes.{Shape}
-use Rattle.py_emission_parts.specs.Context.{Context, access_kind, cell_place, is_function, mangled_by}
+use Rattle.py_emission_parts.specs.Running.{Action, ◌▹◌, begin, after_child, code_head, on_done, on_sealed, put_instruction, run, ended}
+use Rattle.py_emission_parts.specs.NestedScopes.{Shape, type_param_scope_inside, lambda_inside, comprehension_inside, function_inside, nested_class}
+use Rattle.py_emission_parts.specs.Context.{Context, access_kind, cell_place, is_function, mangled_by, inside, with_path, nested_in_class}
 use Rattle.py_emission_parts.specs.Accesses.{access_by, name_access, accessed_in}
 use Rattle.py_emission_parts.specs.TableParts.{is_debug}
 use Rattle.py_base.specs.declared.errors.CodegenErrorType.{CodegenErrorType}
@@ -38,20 +41,28 @@ refusal_outside k = (nothing k).node_context
 abbrev pub refusal_in_function : NodeContext → Bool
 refusal_in_function c = is_function c.context.typ
 
--- an operand is too large; or a cell is not there; or it is refused as the first of these faults says; or there are none, and it goes on in this context, from that place
+-- an operand is too large; or a cell is not there; or there are tables and they are not those of the tree; or it is refused as the first of
+-- these faults says; or there are none, and it goes on in this context, from that place
 pub data RefusalEnds (c : NodeContext) (fs : List Fault) (q : SourceLocation) (o : Outcome) : Type 0 where
   Wide : o ≡ TooWide → RefusalEnds c fs q o
   Misses : (at : SourceLocation) → o ≡ Refused error.MissingCell (Some at) → RefusalEnds c fs q o
+  Parts : (at : SourceLocation) → is_bare c.context.scopes ≡ false → o ≡ Refused mismatch (Some at) → RefusalEnds c fs q o
   Stops : (e : CodegenErrorType) (at : SourceLocation) (rest : List Fault) → o ≡ Refused e (Some at) → fs ≡ fault_at e at ∷ rest → RefusalEnds c fs q o
   GoesOn : (r : State) → r.location ≡ q → r.node_context ≡ c → o ≡ Done r → fs ≡ [] → RefusalEnds c fs q o
 
+-- where one of two is not, neither is the first
+neither : (a b : Bool) → (a || b) ≡ false → a ≡ false
+neither true b e = absurd cc
+neither false b e = refl
+
 -- one emission after another
-ends_then : (c d : NodeContext) (b : Action) (fs gs : List Fault) (m q : SourceLocation) (o : Outcome) → RefusalEnds c fs m o
+ends_then : (c d : NodeContext) (b : Action) (fs gs : List Fault) (m q : SourceLocation) (o : Outcome) → d.context.scopes ≡ c.context.scopes → RefusalEnds c fs m o
     → ((r : State) → r.location ≡ m → r.node_context ≡ c → RefusalEnds d gs q (b r)) → RefusalEnds d (fs ++ gs) q (on_done o b)
-ends_then c d b fs gs m q o (Wide e) next = Wide (ap (λ x. on_done x b) e)
-ends_then c d b fs gs m q o (Misses at e) next = Misses at (ap (λ x. on_done x b) e)
-ends_then c d b fs gs m q o (Stops e at rest f g) next = Stops e at (rest ++ gs) (ap (λ x. on_done x b) f) (ap (λ l. l ++ gs) g)
-ends_then c d b fs gs m q o (GoesOn r at z f g) next = subst (λ l. RefusalEnds d (l ++ gs) q (on_done o b)) (sym g) (subst (λ x. RefusalEnds d gs q (on_done x b)) (sym f) (next r at z))
+ends_then c d b fs gs m q o same (Wide e) next = Wide (ap (λ x. on_done x b) e)
+ends_then c d b fs gs m q o same (Misses at e) next = Misses at (ap (λ x. on_done x b) e)
+ends_then c d b fs gs m q o same (Parts at h e) next = Parts at (ap is_bare same ∙ h) (ap (λ x. on_done x b) e)
+ends_then c d b fs gs m q o same (Stops e at rest f g) next = Stops e at (rest ++ gs) (ap (λ x. on_done x b) f) (ap (λ l. l ++ gs) g)
+ends_then c d b fs gs m q o same (GoesOn r at z f g) next = subst (λ l. RefusalEnds d (l ++ gs) q (on_done o b)) (sym g) (subst (λ x. RefusalEnds d gs q (on_done x b)) (sym f) (next r at z))
 
 -- what ends as the faults say from any state at the first place in this context, and goes on from the second
 pub record RefusalEndsAs (c : NodeContext) (a : Emission) (p q : SourceLocation) (fs : List Fault) : Type 0 where
@@ -69,7 +80,7 @@ run_ends : {c : NodeContext} {a : Emission} {p q : SourceLocation} {fs : List Fa
 run_ends x = record { ends = x.ends }
 
 after_ends : {c : NodeContext} {a b : Action} {p m q : SourceLocation} {fs gs : List Fault} → ActionEnds c a p m fs → ActionEnds c b m q gs → ActionEnds c (a ▹ b) p q (fs ++ gs)
-after_ends {c = c} {a = a} {b = b} {m = m} {q = q} {fs = fs} {gs = gs} x y = record { ends = λ s h z. ends_then c c b fs gs m q (a s) (x.ends s h z) y.ends }
+after_ends {c = c} {a = a} {b = b} {m = m} {q = q} {fs = fs} {gs = gs} x y = record { ends = λ s h z. ends_then c c b fs gs m q (a s) refl (x.ends s h z) y.ends }
 
 pub then_ends : {c : NodeContext} {a b : Emission} {p m q : SourceLocation} {fs gs : List Fault} → RefusalEndsAs c a p m fs → RefusalEndsAs c b m q gs → RefusalEndsAs c (a ▸ b) p q (fs ++ gs)
 then_ends x y = record { ends = (after_ends (run_ends x) (run_ends y)).ends }
@@ -269,7 +280,7 @@ loop_ends {c = c} {a = a} {q = q} {fs = fs} x h = record {
       (ap (λ (u : NodeContext). record u { loops = s.node_context.loops }) y ∙ ap (λ (u : NodeContext). record c { loops = u.loops }) z)
       refl refl in
       subst (λ l. RefusalEnds c l q (on_done (run a inner) back)) (append-nil fs)
-      (ends_then (emission_sequence_looping x c) c back fs [] q q (run a inner)
+      (ends_then (emission_sequence_looping x c) c back fs [] q q (run a inner) refl
       (h.ends inner l (ap (emission_sequence_looping x) z)) last);
 }
 
@@ -287,7 +298,7 @@ postponed_ends {c = c} {a = a} {q = q} {fs = fs} h = record {
       (ap (λ (u : NodeContext). record u { context = record u.context { postponed = before } }) y
       ∙ ap (λ (u : NodeContext). record c { context = record c.context { postponed = u.context.postponed } }) z) refl refl in
       subst (λ l. RefusalEnds c l q (on_done (run a inner) back)) (append-nil fs)
-      (ends_then (emission_sequence_postponed_node_context c) c back fs [] q q (run a inner)
+      (ends_then (emission_sequence_postponed_node_context c) c back fs [] q q (run a inner) refl
       (h.ends inner l (ap emission_sequence_postponed_node_context z)) last);
 }
 
@@ -338,28 +349,79 @@ link_passes o out = then_ends (emit_passes op.Duplicate 0) (then_ends (emit_pass
 -- the scopes of what is scanned alone are passed over
 pub scopes_passed : {c : NodeContext} {p : SourceLocation} (count : (postponed : Bool) → ℕ) → Passes c (pass_scopes count) p
 unfolding pass_over by_context
-scopes_passed count = record { ends = λ s h z. GoesOn _ h z refl refl }
+scopes_passed {c} {p} count = record { ends = λ s h z. go s h z (are_whole s.node_context.context.scopes s.next (count s.node_context.context.postponed)) refl }
+  where
+    go : (s : State) → s.location ≡ p → s.node_context ≡ c → (b : Bool) → are_whole s.node_context.context.scopes s.next (count s.node_context.context.postponed) ≡ b
+        → RefusalEnds c [] p (if are_whole s.node_context.context.scopes s.next (count s.node_context.context.postponed) then Done
+        (record s { next = s.next + count s.node_context.context.postponed }) else Refused mismatch (Some s.location))
+    go s h z true e = GoesOn (record s { next = s.next + count s.node_context.context.postponed }) h z
+        (ap (λ (b : Bool). if b then Done (record s { next = s.next + count s.node_context.context.postponed }) else Refused mismatch
+        (Some s.location)) e) refl
+    go s h z false e =
+        Parts s.location (ap (λ (d : NodeContext). is_bare d.context.scopes) (sym z) ∙ neither _ _ e)
+        (ap (λ (b : Bool). if b then Done (record s { next = s.next + count s.node_context.context.postponed }) else Refused mismatch
+        (Some s.location)) e)
+
+-- a child that ends with its table, or does not
+ended_ends : (c : NodeContext) (fs : List Fault) (q : SourceLocation) (o : Outcome) (scopes : List ScopeEntry) (n : ℕ)
+    → c.context.scopes ≡ scopes → RefusalEnds c fs q o → RefusalEnds c fs q (ended scopes n o)
+ended_ends c fs q o scopes n same (Wide e) = Wide (ap (ended scopes n) e)
+ended_ends c fs q o scopes n same (Misses at e) = Misses at (ap (ended scopes n) e)
+ended_ends c fs q o scopes n same (Parts at h e) = Parts at h (ap (ended scopes n) e)
+ended_ends c fs q o scopes n same (Stops e at rest f g) = Stops e at rest (ap (ended scopes n) f) g
+ended_ends c fs q o scopes n same (GoesOn r at z f g) = go (ends_before scopes n r.next) refl
+  where
+    go : (b : Bool) → ends_before scopes n r.next ≡ b → RefusalEnds c fs q (ended scopes n o)
+    go true h = GoesOn r at z (ap (ended scopes n) f ∙ ap (λ (b : Bool). if b then Done r else Refused mismatch (Some r.location)) h) g
+    go false h = Parts r.location (ap is_bare same ∙ neither _ _ h) (ap (ended scopes n) f ∙ ap (λ (b : Bool). if b then Done r else Refused mismatch (Some r.location)) h)
 
 -- what comes of a nested scope, in a context that stands there, and then of what follows, which begins where the scope leaves off
 sealed_ends : (c : NodeContext) (k : Context) (level : ℕ) (h : Head) (s : State) (follow : Object → Emission) (fs gs : List Fault) (m q : SourceLocation) (o : Outcome)
-    → s.node_context ≡ c → RefusalEnds (refusal_outside k) fs m o → ((x : Object) → RefusalEndsAs c (follow x) m q gs)
+    → s.node_context ≡ c → c.context.scopes ≡ k.scopes → RefusalEnds (refusal_outside k) fs m o → ((x : Object) → RefusalEndsAs c (follow x) m q gs)
     → RefusalEnds c (fs ++ gs) q (on_sealed level h s o (λ x. run (follow x)))
-sealed_ends c k level h s follow fs gs m q o z (Wide e) next = Wide (ap (λ x. on_sealed level h s x (λ y. run (follow y))) e)
-sealed_ends c k level h s follow fs gs m q o z (Misses at e) next = Misses at (ap (λ x. on_sealed level h s x (λ y. run (follow y))) e)
-sealed_ends c k level h s follow fs gs m q o z (Stops e at rest f g) next = Stops e at (rest ++ gs) (ap (λ x. on_sealed level h s x (λ y. run (follow y))) f) (ap (λ l. l ++ gs) g)
-sealed_ends c k level h s follow fs gs m q o z (GoesOn r at y f g) next =
+sealed_ends c k level h s follow fs gs m q o z same (Wide e) next = Wide (ap (λ x. on_sealed level h s x (λ y. run (follow y))) e)
+sealed_ends c k level h s follow fs gs m q o z same (Misses at e) next = Misses at (ap (λ x. on_sealed level h s x (λ y. run (follow y))) e)
+sealed_ends c k level h s follow fs gs m q o z same (Parts at h1 e) next = Parts at (ap is_bare same ∙ h1) (ap (λ x. on_sealed level h s x (λ y. run (follow y))) e)
+sealed_ends c k level h s follow fs gs m q o z same (Stops e at rest f g) next = Stops e at (rest ++ gs) (ap (λ x. on_sealed level h s x (λ y. run (follow y))) f) (ap (λ l. l ++ gs) g)
+sealed_ends c k level h s follow fs gs m q o z same (GoesOn r at y f g) next =
     subst (λ l. RefusalEnds c (l ++ gs) q (on_sealed level h s o (λ y. run (follow y)))) (sym g)
     (subst (λ x. RefusalEnds c gs q (on_sealed level h s x (λ y. run (follow y)))) (sym f)
     ((next (assembled_object level h r)).ends (after_child s r) at z))
 
+-- the scopes are the same within
+pub type_param_scope_scopes : (d : Context) (n : ℕ) → (type_param_scope_inside d n).scopes ≡ d.scopes
+unfolding inside
+type_param_scope_scopes d n = refl
+
+pub lambda_scopes : (d : Context) (n : ℕ) → (lambda_inside d n).scopes ≡ d.scopes
+unfolding inside
+lambda_scopes d n = refl
+
+pub comprehension_scopes : (d : Context) (n : ℕ) → (comprehension_inside d n).scopes ≡ d.scopes
+unfolding inside
+comprehension_scopes d n = refl
+
+pub function_scopes : (name : List ℕ) (d : Context) (n : ℕ) → (function_inside name d n).scopes ≡ d.scopes
+unfolding inside with_path
+function_scopes name d n = refl
+
+pub class_scopes : (path name : List ℕ) (d : Context) (n : ℕ) → (nested_class path name d n).scopes ≡ d.scopes
+unfolding inside with_path nested_in_class
+class_scopes path name d n = refl
+
 -- a nested scope
-pub child_ends : {c : NodeContext} {p m q : SourceLocation} {fs gs : List Fault} (nested : Context → ℕ → Context) (h : Shape) (body : Emission) (follow : Object → Emission)
+pub child_ends : {c : NodeContext} {p m q : SourceLocation} {fs gs : List Fault} (nested : Context → ℕ → Context)
+    → ((d : Context) (n : ℕ) → (nested d n).scopes ≡ d.scopes) → (h : Shape) (body : Emission) (follow : Object → Emission)
     → ((n : ℕ) → RefusalEndsAs (refusal_outside (nested c.context n)) body p m fs) → ((x : Object) → RefusalEndsAs c (follow x) m q gs)
     → RefusalEndsAs c (child nested h body follow) p q (fs ++ gs)
 unfolding child
-child_ends {c = c} {p = p} {m = m} {q = q} {fs = fs} {gs = gs} nested h body follow x y = record {
+child_ends {c = c} {p = p} {m = m} {q = q} {fs = fs} {gs = gs} nested same h body follow x y = record {
   ends = λ s at z.
       let k = nested s.node_context.context s.next in
       let inner = subst (λ (d : NodeContext). RefusalEndsAs (refusal_outside (nested d.context s.next)) body p m fs) (sym z) (x s.next) in
-      sealed_ends c k k.level (code_head k h s.location) s follow fs gs m q (run body (initial_state k s.location (suc s.next))) z (inner.ends (initial_state k s.location (suc s.next)) at refl) y;
+      sealed_ends c k k.level (code_head k h s.location) s follow fs gs m q
+      (ended s.node_context.context.scopes s.next (run body (initial_state k s.location (suc s.next)))) z
+      (ap (λ (d : NodeContext). d.context.scopes) (sym z) ∙ sym (same s.node_context.context s.next))
+      (ended_ends (refusal_outside k) fs m (run body (initial_state k s.location (suc s.next))) s.node_context.context.scopes s.next
+      (same s.node_context.context s.next) (inner.ends (initial_state k s.location (suc s.next)) at refl)) y;
 }

@@ -23,7 +23,8 @@ use Rattle.py_emission.specs.Emission.{all_emissions, clause_emissions, emission
 use Rattle.py_emission_outcomes.proofs.Faults.RefusalLemmas.{RefusalEnds, RefusalEndsAs, GoesOn, Misses, Stops, Wide, child_ends}
 use Rattle.py_emission_outcomes.proofs.Faults.RefusalLemmas.{constant_passes, count_passes, emit_passes, ends_so, generating_passes}
 use Rattle.py_emission_outcomes.proofs.Faults.RefusalLemmas.{guarded_ends, refusal_in_function, jump_passes, last_ends, nothing_passes}
-use Rattle.py_emission_outcomes.proofs.Faults.RefusalLemmas.{refusal_outside, then_ends, two_blocks_end, varname_passes}
+use Rattle.py_emission_outcomes.proofs.Faults.RefusalLemmas.{refusal_outside, then_ends, two_blocks_end, varname_passes, Parts}
+use Rattle.py_emission_outcomes.proofs.Faults.RefusalLemmas.{comprehension_scopes}
 use Rattle.py_emission_outcomes.proofs.Faults.RefusingTests.{AllEnding, EndsWell}
 use Rattle.py_emission_outcomes.proofs.Faults.RefusingTargets.{Storing}
 use Rattle.py_emission_outcomes.proofs.Faults.RefusingDefaults.{made_passes}
@@ -32,6 +33,7 @@ use Rattle.py_emission_outcomes.proofs.Faults.RefusingDefaults.{made_passes}
 rewritten_so : (c : NodeContext) (fs : List Fault) (q : SourceLocation) (o : Outcome) → RefusalEnds c fs q o → RefusalEnds c (rewritten_faults fs) q (rewritten_in o)
 rewritten_so c fs q o (Wide e) = Wide (ap rewritten_in e)
 rewritten_so c fs q o (Misses at e) = Misses at (ap rewritten_in e)
+rewritten_so c fs q o (Parts at h e) = Parts at h (ap rewritten_in e)
 rewritten_so c fs q o (Stops e at rest f g) = Stops (rewritten e) at (rewritten_faults rest) (ap rewritten_in f) (ap rewritten_faults g)
 rewritten_so c fs q o (GoesOn r at z f g) = GoesOn r at z (ap rewritten_in f) (ap rewritten_faults g)
 
@@ -126,7 +128,7 @@ module _ (c : NodeContext) where
   unfolding called_at_once
   called_ends at awaited name tree.no_generators fs ws some x y = absurd cc
   called_ends {scope = scope} {m = m} at awaited name (tree.more_generators target iter ifs is_async gs) fs ws some x y =
-      let scope_made = ends_so (append-nil (fs ++ ws)) (child_ends comprehension_inside (comprehension_shape name) scope (made_function 0 name) y (made_passes 0 name)) in
+      let scope_made = ends_so (append-nil (fs ++ ws)) (child_ends comprehension_inside comprehension_scopes (comprehension_shape name) scope (made_function 0 name) y (made_passes 0 name)) in
       let called = last_ends (x.0.value m) (then_ends (emit_passes op.GetIter 0) (count_passes op.CallFunctionPositional 1)) in
       guarded_ends awaited error.NotImplementedYet (ends_so (append_assoc fs ws (faults_in (refusal_in_function c) iter).value) (then_ends scope_made called))
 

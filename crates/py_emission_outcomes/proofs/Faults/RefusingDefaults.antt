@@ -23,7 +23,7 @@ use Rattle.py_emission_proof.proofs.Additions.EmissionSequenceLemmas.{emission_s
 use Rattle.py_emission_outcomes.proofs.Faults.RefusalLemmas.{RefusalEndsAs, Passes, alike_ends, cell_passes, child_ends, constant_added}
 use Rattle.py_emission_outcomes.proofs.Faults.RefusalLemmas.{constant_passes, count_passes, emit_passes, ends_so, ends_there}
 use Rattle.py_emission_outcomes.proofs.Faults.RefusalLemmas.{refusal_in_function, last_ends, nothing_passes, refusal_outside, scopes_passed}
-use Rattle.py_emission_outcomes.proofs.Faults.RefusalLemmas.{then_ends, unless_debug_last, refusal_varname_added}
+use Rattle.py_emission_outcomes.proofs.Faults.RefusalLemmas.{then_ends, unless_debug_last, refusal_varname_added, lambda_scopes}
 use Rattle.py_emission_outcomes.proofs.Faults.RefusingTests.{EndsWell}
 use Rattle.py_emission_outcomes.proofs.Faults.RefusingDisplays.{OptEnding, last_append}
 
@@ -141,7 +141,7 @@ module _ (c : NodeContext) where
       ▸ made_function (flags_of_defaults (default_emissions params)) (codes "<lambda>") o) (expr_end body) = λ o.
       then_ends (scopes_passed (λ postponed. scopes_in_annotations postponed params)) (made_passes (flags_of_defaults (default_emissions params)) (codes "<lambda>") o) in
       then_ends (defaults_end at params x)
-      (ends_so (append-nil fs) (child_ends lambda_inside (function_shape params (codes "<lambda>"))
+      (ends_so (append-nil fs) (child_ends lambda_inside lambda_scopes (function_shape params (codes "<lambda>"))
       (function_scope (parameters params) (emissions body).returned)
       (λ o. pass_scopes (λ postponed. scopes_in_annotations postponed params)
       ▸ made_function (flags_of_defaults (default_emissions params)) (codes "<lambda>") o) within follow))

@@ -1,5 +1,8 @@
 -- What emissions add, one after another: each adds items and so many blocks where it is done, and then a fact holds.
-use Rattle.std.proofs.Common.{◌≡◌, ℕ, ◌+◌, ◌<◌, List, [], ◌∷◌, ◌++◌, true, Option, Some, refl, sym, ap, ◌∙◌, subst, arith, append-nil}
+use Rattle.std.specs.Prelude.{if◌then◌else◌}
+use Rattle.py_emission_parts.specs.Refused.{mismatch}
+use Rattle.py_emission_parts.specs.Tables.{are_whole}
+use Rattle.std.proofs.Common.{◌≡◌, ℕ, ◌+◌, ◌<◌, List, [], ◌∷◌, ◌++◌, true, Option, Some, refl, sym, ap, ◌∙◌, subst, arith, append-nil, Bool, false}
 use Rattle.py_base.specs.declared.location.SourceLocation.{SourceLocation}
 use Rattle.py_control.specs.Form.{Scope}
 use Rattle.py_control.specs.Code.{Item, Label}
@@ -412,9 +415,15 @@ generating_yields = emission_sequence_yields
     (λ s r b g z e. let t : State = record s { generator = true } in subst (λ x. Adds s x [] 0 0) (done_is t r e)
     (adds_plain s t [] 0 0 refl (omega arith) (elsewhere s t refl refl refl refl refl refl)))
 
+-- where a test does not fail
+done_unless : (b : Bool) (t r : State) (at : SourceLocation) → (if b then Done t else Refused mismatch (Some at)) ≡ Done r → ◌≡◌ {A = Outcome} (Done t) (Done r)
+done_unless true t r at e = e
+done_unless false t r at e = absurd cc
+
 -- the scopes of parts that are left out are passed over
 pub pass_yields : {c : NodeContext} {n k : ℕ} (more : ℕ) → Yields c n k (pass_over more) [] 0 more
 unfolding pass_over
 pass_yields more = emission_sequence_yields
-    (λ s r b g z e. let t : State = record s { next = s.next + more } in subst (λ x. Adds s x [] 0 more) (done_is t r e)
+    (λ s r b g z e. let t : State = record s { next = s.next + more } in subst (λ x. Adds s x [] 0 more)
+    (done_is t r (done_unless (are_whole s.node_context.context.scopes s.next more) t r s.location e))
     (adds_plain s t [] 0 more refl refl (elsewhere s t refl refl refl refl refl refl)))

@@ -19,7 +19,8 @@ use Rattle.py_emission_parts.specs.Emitting.{NodeContext, Emission, Outcome, Put
 use Rattle.py_emission_parts.specs.Emitting.{add_varname, initial_state, emit, emit_constant, keep, place_in, with_constant, with_step}
 use Rattle.py_emission_parts.specs.Emitting.{with_varname}
 use Rattle.py_emission_parts.specs.Children.{child, closure, enter_parameters, free_names, function_scope, made_function}
-use Rattle.py_emission_parts.specs.Running.{Action, after_child, code_head, on_sealed, put_instruction, run}
+use Rattle.py_emission_parts.proofs.EmissionLawLemmas.{ended_done}
+use Rattle.py_emission_parts.specs.Running.{Action, after_child, code_head, on_sealed, put_instruction, run, ended}
 use Rattle.py_emission_parts.specs.NestedScopes.{Shape, some_flag}
 use Rattle.py_emission_parts.specs.Refused.{no_assignment}
 use Rattle.py_emission_parts.specs.Sealed.{assembled_object}
@@ -101,12 +102,19 @@ flag_is : (place : List ℕ → ℕ) (xs : List (List ℕ)) → some_flag 0x01 x
 flag_is place [] = refl
 flag_is place (x ∷ xs) = refl
 
--- what follows a child
-sealed_on : (level : ℕ) (h : Rattle.py_emission_parts.specs.Sealed.Head) (s r : State) (o : Outcome) (next : Object → Action)
+-- what follows what is sealed
+sealed_any : (level : ℕ) (h : Rattle.py_emission_parts.specs.Sealed.Head) (s r : State) (o : Outcome) (next : Object → Action)
     → on_sealed level h s o next ≡ Done r → (t : State) × (o ≡ Done t) × (next (assembled_object level h t) (after_child s t) ≡ Done r)
-sealed_on level h s r (Done t) next e = (t, refl, e)
-sealed_on level h s r TooWide next e = absurd cc
-sealed_on level h s r (Refused d at) next e = absurd cc
+sealed_any level h s r (Done t) next e = (t, refl, e)
+sealed_any level h s r TooWide next e = absurd cc
+sealed_any level h s r (Refused d at) next e = absurd cc
+
+-- what follows a child that ends with its table
+sealed_on : (level : ℕ) (h : Rattle.py_emission_parts.specs.Sealed.Head) (s r : State) (o : Outcome) (next : Object → Action)
+    → on_sealed level h s (ended s.node_context.context.scopes s.next o) next ≡ Done r → (t : State) × (o ≡ Done t) × (next (assembled_object level h t) (after_child s t) ≡ Done r)
+sealed_on level h s r o next e =
+    let w = sealed_any level h s r (ended s.node_context.context.scopes s.next o) next e in
+    (w.0, (ended_done s.node_context.context.scopes s.next o w.0 w.1).0, w.2)
 
 sealed_frees : (level : ℕ) (h : Rattle.py_emission_parts.specs.Sealed.Head) (t : State) → free_names (assembled_object level h t) ≡ h.freevars
 unfolding assembled_object
@@ -177,10 +185,12 @@ module _ (i : Interp Scope) (c : NodeContext) where
       let inner : Context = nested c.context k in
       let hd = code_head inner h s.location in
       let last : Object → Action = λ o. run (name mid o) in
-      let moved : on_sealed inner.level hd s (run body (initial_state inner s.location (suc k))) last ≡ Done r =
-      subst (λ j. (let d = nested c.context j in on_sealed d.level (code_head d h s.location) s (run body (initial_state d s.location (suc j))) last) ≡ Done r) (sym g)
+      let moved : on_sealed inner.level hd s (ended s.node_context.context.scopes s.next (run body (initial_state inner s.location (suc k)))) last ≡ Done r =
+      subst (λ j. (let d = nested c.context j in on_sealed d.level (code_head d h s.location) s
+      (ended s.node_context.context.scopes s.next (run body (initial_state d s.location (suc j)))) last) ≡ Done r) (sym g)
       (subst (λ (y : NodeContext). (let d = nested y.context s.next in on_sealed d.level (code_head d h s.location) s
-      (run body (initial_state d s.location (suc s.next))) last) ≡ Done r) (sym z.node_context) e) in
+      (ended s.node_context.context.scopes s.next (run body (initial_state d s.location (suc s.next)))) last)
+      ≡ Done r) (sym z.node_context) e) in
       let w = sealed_on inner.level hd s r (run body (initial_state inner s.location (suc k))) last moved in
       let t : State = w.0 in
       let o : Object = assembled_object inner.level hd t in

@@ -14,7 +14,7 @@ use Rattle.py_emission_parts.specs.Children.{emission_of_defaults, enter_paramet
 use Rattle.py_emission_parts.specs.Elements.{Single, Spread, groups, has_starred}
 use Rattle.py_emission_parts.specs.Emitting.{NodeContext, Done, Emission, Outcome, Refused, State, TooWide, ◌▸◌, add_constant, initial_state, with_location, move}
 use Rattle.py_emission_parts.specs.EmissionParts.{keyword_checks, elements, in_turn, joined_map, map_of, name_values, names_in, values_in}
-use Rattle.py_emission_parts.specs.Refused.{no_assignment}
+use Rattle.py_emission_parts.specs.Refused.{no_assignment, mismatch}
 use Rattle.py_emission_parts.specs.NestedScopes.{lambda_inside}
 use Rattle.py_emission_parts.specs.Running.{Action, on_done, run}
 use Rattle.py_emit.specs.States.{state}
@@ -31,7 +31,7 @@ use Rattle.py_meaning.specs.StmtEnds.{default_ends}
 use Rattle.py_emission_outcomes.proofs.Faults.RefusalLemmas.{RefusalEnds, RefusalEndsAs, GoesOn, Misses, Passes, Stops, Wide}
 use Rattle.py_emission_outcomes.proofs.Faults.RefusalLemmas.{constant_added, constant_passes, count_passes, ends_so, function_or, if_ends}
 use Rattle.py_emission_outcomes.proofs.Faults.RefusalLemmas.{refusal_in_function, last_ends, nothing_passes, refusal_outside, then_ends}
-use Rattle.py_emission_outcomes.proofs.Faults.RefusalLemmas.{unkept_ends, unless_debug_last, refusal_varname_added}
+use Rattle.py_emission_outcomes.proofs.Faults.RefusalLemmas.{unkept_ends, unless_debug_last, refusal_varname_added, Parts}
 use Rattle.py_emission_outcomes.proofs.Faults.RefusingCalls.{KeywordsEnding}
 use Rattle.py_emission_outcomes.proofs.Faults.RefusingDefaults.{defaults_end}
 use Rattle.py_emission_outcomes.proofs.Faults.RefusingDisplays.{bare_ends, tuples_end}
@@ -160,20 +160,22 @@ argument_calls answer class additional args keywords before after h shapes named
 abbrev Tells : List Fault → Outcome → Type 0
 Tells fs (Done r) = fs ≡ []
 Tells fs TooWide = Unit {0}
-Tells fs (Refused e at) = e ≢ error.MissingCell → (rest : List Fault) × (fs ≡ record { error = e; location = at } ∷ rest)
+Tells fs (Refused e at) = e ≢ error.MissingCell → e ≢ mismatch → (rest : List Fault) × (fs ≡ record { error = e; location = at } ∷ rest)
 
 tells_by : (c : NodeContext) (fs : List Fault) (q : SourceLocation) (o : Outcome) → RefusalEnds c fs q o → Tells fs o
 tells_by c fs q o (Wide e) = subst (Tells fs) (sym e) tt
-tells_by c fs q o (Misses at e) = subst (Tells fs) (sym e) (λ n. absurd (n refl))
-tells_by c fs q o (Stops x at rest f g) = subst (Tells fs) (sym f) (λ n. (rest, g))
+tells_by c fs q o (Misses at e) = subst (Tells fs) (sym e) (λ n w. absurd (n refl))
+tells_by c fs q o (Parts at h e) = subst (Tells fs) (sym e) (λ n w. absurd (w refl))
+tells_by c fs q o (Stops x at rest f g) = subst (Tells fs) (sym f) (λ n w. (rest, g))
 tells_by c fs q o (GoesOn r at node_context f g) = subst (Tells fs) (sym f) g
 
 -- in another scope, which begins where this one leaves off
 tells_then : (c : NodeContext) (fs gs : List Fault) (m : SourceLocation) (o : Outcome) (b : Action) → RefusalEnds c fs m o
     → ((r : State) → r.location ≡ m → Tells gs (b r)) → Tells (fs ++ gs) (on_done o b)
 tells_then c fs gs m o b (Wide e) next = subst (λ x. Tells (fs ++ gs) (on_done x b)) (sym e) tt
-tells_then c fs gs m o b (Misses at e) next = subst (λ x. Tells (fs ++ gs) (on_done x b)) (sym e) (λ n. absurd (n refl))
-tells_then c fs gs m o b (Stops x at rest f g) next = subst (λ x. Tells (fs ++ gs) (on_done x b)) (sym f) (λ n. (rest ++ gs, ap (λ l. l ++ gs) g))
+tells_then c fs gs m o b (Misses at e) next = subst (λ x. Tells (fs ++ gs) (on_done x b)) (sym e) (λ n w. absurd (n refl))
+tells_then c fs gs m o b (Parts at h e) next = subst (λ x. Tells (fs ++ gs) (on_done x b)) (sym e) (λ n w. absurd (w refl))
+tells_then c fs gs m o b (Stops x at rest f g) next = subst (λ x. Tells (fs ++ gs) (on_done x b)) (sym f) (λ n w. (rest ++ gs, ap (λ l. l ++ gs) g))
 tells_then c fs gs m o b (GoesOn r at node_context f g) next = subst (λ l. Tells (l ++ gs) (on_done o b)) (sym g) (subst (λ x. Tells gs (on_done x b)) (sym f) (next r at))
 
 parameters_end : {c : NodeContext} {p : SourceLocation} (xs : List (List ℕ)) → RefusalEndsAs c (enter_parameters xs) p p (parameter_faults p xs)

@@ -45,6 +45,7 @@ told_so error.InvalidStarExpr h = tt
 told_so error.AsyncYieldFrom h = h
 told_so error.AsyncReturnValue h = h
 told_so error.MissingCell h = h
+told_so error.TableMismatch h = h
 told_so other h = tt
 
 pub rewritten_given : (fs : List Fault) → AreGiven fs → AreGiven (rewritten_faults fs)

@@ -3,7 +3,7 @@ use Rattle.std.proofs.Common.{refl, sym, subst, List}
 use Rattle.py_base.specs.declared.location.SourceLocation.{SourceLocation}
 use Rattle.py_emission_parts.specs.Emitting.{Outcome, State}
 use Rattle.py_meaning.specs.ExprFaults.{Fault}
-use Rattle.py_emission_outcomes.proofs.Faults.RefusalLemmas.{RefusalEnds, GoesOn, Misses, Stops, Wide}
+use Rattle.py_emission_outcomes.proofs.Faults.RefusalLemmas.{RefusalEnds, GoesOn, Misses, Stops, Wide, Parts}
 use Rattle.py_emission_outcomes.proofs.Faults.RefusingChanges.{deletions_end}
 use Rattle.py_emission_outcomes.proofs.Faults.RefusingExprs.{expr_ends, store_ends}
 use Rattle.py_emission_outcomes.proofs.Faults.RefusingStmts.{stmt_ends, stmts_end_so}
@@ -11,8 +11,9 @@ use Rattle.py_node_laws.specs.NodeFaults.{BodiesEnd, DeletesEnd, EndsBy, ExprsEn
 
 pub ends_by : (s : State) (fs : List Fault) (q : SourceLocation) (o : Outcome) → RefusalEnds s.node_context fs q o → EndsBy s fs q o
 ends_by s fs q o (Wide e) = subst (EndsBy s fs q) (sym e) tt
-ends_by s fs q o (Misses at e) = subst (EndsBy s fs q) (sym e) (λ n. absurd (n refl))
-ends_by s fs q o (Stops x at rest f g) = subst (EndsBy s fs q) (sym f) (λ n. (rest, g))
+ends_by s fs q o (Misses at e) = subst (EndsBy s fs q) (sym e) (λ n w. absurd (n refl))
+ends_by s fs q o (Parts at h e) = subst (EndsBy s fs q) (sym e) (λ n w. absurd (w refl))
+ends_by s fs q o (Stops x at rest f g) = subst (EndsBy s fs q) (sym f) (λ n w. (rest, g))
 ends_by s fs q o (GoesOn r at node_context f g) = subst (EndsBy s fs q) (sym f) (g, at, node_context)
 
 pub exprs_end : ExprsEnd

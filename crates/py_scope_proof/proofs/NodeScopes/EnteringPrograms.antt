@@ -25,7 +25,7 @@ use Rattle.py_meaning.specs.ExprFaults.{Fault, expr_faults}
 use Rattle.py_meaning.specs.Faults.{compile_faults, faults, faults_after, first_setting, future_faults, interactive_faults}
 use Rattle.py_meaning.specs.Faults.{malformed_faults, prompt_faults, setting_after, stmts_faults, too_deep, too_large, whole}
 use Rattle.py_scope_proof.specs.ScopeNodes.{ScopeForest, Bare, scope_nodes_in}
-use Rattle.py_scope_proof.specs.StmtScopeNodes.{in_whole, scope_nodes_at_prompt, scope_nodes_after, scope_nodes_entered, scope_nodes_in_stmts, scope_nodes_of}
+use Rattle.py_scope_proof.specs.StmtScopeNodes.{in_whole, scope_nodes_at_prompt, scope_nodes_after, scope_nodes_entered, scope_nodes_in_stmts, scope_nodes_of, scope_forest_of}
 use Rattle.py_scope_proof.specs.Entered.{ScanEntersScopeNodes, ScansTo, report_of_node}
 use Rattle.py_scope_proof.proofs.NodeScopes.ScanEntryLemmas.{Came, EndsEntering, Enters, ScanEntryLeads, came_same, leads_so, nothing_enters, skipped_enters, then_leads}
 use Rattle.py_scope_proof.proofs.NodeScopes.EnteringNames.{aliases_enter}
@@ -158,6 +158,17 @@ scan_came (tree.Expression value) m level s h e =
     let x = parts_none (tree.Expression value) m level h in
     (scope_nodes_in false value, refl, came_so s (false, expr_enters None false Load value x.0) e)
 scan_came (tree.FunctionType argtypes returns) m level s h e = absurd e
+
+-- the same by the scope forest of the tree
+pub scan_forest : (t : tree.Mod) (m : Mode) (level : ℕ) (s : State) → faults t m level ≡ [] → ScansTo t s → (q : Bool) × Came q (scope_forest_of t m) begun_state s
+scan_forest (tree.Module stmts) m level s h e = let x = parts_none (tree.Module stmts) m level h in came_so s (file_writes level stmts x.0 x.2) e
+scan_forest (tree.Interactive stmts) m level s h e =
+    let x = parts_none (tree.Interactive stmts) m level h in
+    came_so s (interactive_writes m level stmts (entering_part_both_none (valid.when (not (is_prompt m)) WrongMode) (stmts_shapes None stmts) x.0).1 x.2) e
+scan_forest (tree.Expression value) m level s h e =
+    let x = parts_none (tree.Expression value) m level h in
+    came_so s (false, expr_enters None false Load value x.0) e
+scan_forest (tree.FunctionType argtypes returns) m level s h e = absurd e
 
 pub scan_enters_scope_nodes : ScanEntersScopeNodes
 scan_enters_scope_nodes t m level s h e = let x = scan_came t m level s h e in x.2.1.rows ∙ ap (map report_of_node) (sym x.1)

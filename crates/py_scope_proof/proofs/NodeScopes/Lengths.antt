@@ -129,7 +129,7 @@ mutual
   length_notes p tree.no_args = empty
   length_notes p (tree.more_args a default rest) = scope_forest_joined (length_arg p a) (length_notes p rest)
 
-  length_annotations : (p : Bool) (params : tree.Arguments) → Long (scopes_in_annotations p params) (scope_nodes_in_annotations p params)
+  pub length_annotations : (p : Bool) (params : tree.Arguments) → Long (scopes_in_annotations p params) (scope_nodes_in_annotations p params)
   length_annotations true params = empty
   length_annotations false (tree.arguments posonly args vararg kwonly kwarg) =
       scope_forest_joined (length_notes false posonly)

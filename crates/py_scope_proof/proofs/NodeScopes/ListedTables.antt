@@ -23,7 +23,7 @@ use Rattle.py_scope_proof.proofs.NodeScopes.ScopeForests.{enclosing_numbers, par
 use Rattle.py_scope_proof.proofs.NodeScopes.ScopeListLemmas.{gathered_lists, labels, labels_shifted, spans, whole_spans}
 use Rattle.py_scope_proof.proofs.NodeScopes.ScopeForestLemmas.{length_placed}
 
-abbrev ListedTableFlat : Type 0
+abbrev pub ListedTableFlat : Type 0
 ListedTableFlat = ℕ → List ScopeEntry
 
 -- the one at this place, or another where there is none
@@ -37,7 +37,7 @@ labels_all other [] = refl
 labels_all other (x ∷ xs) = ap (λ ys. x ∷ ys) (labels_shifted (listed_table_at_place other (x ∷ xs)) 0 (length xs) ∙ labels_all other xs)
 
 -- a table, with those that it holds in the list
-flat_of : (x : SymbolTable-F SymbolTable) (k : ℕ) → flat_table (roll-SymbolTable x) k ≡ flat_step (map-SymbolTable SymbolTable ListedTableFlat flat_table x) k
+pub flat_of : (x : SymbolTable-F SymbolTable) (k : ℕ) → flat_table (roll-SymbolTable x) k ≡ flat_step (map-SymbolTable SymbolTable ListedTableFlat flat_table x) k
 flat_of x k = ap (λ (f : ListedTableFlat). f k) (fold-roll-SymbolTable ListedTableFlat flat_step x)
 
 -- what is kept of the kind and the symbols of a scope

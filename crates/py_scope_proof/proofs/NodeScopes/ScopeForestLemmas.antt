@@ -13,7 +13,7 @@ pub beside_bare : (g : ScopeForest) → g & Bare ≡ g
 beside_bare Bare = refl
 beside_bare (Grown o nested after) = ap (Grown o nested) (beside_bare after)
 
-beside_assoc : (f g h : ScopeForest) → (f & g) & h ≡ f & (g & h)
+pub beside_assoc : (f g h : ScopeForest) → (f & g) & h ≡ f & (g & h)
 beside_assoc Bare g h = refl
 beside_assoc (Grown o nested after) g h = ap (Grown o nested) (beside_assoc after g h)
 

@@ -1,4 +1,5 @@
 -- The table of the scopes that a scan enters holds those of the nodes, in their order.
+use Rattle.py_scope_proof.proofs.NodeScopes.ScopeForestSizeLemmas.{table_ends}
 use Rattle.std.proofs.Common.{◌≡◌, refl, sym, ap, ◌∙◌, ℕ, suc, Bool, List, [], ◌∷◌, map}
 use Rattle.std.proofs.lemmas.Simd.{map-map}
 use Rattle.py_tree.specs.Tree as tree
@@ -20,10 +21,10 @@ use Rattle.py_scan.specs.Scan.{scan_program, scan_value}
 use Rattle.py_meaning.specs.Faults.{faults, unsupported_tree}
 use Rattle.py_meaning.specs.Scanned.{entries_of, fault_as, scopes_of}
 use Rattle.py_scope_proof.specs.ScopeNodes.{ScopeForest}
-use Rattle.py_scope_proof.specs.StmtScopeNodes.{in_whole, scope_nodes_of}
-use Rattle.py_scope_proof.specs.Entered.{ScansTo, TableHasScopeNodes, ScopeReport, kind_in_table, kind_of_scope_node, report_of_node, report_of_row}
+use Rattle.py_scope_proof.specs.StmtScopeNodes.{in_whole, scope_nodes_of, scope_forest_of}
+use Rattle.py_scope_proof.specs.Entered.{ScansTo, TableHasScopeNodes, ScopeReport, kind_in_table, kind_of_scope_node, report_of_node, report_of_row, TableHasGroves, end_in_table, ends_of_whole}
 use Rattle.py_scope_proof.proofs.NodeScopes.ScanEntryLemmas.{Came}
-use Rattle.py_scope_proof.proofs.NodeScopes.EnteringPrograms.{parts_none, scan_came}
+use Rattle.py_scope_proof.proofs.NodeScopes.EnteringPrograms.{parts_none, scan_came, scan_forest}
 use Rattle.py_scope_proof.proofs.NodeScopes.ListedTables.{kind_alone, kinds_kept, table_listed}
 
 -- lifts and looks leave a scope what it is, and the enclosing scope
@@ -109,3 +110,27 @@ table_done (tree.FunctionType argtypes returns) m level s h e = absurd e
 
 pub table_has_scope_nodes : TableHasScopeNodes
 table_has_scope_nodes t m level h = let d = scan_done t m level h in table_done t m level d.0 h d.1
+
+-- each ends after those nested in it
+table_ends_so : (q : Bool) (os : ScopeForest) (o : Outcome) (s : State) → o ≡ Done s → Came q os begun_state s → map end_in_table (entries_of (tables.table_of o)) ≡ ends_of_whole os
+table_ends_so q os o s e c =
+    ap (λ (x : Outcome). map end_in_table (entries_of (tables.table_of x))) e
+    ∙ table_ends now (all_symbols now 0 now) os (resolved_marks rows order ∙ c.rows) (length-all_symbols now 0 now)
+  where
+    rows : List Row
+    rows = s.scopes.rows
+
+    order : List ℕ
+    order = order_of s.scopes
+
+    now : List Row
+    now = settled_rows (lifted_rows rows order) order
+
+ends_done : (t : tree.Mod) (m : Mode) (level : ℕ) (s : State) → faults t m level ≡ [] → ScansTo t s → map end_in_table (scopes_of t) ≡ ends_of_whole (scope_forest_of t m)
+ends_done (tree.Module stmts) m level s h e = let x = scan_forest (tree.Module stmts) m level s h e in table_ends_so x.0 (scope_forest_of (tree.Module stmts) m) (scan_program stmts) s e x.1
+ends_done (tree.Interactive stmts) m level s h e = let x = scan_forest (tree.Interactive stmts) m level s h e in table_ends_so x.0 (scope_forest_of (tree.Interactive stmts) m) (scan_program stmts) s e x.1
+ends_done (tree.Expression value) m level s h e = let x = scan_forest (tree.Expression value) m level s h e in table_ends_so x.0 (scope_forest_of (tree.Expression value) m) (scan_value value) s e x.1
+ends_done (tree.FunctionType argtypes returns) m level s h e = absurd e
+
+pub table_has_groves : TableHasGroves
+table_has_groves t m level h = let d = scan_done t m level h in ends_done t m level d.0 h d.1

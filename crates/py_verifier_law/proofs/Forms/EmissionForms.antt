@@ -30,7 +30,8 @@ use Rattle.py_emission_parts.specs.Emitting.{with_name, with_varname, with_const
 use Rattle.py_emission_parts.specs.EmissionParts.{emission_of_comparison, emission_of_link, only_in_function, pass_scopes, unless_debug}
 use Rattle.py_emission_parts.specs.Refused.{no_assignment, no_deletion}
 use Rattle.py_emission_parts.specs.TableParts.{debug_constant, is_debug}
-use Rattle.py_emission_parts.proofs.EmissionLawLemmas.{EmissionLawHolds}
+use Rattle.py_emission_parts.specs.Tables.{are_whole}
+use Rattle.py_emission_parts.proofs.EmissionLawLemmas.{EmissionLawHolds, holds_unless}
 use Rattle.py_well_formed.specs.Conditions.{is_quick, is_yield, makes_function}
 use Rattle.py_verifier_law.proofs.Forms.StepGroups.{StepFits, is_plain, plain_fits}
 use Rattle.py_verifier_law.proofs.Forms.FormedStates.{ConstMeets, Formed, begun_formed, blocked_formed, constant_formed, generator_formed}
@@ -296,7 +297,12 @@ retold_forms {a = a} y = record { forms = λ c s h. told_formed c s (run a s) (y
 
 pub scopes_form : {k : Frame} (count : (postponed : Bool) → ℕ) → Forms k (pass_scopes count)
 unfolding pass_over by_context
-scopes_form count = record { forms = λ c s h. record { formed = numbered_formed c s (s.next + count s.node_context.context.postponed) h.formed; generator = λ g. g } }
+scopes_form count = record {
+  forms = λ c s h.
+      let n = count s.node_context.context.postponed in
+      holds_unless (FormedAfter c s) (are_whole s.node_context.context.scopes s.next n) (Done (record s { next = s.next + n })) _ _
+      (record { formed = numbered_formed c s (s.next + n) h.formed; generator = λ g. g });
+}
 
 pub in_function_forms : {k : Frame} {v : Emission} (e : CodegenErrorType) → Forms k v → Forms k (only_in_function e v)
 in_function_forms e x = context_forms (λ c t. if_forms (is_function c.typ) x (refuse_forms e))

@@ -6,12 +6,13 @@ use Rattle.py_emission_parts.specs.Children.{child}
 use Rattle.py_emission_parts.specs.Context.{Context}
 use Rattle.py_emission_parts.specs.Emitting.{State, Outcome, Done, TooWide, Refused, Emission, initial_state}
 use Rattle.py_emission_parts.specs.Everywhere.{Everywhere}
-use Rattle.py_emission_parts.specs.Running.{after_child, code_head, on_sealed, run}
+use Rattle.py_emission_parts.specs.Running.{after_child, code_head, ended, on_sealed, run}
 use Rattle.py_emission_parts.specs.Sealed.{assembled_object, flags_of}
 use Rattle.py_emission_parts.specs.NestedScopes.{Shape}
+use Rattle.py_emission_parts.proofs.EmissionLawLemmas.{ended_done, ended_holds}
 use Rattle.py_verifier_law.proofs.Forms.FormedObjectLemmas.{ShapeFits, sealed_meets}
 use Rattle.py_verifier_law.proofs.Forms.FormedStates.{MeetsConditions, after_child_formed, initial_formed}
-use Rattle.py_verifier_law.proofs.Forms.EmissionForms.{DoneFormed, Forms, Frame, StandsIn, formed_from}
+use Rattle.py_verifier_law.proofs.Forms.EmissionForms.{DoneFormed, FormedAfter, Forms, Frame, StandsIn, formed_from}
 
 -- where a nested scope begins
 abbrev child_start : (Context → ℕ → Context) → State → State
@@ -28,7 +29,11 @@ pub child_forms : {k : Frame} {body : Emission} {follow : Object → Emission} (
     → Forms j body → ((o : Object) → Everywhere MeetsConditions o → Forms k (follow o))
     → Forms k (child nested h body follow)
 unfolding child
-child_forms {k = k} {body = body} {follow = follow} j nested h plain typ class shape takes x y = record { forms = λ c s st. go c s st (run body (child_start nested s)) refl (inner c s st) }
+child_forms {k = k} {body = body} {follow = follow} j nested h plain typ class shape takes x y = record {
+  forms = λ c s st.
+      go c s st (ended s.node_context.context.scopes s.next (run body (child_start nested s))) refl
+      (ended_holds (FormedAfter (nested s.node_context.context s.next) (child_start nested s)) s.node_context.context.scopes s.next (run body (child_start nested s)) (inner c s st));
+}
   where
     class_here : (c : Context) (s : State) → StandsIn k c s → (nested s.node_context.context s.next).class ≡ j.class
     class_here c s st = class s.node_context.context s.next (st.formed.node_context.class ∙ st.class)
@@ -42,14 +47,15 @@ child_forms {k = k} {body = body} {follow = follow} j nested h plain typ class s
         no_mark : j.generates ≡ true → ⊥
         no_mark e = cc
 
-    go : (c : Context) (s : State) → StandsIn k c s → (o : Outcome) → run body (child_start nested s) ≡ o → DoneFormed (nested s.node_context.context s.next) (child_start nested s) o
+    go : (c : Context) (s : State) → StandsIn k c s → (o : Outcome) → ended s.node_context.context.scopes s.next (run body (child_start nested s)) ≡ o
+        → DoneFormed (nested s.node_context.context s.next) (child_start nested s) o
         → DoneFormed c s (let d = nested s.node_context.context s.next in on_sealed d.level (code_head d h s.location) s o (λ ob. run (follow ob)))
     go c s st (Done t) e f =
         let d = nested s.node_context.context s.next in
         let ob = assembled_object d.level (code_head d h s.location) t in
         let meets = sealed_meets d.level d h s.location t
         (subst (λ z. ShapeFits z h) (sym (typ s.node_context.context s.next)) shape) f.formed
-        (takes (child_start nested s) t (class_here c s st) e) in
+        (takes (child_start nested s) t (class_here c s st) (ended_done s.node_context.context.scopes s.next (run body (child_start nested s)) t e).0) in
         formed_from c s (after_child s t) (run (follow ob) (after_child s t)) (λ e. e)
         ((y ob meets).forms c (after_child s t) (record { typ = st.typ; class = st.class; generates = st.generates; formed = after_child_formed c s t st.formed }))
     go c s st TooWide e f = tt

@@ -8,6 +8,7 @@ pub mod alloc;
 pub mod collections;
 pub mod env;
 pub mod io;
+pub mod marker;
 pub mod reserve;
 pub mod sync;
 mod string;

@@ -7,6 +7,22 @@ pub mod ledger {
     /// Whose steps are counted.
     pub trait Ledger {}
 
+    /// A ledger that is not opened yet.
+    #[derive(Debug)]
+    pub struct Blank(());
+
+    impl Blank {
+        /// One that has so many parts.
+        pub fn new(_: u64) -> Blank {
+            Blank(())
+        }
+
+        /// Its book, in which nothing is counted yet, and the right to add to it.
+        pub fn open<L>(self) -> (Book<L>, Share<L>) {
+            (Book(PhantomData), Share(PhantomData))
+        }
+    }
+
     /// What was counted.
     #[derive(Debug)]
     pub struct Book<L>(PhantomData<L>);

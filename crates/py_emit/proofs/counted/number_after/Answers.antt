@@ -1,5 +1,6 @@
 use Rattle.std.proofs.Common.{◌≡◌, ◌∙◌, ◌+◌, ◌-◌, sym, ap, arith}
-use Rattle.py_emit.specs.Tables.{number_after_scopes, beyond}
+use Rattle.py_emission_parts.specs.Tables.{beyond}
+use Rattle.py_emit.specs.Tables.{number_after_scopes}
 use Rattle.py_emit.proofs.TableDropLemmas.{table_drop_all_after, all_left, beyond_is, one_drop_after, table_drop_one_left, table_drop_none_left}
 use Rattle.py_emit.proofs.counted.number_after.Goals as goal
 

@@ -41,10 +41,10 @@ comprehension_left t c =
     let same = c.in_ok-compile_turns.ensures.same in
     record {
       goes = left_gives kind.Comprehension naming.AsEnclosing h c.args.em.now entry begins last c.leave_scope.new.self into same v
-          c.leave_scope.result c.in_ok-compile_turns.ensures.goes c.leave_scope.ensures.code c.leave_scope.ensures.state
-          c.leave_scope.ensures.err;
+          c.leave_scope.result c.in_ok-compile_turns.ensures.goes c.leave_scope.ensures.code c.leave_scope.ensures.even
+          c.leave_scope.ensures.state c.leave_scope.ensures.parted;
       same = left_keeps kind.Comprehension naming.AsEnclosing h c.args.em.now entry begins last c.leave_scope.new.self into same
-          c.leave_scope.result c.leave_scope.ensures.rest c.leave_scope.ensures.err;
+          c.leave_scope.result c.leave_scope.ensures.rest c.leave_scope.ensures.told;
     }
 
 pub comprehension_inner : goal.comprehensions::compile_comprehension_scope-leave_scope-requires

@@ -34,9 +34,9 @@ lambda_left t c =
     let done = scope_done (parameters p) v (state entry) _ _ c.in_ok-begin_function.ensures.goes c.in_ok-compile_return.ensures.goes in
     record {
       goes = left_gives kind.Function naming.AsEnclosing h c.args.em.now entry begins last c.leave_scope.new.self into same
-          (function_scope (parameters p) v) c.leave_scope.result done c.leave_scope.ensures.code c.leave_scope.ensures.state
-          c.leave_scope.ensures.err;
-      same = left_keeps kind.Function naming.AsEnclosing h c.args.em.now entry begins last c.leave_scope.new.self into same c.leave_scope.result c.leave_scope.ensures.rest c.leave_scope.ensures.err;
+          (function_scope (parameters p) v) c.leave_scope.result done c.leave_scope.ensures.code c.leave_scope.ensures.even
+          c.leave_scope.ensures.state c.leave_scope.ensures.parted;
+      same = left_keeps kind.Function naming.AsEnclosing h c.args.em.now entry begins last c.leave_scope.new.self into same c.leave_scope.result c.leave_scope.ensures.rest c.leave_scope.ensures.told;
     }
 
 pub lambda_inner : goal.functions::compile_lambda_scope-leave_scope-requires

@@ -39,9 +39,9 @@ class_scope_left t c =
     let into = c.in_ok-enter_class.ensures.rest in
     let same = c.in_ok-compile_inner.ensures.same in
     let gives = left_gives kind.Class n h first entry begins last c.leave_scope.new.self into same
-    (own_emission body) c.leave_scope.result c.in_ok-compile_inner.ensures.goes c.leave_scope.ensures.code c.leave_scope.ensures.state
-    c.leave_scope.ensures.err in
-    let keeps = left_keeps kind.Class n h first entry begins last c.leave_scope.new.self into same c.leave_scope.result c.leave_scope.ensures.rest c.leave_scope.ensures.err in
+    (own_emission body) c.leave_scope.result c.in_ok-compile_inner.ensures.goes c.leave_scope.ensures.code c.leave_scope.ensures.even
+    c.leave_scope.ensures.state c.leave_scope.ensures.parted in
+    let keeps = left_keeps kind.Class n h first entry begins last c.leave_scope.new.self into same c.leave_scope.result c.leave_scope.ensures.rest c.leave_scope.ensures.told in
     record {
       goes = subst (λ (e : Emitter). Gives c.leave_scope.result (state c.leave_scope.new.self)
           (λ k. run (own_scope (nested_class c.args.path name) name body k) (state e))) c.in_ok-full.ensures.same gives;

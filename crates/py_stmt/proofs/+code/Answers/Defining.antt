@@ -57,8 +57,8 @@ defining_scope_left t c =
     record {
       goes = left_gives kind.Function n h c.args.em.now entry begins last c.leave_scope.new.self into same
           (inner_emission c.args.s.now) c.leave_scope.result c.in_ok-compile_inner.ensures.goes c.leave_scope.ensures.code
-          c.leave_scope.ensures.state c.leave_scope.ensures.err;
-      same = left_keeps kind.Function n h c.args.em.now entry begins last c.leave_scope.new.self into same c.leave_scope.result c.leave_scope.ensures.rest c.leave_scope.ensures.err;
+          c.leave_scope.ensures.even c.leave_scope.ensures.state c.leave_scope.ensures.parted;
+      same = left_keeps kind.Function n h c.args.em.now entry begins last c.leave_scope.new.self into same c.leave_scope.result c.leave_scope.ensures.rest c.leave_scope.ensures.told;
     }
 
 pub defining_scope_inner : goal.functions::compile_function_scope-leave_scope-requires

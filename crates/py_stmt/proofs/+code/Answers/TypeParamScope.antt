@@ -49,8 +49,8 @@ type_param_scope_left t c =
     record {
       goes = left_gives kind.TypeParams naming.AsEnclosing h first entry begins last c.leave_scope.new.self into same
           (returned_value (type_param_scope_value d s)) c.leave_scope.result c.in_ok-return_value.ensures.goes c.leave_scope.ensures.code
-          c.leave_scope.ensures.state c.leave_scope.ensures.err;
-      same = left_keeps kind.TypeParams naming.AsEnclosing h first entry begins last c.leave_scope.new.self into same c.leave_scope.result c.leave_scope.ensures.rest c.leave_scope.ensures.err;
+          c.leave_scope.ensures.even c.leave_scope.ensures.state c.leave_scope.ensures.parted;
+      same = left_keeps kind.TypeParams naming.AsEnclosing h first entry begins last c.leave_scope.new.self into same c.leave_scope.result c.leave_scope.ensures.rest c.leave_scope.ensures.told;
     }
 
 pub type_param_scope_inner : goal.functions::compile_type_param_scope-leave_scope-requires
@@ -142,9 +142,9 @@ class_left t c =
     let same = c.in_ok-return_built.ensures.same in
     record {
       goes = left_gives kind.TypeParams naming.AsEnclosing h first entry begins last c.leave_scope.new.self into same
-          (returned_value v) c.leave_scope.result c.in_ok-return_built.ensures.goes c.leave_scope.ensures.code c.leave_scope.ensures.state
-          c.leave_scope.ensures.err;
-      same = left_keeps kind.TypeParams naming.AsEnclosing h first entry begins last c.leave_scope.new.self into same c.leave_scope.result c.leave_scope.ensures.rest c.leave_scope.ensures.err;
+          (returned_value v) c.leave_scope.result c.in_ok-return_built.ensures.goes c.leave_scope.ensures.code c.leave_scope.ensures.even
+          c.leave_scope.ensures.state c.leave_scope.ensures.parted;
+      same = left_keeps kind.TypeParams naming.AsEnclosing h first entry begins last c.leave_scope.new.self into same c.leave_scope.result c.leave_scope.ensures.rest c.leave_scope.ensures.told;
     }
 
 pub class_inner : goal.classes::compile_type_param_scope-leave_scope-requires

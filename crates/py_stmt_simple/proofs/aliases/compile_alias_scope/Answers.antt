@@ -23,9 +23,9 @@ returns c =
     let same = c.in_ok-return_alias.ensures.same in
     record {
       goes = left_gives kind.TypeParams naming.AsEnclosing h first entry begins last c.leave_scope.new.self into same
-          (returned_value v) c.leave_scope.result c.in_ok-return_alias.ensures.goes c.leave_scope.ensures.code c.leave_scope.ensures.state
-          c.leave_scope.ensures.err;
-      same = left_keeps kind.TypeParams naming.AsEnclosing h first entry begins last c.leave_scope.new.self into same c.leave_scope.result c.leave_scope.ensures.rest c.leave_scope.ensures.err;
+          (returned_value v) c.leave_scope.result c.in_ok-return_alias.ensures.goes c.leave_scope.ensures.code c.leave_scope.ensures.even
+          c.leave_scope.ensures.state c.leave_scope.ensures.parted;
+      same = left_keeps kind.TypeParams naming.AsEnclosing h first entry begins last c.leave_scope.new.self into same c.leave_scope.result c.leave_scope.ensures.rest c.leave_scope.ensures.told;
     }
 
 pub leave_scope-requires : goal.leave_scope-requires

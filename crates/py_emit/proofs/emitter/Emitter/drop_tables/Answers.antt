@@ -1,5 +1,6 @@
 use Rattle.std.proofs.Common.{◌∙◌, ℕ, ap, sym, subst}
-use Rattle.py_emit.specs.Tables.{Stand, number_after_scopes, beyond}
+use Rattle.py_emission_parts.specs.Tables.{beyond}
+use Rattle.py_emit.specs.Tables.{Stand, number_after_scopes}
 use Rattle.py_emit.specs.States.{state}
 use Rattle.py_emit.proofs.emitter.Emitter.drop_tables.Goals as goal
 
@@ -12,5 +13,5 @@ number_after-next-requires g c =
 pub returns-clause-state : goal.returns-clause-state
 returns-clause-state g c =
     let s = state c.args.self.now in
-    c.pass_scopes.ensures.state
+    c.go_on_from.ensures.state
     ∙ ap (λ n. record s { next = n }) (c.number_after-next.ensures.number ∙ ap (number_after_scopes s.node_context.context.scopes c.args.count) c.next_scope.ensures)

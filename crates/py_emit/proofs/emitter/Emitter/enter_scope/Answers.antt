@@ -13,15 +13,12 @@ use Rattle.py_emit.proofs.emitter.Emitter.enter_scope.Goals as goal
 pub typ-typ-requires : goal.typ-typ-requires
 typ-typ-requires g c = omega (arith, c.requires.left.1, c.next_scope-number.ensures)
 
-pub after-requires : goal.after-requires
-after-requires g c = omega (arith, c.requires.left.1, c.next_scope-number.ensures)
-
 pub returns-clause-state : goal.returns-clause-state
 returns-clause-state g c =
     let e = c.args.self.now in
     let here = subst (λ n. typ_at e.scopes n ≡ Some c.typ-typ.result) c.next_scope-number.ensures c.typ-typ.ensures in
-    subst (λ (typ : SymbolTableType). OnOk c.open_scope.result (state c.open_scope.new.self ≡ initial_state (inside typ e.next (state e).node_context.context) e.location (suc e.next)))
-    (sym (typ_is e.scopes e.next c.typ-typ.result here))
+    subst (λ (typ : SymbolTableType). OnOk c.open_scope.result (state c.open_scope.new.self ≡ initial_state (inside typ e.scope.next (state e).node_context.context) e.location (suc e.scope.next)))
+    (sym (typ_is e.scopes e.scope.next c.typ-typ.result here))
     c.open_scope.ensures.state
 
 pub returns-clause-rest : goal.returns-clause-rest
@@ -30,6 +27,10 @@ returns-clause-rest g c =
     let here = subst (λ n. typ_at e.scopes n ≡ Some c.typ-typ.result) c.next_scope-number.ensures c.typ-typ.ensures in
     subst (λ (typ : SymbolTableType). OnOk c.open_scope.result
     (rest c.open_scope.new.self ≡ entered_rest naming.AsEnclosing e.scope
-    (code_head (inside typ e.next (state e).node_context.context) (shape_of c.args.head) e.location) (rest e)))
-    (sym (typ_is e.scopes e.next c.typ-typ.result here))
+    (code_head (inside typ e.scope.next (state e).node_context.context) (shape_of c.args.head) e.location) (rest e)))
+    (sym (typ_is e.scopes e.scope.next c.typ-typ.result here))
     c.open_scope.ensures.rest
+
+pub returns-clause-steps : goal.returns-clause-steps
+unfolding rest
+returns-clause-steps g c = c.open_scope.ensures.step c.requires.left.1

@@ -15,8 +15,9 @@ returns-clause-state c at next =
       generator = false;
       typ = c.args.typ;
       here = c.args.number;
-      class =
-          c.in_ok-class.class;
+      next =
+          c.in_ok-next.next;
+      class = c.in_ok-class.class;
       path = c.in_ok-class.path;
       context = unlooped_context e.scope.context;
     } in

@@ -13,7 +13,7 @@ pub returns-clause-state : goal.returns-clause-state
 returns-clause-state c =
     let f = c.in-Ok.ensures in
     let x : Source = record { opts = c.args.opts; path = c.args.source_path; scopes = c.args.scopes } in
-    let o : OpenScope = record { code = c.in-Ok.code; generator = false; typ = kind.Module; here = 0; class = None; path = c.new.result; context = no_context } in
+    let o : OpenScope = record { code = c.in-Ok.code; generator = false; typ = kind.Module; here = 0; next = 1; class = None; path = c.new.result; context = no_context } in
     let d = c.default.ensures in
     begun_state x o _ _ c.default.result 1 f refl (context_outermost x o refl c.new.ensures refl refl refl (ap (λ (h : Head). h.cellvars) f.head) (ap (λ (h : Head). h.freevars) f.head)) refl
     ∙ (λ i. initial_state (outermost x.opts.optimize x.path x.scopes) (record { row = d.row i; column = d.column i }) 1)

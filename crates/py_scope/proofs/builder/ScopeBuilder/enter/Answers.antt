@@ -9,7 +9,7 @@ invariant_of-self-2 c =
     let s : Scanned = scanned_rows c.self.inside.rows.items c.self.inside.current c.self.inside.left.items in
     subst IsScanned
     (sym (after_enter s c.push.new.self.items c.len-number.result c.index.result.now c.nests-is_nested.result c.args.typ
-    c.inner-kind.result c.args.name c.args.line_number c.self.invariant.inside c.index.ensures c.nests-is_nested.ensures
+    c.inner-kind.result c.args.name c.args.line_number c.self.invariant.0.inside c.index.ensures c.nests-is_nested.ensures
     c.inner-kind.ensures (c.in_ok-push.ensures.items
     ∙ ap (λ es. c.self.inside.rows.items
     ++ record {
@@ -20,13 +20,13 @@ invariant_of-self-2 c =
       entries =
           es;
     } ∷ []) c.new.ensures) (c.len-number.ensures ∙ omega (arith, c.self.inside.rows.ok.0))))
-    (scanned_entered s c.args.typ c.args.name c.args.line_number c.self.invariant)
+    (scanned_entered s c.args.typ c.args.name c.args.line_number c.self.invariant.0)
 
 pub returns-clause-ok : goal.returns-clause-ok
 returns-clause-ok c =
     let s : Scanned = scanned_rows c.self.inside.rows.items c.self.inside.current c.self.inside.left.items in
     after_enter s c.push.new.self.items c.len-number.result c.index.result.now c.nests-is_nested.result c.args.typ c.inner-kind.result
-    c.args.name c.args.line_number c.self.invariant.inside c.index.ensures c.nests-is_nested.ensures c.inner-kind.ensures
+    c.args.name c.args.line_number c.self.invariant.0.inside c.index.ensures c.nests-is_nested.ensures c.inner-kind.ensures
     (c.in_ok-push.ensures.items ∙ ap
     (λ es. c.self.inside.rows.items
     ++ record {
@@ -44,7 +44,7 @@ returns-clause-within c =
     let s : Scanned = scanned_rows c.self.inside.rows.items c.self.inside.current c.self.inside.left.items in
     subst IsWithin
     (sym (after_enter s c.push.new.self.items c.len-number.result c.index.result.now c.nests-is_nested.result c.args.typ
-    c.inner-kind.result c.args.name c.args.line_number c.self.invariant.inside c.index.ensures c.nests-is_nested.ensures
+    c.inner-kind.result c.args.name c.args.line_number c.self.invariant.0.inside c.index.ensures c.nests-is_nested.ensures
     c.inner-kind.ensures (c.in_ok-push.ensures.items
     ∙ ap (λ es. c.self.inside.rows.items
     ++ record {
@@ -55,4 +55,4 @@ returns-clause-within c =
       entries =
           es;
     } ∷ []) c.new.ensures) (c.len-number.ensures ∙ omega (arith, c.self.inside.rows.ok.0))))
-    (entered_within s c.args.typ c.args.name c.args.line_number c.self.invariant)
+    (entered_within s c.args.typ c.args.name c.args.line_number c.self.invariant.0)

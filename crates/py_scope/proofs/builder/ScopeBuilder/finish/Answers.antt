@@ -11,7 +11,7 @@ pub resolve_rows-requires-clause-within : goal.resolve_rows-requires-clause-with
 resolve_rows-requires-clause-within c =
     let s : Scanned = scanned_rows c.self.inside.rows.items c.self.inside.current c.self.inside.left.items in
     let is : c.deref-2.result.now ≡ order_of s = c.deref-2.ensures.value ∙ c.in-Ok.ensures ∙ ap (λ rs. s.left ++ s.current ∷ enclosing_scopes (parents rs) s.current) c.deref.ensures.value in
-    subst (All (λ k. k < length s.rows)) (sym is) (order_within s c.self.invariant)
+    subst (All (λ k. k < length s.rows)) (sym is) (order_within s c.self.invariant.0)
 
 pub returns-in-Ok-resolve_rows-clause-table : goal.returns-in-Ok-resolve_rows-clause-table
 returns-in-Ok-resolve_rows-clause-table c =
@@ -30,5 +30,5 @@ returns-in-Ok-resolve_rows-clause-follows c =
     let s : Scanned = scanned_rows c.self.inside.rows.items c.self.inside.current c.self.inside.left.items in
     let is : c.deref-2.result.now ≡ order_of s = c.deref-2.ensures.value ∙ c.in-Ok.ensures ∙ ap (λ rs. s.left ++ s.current ∷ enclosing_scopes (parents rs) s.current) c.deref.ensures.value in
     subst (λ s. TableFollows s.rows c.in-Ok-resolve_rows.table) c.self.view_is
-    (table_follows s c.self.invariant (ap (first_fault_of s.rows) (sym is) ∙ c.in-Ok-resolve_rows.ensures.allowed)
+    (table_follows s c.self.invariant.0 (ap (first_fault_of s.rows) (sym is) ∙ c.in-Ok-resolve_rows.ensures.allowed)
     c.in-Ok-resolve_rows.table (ap (resolved_of s.rows) (sym is) ∙ c.in-Ok-resolve_rows.ensures.table))

@@ -1,0 +1,5 @@
+use Rattle.py_scope_proof.proofs.NodeScopes.ScopeNodeTables.{table_has_groves}
+use Rattle.py_scope_proof.proofs.laws_of_scans.table_has_groves.Goals as goal
+
+pub returns : goal.returns
+returns c = table_has_groves
