@@ -10,7 +10,6 @@ mod depths;
 mod ending;
 mod making;
 mod mods;
-mod programs;
 mod reading;
 
 use ending::take_program;

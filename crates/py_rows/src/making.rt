@@ -13,11 +13,9 @@ use py_rows_fields::{Kind, ModKind, RowsError};
 use py_rows_slots::{Nodes, set_program};
 use py_rows_stmts::{make_alias, make_case, make_handler, make_item, make_stmt, make_type_param};
 use serde_json::Value;
-use std::alloc::Global;
 
 /// The program of a row of this kind, which is kept as the tree.
 fn make_program(
-    alloc: Global,
     kind: ModKind,
     fields: &[Value],
     nodes: &mut Nodes,
@@ -26,7 +24,7 @@ fn make_program(
     ensures { Gives (λ k. (k, nodes_view nodes.new)) result
         (make_program row kind (items_view fields.now) (nodes_view nodes.old)) }
 {
-    let node = mod_node(alloc, kind, fields, nodes, row)?;
+    let node = mod_node(kind, fields, nodes, row)?;
     set_program(node, nodes)
 }
 
@@ -38,7 +36,6 @@ fn make_program(
 /// `i128`, `LaterRow` where one names no earlier row, `NamedTwice` where an earlier row has taken a node that one names,
 /// `OutOfMemory`.
 pub(crate) fn make(
-    alloc: Global,
     kind: Kind,
     fields: &[Value],
     nodes: &mut Nodes,
@@ -48,19 +45,19 @@ pub(crate) fn make(
         (make row kind (items_view fields.now) (nodes_view nodes.old)) }
 {
     match kind {
-        Kind::Mod(kind) => make_program(alloc, kind, fields, nodes, row),
-        Kind::Stmt(kind) => make_stmt(alloc, kind, fields, nodes, row),
-        Kind::Expr(kind) => make_expr(alloc, kind, fields, nodes, row),
-        Kind::Constant(kind) => make_constant(alloc, kind, fields, nodes, row),
-        Kind::TypeParam(kind) => make_type_param(alloc, kind, fields, nodes, row),
-        Kind::Arguments => make_arguments(alloc, fields, nodes, row),
-        Kind::ArgWithDefault => make_default(alloc, fields, nodes, row),
-        Kind::Arg => make_arg(alloc, fields, nodes, row),
-        Kind::Keyword => make_keyword(alloc, fields, nodes, row),
-        Kind::Alias => make_alias(alloc, fields, nodes, row),
-        Kind::WithItem => make_item(alloc, fields, nodes, row),
-        Kind::ExceptHandler => make_handler(alloc, fields, nodes, row),
-        Kind::Comprehension => make_comprehension(alloc, fields, nodes, row),
-        Kind::MatchCase => make_case(alloc, fields, nodes, row),
+        Kind::Mod(kind) => make_program(kind, fields, nodes, row),
+        Kind::Stmt(kind) => make_stmt(kind, fields, nodes, row),
+        Kind::Expr(kind) => make_expr(kind, fields, nodes, row),
+        Kind::Constant(kind) => make_constant(kind, fields, nodes, row),
+        Kind::TypeParam(kind) => make_type_param(kind, fields, nodes, row),
+        Kind::Arguments => make_arguments(fields, nodes, row),
+        Kind::ArgWithDefault => make_default(fields, nodes, row),
+        Kind::Arg => make_arg(fields, nodes, row),
+        Kind::Keyword => make_keyword(fields, nodes, row),
+        Kind::Alias => make_alias(fields, nodes, row),
+        Kind::WithItem => make_item(fields, nodes, row),
+        Kind::ExceptHandler => make_handler(fields, nodes, row),
+        Kind::Comprehension => make_comprehension(fields, nodes, row),
+        Kind::MatchCase => make_case(fields, nodes, row),
     }
 }

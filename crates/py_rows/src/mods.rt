@@ -1,32 +1,42 @@
-//! Rows of modules.
+//! Rows of programs, by their mode.
 ghost use Rattle.serde_json.specs.View.{items_view};
 ghost use Rattle.py_tree.specs.View.{mod_tree};
 ghost use Rattle.py_rows_fields.specs.Gives.{Gives};
 ghost use Rattle.py_rows.specs.Mods.{mod_node};
 ghost use Rattle.py_rows_slots.specs.Nodes.{nodes_view};
 
-use crate::programs::{expression_node, function_type_node, interactive_node, module_node};
 use py_rows_fields::{ModKind, RowsError};
-use py_rows_slots::Nodes;
-use py_tree::Mod;
+use py_rows_slots::{Nodes, read_one, read_two};
+use py_tree::{Mod, ModExpression, ModFunctionType, ModInteractive, ModModule};
 use serde_json::Value;
-use std::alloc::Global;
 
 /// A program, of the fields of its kind.
+#[tactic(auto, using(py_tree::proofs::View::trees))]
 pub(crate) fn mod_node(
-    alloc: Global,
     kind: ModKind,
     fields: &[Value],
     nodes: &mut Nodes,
     row: u32,
 ) -> Result<Mod, RowsError>
-    ensures { Gives (λ m. (mod_tree m, nodes_view nodes.new)) result
+    ensures { Gives (λ x. (mod_tree x, nodes_view nodes.new)) result
         (mod_node row kind (items_view fields.now) (nodes_view nodes.old)) }
 {
     match kind {
-        ModKind::Module => module_node(alloc, fields, nodes, row),
-        ModKind::Interactive => interactive_node(alloc, fields, nodes, row),
-        ModKind::Expression => expression_node(alloc, fields, nodes, row),
-        ModKind::FunctionType => function_type_node(alloc, fields, nodes, row),
+        ModKind::Module => {
+            let body = read_one(fields, nodes, row)?;
+            Ok(Mod::Module(ModModule { body }))
+        }
+        ModKind::Interactive => {
+            let body = read_one(fields, nodes, row)?;
+            Ok(Mod::Interactive(ModInteractive { body }))
+        }
+        ModKind::Expression => {
+            let body = read_one(fields, nodes, row)?;
+            Ok(Mod::Expression(ModExpression { body }))
+        }
+        ModKind::FunctionType => {
+            let (argtypes, returns) = read_two(fields, nodes, row)?;
+            Ok(Mod::FunctionType(ModFunctionType { argtypes, returns }))
+        }
     }
 }

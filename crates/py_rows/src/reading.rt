@@ -32,7 +32,7 @@ pub(crate) fn read_all(
     let mut number = 0u32;
     rows.reverse();
     while let Some(row) = rows.pop() {
-        read_row(alloc, &row, number, &mut parts, nodes)?;
+        read_row(&row, number, &mut parts, nodes)?;
         number += 1;
         if read.len() == GROUP {
             read = Vec::with_capacity(alloc, GROUP)?;
@@ -44,7 +44,6 @@ pub(crate) fn read_all(
 
 /// Reads one row. `parts` is room for the rows that it names.
 fn read_row(
-    alloc: Global,
     row: &Value,
     number: u32,
     parts: &mut Vec<Part>,
@@ -54,7 +53,7 @@ fn read_row(
         (row_read number (view row.now) (nodes_view nodes.old)) }
 {
     let (kind, fields) = outline(row, number, parts, nodes.rows.as_slice())?;
-    let index = make(alloc, kind, fields, nodes, number)?;
+    let index = make(kind, fields, nodes, number)?;
     add_row(kind, index, parts.as_slice(), nodes, number)
 }
 

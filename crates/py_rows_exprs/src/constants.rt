@@ -2,30 +2,14 @@
 ghost use Rattle.serde_json.specs.View.{items_view};
 ghost use Rattle.py_tree.specs.View.{literal_of};
 ghost use Rattle.py_rows_fields.specs.Gives.{Gives};
-ghost use Rattle.py_rows_exprs.specs.Constants.{bytes_of, constant_node, int_of, str_of, tuple_constant};
+ghost use Rattle.py_rows_exprs.specs.Constants.{bytes_of, constant_node, int_of};
 ghost use Rattle.py_rows_slots.specs.Nodes.{nodes_view};
 
-use py_rows_fields::{ConstantKind, RowsError, bytes, integer, no_field, one, text, word};
-use py_rows_slots::{Nodes, take_constants};
-use py_tree::{Constant, List, Text};
+use py_rows_fields::{ConstantKind, RowsError, bytes, integer, no_field, one, word};
+use py_rows_slots::{Nodes, read_one};
+use py_tree::{Constant, List};
 use serde_json::Value;
 use std::alloc::Global;
-
-/// A tuple.
-#[tactic(auto, using(py_tree::proofs::View::trees))]
-fn tuple_constant(
-    alloc: Global,
-    fields: &[Value],
-    nodes: &mut Nodes,
-    row: u32,
-) -> Result<Constant, RowsError>
-    ensures { Gives (λ x. (literal_of x, nodes_view nodes.new)) result
-        (tuple_constant row (items_view fields.now) (nodes_view nodes.old)) }
-{
-    let field = one(fields, row)?;
-    let items = take_constants(alloc, field, nodes, row)?;
-    Ok(Constant::Tuple(items))
-}
 
 fn int_of(fields: &[Value], row: u32) -> Result<i128, RowsError>
     ensures { Gives (λ x. x) result (int_of row (items_view fields.now)) }
@@ -33,13 +17,6 @@ fn int_of(fields: &[Value], row: u32) -> Result<i128, RowsError>
     let field = one(fields, row)?;
     let digits = word(field, row)?;
     integer(digits, row)
-}
-
-fn str_of(alloc: Global, fields: &[Value], row: u32) -> Result<Text, RowsError>
-    ensures { Gives (λ x. x) result (str_of row (items_view fields.now)) }
-{
-    let field = one(fields, row)?;
-    text(alloc, field, row)
 }
 
 fn bytes_of(alloc: Global, fields: &[Value], row: u32) -> Result<List<u8>, RowsError>
@@ -53,7 +30,6 @@ fn bytes_of(alloc: Global, fields: &[Value], row: u32) -> Result<List<u8>, RowsE
 /// A constant, of the fields of its kind.
 #[tactic(auto, using(py_tree::proofs::View::trees))]
 pub(crate) fn constant_node(
-    alloc: Global,
     kind: ConstantKind,
     fields: &[Value],
     nodes: &mut Nodes,
@@ -80,8 +56,8 @@ pub(crate) fn constant_node(
             Ok(Constant::Ellipsis)
         }
         ConstantKind::Int => Ok(Constant::Int(int_of(fields, row)?)),
-        ConstantKind::Str => Ok(Constant::Str(str_of(alloc, fields, row)?)),
-        ConstantKind::Bytes => Ok(Constant::Bytes(bytes_of(alloc, fields, row)?)),
-        ConstantKind::Tuple => tuple_constant(alloc, fields, nodes, row),
+        ConstantKind::Str => Ok(Constant::Str(read_one(fields, nodes, row)?)),
+        ConstantKind::Bytes => Ok(Constant::Bytes(bytes_of(nodes.alloc, fields, row)?)),
+        ConstantKind::Tuple => Ok(Constant::Tuple(read_one(fields, nodes, row)?)),
     }
 }

@@ -5,27 +5,19 @@ ghost use Rattle.py_rows_fields.specs.Gives.{Gives};
 ghost use Rattle.py_rows_exprs.specs.Exprs.{expr_node, expr_of_kind};
 ghost use Rattle.py_rows_slots.specs.Nodes.{nodes_view};
 
-use crate::atoms::{
-    attribute_node, constant_expr_node, formatted_value_node, joined_str_node, name_node,
-    slice_node, subscript_node,
-};
-use crate::displays::{
-    dict_comp_node, dict_node, generator_exp_node, list_comp_node, list_node, set_comp_node,
-    set_node, tuple_node,
-};
-use crate::operations::{
-    await_node, bin_op_node, bool_op_node, call_node, compare_node, if_exp_node, lambda_node,
-    named_expr_node, starred_node, unary_op_node, yield_from_node, yield_node,
-};
 use py_rows_fields::{ExprKind, RowsError, after_place, place};
-use py_rows_slots::Nodes;
-use py_tree::{Expr, SourceLocation};
+use py_rows_slots::{Nodes, read_one, read_three, read_two};
+use py_tree::{
+    Expr, ExprAttribute, ExprAwait, ExprBinOp, ExprBoolOp, ExprCall, ExprCompare, ExprConstant,
+    ExprDict, ExprDictComp, ExprFormattedValue, ExprGeneratorExp, ExprIfExp, ExprJoinedStr,
+    ExprLambda, ExprList, ExprListComp, ExprName, ExprNamedExpr, ExprSet, ExprSetComp, ExprSlice,
+    ExprStarred, ExprSubscript, ExprTuple, ExprUnaryOp, ExprYield, ExprYieldFrom, SourceLocation,
+};
 use serde_json::Value;
-use std::alloc::Global;
 
 /// An expression, of the fields of its kind.
+#[tactic(auto, using(py_tree::proofs::View::trees))]
 fn expr_of_kind(
-    alloc: Global,
     kind: ExprKind,
     location: SourceLocation,
     fields: &[Value],
@@ -36,39 +28,194 @@ fn expr_of_kind(
         (expr_of_kind row kind location (items_view fields.now) (nodes_view nodes.old)) }
 {
     match kind {
-        ExprKind::BoolOp => bool_op_node(alloc, location, fields, nodes, row),
-        ExprKind::NamedExpr => named_expr_node(alloc, location, fields, nodes, row),
-        ExprKind::BinOp => bin_op_node(alloc, location, fields, nodes, row),
-        ExprKind::UnaryOp => unary_op_node(alloc, location, fields, nodes, row),
-        ExprKind::Lambda => lambda_node(alloc, location, fields, nodes, row),
-        ExprKind::IfExp => if_exp_node(alloc, location, fields, nodes, row),
-        ExprKind::Dict => dict_node(alloc, location, fields, nodes, row),
-        ExprKind::Set => set_node(alloc, location, fields, nodes, row),
-        ExprKind::ListComp => list_comp_node(alloc, location, fields, nodes, row),
-        ExprKind::SetComp => set_comp_node(alloc, location, fields, nodes, row),
-        ExprKind::DictComp => dict_comp_node(alloc, location, fields, nodes, row),
-        ExprKind::GeneratorExp => generator_exp_node(alloc, location, fields, nodes, row),
-        ExprKind::Await => await_node(alloc, location, fields, nodes, row),
-        ExprKind::Yield => yield_node(alloc, location, fields, nodes, row),
-        ExprKind::YieldFrom => yield_from_node(alloc, location, fields, nodes, row),
-        ExprKind::Compare => compare_node(alloc, location, fields, nodes, row),
-        ExprKind::Call => call_node(alloc, location, fields, nodes, row),
-        ExprKind::FormattedValue => formatted_value_node(alloc, location, fields, nodes, row),
-        ExprKind::JoinedStr => joined_str_node(alloc, location, fields, nodes, row),
-        ExprKind::Constant => constant_expr_node(location, fields, nodes, row),
-        ExprKind::Attribute => attribute_node(alloc, location, fields, nodes, row),
-        ExprKind::Subscript => subscript_node(alloc, location, fields, nodes, row),
-        ExprKind::Starred => starred_node(alloc, location, fields, nodes, row),
-        ExprKind::Name => Ok(name_node(alloc, location, fields, row)?),
-        ExprKind::List => list_node(alloc, location, fields, nodes, row),
-        ExprKind::Tuple => tuple_node(alloc, location, fields, nodes, row),
-        ExprKind::Slice => slice_node(alloc, location, fields, nodes, row),
+        ExprKind::BoolOp => {
+            let (op, values) = read_two(fields, nodes, row)?;
+            Ok(Expr::BoolOp(ExprBoolOp {
+                location,
+                op,
+                values,
+            }))
+        }
+        ExprKind::NamedExpr => {
+            let (target, value) = read_two(fields, nodes, row)?;
+            Ok(Expr::NamedExpr(ExprNamedExpr {
+                location,
+                target,
+                value,
+            }))
+        }
+        ExprKind::BinOp => {
+            let (left, op, right) = read_three(fields, nodes, row)?;
+            Ok(Expr::BinOp(ExprBinOp {
+                location,
+                left,
+                op,
+                right,
+            }))
+        }
+        ExprKind::UnaryOp => {
+            let (op, operand) = read_two(fields, nodes, row)?;
+            Ok(Expr::UnaryOp(ExprUnaryOp {
+                location,
+                op,
+                operand,
+            }))
+        }
+        ExprKind::Lambda => {
+            let (args, body) = read_two(fields, nodes, row)?;
+            Ok(Expr::Lambda(ExprLambda {
+                location,
+                args,
+                body,
+            }))
+        }
+        ExprKind::IfExp => {
+            let (test, body, orelse) = read_three(fields, nodes, row)?;
+            Ok(Expr::IfExp(ExprIfExp {
+                location,
+                test,
+                body,
+                orelse,
+            }))
+        }
+        ExprKind::Dict => {
+            let (keys, values) = read_two(fields, nodes, row)?;
+            Ok(Expr::Dict(ExprDict {
+                location,
+                keys,
+                values,
+            }))
+        }
+        ExprKind::Set => {
+            let elts = read_one(fields, nodes, row)?;
+            Ok(Expr::Set(ExprSet { location, elts }))
+        }
+        ExprKind::ListComp => {
+            let (elt, generators) = read_two(fields, nodes, row)?;
+            Ok(Expr::ListComp(ExprListComp {
+                location,
+                elt,
+                generators,
+            }))
+        }
+        ExprKind::SetComp => {
+            let (elt, generators) = read_two(fields, nodes, row)?;
+            Ok(Expr::SetComp(ExprSetComp {
+                location,
+                elt,
+                generators,
+            }))
+        }
+        ExprKind::DictComp => {
+            let (key, value, generators) = read_three(fields, nodes, row)?;
+            Ok(Expr::DictComp(ExprDictComp {
+                location,
+                key,
+                value,
+                generators,
+            }))
+        }
+        ExprKind::GeneratorExp => {
+            let (elt, generators) = read_two(fields, nodes, row)?;
+            Ok(Expr::GeneratorExp(ExprGeneratorExp {
+                location,
+                elt,
+                generators,
+            }))
+        }
+        ExprKind::Await => {
+            let value = read_one(fields, nodes, row)?;
+            Ok(Expr::Await(ExprAwait { location, value }))
+        }
+        ExprKind::Yield => {
+            let value = read_one(fields, nodes, row)?;
+            Ok(Expr::Yield(ExprYield { location, value }))
+        }
+        ExprKind::YieldFrom => {
+            let value = read_one(fields, nodes, row)?;
+            Ok(Expr::YieldFrom(ExprYieldFrom { location, value }))
+        }
+        ExprKind::Compare => {
+            let (left, ops, comparators) = read_three(fields, nodes, row)?;
+            Ok(Expr::Compare(ExprCompare {
+                location,
+                left,
+                ops,
+                comparators,
+            }))
+        }
+        ExprKind::Call => {
+            let (func, args, keywords) = read_three(fields, nodes, row)?;
+            Ok(Expr::Call(ExprCall {
+                location,
+                func,
+                args,
+                keywords,
+            }))
+        }
+        ExprKind::FormattedValue => {
+            let (value, conversion, format_spec) = read_three(fields, nodes, row)?;
+            Ok(Expr::FormattedValue(ExprFormattedValue {
+                location,
+                value,
+                conversion,
+                format_spec,
+            }))
+        }
+        ExprKind::JoinedStr => {
+            let values = read_one(fields, nodes, row)?;
+            Ok(Expr::JoinedStr(ExprJoinedStr { location, values }))
+        }
+        ExprKind::Constant => {
+            let value = read_one(fields, nodes, row)?;
+            Ok(Expr::Constant(ExprConstant { location, value }))
+        }
+        ExprKind::Attribute => {
+            let (value, attr) = read_two(fields, nodes, row)?;
+            Ok(Expr::Attribute(ExprAttribute {
+                location,
+                value,
+                attr,
+            }))
+        }
+        ExprKind::Subscript => {
+            let (value, slice) = read_two(fields, nodes, row)?;
+            Ok(Expr::Subscript(ExprSubscript {
+                location,
+                value,
+                slice,
+            }))
+        }
+        ExprKind::Starred => {
+            let value = read_one(fields, nodes, row)?;
+            Ok(Expr::Starred(ExprStarred { location, value }))
+        }
+        ExprKind::Name => {
+            let id = read_one(fields, nodes, row)?;
+            Ok(Expr::Name(ExprName { location, id }))
+        }
+        ExprKind::List => {
+            let elts = read_one(fields, nodes, row)?;
+            Ok(Expr::List(ExprList { location, elts }))
+        }
+        ExprKind::Tuple => {
+            let elts = read_one(fields, nodes, row)?;
+            Ok(Expr::Tuple(ExprTuple { location, elts }))
+        }
+        ExprKind::Slice => {
+            let (lower, upper, step) = read_three(fields, nodes, row)?;
+            Ok(Expr::Slice(ExprSlice {
+                location,
+                lower,
+                upper,
+                step,
+            }))
+        }
     }
 }
 
 /// The same, of the place and the fields after it.
 pub(crate) fn expr_node(
-    alloc: Global,
     kind: ExprKind,
     fields: &[Value],
     nodes: &mut Nodes,
@@ -79,5 +226,5 @@ pub(crate) fn expr_node(
 {
     let location = place(fields, row)?;
     let own = after_place(fields, row)?;
-    expr_of_kind(alloc, kind, location, own, nodes, row)
+    expr_of_kind(kind, location, own, nodes, row)
 }

@@ -2,13 +2,9 @@
 //! names, which it takes.
 #![tactic(auto)]
 
-mod atoms;
 mod constants;
-mod displays;
 mod exprs;
 mod making;
-mod operations;
-mod pieces;
 
 pub use making::{
     make_arg, make_arguments, make_comprehension, make_constant, make_default, make_expr,

@@ -6,14 +6,10 @@ ghost use Rattle.py_rows_slots.specs.Nodes.{nodes_view};
 
 use crate::constants::constant_node;
 use crate::exprs::expr_node;
-use crate::pieces::{arg_node, arguments_node, comprehension_node, default_node, keyword_node};
 use py_rows_fields::{ConstantKind, ExprKind, RowsError, after_place, place};
-use py_rows_slots::{
-    Nodes, add_arg, add_arguments, add_comprehension, add_constant, add_default, add_expr,
-    add_keyword,
-};
+use py_rows_slots::{Nodes, read_five, read_four, read_two};
+use py_tree::{Arg, ArgWithDefault, Arguments, Comprehension, Keyword};
 use serde_json::Value;
-use std::alloc::Global;
 
 /// Makes the expression of a row of this kind, of the nodes of the rows that its fields name, which are taken, and
 /// gives its place among the expressions.
@@ -22,7 +18,6 @@ use std::alloc::Global;
 /// `WrongRow` where the fields are not those of the kind, `LaterRow` where one names no earlier row, `NamedTwice`
 /// where an earlier row has taken a node that one names, `OutOfMemory`.
 pub fn make_expr(
-    alloc: Global,
     kind: ExprKind,
     fields: &[Value],
     nodes: &mut Nodes,
@@ -31,8 +26,8 @@ pub fn make_expr(
     ensures { Gives (λ k. (k, nodes_view nodes.new)) result
         (make_expr row kind (items_view fields.now) (nodes_view nodes.old)) }
 {
-    let node = expr_node(alloc, kind, fields, nodes, row)?;
-    add_expr(node, nodes)
+    let node = expr_node(kind, fields, nodes, row)?;
+    nodes.add(node)
 }
 
 /// Makes the constant of a row of this kind, of the constants that a tuple names, which are taken, and gives its
@@ -43,7 +38,6 @@ pub fn make_expr(
 /// `i128`, `LaterRow` where one names no earlier row, `NamedTwice` where an earlier row has taken a constant that one
 /// names, `OutOfMemory`.
 pub fn make_constant(
-    alloc: Global,
     kind: ConstantKind,
     fields: &[Value],
     nodes: &mut Nodes,
@@ -52,8 +46,8 @@ pub fn make_constant(
     ensures { Gives (λ k. (k, nodes_view nodes.new)) result
         (make_constant row kind (items_view fields.now) (nodes_view nodes.old)) }
 {
-    let node = constant_node(alloc, kind, fields, nodes, row)?;
-    add_constant(node, nodes)
+    let node = constant_node(kind, fields, nodes, row)?;
+    nodes.add(node)
 }
 
 /// Makes the parameters of a function or a lambda, of those that the fields name, which are taken, and gives their
@@ -62,17 +56,19 @@ pub fn make_constant(
 /// # Errors
 /// `WrongRow` where the fields are not those of parameters, `LaterRow` where one names no earlier row, `NamedTwice`
 /// where an earlier row has taken a node that one names, `OutOfMemory`.
-pub fn make_arguments(
-    alloc: Global,
-    fields: &[Value],
-    nodes: &mut Nodes,
-    row: u32,
-) -> Result<usize, RowsError>
+pub fn make_arguments(fields: &[Value], nodes: &mut Nodes, row: u32) -> Result<usize, RowsError>
     ensures { Gives (λ k. (k, nodes_view nodes.new)) result
         (make_arguments row (items_view fields.now) (nodes_view nodes.old)) }
 {
-    let node = arguments_node(alloc, fields, nodes, row)?;
-    add_arguments(node, nodes)
+    let (posonlyargs, args, vararg, kwonlyargs, kwarg) = read_five(fields, nodes, row)?;
+    let node = Arguments {
+        posonlyargs,
+        args,
+        vararg,
+        kwonlyargs,
+        kwarg,
+    };
+    nodes.add(node)
 }
 
 /// Makes a parameter with its default, of the nodes that the fields name, which are taken, and gives its place among
@@ -81,17 +77,12 @@ pub fn make_arguments(
 /// # Errors
 /// `WrongRow` where the fields are not those of a parameter with a default, `LaterRow` where one names no earlier row, `NamedTwice`
 /// where an earlier row has taken a node that one names, `OutOfMemory`.
-pub fn make_default(
-    alloc: Global,
-    fields: &[Value],
-    nodes: &mut Nodes,
-    row: u32,
-) -> Result<usize, RowsError>
+pub fn make_default(fields: &[Value], nodes: &mut Nodes, row: u32) -> Result<usize, RowsError>
     ensures { Gives (λ k. (k, nodes_view nodes.new)) result
         (make_default row (items_view fields.now) (nodes_view nodes.old)) }
 {
-    let node = default_node(alloc, fields, nodes, row)?;
-    add_default(node, nodes)
+    let (def, default) = read_two(fields, nodes, row)?;
+    nodes.add(ArgWithDefault { def, default })
 }
 
 /// Makes a parameter, with the annotation that a field names, which is taken, and gives its place among the
@@ -100,19 +91,19 @@ pub fn make_default(
 /// # Errors
 /// `WrongRow` where the fields are not those of a parameter, `LaterRow` where one names no earlier row, `NamedTwice`
 /// where an earlier row has taken a node that one names, `OutOfMemory`.
-pub fn make_arg(
-    alloc: Global,
-    fields: &[Value],
-    nodes: &mut Nodes,
-    row: u32,
-) -> Result<usize, RowsError>
+pub fn make_arg(fields: &[Value], nodes: &mut Nodes, row: u32) -> Result<usize, RowsError>
     ensures { Gives (λ k. (k, nodes_view nodes.new)) result
         (make_arg row (items_view fields.now) (nodes_view nodes.old)) }
 {
     let location = place(fields, row)?;
     let own = after_place(fields, row)?;
-    let node = arg_node(alloc, location, own, nodes, row)?;
-    add_arg(node, nodes)
+    let (arg, annotation) = read_two(own, nodes, row)?;
+    let node = Arg {
+        location,
+        arg,
+        annotation,
+    };
+    nodes.add(node)
 }
 
 /// Makes a keyword of a call or a class, with the value that a field names, which is taken, and gives its place among
@@ -121,17 +112,12 @@ pub fn make_arg(
 /// # Errors
 /// `WrongRow` where the fields are not those of a keyword, `LaterRow` where one names no earlier row, `NamedTwice`
 /// where an earlier row has taken a node that one names, `OutOfMemory`.
-pub fn make_keyword(
-    alloc: Global,
-    fields: &[Value],
-    nodes: &mut Nodes,
-    row: u32,
-) -> Result<usize, RowsError>
+pub fn make_keyword(fields: &[Value], nodes: &mut Nodes, row: u32) -> Result<usize, RowsError>
     ensures { Gives (λ k. (k, nodes_view nodes.new)) result
         (make_keyword row (items_view fields.now) (nodes_view nodes.old)) }
 {
-    let node = keyword_node(alloc, fields, nodes, row)?;
-    add_keyword(node, nodes)
+    let (arg, value) = read_two(fields, nodes, row)?;
+    nodes.add(Keyword { arg, value })
 }
 
 /// Makes a `for` clause of a comprehension, of the expressions that the fields name, which are taken, and gives its
@@ -140,15 +126,16 @@ pub fn make_keyword(
 /// # Errors
 /// `WrongRow` where the fields are not those of a clause, `LaterRow` where one names no earlier row, `NamedTwice`
 /// where an earlier row has taken a node that one names, `OutOfMemory`.
-pub fn make_comprehension(
-    alloc: Global,
-    fields: &[Value],
-    nodes: &mut Nodes,
-    row: u32,
-) -> Result<usize, RowsError>
+pub fn make_comprehension(fields: &[Value], nodes: &mut Nodes, row: u32) -> Result<usize, RowsError>
     ensures { Gives (λ k. (k, nodes_view nodes.new)) result
         (make_comprehension row (items_view fields.now) (nodes_view nodes.old)) }
 {
-    let node = comprehension_node(alloc, fields, nodes, row)?;
-    add_comprehension(node, nodes)
+    let (target, iter, ifs, is_async) = read_four(fields, nodes, row)?;
+    let node = Comprehension {
+        target,
+        iter,
+        ifs,
+        is_async,
+    };
+    nodes.add(node)
 }

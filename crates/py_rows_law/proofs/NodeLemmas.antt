@@ -48,43 +48,32 @@ made_row k n at ds nodes = filled_row n (row k).fields ((row k).make at) ds node
 
 expr_made : (k : ExprKind) (n : ℕ) (at : SourceLocation) (ds : Datas (row (kind.Expr k)).fields) (nodes : Nodes)
     → (expr_of_kind n k at (entries (row (kind.Expr k)).fields ds) nodes >>= λ (x, nodes). add_expr x nodes) ≡ made_row (kind.Expr k) n at ds nodes
-expr_made expression.Set n at ds nodes = simp result_assoc
-expr_made expression.List n at ds nodes = simp result_assoc
-expr_made expression.Tuple n at ds nodes = simp result_assoc
-expr_made expression.ListComp n at ds nodes = simp result_assoc
-expr_made expression.SetComp n at ds nodes = simp result_assoc
-expr_made expression.GeneratorExp n at ds nodes = simp result_assoc
-expr_made expression.Await n at ds nodes = simp result_assoc
-expr_made expression.YieldFrom n at ds nodes = simp result_assoc
-expr_made expression.Starred n at ds nodes = simp result_assoc
-expr_made expression.Name n at ds nodes = simp result_assoc
-expr_made k n at ds nodes = refl
+expr_made expression.Set n at ds nodes = refl
+expr_made expression.Await n at ds nodes = refl
+expr_made expression.Yield n at ds nodes = refl
+expr_made expression.YieldFrom n at ds nodes = refl
+expr_made expression.JoinedStr n at ds nodes = refl
+expr_made expression.Constant n at ds nodes = refl
+expr_made expression.Starred n at ds nodes = refl
+expr_made expression.List n at ds nodes = refl
+expr_made expression.Tuple n at ds nodes = refl
+expr_made k n at ds nodes = simp result_assoc
 
 stmt_made : (k : StmtKind) (n : ℕ) (at : SourceLocation) (ds : Datas (row (kind.Stmt k)).fields) (nodes : Nodes)
     → (stmt_of_kind n k at (entries (row (kind.Stmt k)).fields ds) nodes >>= λ (x, nodes). add_stmt x nodes) ≡ made_row (kind.Stmt k) n at ds nodes
-stmt_made statement.FunctionDef n at ds nodes = simp result_assoc
-stmt_made statement.AsyncFunctionDef n at ds nodes = simp result_assoc
-stmt_made statement.ClassDef n at ds nodes = simp result_assoc
-stmt_made statement.For n at ds nodes = simp result_assoc
-stmt_made statement.AsyncFor n at ds nodes = simp result_assoc
-stmt_made statement.While n at ds nodes = simp result_assoc
-stmt_made statement.If n at ds nodes = simp result_assoc
-stmt_made statement.With n at ds nodes = simp result_assoc
-stmt_made statement.AsyncWith n at ds nodes = simp result_assoc
-stmt_made statement.Try n at ds nodes = simp result_assoc
-stmt_made statement.TryStar n at ds nodes = simp result_assoc
-stmt_made statement.Global n at ds nodes = simp result_assoc
-stmt_made statement.Nonlocal n at ds nodes = simp result_assoc
-stmt_made statement.Pass n at ds nodes = simp result_assoc
-stmt_made statement.Break n at ds nodes = simp result_assoc
-stmt_made statement.Continue n at ds nodes = simp result_assoc
-stmt_made k n at ds nodes = refl
+stmt_made statement.Return n at ds nodes = refl
+stmt_made statement.Delete n at ds nodes = refl
+stmt_made statement.Import n at ds nodes = refl
+stmt_made statement.Expr n at ds nodes = refl
+stmt_made statement.Pass n at ds nodes = refl
+stmt_made statement.Break n at ds nodes = refl
+stmt_made statement.Continue n at ds nodes = refl
+stmt_made k n at ds nodes = simp result_assoc
 
 type_param_made : (k : TypeParamKind) (n : ℕ) (at : SourceLocation) (ds : Datas (row (kind.TypeParam k)).fields) (nodes : Nodes)
     → (type_param_of_kind n k at (entries (row (kind.TypeParam k)).fields ds) nodes >>= λ (x, nodes). add_type_param x nodes) ≡ made_row (kind.TypeParam k) n at ds nodes
-type_param_made generic.ParamSpec n at ds nodes = simp result_assoc
-type_param_made generic.TypeVarTuple n at ds nodes = simp result_assoc
-type_param_made k n at ds nodes = refl
+type_param_made generic.TypeVar n at ds nodes = simp result_assoc
+type_param_made k n at ds nodes = simp result_assoc
 
 -- a row with a place gives it first
 abbrev pub PlacedNode : Bool → ℕ → Items → SourceLocation → Items → Type 0
@@ -95,11 +84,12 @@ constant_made : (k : ConstantKind) (n : ℕ) (at : SourceLocation) (ds : Datas (
     → make n (kind.Constant k) (entries (row (kind.Constant k)).fields ds) nodes ≡ made_row (kind.Constant k) n at ds nodes
 constant_made constant.Int n at ds nodes r = absurd (true≢false (sym r))
 constant_made constant.Bytes n at ds nodes r = absurd (true≢false (sym r))
+constant_made constant.Str n at ds nodes r = simp result_assoc
 constant_made k n at ds nodes r = refl
 
 program_made : (k : ModKind) (n : ℕ) (at : SourceLocation) (ds : Datas (row (kind.Mod k)).fields) (nodes : Nodes)
     → make n (kind.Mod k) (entries (row (kind.Mod k)).fields ds) nodes ≡ made_row (kind.Mod k) n at ds nodes
-program_made program.Module n at ds nodes = refl
+program_made program.FunctionType n at ds nodes = simp result_assoc
 program_made k n at ds nodes = refl
 
 pub kind_made : (k : reader.Kind) (n : ℕ) (at : SourceLocation) (ds : Datas (row k).fields) (nodes : Nodes) (rest : Items) → are_read (row k).fields ≡ true
@@ -110,6 +100,6 @@ kind_made (kind.Stmt k) n at ds nodes rest r p = rw (p.0, p.1) (stmt_made k n at
 kind_made (kind.Expr k) n at ds nodes rest r p = rw (p.0, p.1) (expr_made k n at ds nodes)
 kind_made (kind.Constant k) n at ds nodes rest r p = rw p (constant_made k n at ds nodes r)
 kind_made (kind.TypeParam k) n at ds nodes rest r p = rw (p.0, p.1) (type_param_made k n at ds nodes)
-kind_made kind.Arg n at ds nodes rest r p = rw (p.0, p.1) refl
-kind_made kind.Alias n at ds nodes rest r p = rw p (simp result_assoc)
-kind_made k n at ds nodes rest r p = rw p refl
+kind_made kind.Arg n at ds nodes rest r p = rw (p.0, p.1) (simp result_assoc)
+kind_made kind.MatchCase n at ds nodes rest r p = rw p refl
+kind_made k n at ds nodes rest r p = rw p (simp result_assoc)

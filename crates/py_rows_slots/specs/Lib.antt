@@ -1,4 +1,5 @@
 pub mod Lists
 pub mod Nodes
+pub mod Reading
 pub mod Slots
 pub mod Taking

@@ -1,10 +1,13 @@
 //! The nodes that were made and are not taken yet.
 ghost use Rattle.std.specs.Prelude.{◌≡◌, map, option_map};
+ghost use Rattle.py_tree.specs.View.{mod_tree};
+ghost use Rattle.py_rows_fields.specs.Gives.{Gives};
 ghost use Rattle.py_rows_slots.specs.Nodes.{is_left, no_nodes, nodes_view};
+ghost use Rattle.py_rows_slots.specs.Slots.{set_program};
 ghost use Rattle.py_rows_slots.specs.Taking.{is_left_at};
 
 use crate::made::Made;
-use py_rows_fields::{Row, Sort};
+use py_rows_fields::{Row, RowsError, Sort};
 use py_tree::{
     Alias, Arg, ArgWithDefault, Arguments, Comprehension, Constant, ExceptHandler, Expr, Keyword,
     MatchCase, Mod, Stmt, TypeParam, WithItem,
@@ -12,8 +15,9 @@ use py_tree::{
 use std::alloc::Global;
 
 /// The rows, and what they made: each sort of node in a list of its own, in the order of the rows, until a
-/// later row takes it. `program` is what the last row made that is a program.
+/// later row takes it. `program` is what the last row made that is a program. They lie in the memory of `alloc`.
 pub struct Nodes {
+    pub alloc: Global,
     pub rows: Vec<Row>,
     pub program: Option<Mod>,
     pub stmts: Vec<Option<Stmt>>,
@@ -34,6 +38,7 @@ pub struct Nodes {
 impl Drop for Nodes {
     fn drop(self) {
         let Nodes {
+            alloc: _alloc,
             rows: _rows,
             program: _program,
             stmts: _stmts,
@@ -59,6 +64,7 @@ impl Nodes {
         ensures { nodes_view result ≡ no_nodes }
     {
         Nodes {
+            alloc,
             rows: Vec::new(alloc),
             program: None,
             stmts: Vec::new(alloc),
@@ -75,6 +81,17 @@ impl Nodes {
             comprehensions: Vec::new(alloc),
             cases: Vec::new(alloc),
         }
+    }
+
+    /// Adds a node to those of its sort, and gives its place among them.
+    ///
+    /// # Errors
+    /// There is no memory for it.
+    pub fn add<T: Made>(&mut self, node: T) -> Result<usize, RowsError>
+        ensures { Gives (λ k. (k, nodes_view self.new)) result
+            (T.adding (T.seen node) (nodes_view self.old)) }
+    {
+        node.add_to(self)
     }
 
     /// Whether no row has named this one.
@@ -98,6 +115,18 @@ impl Nodes {
             Sort::MatchCase => is_left_at(row.index, self.cases.as_slice()),
         }
     }
+}
+
+/// Keeps the program that a row made, in place of an earlier one. No row names it.
+///
+/// # Errors
+/// There is no memory for it.
+pub fn set_program(node: Mod, nodes: &mut Nodes) -> Result<usize, RowsError>
+    ensures { Gives (λ k. (k, nodes_view nodes.new)) result
+        (set_program (mod_tree node) (nodes_view nodes.old)) }
+{
+    nodes.program = Some(node);
+    Ok(0)
 }
 
 fn is_left_at<T: Made>(index: usize, nodes: &[Option<T>]) -> bool

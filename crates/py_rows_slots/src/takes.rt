@@ -22,7 +22,7 @@ fn index_at(field: &Value, rows: &[Row], row: u32) -> Result<usize, RowsError>
 }
 
 /// The node at a place, which is left empty. `NamedTwice` where a row took it before.
-fn take_at<T: Made + Drop>(nodes: &mut [Option<T>], index: usize, row: u32) -> Result<T, RowsError>
+fn take_at<T: Made>(nodes: &mut [Option<T>], index: usize, row: u32) -> Result<T, RowsError>
     ensures { Gives (λ x. (T.seen x, map (option_map T.seen) nodes.new)) result
         (taken_node row index (map (option_map T.seen) nodes.old)) }
 {
@@ -37,7 +37,7 @@ fn take_at<T: Made + Drop>(nodes: &mut [Option<T>], index: usize, row: u32) -> R
 }
 
 /// The node that the field names.
-pub(crate) fn take<T: Made + Drop>(
+pub(crate) fn take<T: Made>(
     field: &Value,
     rows: &[Row],
     nodes: &mut Vec<Option<T>>,
@@ -51,7 +51,7 @@ pub(crate) fn take<T: Made + Drop>(
 }
 
 /// The same, in a box.
-pub(crate) fn take_boxed<T: Made + Drop>(
+pub(crate) fn take_boxed<T: Made>(
     alloc: Global,
     field: &Value,
     rows: &[Row],
@@ -66,7 +66,7 @@ pub(crate) fn take_boxed<T: Made + Drop>(
 }
 
 /// The same of a field that may be null.
-pub(crate) fn take_optional_boxed<T: Made + Drop>(
+pub(crate) fn take_optional_boxed<T: Made>(
     alloc: Global,
     field: &Value,
     rows: &[Row],
@@ -85,7 +85,7 @@ pub(crate) fn take_optional_boxed<T: Made + Drop>(
 }
 
 /// The same with no box.
-fn take_optional<T: Made + Drop>(
+fn take_optional<T: Made>(
     field: &Value,
     rows: &[Row],
     nodes: &mut Vec<Option<T>>,
@@ -102,7 +102,7 @@ fn take_optional<T: Made + Drop>(
 }
 
 /// The nodes that the field names, in order.
-pub(crate) fn take_list<T: Made + Drop>(
+pub(crate) fn take_list<T: Made>(
     alloc: Global,
     field: &Value,
     rows: &[Row],
@@ -121,7 +121,7 @@ pub(crate) fn take_list<T: Made + Drop>(
 }
 
 /// The same, with none where the field has null.
-pub(crate) fn take_optionals<T: Made + Drop>(
+pub(crate) fn take_optionals<T: Made>(
     alloc: Global,
     field: &Value,
     rows: &[Row],
@@ -141,7 +141,7 @@ pub(crate) fn take_optionals<T: Made + Drop>(
 }
 
 /// Adds a node, and gives its place.
-pub(crate) fn add<T: Made + Drop>(nodes: &mut Vec<Option<T>>, node: T) -> Result<usize, RowsError>
+pub(crate) fn add<T: Made>(nodes: &mut Vec<Option<T>>, node: T) -> Result<usize, RowsError>
     ensures { Gives (λ k. (k, map (option_map T.seen) nodes.new.items)) result
         (added_node (T.seen node) (map (option_map T.seen) nodes.old.items)) }
 {

@@ -3,10 +3,11 @@ use Rattle.std.specs.Prelude.{ℕ}
 use Rattle.serde_json.specs.Data.{Items}
 use Rattle.py_rows_fields.specs.declared.kinds.StmtKind.{StmtKind}
 use Rattle.py_rows_fields.specs.declared.kinds.TypeParamKind.{TypeParamKind}
+use Rattle.py_rows_fields.specs.Fields.{optional_text_at, text_at}
 use Rattle.py_rows_fields.specs.Gives.{◌>>=◌}
 use Rattle.py_rows_slots.specs.Nodes.{Nodes}
-use Rattle.py_rows_slots.specs.Slots.{Made, add_alias, add_case, add_handler, add_item, add_stmt, add_type_param}
-use Rattle.py_rows_stmts.specs.Pieces.{alias_node, case_node, handler_node, item_node}
+use Rattle.py_rows_slots.specs.Reading.{plain, read_one, read_three, read_two}
+use Rattle.py_rows_slots.specs.Slots.{Made, add_alias, add_case, add_handler, add_item, add_stmt, add_type_param, take_expr, take_optional_expr, take_stmts}
 use Rattle.py_rows_stmts.specs.Stmts.{stmt_node}
 use Rattle.py_rows_stmts.specs.TypeParams.{type_param_node}
 
@@ -17,13 +18,15 @@ abbrev pub make_type_param : ℕ → TypeParamKind → Items → Nodes → Made 
 make_type_param n k fields nodes = type_param_node n k fields nodes >>= λ (node, nodes). add_type_param node nodes
 
 abbrev pub make_alias : ℕ → Items → Nodes → Made ℕ
-make_alias n fields nodes = alias_node n fields >>= λ node. add_alias node nodes
+make_alias n fields nodes =
+    read_two (plain text_at) (plain optional_text_at) n fields nodes >>= λ ((name, asname), nodes). add_alias (record { name = name; asname = asname }) nodes
 
 abbrev pub make_item : ℕ → Items → Nodes → Made ℕ
-make_item n fields nodes = item_node n fields nodes >>= λ (node, nodes). add_item node nodes
+make_item n fields nodes = read_two take_expr take_optional_expr n fields nodes >>= λ ((entered, target), nodes). add_item (entered, target) nodes
 
 abbrev pub make_handler : ℕ → Items → Nodes → Made ℕ
-make_handler n fields nodes = handler_node n fields nodes >>= λ (node, nodes). add_handler node nodes
+make_handler n fields nodes =
+    read_three take_optional_expr (plain optional_text_at) take_stmts n fields nodes >>= λ ((caught, name, body), nodes). add_handler (caught, name, body) nodes
 
 abbrev pub make_case : ℕ → Items → Nodes → Made ℕ
-make_case n fields nodes = case_node n fields nodes >>= λ (node, nodes). add_case node nodes
+make_case n fields nodes = read_one take_stmts n fields nodes >>= λ (body, nodes). add_case body nodes

@@ -2,11 +2,7 @@
 //! takes.
 #![tactic(auto)]
 
-mod compound;
-mod definitions;
 mod making;
-mod pieces;
-mod simple;
 mod stmts;
 mod type_params;
 

@@ -4,13 +4,12 @@ ghost use Rattle.py_rows_fields.specs.Gives.{Gives};
 ghost use Rattle.py_rows_slots.specs.Nodes.{nodes_view};
 ghost use Rattle.py_rows_stmts.specs.Making.{make_alias, make_case, make_handler, make_item, make_stmt, make_type_param};
 
-use crate::pieces::{alias_node, case_node, handler_node, item_node};
 use crate::stmts::stmt_node;
 use crate::type_params::type_param_node;
 use py_rows_fields::{RowsError, StmtKind, TypeParamKind};
-use py_rows_slots::{Nodes, add_alias, add_case, add_handler, add_item, add_stmt, add_type_param};
+use py_rows_slots::{Nodes, read_one, read_three, read_two};
+use py_tree::{Alias, ExceptHandler, MatchCase, WithItem};
 use serde_json::Value;
-use std::alloc::Global;
 
 /// Makes the statement of a row of this kind, of the nodes of the rows that its fields name, which are taken, and
 /// gives its place among the statements.
@@ -19,7 +18,6 @@ use std::alloc::Global;
 /// `WrongRow` where the fields are not those of the kind, `LaterRow` where one names no earlier row, `NamedTwice`
 /// where an earlier row has taken a node that one names, `OutOfMemory`.
 pub fn make_stmt(
-    alloc: Global,
     kind: StmtKind,
     fields: &[Value],
     nodes: &mut Nodes,
@@ -28,8 +26,8 @@ pub fn make_stmt(
     ensures { Gives (λ k. (k, nodes_view nodes.new)) result
         (make_stmt row kind (items_view fields.now) (nodes_view nodes.old)) }
 {
-    let node = stmt_node(alloc, kind, fields, nodes, row)?;
-    add_stmt(node, nodes)
+    let node = stmt_node(kind, fields, nodes, row)?;
+    nodes.add(node)
 }
 
 /// Makes the type parameter of a row of this kind, with the bound that a field names, which is taken, and gives its
@@ -39,7 +37,6 @@ pub fn make_stmt(
 /// `WrongRow` where the fields are not those of the kind, `LaterRow` where one names no earlier row, `NamedTwice`
 /// where an earlier row has taken a node that one names, `OutOfMemory`.
 pub fn make_type_param(
-    alloc: Global,
     kind: TypeParamKind,
     fields: &[Value],
     nodes: &mut Nodes,
@@ -48,25 +45,20 @@ pub fn make_type_param(
     ensures { Gives (λ k. (k, nodes_view nodes.new)) result
         (make_type_param row kind (items_view fields.now) (nodes_view nodes.old)) }
 {
-    let node = type_param_node(alloc, kind, fields, nodes, row)?;
-    add_type_param(node, nodes)
+    let node = type_param_node(kind, fields, nodes, row)?;
+    nodes.add(node)
 }
 
 /// Makes the alias of an import, and gives its place among the aliases.
 ///
 /// # Errors
 /// `WrongRow` where the fields are not those of an alias, `OutOfMemory`.
-pub fn make_alias(
-    alloc: Global,
-    fields: &[Value],
-    nodes: &mut Nodes,
-    row: u32,
-) -> Result<usize, RowsError>
+pub fn make_alias(fields: &[Value], nodes: &mut Nodes, row: u32) -> Result<usize, RowsError>
     ensures { Gives (λ k. (k, nodes_view nodes.new)) result
         (make_alias row (items_view fields.now) (nodes_view nodes.old)) }
 {
-    let node = alias_node(alloc, fields, row)?;
-    add_alias(node, nodes)
+    let (name, asname) = read_two(fields, nodes, row)?;
+    nodes.add(Alias { name, asname })
 }
 
 /// Makes an item of a `with`, of the expressions that the fields name, which are taken, and gives its place among the
@@ -75,17 +67,16 @@ pub fn make_alias(
 /// # Errors
 /// `WrongRow` where the fields are not those of an item, `LaterRow` where one names no earlier row, `NamedTwice`
 /// where an earlier row has taken a node that one names, `OutOfMemory`.
-pub fn make_item(
-    alloc: Global,
-    fields: &[Value],
-    nodes: &mut Nodes,
-    row: u32,
-) -> Result<usize, RowsError>
+pub fn make_item(fields: &[Value], nodes: &mut Nodes, row: u32) -> Result<usize, RowsError>
     ensures { Gives (λ k. (k, nodes_view nodes.new)) result
         (make_item row (items_view fields.now) (nodes_view nodes.old)) }
 {
-    let node = item_node(alloc, fields, nodes, row)?;
-    add_item(node, nodes)
+    let (context_expr, optional_vars) = read_two(fields, nodes, row)?;
+    let node = WithItem {
+        context_expr,
+        optional_vars,
+    };
+    nodes.add(node)
 }
 
 /// Makes a handler of a `try`, of the nodes that the fields name, which are taken, and gives its place among the
@@ -94,17 +85,12 @@ pub fn make_item(
 /// # Errors
 /// `WrongRow` where the fields are not those of a handler, `LaterRow` where one names no earlier row, `NamedTwice`
 /// where an earlier row has taken a node that one names, `OutOfMemory`.
-pub fn make_handler(
-    alloc: Global,
-    fields: &[Value],
-    nodes: &mut Nodes,
-    row: u32,
-) -> Result<usize, RowsError>
+pub fn make_handler(fields: &[Value], nodes: &mut Nodes, row: u32) -> Result<usize, RowsError>
     ensures { Gives (λ k. (k, nodes_view nodes.new)) result
         (make_handler row (items_view fields.now) (nodes_view nodes.old)) }
 {
-    let node = handler_node(alloc, fields, nodes, row)?;
-    add_handler(node, nodes)
+    let (type_, name, body) = read_three(fields, nodes, row)?;
+    nodes.add(ExceptHandler { type_, name, body })
 }
 
 /// Makes a case of a `match`, of the statements that the field names, which are taken, and gives its place among the
@@ -113,15 +99,10 @@ pub fn make_handler(
 /// # Errors
 /// `WrongRow` where the fields are not those of a case, `LaterRow` where one names no earlier row, `NamedTwice`
 /// where an earlier row has taken a node that one names, `OutOfMemory`.
-pub fn make_case(
-    alloc: Global,
-    fields: &[Value],
-    nodes: &mut Nodes,
-    row: u32,
-) -> Result<usize, RowsError>
+pub fn make_case(fields: &[Value], nodes: &mut Nodes, row: u32) -> Result<usize, RowsError>
     ensures { Gives (λ k. (k, nodes_view nodes.new)) result
         (make_case row (items_view fields.now) (nodes_view nodes.old)) }
 {
-    let node = case_node(alloc, fields, nodes, row)?;
-    add_case(node, nodes)
+    let body = read_one(fields, nodes, row)?;
+    nodes.add(MatchCase { body })
 }

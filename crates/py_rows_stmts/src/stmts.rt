@@ -5,25 +5,20 @@ ghost use Rattle.py_rows_fields.specs.Gives.{Gives};
 ghost use Rattle.py_rows_stmts.specs.Stmts.{stmt_node, stmt_of_kind};
 ghost use Rattle.py_rows_slots.specs.Nodes.{nodes_view};
 
-use crate::compound::{
-    async_for_node, async_with_node, for_node, if_node, match_node, try_node, try_star_node,
-    while_node, with_node,
+use py_rows_fields::{RowsError, StmtKind, after_place, no_field, place};
+use py_rows_slots::{Nodes, read_four, read_one, read_six, read_three, read_two};
+use py_tree::{
+    SourceLocation, Stmt, StmtAnnAssign, StmtAssert, StmtAssign, StmtAsyncFor,
+    StmtAsyncFunctionDef, StmtAsyncWith, StmtAugAssign, StmtBreak, StmtClassDef, StmtContinue,
+    StmtDelete, StmtExpr, StmtFor, StmtFunctionDef, StmtGlobal, StmtIf, StmtImport, StmtImportFrom,
+    StmtMatch, StmtNonlocal, StmtPass, StmtRaise, StmtReturn, StmtTry, StmtTryStar, StmtTypeAlias,
+    StmtWhile, StmtWith,
 };
-use crate::definitions::{async_function_def_node, class_def_node, function_def_node};
-use crate::simple::{
-    ann_assign_node, assert_node, assign_node, aug_assign_node, break_node, continue_node,
-    delete_node, expr_stmt_node, global_node, import_from_node, import_node, nonlocal_node,
-    pass_node, raise_node, return_node, type_alias_node,
-};
-use py_rows_fields::{RowsError, StmtKind, after_place, place};
-use py_rows_slots::Nodes;
-use py_tree::{SourceLocation, Stmt};
 use serde_json::Value;
-use std::alloc::Global;
 
 /// A statement, of the fields of its kind.
+#[tactic(auto, using(py_tree::proofs::View::trees))]
 fn stmt_of_kind(
-    alloc: Global,
     kind: StmtKind,
     location: SourceLocation,
     fields: &[Value],
@@ -34,40 +29,232 @@ fn stmt_of_kind(
         (stmt_of_kind row kind location (items_view fields.now) (nodes_view nodes.old)) }
 {
     match kind {
-        StmtKind::FunctionDef => function_def_node(alloc, location, fields, nodes, row),
-        StmtKind::AsyncFunctionDef => async_function_def_node(alloc, location, fields, nodes, row),
-        StmtKind::ClassDef => class_def_node(alloc, location, fields, nodes, row),
-        StmtKind::Return => return_node(alloc, location, fields, nodes, row),
-        StmtKind::Delete => delete_node(alloc, location, fields, nodes, row),
-        StmtKind::Assign => assign_node(alloc, location, fields, nodes, row),
-        StmtKind::TypeAlias => type_alias_node(alloc, location, fields, nodes, row),
-        StmtKind::AugAssign => aug_assign_node(alloc, location, fields, nodes, row),
-        StmtKind::AnnAssign => ann_assign_node(alloc, location, fields, nodes, row),
-        StmtKind::For => for_node(alloc, location, fields, nodes, row),
-        StmtKind::AsyncFor => async_for_node(alloc, location, fields, nodes, row),
-        StmtKind::While => while_node(alloc, location, fields, nodes, row),
-        StmtKind::If => if_node(alloc, location, fields, nodes, row),
-        StmtKind::With => with_node(alloc, location, fields, nodes, row),
-        StmtKind::AsyncWith => async_with_node(alloc, location, fields, nodes, row),
-        StmtKind::Match => match_node(alloc, location, fields, nodes, row),
-        StmtKind::Raise => raise_node(alloc, location, fields, nodes, row),
-        StmtKind::Try => try_node(alloc, location, fields, nodes, row),
-        StmtKind::TryStar => try_star_node(alloc, location, fields, nodes, row),
-        StmtKind::Assert => assert_node(alloc, location, fields, nodes, row),
-        StmtKind::Import => import_node(alloc, location, fields, nodes, row),
-        StmtKind::ImportFrom => import_from_node(alloc, location, fields, nodes, row),
-        StmtKind::Global => Ok(global_node(alloc, location, fields, row)?),
-        StmtKind::Nonlocal => Ok(nonlocal_node(alloc, location, fields, row)?),
-        StmtKind::Expr => expr_stmt_node(alloc, location, fields, nodes, row),
-        StmtKind::Pass => Ok(pass_node(location, fields, row)?),
-        StmtKind::Break => Ok(break_node(location, fields, row)?),
-        StmtKind::Continue => Ok(continue_node(location, fields, row)?),
+        StmtKind::FunctionDef => {
+            let (name, args, body, decorator_list, returns, type_params) = read_six(
+                fields, nodes, row,
+            )?;
+            Ok(Stmt::FunctionDef(StmtFunctionDef {
+                location,
+                name,
+                args,
+                body,
+                decorator_list,
+                returns,
+                type_params,
+            }))
+        }
+        StmtKind::AsyncFunctionDef => {
+            let (name, args, body, decorator_list, returns, type_params) = read_six(
+                fields, nodes, row,
+            )?;
+            Ok(Stmt::AsyncFunctionDef(StmtAsyncFunctionDef {
+                location,
+                name,
+                args,
+                body,
+                decorator_list,
+                returns,
+                type_params,
+            }))
+        }
+        StmtKind::ClassDef => {
+            let (name, bases, keywords, body, decorator_list, type_params) = read_six(
+                fields, nodes, row,
+            )?;
+            Ok(Stmt::ClassDef(StmtClassDef {
+                location,
+                name,
+                bases,
+                keywords,
+                body,
+                decorator_list,
+                type_params,
+            }))
+        }
+        StmtKind::Return => {
+            let value = read_one(fields, nodes, row)?;
+            Ok(Stmt::Return(StmtReturn { location, value }))
+        }
+        StmtKind::Delete => {
+            let targets = read_one(fields, nodes, row)?;
+            Ok(Stmt::Delete(StmtDelete { location, targets }))
+        }
+        StmtKind::Assign => {
+            let (targets, value) = read_two(fields, nodes, row)?;
+            Ok(Stmt::Assign(StmtAssign {
+                location,
+                targets,
+                value,
+            }))
+        }
+        StmtKind::TypeAlias => {
+            let (name, type_params, value) = read_three(fields, nodes, row)?;
+            Ok(Stmt::TypeAlias(StmtTypeAlias {
+                location,
+                name,
+                type_params,
+                value,
+            }))
+        }
+        StmtKind::AugAssign => {
+            let (target, op, value) = read_three(fields, nodes, row)?;
+            Ok(Stmt::AugAssign(StmtAugAssign {
+                location,
+                target,
+                op,
+                value,
+            }))
+        }
+        StmtKind::AnnAssign => {
+            let (target, annotation, value, simple) = read_four(fields, nodes, row)?;
+            Ok(Stmt::AnnAssign(StmtAnnAssign {
+                location,
+                target,
+                annotation,
+                value,
+                simple,
+            }))
+        }
+        StmtKind::For => {
+            let (target, iter, body, orelse) = read_four(fields, nodes, row)?;
+            Ok(Stmt::For(StmtFor {
+                location,
+                target,
+                iter,
+                body,
+                orelse,
+            }))
+        }
+        StmtKind::AsyncFor => {
+            let (target, iter, body, orelse) = read_four(fields, nodes, row)?;
+            Ok(Stmt::AsyncFor(StmtAsyncFor {
+                location,
+                target,
+                iter,
+                body,
+                orelse,
+            }))
+        }
+        StmtKind::While => {
+            let (test, body, orelse) = read_three(fields, nodes, row)?;
+            Ok(Stmt::While(StmtWhile {
+                location,
+                test,
+                body,
+                orelse,
+            }))
+        }
+        StmtKind::If => {
+            let (test, body, orelse) = read_three(fields, nodes, row)?;
+            Ok(Stmt::If(StmtIf {
+                location,
+                test,
+                body,
+                orelse,
+            }))
+        }
+        StmtKind::With => {
+            let (items, body) = read_two(fields, nodes, row)?;
+            Ok(Stmt::With(StmtWith {
+                location,
+                items,
+                body,
+            }))
+        }
+        StmtKind::AsyncWith => {
+            let (items, body) = read_two(fields, nodes, row)?;
+            Ok(Stmt::AsyncWith(StmtAsyncWith {
+                location,
+                items,
+                body,
+            }))
+        }
+        StmtKind::Match => {
+            let (subject, cases) = read_two(fields, nodes, row)?;
+            Ok(Stmt::Match(StmtMatch {
+                location,
+                subject,
+                cases,
+            }))
+        }
+        StmtKind::Raise => {
+            let (exc, cause) = read_two(fields, nodes, row)?;
+            Ok(Stmt::Raise(StmtRaise {
+                location,
+                exc,
+                cause,
+            }))
+        }
+        StmtKind::Try => {
+            let (body, handlers, orelse, finalbody) = read_four(fields, nodes, row)?;
+            Ok(Stmt::Try(StmtTry {
+                location,
+                body,
+                handlers,
+                orelse,
+                finalbody,
+            }))
+        }
+        StmtKind::TryStar => {
+            let (body, handlers, orelse, finalbody) = read_four(fields, nodes, row)?;
+            Ok(Stmt::TryStar(StmtTryStar {
+                location,
+                body,
+                handlers,
+                orelse,
+                finalbody,
+            }))
+        }
+        StmtKind::Assert => {
+            let (test, msg) = read_two(fields, nodes, row)?;
+            Ok(Stmt::Assert(StmtAssert {
+                location,
+                test,
+                msg,
+            }))
+        }
+        StmtKind::Import => {
+            let names = read_one(fields, nodes, row)?;
+            Ok(Stmt::Import(StmtImport { location, names }))
+        }
+        StmtKind::ImportFrom => {
+            let (module, names, level) = read_three(fields, nodes, row)?;
+            Ok(Stmt::ImportFrom(StmtImportFrom {
+                location,
+                module,
+                names,
+                level,
+            }))
+        }
+        StmtKind::Global => {
+            let names = read_one(fields, nodes, row)?;
+            Ok(Stmt::Global(StmtGlobal { location, names }))
+        }
+        StmtKind::Nonlocal => {
+            let names = read_one(fields, nodes, row)?;
+            Ok(Stmt::Nonlocal(StmtNonlocal { location, names }))
+        }
+        StmtKind::Expr => {
+            let value = read_one(fields, nodes, row)?;
+            Ok(Stmt::Expr(StmtExpr { location, value }))
+        }
+        StmtKind::Pass => {
+            no_field(fields, row)?;
+            Ok(Stmt::Pass(StmtPass { location }))
+        }
+        StmtKind::Break => {
+            no_field(fields, row)?;
+            Ok(Stmt::Break(StmtBreak { location }))
+        }
+        StmtKind::Continue => {
+            no_field(fields, row)?;
+            Ok(Stmt::Continue(StmtContinue { location }))
+        }
     }
 }
 
 /// The same, of the place and the fields after it.
 pub(crate) fn stmt_node(
-    alloc: Global,
     kind: StmtKind,
     fields: &[Value],
     nodes: &mut Nodes,
@@ -78,5 +265,5 @@ pub(crate) fn stmt_node(
 {
     let location = place(fields, row)?;
     let own = after_place(fields, row)?;
-    stmt_of_kind(alloc, kind, location, own, nodes, row)
+    stmt_of_kind(kind, location, own, nodes, row)
 }

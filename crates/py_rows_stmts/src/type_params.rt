@@ -5,16 +5,16 @@ ghost use Rattle.py_rows_fields.specs.Gives.{Gives};
 ghost use Rattle.py_rows_stmts.specs.TypeParams.{type_param_node, type_param_of_kind};
 ghost use Rattle.py_rows_slots.specs.Nodes.{nodes_view};
 
-use crate::pieces::{param_spec_node, type_var_node, type_var_tuple_node};
 use py_rows_fields::{RowsError, TypeParamKind, after_place, place};
-use py_rows_slots::Nodes;
-use py_tree::{SourceLocation, TypeParam};
+use py_rows_slots::{Nodes, read_one, read_two};
+use py_tree::{
+    SourceLocation, TypeParam, TypeParamParamSpec, TypeParamTypeVar, TypeParamTypeVarTuple,
+};
 use serde_json::Value;
-use std::alloc::Global;
 
 /// A type parameter, of the fields of its kind.
+#[tactic(auto, using(py_tree::proofs::View::trees))]
 fn type_param_of_kind(
-    alloc: Global,
     kind: TypeParamKind,
     location: SourceLocation,
     fields: &[Value],
@@ -25,15 +25,27 @@ fn type_param_of_kind(
         (type_param_of_kind row kind location (items_view fields.now) (nodes_view nodes.old)) }
 {
     match kind {
-        TypeParamKind::TypeVar => type_var_node(alloc, location, fields, nodes, row),
-        TypeParamKind::ParamSpec => Ok(param_spec_node(alloc, location, fields, row)?),
-        TypeParamKind::TypeVarTuple => Ok(type_var_tuple_node(alloc, location, fields, row)?),
+        TypeParamKind::TypeVar => {
+            let (name, bound) = read_two(fields, nodes, row)?;
+            Ok(TypeParam::TypeVar(TypeParamTypeVar {
+                location,
+                name,
+                bound,
+            }))
+        }
+        TypeParamKind::ParamSpec => {
+            let name = read_one(fields, nodes, row)?;
+            Ok(TypeParam::ParamSpec(TypeParamParamSpec { location, name }))
+        }
+        TypeParamKind::TypeVarTuple => {
+            let name = read_one(fields, nodes, row)?;
+            Ok(TypeParam::TypeVarTuple(TypeParamTypeVarTuple { location, name }))
+        }
     }
 }
 
 /// The same, of the place and the fields after it.
 pub(crate) fn type_param_node(
-    alloc: Global,
     kind: TypeParamKind,
     fields: &[Value],
     nodes: &mut Nodes,
@@ -44,5 +56,5 @@ pub(crate) fn type_param_node(
 {
     let location = place(fields, row)?;
     let own = after_place(fields, row)?;
-    type_param_of_kind(alloc, kind, location, own, nodes, row)
+    type_param_of_kind(kind, location, own, nodes, row)
 }

@@ -1,6 +1,0 @@
-use Rattle.std.proofs.Common.{refl}
-use Rattle.py_tree.proofs.View.{tree_BoolOp}
-use Rattle.py_rows_exprs.proofs.operations.bool_op_node.Goals as goal
-
-pub returns : goal.returns
-returns c = rw (c.in_ok-op.ensures, c.in_ok-op-2.ensures, c.in_ok-values.ensures, tree_BoolOp) refl

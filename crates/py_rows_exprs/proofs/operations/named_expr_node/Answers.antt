@@ -1,6 +1,0 @@
-use Rattle.std.proofs.Common.{refl}
-use Rattle.py_tree.proofs.View.{tree_NamedExpr}
-use Rattle.py_rows_exprs.proofs.operations.named_expr_node.Goals as goal
-
-pub returns : goal.returns
-returns c = rw (c.in_ok-target.ensures, c.in_ok-target-2.ensures, c.in_ok-value.ensures, tree_NamedExpr) refl

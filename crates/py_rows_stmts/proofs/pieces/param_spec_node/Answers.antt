@@ -1,5 +1,0 @@
-use Rattle.std.proofs.Common.{refl}
-use Rattle.py_rows_stmts.proofs.pieces.param_spec_node.Goals as goal
-
-pub returns : goal.returns
-returns c = rw (c.in_ok-field.ensures, c.in_ok-name.ensures) refl
