@@ -43,7 +43,7 @@ pub(crate) fn read_all(
 }
 
 /// Reads one row. `parts` is room for the rows that it names.
-fn read_row(
+pub(crate) fn read_row(
     alloc: Global,
     row: &Value,
     number: u32,
