@@ -7,7 +7,6 @@ use crate::reading::read_row;
 use py_rows_fields::{Part, RowsError, read_json, rows_of};
 use py_rows_slots::Nodes;
 use std::alloc::{AllocError, Global};
-use std::str::from_utf8;
 
 /// How many bytes of rows are read together at least.
 const PIECE: usize = 512;
@@ -21,7 +20,7 @@ pub(crate) fn read_pieces(alloc: Global, bytes: &[u8], nodes: &mut Nodes) -> Res
     ensures { IfOk result (λ _. text_read bytes.now (nodes_view nodes.old)
         ≡ Ok (nodes_view nodes.new)) }
 {
-    if from_utf8(bytes).is_err() || bytes.is_empty() || bytes[0] != b'[' {
+    if str::from_utf8(bytes).is_err() || bytes.is_empty() || bytes[0] != b'[' {
         return Err(RowsError::NotJson);
     }
     let mut piece = Vec::new(alloc);
@@ -92,7 +91,7 @@ fn read_piece(
     let mut number = start;
     for row in rows.as_slice() {
         read_row(alloc, row, number, parts, nodes)?;
-        number = number.checked_add(1).ok_or(RowsError::OutOfMemory)?;
+        number = number.checked_add(1).ok_or(RowsError::NotRows)?;
     }
     Ok(number)
 }
