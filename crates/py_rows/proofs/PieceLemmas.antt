@@ -1,19 +1,21 @@
 -- Rows that are read piece by piece are those of the whole text.
 use Rattle.std.proofs.Common.{◌≡◌, ℕ, suc, ◌+◌, ◌-◌, ◌<◌, ◌≤◌, Bool, true, false, List, [], ◌∷◌, ◌++◌, length, take, drop, get_or, Option}
-use Rattle.std.proofs.Common.{Some, None, Result, Ok, Err, if◌then◌else◌, refl, sym, ap, ap₂, ◌∙◌, subst, arith, take-append-drop}
+use Rattle.std.proofs.Common.{IfOk, Some, None, Result, Ok, Err, if◌then◌else◌, refl, sym, ap, ap₂, ◌∙◌, subst, arith, take-append-drop}
 use Rattle.std.proofs.Common.{drop-drop, take-suc, get_or-drop, append_assoc, length-drop, slice_range}
 use Rattle.std.proofs.lemmas.List.{drop_more}
 use Rattle.std.proofs.lemmas.Bool.{cases_Bool}
 use Rattle.std.specs.Str.{is_utf8}
 use Rattle.serde_json.specs.Data.{Data, null, boolean, number, string, array, object, Items, no_items, item}
+use Rattle.serde_json.specs.Events.{items_len}
 use Rattle.serde_json.specs.Read.{read}
 use Rattle.py_rows_fields.specs.declared.error.RowsError.{RowsError}
 use Rattle.py_rows_fields.specs.declared.error.RowsError.TheVariants.{NotJson, NotRows}
-use Rattle.py_rows_fields.specs.Gives.{or_fault, ◌>>=◌}
+use Rattle.py_rows_fields.specs.Gives.{Gives, or_fault, ◌>>=◌}
 use Rattle.py_rows_fields.specs.JsonRows.{json_of, rows_in}
-use Rattle.py_rows_slots.specs.Nodes.{Nodes}
-use Rattle.py_rows.specs.Pieces.{IsBorder, IsRead, count, text_read}
-use Rattle.py_rows.specs.Rows.{row_read, rows_from}
+use Rattle.py_rows_slots.specs.Nodes.{Nodes, no_nodes}
+use Rattle.py_tree.specs.Tree as tree
+use Rattle.py_rows.specs.Pieces.{IsBorder, IsRead, text_read}
+use Rattle.py_rows.specs.Rows.{row_read, rows_from, rows_tree, whole}
 use Rattle.py_rows.proofs.CutLemmas.{append, read-cut}
 
 abbrev pub IsSome : Items → Type 0
@@ -27,18 +29,18 @@ some_append (item d ds) es h = tt
 -- ---- rows after rows
 
 after_one : (n : ℕ) (r : Result Nodes RowsError) (ds es : Items) (new : Nodes) → (r >>= rows_from (n + 1) ds) ≡ Ok new
-    → ((mid : Nodes) → rows_from (n + 1) ds mid ≡ Ok new → rows_from (n + 1) (append ds es) mid ≡ rows_from (n + 1 + count ds) es new)
-    → (r >>= rows_from (n + 1) (append ds es)) ≡ rows_from (n + 1 + count ds) es new
+    → ((mid : Nodes) → rows_from (n + 1) ds mid ≡ Ok new → rows_from (n + 1) (append ds es) mid ≡ rows_from (n + 1 + items_len ds) es new)
+    → (r >>= rows_from (n + 1) (append ds es)) ≡ rows_from (n + 1 + items_len ds) es new
 after_one n (Err e) ds es new h k = absurd (cc)
 after_one n (Ok mid) ds es new h k = k mid h
 
-pub rows_from-append : (n : ℕ) (ds es : Items) (old new : Nodes) → rows_from n ds old ≡ Ok new → rows_from n (append ds es) old ≡ rows_from (n + count ds) es new
+pub rows_from-append : (n : ℕ) (ds es : Items) (old new : Nodes) → rows_from n ds old ≡ Ok new → rows_from n (append ds es) old ≡ rows_from (n + items_len ds) es new
 rows_from-append n no_items es old new h =
     let same : old ≡ new = cc in
     let e : n ≡ n + 0 = omega arith in
     ap₂ (λ k x. rows_from k es x) e same
 rows_from-append n (item d ds) es old new h =
-    let e : n + 1 + count ds ≡ n + (1 + count ds) = omega arith in
+    let e : n + 1 + items_len ds ≡ n + suc (items_len ds) = omega arith in
     after_one n (row_read n d old) ds es new h (λ mid k. rows_from-append (n + 1) ds es mid new k)
     ∙ ap (λ k. rows_from k es new) e
 
@@ -114,11 +116,11 @@ piece_ends bytes start border lt h =
 pub left_step : (bytes piece : List ℕ) (start border first next : ℕ) (old nodes new : Nodes) → start < border → IsBorder bytes border
     → piece ≡ 91 ∷ slice_range bytes start border ++ 93 ∷ [] → IsRead piece first next nodes new
     → Left bytes start first old nodes → Left bytes (border + 1) next old new
-left_step bytes piece start border first next old nodes new lt h text told left es some r =
+left_step bytes piece start border first next old nodes new lt h text given left es some r =
     let b = take (border - 1 - start) (drop start bytes) in
     let m = drop (border + 2) bytes in
-    let ds = told.0 in
-    let is = is_rows piece ds told.1 in
+    let ds = given.0 in
+    let is = is_rows piece ds given.1 in
     let two : border + 1 + 1 ≡ border + 2 = omega arith in
     let opens : drop (border + 1) bytes ≡ 91 ∷ m = drop_more bytes (border + 1) 0 h.0 ∙ ap₂ (λ x k. x ∷ drop k bytes) h.3 two in
     let one : read (91 ∷ b ++ 93 ∷ 93 ∷ []) ≡ Some (array ds) = ap read (sym (text ∙ piece_ends bytes start border lt h)) ∙ is.is in
@@ -126,11 +128,25 @@ left_step bytes piece start border first next old nodes new lt h text told left 
     let whole : read (91 ∷ drop start bytes) ≡ Some (array (append ds es)) =
     ap (λ l. read (91 ∷ l)) (at_border bytes start border lt h) ∙ read-cut b m ds es one second in
     let found = left (append ds es) (some_append ds es is.some) whole in
-    (found.0, found.1, found.2, found.3 ∙ rows_from-append first ds es nodes new told.2 ∙ ap (λ k. rows_from k es new) (sym told.3))
+    (found.0, found.1, found.2, found.3 ∙ rows_from-append first ds es nodes new given.2 ∙ ap (λ k. rows_from k es new) (sym given.3))
 
 pub left_last : (bytes piece : List ℕ) (start first next : ℕ) (old nodes new : Nodes) → is_utf8 bytes ≡ true
     → piece ≡ 91 ∷ drop start bytes → IsRead piece first next nodes new → Left bytes start first old nodes → text_read bytes old ≡ Ok new
-left_last bytes piece start first next old nodes new u text told left =
-    let is = is_rows piece told.0 told.1 in
-    let found = left told.0 is.some (ap read (sym text) ∙ is.is) in
-    whole_read bytes found.0 old u found.2 found.1 ∙ found.3 ∙ told.2
+left_last bytes piece start first next old nodes new u text given left =
+    let is = is_rows piece given.0 given.1 in
+    let found = left given.0 is.some (ap read (sym text) ∙ is.is) in
+    whole_read bytes found.0 old u found.2 found.1 ∙ found.3 ∙ given.2
+
+-- ---- the tree
+
+then_whole : (r : Result Items RowsError) (nodes : Nodes) → (r >>= λ rows. rows_from 0 rows nodes >>= whole) ≡ ((r >>= λ rows. rows_from 0 rows nodes) >>= whole)
+then_whole (Ok rows) nodes = refl
+then_whole (Err e) nodes = refl
+
+pub tree_found : {X : Type 0} (view : X → tree.Mod) (bytes : List ℕ) (first last : Nodes) (r : Result X RowsError) → first ≡ no_nodes → text_read bytes first ≡ Ok last
+    → Gives view r (whole last) → IfOk r (λ x. rows_tree bytes ≡ Ok (view x))
+tree_found view bytes first last (Err e) none h g = tt
+tree_found view bytes first last (Ok x) none h g =
+    then_whole (json_of bytes >>= rows_in) no_nodes
+    ∙ ap (λ (n : Nodes). text_read bytes n >>= whole) (sym none)
+    ∙ ap (λ (r : Result Nodes RowsError). r >>= whole) h ∙ g

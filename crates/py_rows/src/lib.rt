@@ -61,6 +61,6 @@ fn read_whole(alloc: Global, bytes: &[u8]) -> Result<Mod, RowsError>
     let value = read_json(alloc, bytes)?;
     let rows = rows_of(value)?;
     let mut nodes = Nodes::new(alloc);
-    read_all(alloc, rows, &mut nodes)?;
+    read_all(alloc, rows, 0, &mut nodes)?;
     take_program(&mut nodes)
 }

@@ -1,12 +1,12 @@
 //! The rows of a text, read piece by piece.
-ghost use Rattle.std.specs.Prelude.{◌≡◌, ◌+◌, ◌≤◌, ◌<◌, ◌^◌, ◌++◌, ◌∷◌, [], IfOk, IfSome, IsTrue, Ok, get_or, length};
+ghost use Rattle.std.specs.Prelude.{◌≡◌, ◌+◌, ◌≤◌, ◌<◌, ◌^◌, ◌++◌, ◌∷◌, [], IfOk, IfSome, IsUtf8, Ok, get_or, length, true};
 ghost use Rattle.py_rows_slots.specs.Nodes.{nodes_view};
 ghost use Rattle.py_rows.specs.Pieces.{IsBorder, IsRead, text_read};
 
-use crate::reading::read_row;
-use py_rows_fields::{Part, RowsError, read_json, rows_of};
+use crate::reading::read_all;
+use py_rows_fields::{RowsError, read_json, rows_of};
 use py_rows_slots::Nodes;
-use std::alloc::{AllocError, Global};
+use std::alloc::Global;
 
 /// How many bytes of rows are read together at least.
 const PIECE: usize = 512;
@@ -20,39 +20,40 @@ pub(crate) fn read_pieces(alloc: Global, bytes: &[u8], nodes: &mut Nodes) -> Res
     ensures { IfOk result (λ _. text_read bytes.now (nodes_view nodes.old)
         ≡ Ok (nodes_view nodes.new)) }
 {
-    if str::from_utf8(bytes).is_err() || bytes.is_empty() || bytes[0] != b'[' {
+    if !opens(bytes) {
         return Err(RowsError::NotJson);
     }
     let mut piece = Vec::new(alloc);
-    let mut parts = Vec::new(alloc);
     let mut number = 0;
     let mut start = 1;
     'pieces: while let Some(border) = border_from(bytes, start) {
-        fill(&mut piece, &bytes[start..border], b"]")?;
-        number = read_piece(alloc, piece.as_slice(), number, &mut parts, nodes)?;
+        let next = read_closed(alloc, &bytes[start..border], number, &mut piece, nodes)?;
+        number = next;
         start = border + 1;
     }
-    fill(&mut piece, &bytes[start..], b"")?;
-    read_piece(alloc, piece.as_slice(), number, &mut parts, nodes)?;
+    read_last(alloc, &bytes[start..], number, &mut piece, nodes)?;
     Ok(())
 }
 
-/// The text of an array that begins with these bytes.
-fn fill(piece: &mut Vec<u8>, rows: &[u8], end: &[u8]) -> Result<(), AllocError>
-    ensures { IfOk result (λ _. piece.new.items ≡ 91 ∷ rows.now ++ end.now) }
+/// Whether the bytes are text that begins with the bracket of an array.
+fn opens(bytes: &[u8]) -> bool
+    ensures text { result ≡ true → IsUtf8 bytes.now }
+    ensures some { result ≡ true → 0 < length bytes.now }
+    ensures bracket { result ≡ true → get_or bytes.now 0 0 ≡ 91 }
 {
-    piece.clear();
-    piece.push(b'[')?;
-    piece.extend_from_slice(rows)?;
-    piece.extend_from_slice(end)
+    match str::from_utf8(bytes) {
+        Ok(_) => !bytes.is_empty() && bytes[0] == b'[',
+        Err(_) => false,
+    }
 }
 
 /// Where the first comma between two rows stands that ends a piece.
 fn border_from(bytes: &[u8], start: usize) -> Option<usize>
     requires { start ≤ length bytes.now }
-    ensures { IfSome result (λ border. (start < border) × IsBorder bytes.now border) }
+    ensures later { IfSome result (λ border. start < border) }
+    ensures border { IfSome result (λ border. IsBorder bytes.now border) }
 {
-    let mut at = start.saturating_add(PIECE);
+    let mut at = start + PIECE;
     'bytes: while at < bytes.len() {
         if is_border(bytes, at) {
             return Some(at);
@@ -64,9 +65,9 @@ fn border_from(bytes: &[u8], start: usize) -> Option<usize>
 
 /// Whether a comma between two rows stands there: a row ends before it, and a bracket and a word begin one after it.
 fn is_border(bytes: &[u8], at: usize) -> bool
-    requires after { 0 < at }
-    requires within { at < length bytes.now }
-    ensures { IsTrue result → IsBorder bytes.now at }
+    requires later { 0 < at }
+    requires inside { at < length bytes.now }
+    ensures { result ≡ true → IsBorder bytes.now at }
 {
     at + 3 < bytes.len()
         && bytes[at] == b','
@@ -76,22 +77,74 @@ fn is_border(bytes: &[u8], at: usize) -> bool
         && bytes[at + 3].is_ascii_alphabetic()
 }
 
-/// Reads the rows of a piece, of which the first is row `start`, and gives the number of the row after them.
-fn read_piece(
+/// Reads rows that others follow. `piece` is room for their text.
+fn read_closed(
     alloc: Global,
-    text: &[u8],
-    start: u32,
-    parts: &mut Vec<Part>,
+    rows: &[u8],
+    first: u32,
+    piece: &mut Vec<u8>,
     nodes: &mut Nodes,
 ) -> Result<u32, RowsError>
-    ensures { IfOk result (λ next. IsRead text.now start next (nodes_view nodes.old)
+    ensures { IfOk result (λ next. IsRead (91 ∷ rows.now ++ 93 ∷ []) first next (nodes_view nodes.old)
         (nodes_view nodes.new)) }
 {
-    let rows = rows_of(read_json(alloc, text)?)?;
-    let mut number = start;
-    for row in rows.as_slice() {
-        read_row(alloc, row, number, parts, nodes)?;
-        number = number.checked_add(1).ok_or(RowsError::NotRows)?;
+    fill_closed(piece, rows)?;
+    read_piece(alloc, piece.as_slice(), first, nodes)
+}
+
+/// Reads the last rows, with the bracket that closes the array. `piece` is room for their text.
+fn read_last(
+    alloc: Global,
+    rows: &[u8],
+    first: u32,
+    piece: &mut Vec<u8>,
+    nodes: &mut Nodes,
+) -> Result<u32, RowsError>
+    ensures { IfOk result (λ next. IsRead (91 ∷ rows.now) first next (nodes_view nodes.old)
+        (nodes_view nodes.new)) }
+{
+    fill(piece, rows)?;
+    read_piece(alloc, piece.as_slice(), first, nodes)
+}
+
+/// The text of an array that begins with these bytes.
+fn fill(piece: &mut Vec<u8>, rows: &[u8]) -> Result<(), RowsError>
+    ensures { IfOk result (λ _. piece.new.items ≡ 91 ∷ rows.now) }
+{
+    piece.clear();
+    piece.push(b'[')?;
+    piece.extend_from_slice(rows)?;
+    Ok(())
+}
+
+/// The text of an array of these bytes.
+fn fill_closed(piece: &mut Vec<u8>, rows: &[u8]) -> Result<(), RowsError>
+    ensures { IfOk result (λ _. piece.new.items ≡ 91 ∷ rows.now ++ 93 ∷ []) }
+{
+    fill(piece, rows)?;
+    piece.push(b']')?;
+    Ok(())
+}
+
+/// Reads the rows of a text, of which the first is row `first`, and gives the number of the row after them.
+fn read_piece(alloc: Global, text: &[u8], first: u32, nodes: &mut Nodes) -> Result<u32, RowsError>
+    ensures { IfOk result (λ next. IsRead text.now first next (nodes_view nodes.old)
+        (nodes_view nodes.new)) }
+{
+    let value = read_json(alloc, text)?;
+    let rows = rows_of(value)?;
+    let Some(next) = number_after(first, rows.len()) else {
+        return Err(RowsError::NotRows);
+    };
+    read_all(alloc, rows, first, nodes)?;
+    Ok(next)
+}
+
+fn number_after(first: u32, count: usize) -> Option<u32>
+    ensures { IfSome result (λ next. next ≡ first + count) }
+{
+    match u32::try_from(count) {
+        Ok(count) => first.checked_add(count),
+        Err(_) => None,
     }
-    Ok(number)
 }

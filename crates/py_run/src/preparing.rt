@@ -101,7 +101,14 @@ pub(crate) fn tree_of(alloc: Global, bytes: Vec<u8>) -> Result<Mod, Prepared>
     requires { length bytes.items < 2 ^ 26 }
     ensures { ReadsTree result (rows_tree bytes.items) }
 {
-    match read_rows(alloc, bytes.as_slice()) {
+    read_tree(alloc, bytes.as_slice())
+}
+
+fn read_tree(alloc: Global, bytes: &[u8]) -> Result<Mod, Prepared>
+    requires { length bytes.now < 2 ^ 26 }
+    ensures { ReadsTree result (rows_tree bytes.now) }
+{
+    match read_rows(alloc, bytes) {
         Ok(tree) => Ok(tree),
         Err(RowsError::OutOfMemory) => Err(Prepared::Memory),
         Err(error) => Err(misread(alloc, &error)),

@@ -6,7 +6,7 @@ use Rattle.py_rows.proofs.pieces.read_pieces.Given as goal
 abbrev pub invariant-pieces : goal.invariant-pieces
 invariant-pieces l = record {
   left : Left l.fn.bytes l.start l.number (nodes_view l.fn.nodes) (nodes_view l.nodes);
-  within : l.start ≤ length l.fn.bytes;
+  inside : l.start ≤ length l.fn.bytes;
 }
 
 abbrev pub decreases-pieces : goal.decreases-pieces
