@@ -173,10 +173,10 @@ module _ (b m : List ℕ) (ds es : Items) where
       let lexed = lex-closed b (faultless (lex between (b ++ 93 ∷ 93 ∷ [])) fresh sound) in
       let short : lex between (b ++ 93 ∷ 93 ∷ []) ≡ lexed.0 ++ token end_array ∷ token end_array ∷ [] = lexed.1 (93 ∷ []) ∙ ap (λ l. lexed.0 ++ token end_array ∷ l) closing in
       let parts = split lexed.0 fresh (subst (λ l. Sound (punctuate fresh l)) short sound) in
-      let spelled : items_tokens h.items ≡ parts.0 ++ end_array ∷ end_array ∷ [] =
+      let closed : items_tokens h.items ≡ parts.0 ++ end_array ∷ end_array ∷ [] =
       sym first ∙ ap (punctuate fresh) short ∙ parts.1 (token end_array ∷ []) ∙ ap (λ l. parts.0 ++ end_array ∷ l) closing_end in
       let same : body h.items ≡ parts.0 ++ end_array ∷ [] =
-      push_same _ _ (sym (with_end h.items) ∙ spelled ∙ sym (append_assoc parts.0 (end_array ∷ []) (end_array ∷ []))) in
+      push_same _ _ (sym (with_end h.items) ∙ closed ∙ sym (append_assoc parts.0 (end_array ∷ []) (end_array ∷ []))) in
       let whole : punctuate fresh (lex between (b ++ 93 ∷ 44 ∷ 91 ∷ m)) ≡ items_tokens (joined h.items k.items) =
       ap (punctuate fresh) (lexed.1 (44 ∷ 91 ∷ m)) ∙ parts.1 (lex between (44 ∷ 91 ∷ m))
       ∙ ap (λ l. parts.0 ++ end_array ∷ l) (reopened m ∙ sym (reopen m) ∙ second)

@@ -1,7 +1,7 @@
 -- Rows that are read piece by piece are those of the whole text.
 use Rattle.std.proofs.Common.{◌≡◌, ℕ, suc, ◌+◌, ◌-◌, ◌<◌, ◌≤◌, Bool, true, false, List, [], ◌∷◌, ◌++◌, length, take, drop, get_or, Option}
 use Rattle.std.proofs.Common.{IfOk, Some, None, Result, Ok, Err, if◌then◌else◌, refl, sym, ap, ap₂, ◌∙◌, subst, arith, take-append-drop}
-use Rattle.std.proofs.Common.{drop-drop, take-suc, get_or-drop, append_assoc, length-drop, slice_range}
+use Rattle.std.proofs.Common.{drop-drop, take-suc, get_or-drop, append_assoc, length-drop, slice_range, take_all}
 use Rattle.std.proofs.lemmas.List.{drop_more}
 use Rattle.std.proofs.lemmas.Bool.{cases_Bool}
 use Rattle.std.specs.Str.{is_utf8}
@@ -129,6 +129,10 @@ left_step bytes piece start border first next old nodes new lt h text given left
     ap (λ l. read (91 ∷ l)) (at_border bytes start border lt h) ∙ read-cut b m ds es one second in
     let found = left (append ds es) (some_append ds es is.some) whole in
     (found.0, found.1, found.2, found.3 ∙ rows_from-append first ds es nodes new given.2 ∙ ap (λ k. rows_from k es new) (sym given.3))
+
+-- the bytes of the last piece
+pub last_bytes : (bytes : List ℕ) (start : ℕ) → 91 ∷ slice_range bytes start (length bytes) ≡ 91 ∷ drop start bytes
+last_bytes bytes start = ap (λ l. 91 ∷ l) (take_all (length bytes - start) (drop start bytes) (simp length-drop (omega arith)))
 
 pub left_last : (bytes piece : List ℕ) (start first next : ℕ) (old nodes new : Nodes) → is_utf8 bytes ≡ true
     → piece ≡ 91 ∷ drop start bytes → IsRead piece first next nodes new → Left bytes start first old nodes → text_read bytes old ≡ Ok new

@@ -1,7 +1,7 @@
-use Rattle.std.proofs.Common.{List, [], ◌∷◌, ◌++◌, drop, slice_range, refl, arith}
+use Rattle.std.proofs.Common.{[], ◌∷◌, ◌++◌, length, slice_range, refl, arith}
 use Rattle.std.proofs.lemmas.Str.{is_utf8-from_IsUtf8}
 use Rattle.py_rows_slots.specs.Nodes.{nodes_view}
-use Rattle.py_rows.proofs.PieceLemmas.{left_first, left_step, left_last}
+use Rattle.py_rows.proofs.PieceLemmas.{last_bytes, left_first, left_step, left_last}
 use Rattle.py_rows.proofs.pieces.read_pieces.Goals as goal
 
 pub pieces-init : goal.pieces-init
@@ -22,5 +22,5 @@ pieces-preserved c =
 pub returns : goal.returns
 returns c =
     let bytes = c.args.bytes.now in
-    left_last bytes (91 ∷ drop c.pieces.start bytes) c.pieces.start c.pieces.number _ _ _ _
-    (is_utf8-from_IsUtf8 bytes (c.opens.ensures.text c.if-not-opens.false)) refl c.in_ok-read_last.ensures c.pieces.invariant.left
+    left_last bytes (91 ∷ slice_range bytes c.pieces.start (length bytes)) c.pieces.start c.pieces.number _ _ _ _
+    (is_utf8-from_IsUtf8 bytes (c.opens.ensures.text c.if-not-opens.false)) (last_bytes bytes c.pieces.start) c.in_ok-read_last.ensures c.pieces.invariant.left
