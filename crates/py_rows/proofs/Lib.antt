@@ -1,1 +1,8 @@
 mod Words
+mod WordLemmas
+mod LexLemmas
+mod ClosedLemmas
+mod PunctuationLemmas
+mod TreeLemmas
+mod CutLemmas
+mod PieceLemmas

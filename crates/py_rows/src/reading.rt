@@ -1,5 +1,5 @@
 //! The rows, read one by one.
-ghost use Rattle.std.specs.Prelude.{◌<◌, ◌^◌, length};
+ghost use Rattle.std.specs.Prelude.{◌+◌, ◌<◌, ◌^◌, length};
 ghost use Rattle.serde_json.specs.View.{view, items_view};
 ghost use Rattle.py_rows_fields.specs.Gives.{Gives};
 ghost use Rattle.py_rows_slots.specs.Nodes.{nodes_view};
@@ -17,19 +17,20 @@ use std::alloc::Global;
 /// of the C library joins the pieces that have been let go.
 const GROUP: usize = 4096;
 
-/// Reads the rows from 0 up, and lets them go in groups once they are read.
+/// Reads the rows, of which the first is row `first`, and lets them go in groups once they are read.
 pub(crate) fn read_all(
     alloc: Global,
     mut rows: Vec<Value>,
+    first: u32,
     nodes: &mut Nodes,
 ) -> Result<(), RowsError>
-    requires { length rows.items < 2 ^ 32 }
+    requires { first + length rows.items < 2 ^ 32 }
     ensures { Gives (λ _. nodes_view nodes.new) result
-        (rows_from 0 (items_view rows.items) (nodes_view nodes.old)) }
+        (rows_from first (items_view rows.items) (nodes_view nodes.old)) }
 {
     let mut parts = Vec::new(alloc);
     let mut read = Vec::with_capacity(alloc, rows.len().min(GROUP))?;
-    let mut number = 0u32;
+    let mut number = first;
     rows.reverse();
     while let Some(row) = rows.pop() {
         read_row(&row, number, &mut parts, nodes)?;

@@ -19,10 +19,10 @@ use py_tree::Mod;
 use std::alloc::Global;
 
 /// The code of the rows with its listing, or why there is none.
-pub fn compiled(alloc: Global, compilation: &Compilation<'_>, bytes: &[u8]) -> Prepared
-    requires { length bytes.now < 2 ^ 26 }
+pub fn compiled(alloc: Global, compilation: &Compilation<'_>, bytes: Vec<u8>) -> Prepared
+    requires { length bytes.items < 2 ^ 26 }
     ensures { Readies (Compile (compilation_view compilation.now)) result
-        (by_rows (due_code (compilation_view compilation.now)) (rows_tree bytes.now)) }
+        (by_rows (due_code (compilation_view compilation.now)) (rows_tree bytes.items)) }
 {
     match code_of(alloc, compilation, bytes) {
         Ok(code) => listed(alloc, code),
@@ -31,10 +31,10 @@ pub fn compiled(alloc: Global, compilation: &Compilation<'_>, bytes: &[u8]) -> P
 }
 
 /// The code of the rows with its file, or why there is none.
-pub fn packed(alloc: Global, compilation: &Compilation<'_>, bytes: &[u8]) -> Prepared
-    requires { length bytes.now < 2 ^ 26 }
+pub fn packed(alloc: Global, compilation: &Compilation<'_>, bytes: Vec<u8>) -> Prepared
+    requires { length bytes.items < 2 ^ 26 }
     ensures { Readies (Pack (compilation_view compilation.now)) result
-        (by_rows (due_code (compilation_view compilation.now)) (rows_tree bytes.now)) }
+        (by_rows (due_code (compilation_view compilation.now)) (rows_tree bytes.items)) }
 {
     match code_of(alloc, compilation, bytes) {
         Ok(code) => in_file(alloc, code),
@@ -49,11 +49,11 @@ pub fn packed(alloc: Global, compilation: &Compilation<'_>, bytes: &[u8]) -> Pre
 fn code_of(
     alloc: Global,
     compilation: &Compilation<'_>,
-    bytes: &[u8],
+    bytes: Vec<u8>,
 ) -> Result<CodeObject, Prepared>
-    requires { length bytes.now < 2 ^ 26 }
+    requires { length bytes.items < 2 ^ 26 }
     ensures { Compiles result (by_rows (due_code (compilation_view compilation.now))
-        (rows_tree bytes.now)) }
+        (rows_tree bytes.items)) }
 {
     let tree = tree_of(alloc, bytes)?;
     let code = code_of_tree(alloc, compilation, &tree);

@@ -14,9 +14,9 @@ use std::alloc::Global;
 use symboltable::into_codegen_error;
 
 /// The report on the tree of the rows, or why there is none.
-pub fn reported(alloc: Global, bytes: &[u8]) -> Prepared
-    requires { length bytes.now < 2 ^ 26 }
-    ensures { Readies Names result (by_rows due_report (rows_tree bytes.now)) }
+pub fn reported(alloc: Global, bytes: Vec<u8>) -> Prepared
+    requires { length bytes.items < 2 ^ 26 }
+    ensures { Readies Names result (by_rows due_report (rows_tree bytes.items)) }
 {
     match tree_of(alloc, bytes) {
         Ok(tree) => {

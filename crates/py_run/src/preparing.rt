@@ -58,27 +58,27 @@ pub fn prepare<S: Source>(alloc: Global, words: &Words, source: &mut S) -> Prepa
         return Prepared::Misuse;
     };
     if !command.takes_input() {
-        return answered(alloc, &command, &[]);
+        return answered(alloc, &command, Vec::new(alloc));
     }
     match read_all(alloc, source) {
-        Ok(bytes) => answered(alloc, &command, bytes.as_slice()),
+        Ok(bytes) => answered(alloc, &command, bytes),
         Err(ReadError::TooLong) => too_long(alloc),
         Err(ReadError::Failed) => Prepared::ReadFault,
         Err(ReadError::OutOfMemory) => Prepared::Memory,
     }
 }
 
-fn answered(alloc: Global, command: &Command<'_>, bytes: &[u8]) -> Prepared
-    requires short { length bytes.now < 2 ^ 26 }
+fn answered(alloc: Global, command: &Command<'_>, bytes: Vec<u8>) -> Prepared
+    requires short { length bytes.items < 2 ^ 26 }
     requires fit { IsFit command.now }
     ensures { Readies (command_view command.now) result
-        (due_answer (command_view command.now) bytes.now) }
+        (due_answer (command_view command.now) bytes.items) }
 {
     match command {
         Command::Compile(compilation) => compiled(alloc, compilation, bytes),
         Command::Pack(compilation) => packed(alloc, compilation, bytes),
         Command::Step(compilation, script) => stepped(alloc, compilation, script, bytes),
-        Command::Unpack => unpacked(alloc, bytes),
+        Command::Unpack => unpacked(alloc, bytes.as_slice()),
         Command::Names => reported(alloc, bytes),
         Command::Sample(made) => sampled(alloc, made.count, made.level),
     }
@@ -93,11 +93,18 @@ fn too_long(alloc: Global) -> Prepared
     }
 }
 
-/// The tree that the rows are.
+/// The tree that the rows are. The rows are let go once it is read.
 ///
 /// # Errors
 /// What is to be written in place of all that is made of a tree.
-pub(crate) fn tree_of(alloc: Global, bytes: &[u8]) -> Result<Mod, Prepared>
+pub(crate) fn tree_of(alloc: Global, bytes: Vec<u8>) -> Result<Mod, Prepared>
+    requires { length bytes.items < 2 ^ 26 }
+    ensures { ReadsTree result (rows_tree bytes.items) }
+{
+    read_tree(alloc, bytes.as_slice())
+}
+
+fn read_tree(alloc: Global, bytes: &[u8]) -> Result<Mod, Prepared>
     requires { length bytes.now < 2 ^ 26 }
     ensures { ReadsTree result (rows_tree bytes.now) }
 {

@@ -24,13 +24,13 @@ pub fn stepped(
     alloc: Global,
     compilation: &Compilation<'_>,
     script: &Text,
-    bytes: &[u8],
+    bytes: Vec<u8>,
 ) -> Prepared
     requires script { is_some (script_in script.now) ≡ true }
-    requires short { length bytes.now < 2 ^ 26 }
+    requires short { length bytes.items < 2 ^ 26 }
     ensures { Readies (Step (compilation_view compilation.now)
         (answers_or_none (script_in script.now))) result
-        (by_rows (due_code (compilation_view compilation.now)) (rows_tree bytes.now)) }
+        (by_rows (due_code (compilation_view compilation.now)) (rows_tree bytes.items)) }
 {
     let script = match Script::parse(alloc, script.as_str()) {
         Ok(Some(script)) => script,

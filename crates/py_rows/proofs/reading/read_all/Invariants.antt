@@ -6,8 +6,8 @@ use Rattle.py_rows.proofs.reading.read_all.Given as goal
 
 abbrev pub invariant-loop-row : goal.invariant-loop-row
 invariant-loop-row l = record {
-  rest : rows_from l.number (items_view (reverse l.rows.items)) (nodes_view l.nodes) ≡ rows_from 0 (items_view l.fn.rows.items) (nodes_view l.fn.nodes);
-  counted : l.number + vec_len l.rows ≡ vec_len l.fn.rows;
+  rest : rows_from l.number (items_view (reverse l.rows.items)) (nodes_view l.nodes) ≡ rows_from l.fn.first (items_view l.fn.rows.items) (nodes_view l.fn.nodes);
+  counted : l.number + vec_len l.rows ≡ l.fn.first + vec_len l.fn.rows;
 }
 
 abbrev pub decreases-loop-row : goal.decreases-loop-row

@@ -8,12 +8,12 @@ use Rattle.py_run.proofs.preparing.prepare.Goals as goal
 pub returns-then-not-takes_input-clause-form : goal.returns-then-not-takes_input-clause-form
 returns-then-not-takes_input-clause-form g c =
     let alone : takes_input (command_view c.in-Some.command) ≡ false = cc in
-    alone_form c.args.words.now (command_view c.in-Some.command) c.answered.result (sym c.in-Some.ensures.form) alone c.answered.ensures
+    alone_form c.args.words.now (command_view c.in-Some.command) c.answered.result (sym c.in-Some.ensures.form) alone (rw c.new.ensures.items at c.answered.ensures)
 
 pub returns-then-not-takes_input-clause-due : goal.returns-then-not-takes_input-clause-due
 returns-then-not-takes_input-clause-due g c =
     let alone : takes_input (command_view c.in-Some.command) ≡ false = cc in
-    alone_due c.args.words.now (command_view c.in-Some.command) (g.S.Source.left c.args.source.now) c.answered.result (sym c.in-Some.ensures.form) alone c.answered.ensures
+    alone_due c.args.words.now (command_view c.in-Some.command) (g.S.Source.left c.args.source.now) c.answered.result (sym c.in-Some.ensures.form) alone (rw c.new.ensures.items at c.answered.ensures)
 
 pub returns-then-not-takes_input-clause-reads : goal.returns-then-not-takes_input-clause-reads
 returns-then-not-takes_input-clause-reads g c =
@@ -24,14 +24,14 @@ returns-in-Ok-clause-form g c =
     let input : takes_input (command_view c.in-Some.command) ≡ true = cc in
     has_form c.args.words.now (command_view c.in-Some.command) c.answered-in-Ok.result
     (due_answer (command_view c.in-Some.command) c.in-Ok.bytes.items) (sym c.in-Some.ensures.form) input
-    (rw c.as_slice.ensures.value at c.answered-in-Ok.ensures)
+    c.answered-in-Ok.ensures
 
 pub returns-in-Ok-clause-due : goal.returns-in-Ok-clause-due
 returns-in-Ok-clause-due g c =
     let input : takes_input (command_view c.in-Some.command) ≡ true = cc in
     all_read c.args.words.now (command_view c.in-Some.command) _ _ c.in-Ok.bytes.items c.answered-in-Ok.result
     (sym c.in-Some.ensures.form) input c.in-Ok.ensures.short c.in-Ok.ensures.whole c.in-Ok.ensures.end
-    (rw c.as_slice.ensures.value at c.answered-in-Ok.ensures)
+    c.answered-in-Ok.ensures
 
 pub returns-in-Ok-clause-unread : goal.returns-in-Ok-clause-unread
 returns-in-Ok-clause-unread g c =

@@ -1,0 +1,4 @@
+use Rattle.py_rows.proofs.pieces.read_closed.Goals as goal
+
+pub returns : goal.returns
+returns c = rw (c.as_slice.ensures.value, c.in_ok-fill_closed.ensures) at c.read_piece.ensures
