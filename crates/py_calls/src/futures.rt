@@ -1,5 +1,5 @@
 //! What may be taken from the future.
-ghost use Rattle.std.specs.Prelude.{◌||◌};
+ghost use Rattle.std.specs.Prelude.{◌≡◌, ◌||◌};
 ghost use Rattle.py_name_uses.specs.Parts.{names_annotations};
 ghost use Rattle.py_emit.specs.States.{rest};
 ghost use Rattle.py_stmt_parts.specs.Futures.{EmitsInto, emission_of_features};
@@ -26,7 +26,13 @@ pub fn compile_future_features(em: &mut Emitter, features: &List<Alias>) -> Resu
         refuse!(em, CodegenErrorType::InvalidFuturePlacement);
     }
     py_stmt_parts::compile_future_features(em, features.as_slice())?;
-    let named = names_annotations(features.as_slice());
-    em.set_postponed(context.future_annotations || named);
+    em.set_postponed(is_postponed(context.future_annotations, features.as_slice()));
     Ok(())
+}
+
+/// Whether annotations are postponed after such an import.
+fn is_postponed(before: bool, features: &[Alias]) -> bool
+    ensures { result ≡ (before || names_annotations features.now) }
+{
+    before || names_annotations(features)
 }

@@ -32,10 +32,8 @@ returns c =
     let names = c.args.features.now in
     let may : (rest em).context.future_over ≡ false = ap (λ (x : EmitContext). x.future_over) (sym c.context-context.ensures) ∙ c.if-context.false in
     let p : Bool = (rest em).context.future_annotations || names_annotations names in
-    let named : c.names_annotations-named.result ≡ names_annotations names =
-    c.names_annotations-named.ensures ∙ ap names_annotations c.as_slice-2.ensures in
-    let told : (c.context-context.result.future_annotations || c.names_annotations-named.result) ≡ p =
-    λ i. (c.context-context.ensures i).future_annotations || named i in
+    let told : c.is_postponed.result ≡ p =
+    c.is_postponed.ensures ∙ (λ i. (c.context-context.ensures i).future_annotations || names_annotations (c.as_slice-2.ensures i)) in
     record {
       goes =
           ap (λ b. postponed_after p (run (emission_of_features b names) s)) may
