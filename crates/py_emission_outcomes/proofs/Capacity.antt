@@ -1,5 +1,5 @@
 pub mod ShortTables
-mod FewScopes
+pub mod FewScopes
 mod Among
 pub mod Fits
 mod Threads
@@ -26,7 +26,7 @@ mod FitDefinitions
 mod FitHandlers
 mod FitImports
 pub mod FitStmts
-mod FitFutures
+pub mod FitFutures
 mod FitMods
 pub mod Premises
 pub mod Whole
