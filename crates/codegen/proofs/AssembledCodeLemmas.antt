@@ -21,13 +21,13 @@ use Rattle.py_emission_parts.specs.Sealed.{assembled_object}
 use Rattle.py_emission.specs.EmissionMods.{emission_outcome}
 use Rattle.py_emit.specs.Emitted.{IsMade, IsEmitted}
 use Rattle.py_emit.specs.States.{module_head}
-use Rattle.py_emit.proofs.Sealed.{AllAimed, sealed_is}
+use Rattle.py_emit.proofs.SealedCodeLemmas.{AllAimed, sealed_is}
 use Rattle.py_emission_proof.proofs.Additions.AddedCodeLemmas.{Begins, ground_of}
-use Rattle.py_emission_proof.proofs.Additions.Codes.{LoadsFew, MadeFrom}
-use Rattle.py_emission_proof.proofs.Additions.Readings.{Read, only_sizes}
-use Rattle.py_emission_proof.proofs.Additions.NestedScopes.{Emitted, child_at, reading, sealed_made}
-use Rattle.py_emission_proof.proofs.Trees.NeverRefused.{IsCelled, begins_all}
-use Rattle.py_emission_proof.proofs.Trees.Programs.{first_place, tree_adds}
+use Rattle.py_emission_proof.proofs.Additions.EnteredCodeLemmas.{LoadsFew, MadeFrom}
+use Rattle.py_emission_proof.proofs.Additions.SmallScopeBlockLemmas.{Read, only_sizes}
+use Rattle.py_emission_proof.proofs.Additions.ScopeObjectLemmas.{Emitted, child_at, emission_read, sealed_made}
+use Rattle.py_emission_proof.proofs.Trees.TreeRefusalLemmas.{IsCelled, holder_begins}
+use Rattle.py_emission_proof.proofs.Trees.ProgramAdditionLemmas.{first_place, tree_adds}
 use Rattle.codegen.specs.Compiled.{IsSealed}
 
 module _ (code : CodeObject) (path : List ℕ) (m : Mode) (l : ℕ) (scopes : List ScopeEntry) (t : tree.Mod) (s : State)
@@ -59,10 +59,10 @@ module _ (code : CodeObject) (path : List ℕ) (m : Mode) (l : ℕ) (scopes : Li
   }
 
   assembled_code_begins : Begins s tabled
-  assembled_code_begins = begins_all made.info (module_head assembled_code_context) s celled made.holds
+  assembled_code_begins = holder_begins made.info (module_head assembled_code_context) s celled made.holds
 
   assembled_code_read : Read assembled_code_child tabled blocks scope
-  assembled_code_read = reading assembled_code_context first_place 1 scope s assembled_code_whole tabled blocks assembled_code_begins
+  assembled_code_read = emission_read assembled_code_context first_place 1 scope s assembled_code_whole tabled blocks assembled_code_begins
       made.holds.steps (length-map made.info.blocks plain ∙ made.holds.blocks)
 
   aimed : AllAimed tabled assembled_code_context.level blocks

@@ -39,7 +39,7 @@ pub(crate) fn emit_program(em: &mut Emitter, body: &Stmts) -> Result<(), Codegen
 }
 
 /// Emits statements and the return of None.
-#[tactic(auto, using(py_bytecode::proofs::View::views))]
+#[tactic(auto, using(py_bytecode::proofs::ConstantViewLemmas::views))]
 fn emit_rest(em: &mut Emitter, body: &[Stmt]) -> Result<(), CodegenError>
     requires loops { AreMade (rest em.old).context.loop_blocks }
     ensures { Emits result (emission_after emission_of_stmts (stmts stmt_tree body.now)
@@ -68,7 +68,7 @@ fn emit_doc(em: &mut Emitter, body: &Stmts) -> Result<usize, CodegenError>
 }
 
 /// Emits what stores a docstring, where there is one.
-#[tactic(auto, using(py_bytecode::proofs::View::views))]
+#[tactic(auto, using(py_bytecode::proofs::ConstantViewLemmas::views))]
 fn store_doc(em: &mut Emitter, doc: Option<Text>) -> Result<(), CodegenError>
     ensures { Emits result (emission_of_doc doc) em.old em.new }
 {

@@ -109,7 +109,7 @@ pub fn open(em: &mut Emitter, head: ScopeHead) -> Result<(), CodegenError>
 }
 
 /// Goes into a function, and counts the step to its table.
-#[tactic(auto, using(py_emit::proofs::NestedScopes::nested_inner))]
+#[tactic(auto, using(py_emit::proofs::NestedContextLemmas::nested_inner))]
 fn open_counted<L: Ledger>(
     em: &mut Emitter,
     head: ScopeHead,

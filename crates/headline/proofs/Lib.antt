@@ -1,2 +1,2 @@
-pub mod OwedLemmas
+pub mod DueOutputLemmas
 pub mod RunLemmas

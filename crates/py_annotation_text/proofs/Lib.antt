@@ -1,5 +1,5 @@
-mod Lengths
-mod Pairs
-mod Parameters
+mod ElementCountLemmas
+mod ListPairLemmas
+mod LambdaParameterLemmas
 mod Samples
-mod Separated
+mod CommaListLemmas

@@ -13,7 +13,7 @@ use std::alloc::AllocError;
 use std::fmt::Write;
 
 /// Appends a constant that is an expression.
-#[tactic(auto, using(py_tree::proofs::View::literals))]
+#[tactic(auto, using(py_tree::proofs::TreeViewLemmas::literals))]
 pub(crate) fn push_constant(out: &mut String, value: &Constant, low: u8) -> Result<(), AllocError>
     ensures { OnOk result (string_bytes out.new ≡ string_bytes out.old
         ++ constant_text (literal_of value.now) low) }
@@ -48,7 +48,7 @@ fn integer_level(value: i128) -> u8
 
 /// Appends a constant.
 #[cycle(literal)]
-#[tactic(auto, using(py_tree::proofs::View::literals))]
+#[tactic(auto, using(py_tree::proofs::TreeViewLemmas::literals))]
 fn push_literal(out: &mut String, value: &Constant) -> Result<(), AllocError>
     ensures { OnOk result (string_bytes out.new ≡ string_bytes out.old
         ++ literal_text (literal_of value.now)) }

@@ -41,7 +41,7 @@ pub(crate) fn push_set(out: &mut String, items: &[Expr]) -> Result<(), AllocErro
 
 /// Appends a tuple. One element has a comma after it.
 #[cycle(text)]
-#[tactic(auto, using(crate::proofs::Lengths::several))]
+#[tactic(auto, using(crate::proofs::ElementCountLemmas::several_elements))]
 pub(crate) fn push_tuple(out: &mut String, items: &[Expr], low: u8) -> Result<(), AllocError>
     ensures { OnOk result (string_bytes out.new ≡ string_bytes out.old
         ++ tuple_display low (expr_texts (exprs expr_tree items.now) 2)) }

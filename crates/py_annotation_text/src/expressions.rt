@@ -20,7 +20,7 @@ use std::alloc::AllocError;
 
 /// Appends the text of an expression, at a place that asks for a level. An f-string has none.
 #[cycle(text)]
-#[tactic(auto, using(py_tree::proofs::View::trees))]
+#[tactic(auto, using(py_tree::proofs::TreeViewLemmas::trees))]
 pub(crate) fn push_expr(out: &mut String, expr: &Expr, low: u8) -> Result<(), AllocError>
     ensures { OnOk result (string_bytes out.new ≡ string_bytes out.old
         ++ show (expr_tree expr.now) low) }

@@ -7,7 +7,7 @@ use py_tree::{Arg, ArgWithDefault, Arguments, Comprehension, Expr, Keyword};
 
 /// Whether an f-string, or a value of one, stands in an expression.
 #[cycle(f_strings)]
-#[tactic(auto, using(py_tree::proofs::View::trees))]
+#[tactic(auto, using(py_tree::proofs::TreeViewLemmas::trees))]
 pub(crate) fn has_f_string(expr: &Expr) -> bool
     ensures { result ≡ has_f_string (expr_tree expr.now) }
 {

@@ -1,4 +1,4 @@
 pub mod ScriptTextLemmas
-pub mod Cases
-pub mod Events
-pub mod Found
+pub mod InstructionCaseLemmas
+pub mod ReportedEventLemmas
+pub mod AnswerTextLemmas

@@ -91,7 +91,7 @@ fn are_answers(text: &str) -> bool
     room > 1 && is_answer(rest)
 }
 
-#[tactic(auto, using(crate::proofs::Found::answered))]
+#[tactic(auto, using(crate::proofs::AnswerTextLemmas::read_answer_spelled))]
 fn is_answer(piece: &str) -> bool
     ensures { result ≡ is_some (answer_in piece.now) }
 {

@@ -13,7 +13,7 @@ use std::alloc::{AllocError, Global};
 /// # Errors
 /// There is no memory for the copy.
 #[cycle(copy)]
-#[tactic(auto, using(py_bytecode::proofs::View::views))]
+#[tactic(auto, using(py_bytecode::proofs::ConstantViewLemmas::views))]
 pub fn copy_constant(alloc: Global, item: &ConstantData) -> Result<ConstantData, AllocError>
     ensures { IfOk result (λ c. constant c ≡ constant item.now) }
 {
@@ -47,7 +47,7 @@ fn copy_constants(alloc: Global, items: &[ConstantData]) -> Result<List<Constant
 }
 
 #[cycle(copy)]
-#[tactic(auto, using(py_bytecode::proofs::View::views))]
+#[tactic(auto, using(py_bytecode::proofs::ConstantViewLemmas::views))]
 fn copy_boxed(alloc: Global, code: &CodeObject) -> Result<ConstantData, AllocError>
     ensures { IfOk result (λ c. constant c ≡ constants.code (object code.now)) }
 {
@@ -56,7 +56,7 @@ fn copy_boxed(alloc: Global, code: &CodeObject) -> Result<ConstantData, AllocErr
 }
 
 #[cycle(copy)]
-#[tactic(auto, using(py_bytecode::proofs::View::views))]
+#[tactic(auto, using(py_bytecode::proofs::ConstantViewLemmas::views))]
 fn copy_code(alloc: Global, code: &CodeObject) -> Result<CodeObject, AllocError>
     ensures { IfOk result (λ c. object c ≡ object code.now) }
 {

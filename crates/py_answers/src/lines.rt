@@ -29,7 +29,7 @@ pub fn push_trace(out: &mut String, trace: &Trace) -> Result<(), AllocError>
     out.push_str("\n")
 }
 
-#[tactic(auto, using(crate::proofs::Events::event_told_at))]
+#[tactic(auto, using(crate::proofs::ReportedEventLemmas::event_told_at))]
 fn push_events(out: &mut String, events: &[Event]) -> Result<(), AllocError>
     requires { all_told events.now ≡ true }
     ensures { OnOk result (string_bytes out.new ≡ string_bytes out.old
@@ -77,7 +77,7 @@ fn push_operation(
     push_operands(out, operands)
 }
 
-#[tactic(auto, using(crate::proofs::Cases::case_detail))]
+#[tactic(auto, using(crate::proofs::InstructionCaseLemmas::case_detail))]
 fn push_detail(out: &mut String, op: Instruction, detail: &Detail) -> Result<(), AllocError>
     requires { is_of_kind (row_of op).kind detail.now ≡ true }
     ensures { OnOk result (string_bytes out.new ≡ string_bytes out.old

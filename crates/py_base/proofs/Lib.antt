@@ -1,3 +1,3 @@
-pub mod Mangled
-pub mod Numbers
-pub mod Booleans
+pub mod MangledNameLemmas
+pub mod NumberLemmas
+pub mod BooleanLemmas

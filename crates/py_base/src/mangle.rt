@@ -65,7 +65,7 @@ fn less_underscore(class_name: &str) -> &[u8]
 }
 
 /// Whether the text is what the private name of the class is outside it.
-#[tactic(auto, using(crate::proofs::Mangled::written))]
+#[tactic(auto, using(crate::proofs::MangledNameLemmas::mangled_rules))]
 fn is_written(text: &str, class_name: &str, name: &str) -> bool
     ensures { result ≡ pointwise nat_eq text.now
         (95 ∷ (less_underscore class_name.now ++ name.now)) }
@@ -80,7 +80,7 @@ fn is_written(text: &str, class_name: &str, name: &str) -> bool
 }
 
 /// Whether two names are one as they are written in the class, or as they are without a class. No text is made.
-#[tactic(auto, using(crate::proofs::Mangled::mangled_same))]
+#[tactic(auto, using(crate::proofs::MangledNameLemmas::mangled_same))]
 pub fn same_mangled(class_name: Option<&str>, left: &str, right: &str) -> bool
     ensures { result ≡ pointwise nat_eq (mangled_in (option_copied class_name.entry) left.now)
         (mangled_in (option_copied class_name.entry) right.now) }

@@ -1,10 +1,10 @@
-pub mod Tables
-pub mod View
-pub mod Heads
+pub mod JoinedTableLemmas
+pub mod ConstantViewLemmas
+pub mod HeadEqualityLemmas
 mod Samples
 mod InstructionSamples
-pub mod Decided
-pub mod Same
-pub mod Entered
-mod ConstantLaws
-pub mod Effects
+pub mod ConstantEqualityLemmas
+pub mod DerivedEqualityLemmas
+pub mod EnteredConstantLemmas
+mod ConstantLemmas
+pub mod StackEffectLemmas

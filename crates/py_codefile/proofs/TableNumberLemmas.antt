@@ -7,7 +7,7 @@ use Rattle.py_codefile.specs.declared.tags.Tag.{Tag}
 use Rattle.py_codefile.specs.declared.tags.Tag.TheVariants as tag
 use Rattle.py_codefile.specs.Opcodes.{instructions, opcode}
 use Rattle.py_codefile.specs.Tags.{tag_number, tags}
-use Rattle.py_codefile.proofs.Tables.{Numbered}
+use Rattle.py_codefile.proofs.TableEntryLemmas.{Numbered}
 
 pub tags_numbered : Numbered tag_number 0 tags
 tags_numbered = (refl, (refl, (refl, (refl, (refl, (refl, (refl, (refl, (refl, tt)))))))))

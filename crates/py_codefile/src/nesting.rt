@@ -7,7 +7,7 @@ use py_bytecode::{CodeObject, ConstantData};
 
 /// Whether codes and tuples nest `most` deep at most, the outermost code counting one. The recursion goes no deeper.
 #[cycle(nesting)]
-#[tactic(auto, using(py_bytecode::proofs::View::views))]
+#[tactic(auto, using(py_bytecode::proofs::ConstantViewLemmas::views))]
 pub fn code_nests_within(code: &CodeObject, most: u32) -> bool
     ensures { result ≡ nat_le (nesting (object code.now)) most }
 {
@@ -30,7 +30,7 @@ fn constants_nest_within(constants: &[ConstantData], most: u32) -> bool
 }
 
 #[cycle(nesting)]
-#[tactic(auto, using(py_bytecode::proofs::View::views))]
+#[tactic(auto, using(py_bytecode::proofs::ConstantViewLemmas::views))]
 fn constant_nests_within(item: &ConstantData, most: u32) -> bool
     ensures { result ≡ nat_le (const_nesting (constant item.now)) most }
 {

@@ -24,7 +24,7 @@ use std::alloc::{AllocError, Global};
 /// `Truncated` where the bytes end within it, or what is wrong with it, at the offset of the first byte of the field;
 /// there may be no memory.
 #[cycle(code)]
-#[tactic(auto, using(py_bytecode::proofs::View::views), unfolding(crate::specs::Reading::code_at))]
+#[tactic(auto, using(py_bytecode::proofs::ConstantViewLemmas::views), unfolding(crate::specs::Reading::code_at))]
 pub fn code(
     alloc: Global,
     reader: &mut Reader<'_>,
@@ -44,7 +44,7 @@ pub fn code(
 
 /// The code object of its parts.
 #[inline(never)]
-#[tactic(auto, using(py_bytecode::proofs::View::views))]
+#[tactic(auto, using(py_bytecode::proofs::ConstantViewLemmas::views))]
 fn joined(
     alloc: Global,
     heading: Box<Heading>,
@@ -187,7 +187,7 @@ fn tag(reader: &mut Reader<'_>) -> Result<Tag, ReadCodeError>
 
 /// What follows the byte of a constant, which stands at `at`.
 #[cycle(code)]
-#[tactic(auto, using(py_bytecode::proofs::View::views), unfolding(crate::specs::Reading::after_tag))]
+#[tactic(auto, using(py_bytecode::proofs::ConstantViewLemmas::views), unfolding(crate::specs::Reading::after_tag))]
 fn rest_of_constant(
     alloc: Global,
     reader: &mut Reader<'_>,
@@ -212,7 +212,7 @@ fn rest_of_constant(
 }
 
 #[inline(never)]
-#[tactic(auto, using(py_bytecode::proofs::View::views))]
+#[tactic(auto, using(py_bytecode::proofs::ConstantViewLemmas::views))]
 fn string(alloc: Global, reader: &mut Reader<'_>) -> Result<ConstantData, ReadCodeError>
     ensures { Gives (λ c. (constant c, reader.new)) result (map_reading str text_at reader.old) }
 {
@@ -221,7 +221,7 @@ fn string(alloc: Global, reader: &mut Reader<'_>) -> Result<ConstantData, ReadCo
 }
 
 #[inline(never)]
-#[tactic(auto, using(py_bytecode::proofs::View::views))]
+#[tactic(auto, using(py_bytecode::proofs::ConstantViewLemmas::views))]
 fn byte_string(alloc: Global, reader: &mut Reader<'_>) -> Result<ConstantData, ReadCodeError>
     ensures { Gives (λ c. (constant c, reader.new)) result
         (map_reading bytes (list_at byte_at) reader.old) }
@@ -231,7 +231,7 @@ fn byte_string(alloc: Global, reader: &mut Reader<'_>) -> Result<ConstantData, R
 }
 
 #[inline(never)]
-#[tactic(auto, using(py_bytecode::proofs::View::views))]
+#[tactic(auto, using(py_bytecode::proofs::ConstantViewLemmas::views))]
 fn integer_constant(reader: &mut Reader<'_>) -> Result<ConstantData, ReadCodeError>
     ensures { Gives (λ c. (constant c, reader.new)) result
         (map_reading integer (signed_at w128) reader.old) }
@@ -242,7 +242,7 @@ fn integer_constant(reader: &mut Reader<'_>) -> Result<ConstantData, ReadCodeErr
 
 /// The tuple whose byte stands at `at`.
 #[cycle(code)]
-#[tactic(auto, using(py_bytecode::proofs::View::views), unfolding(crate::specs::Reading::tuple_at))]
+#[tactic(auto, using(py_bytecode::proofs::ConstantViewLemmas::views), unfolding(crate::specs::Reading::tuple_at))]
 fn tuple(
     alloc: Global,
     reader: &mut Reader<'_>,
@@ -260,7 +260,7 @@ fn tuple(
 
 /// The code whose byte stands at `at`.
 #[cycle(code)]
-#[tactic(auto, using(py_bytecode::proofs::View::views), unfolding(crate::specs::Reading::inner_code_at))]
+#[tactic(auto, using(py_bytecode::proofs::ConstantViewLemmas::views), unfolding(crate::specs::Reading::inner_code_at))]
 fn inner_code(
     alloc: Global,
     reader: &mut Reader<'_>,

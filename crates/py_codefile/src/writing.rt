@@ -24,7 +24,7 @@ use py_bytecode::{CodeFlags, CodeObject, ConstantData};
 /// # Errors
 /// `TooLong` where a list or a text has 2^32 entries or bytes or more; there may be no memory.
 #[cycle(writing)]
-#[tactic(auto, using(py_bytecode::proofs::View::views))]
+#[tactic(auto, using(py_bytecode::proofs::ConstantViewLemmas::views))]
 pub fn put_code(out: &mut Vec<u8>, code: &CodeObject) -> Result<(), WriteCodeError>
     ensures { Writes result (IsObject (object code.now)) (object_spelling (object code.now))
         (longest (object code.now)) out.old.items out.new.items }
@@ -102,7 +102,7 @@ fn put_constants(out: &mut Vec<u8>, constants: &[ConstantData]) -> Result<(), Wr
 
 /// Appends a constant: a byte for its kind, and what follows.
 #[cycle(writing)]
-#[tactic(auto, using(py_bytecode::proofs::View::views))]
+#[tactic(auto, using(py_bytecode::proofs::ConstantViewLemmas::views))]
 fn put_constant(out: &mut Vec<u8>, item: &ConstantData) -> Result<(), WriteCodeError>
     ensures { Writes result (IsConst (constant item.now)) (const_spelling (constant item.now))
         (const_longest (constant item.now)) out.old.items out.new.items }

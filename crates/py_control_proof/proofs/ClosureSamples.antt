@@ -9,7 +9,7 @@ use Rattle.py_control.specs.Form.{Fixed, Resolved, FixedByName, FixedGlobal, Fix
 use Rattle.py_control.specs.Code.{body_code}
 use Rattle.py_control.specs.Agree.{form_of, exactly, fully, plainly, meaning_by}
 use Rattle.py_control.specs.CodeRuns.{runs_code}
-use Rattle.py_control_proof.proofs.SampleTools.{sample_tool_unit, sample_tool_at}
+use Rattle.py_control_proof.proofs.CodeSampleDefinitions.{sample_tool_unit, sample_tool_at}
 
 -- the method, which returns `__class__`
 abbrev method_code : Object

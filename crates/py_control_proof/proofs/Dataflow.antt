@@ -1,9 +1,9 @@
-pub mod Like
-pub mod Moves
-pub mod Steady
-pub mod Seats
-pub mod Refusals
-pub mod CodesAreSound
-pub mod Flat
+pub mod WalkStateLemmas
+pub mod InstructionWalkLemmas
+pub mod InstructionHeightLemmas
+pub mod WalkPlaceLemmas
+pub mod WalkRefusalLemmas
+pub mod CodeSoundnessLemmas
+pub mod FlatCodeLemmas
 pub mod MachineFlowLemmas
-pub mod Blocks
+pub mod BlockFlowLemmas

@@ -50,8 +50,8 @@ module _ (K : Type 0) (at : ℕ → Option Shape) where
   walk_label e h = walk_join e (inl refl) h
 
   -- the same at equal heights
-  pub level : (a b : ℕ) (ms : List Mark) → a ≡ b → shape a ms ≡ shape b ms
-  level a b ms e = ap (λ h. shape h ms) e
+  pub shape_at_equal_height : (a b : ℕ) (ms : List Mark) → a ≡ b → shape a ms ≡ shape b ms
+  shape_at_equal_height a b ms e = ap (λ h. shape h ms) e
 
   module _ (h : ℕ) (ms : List Mark) (low : floor ms ≤ h) where
     abbrev pub form_flow_here : Shape
@@ -62,7 +62,7 @@ module _ (K : Type 0) (at : ℕ → Option Shape) where
 
     -- an operation on what its parts gave
     pub operate_walks : (o : Operation) (n k : ℕ) → WalksOn (Do (Operate o n (Some k)) ∷ []) (up n) (up k)
-    operate_walks o n k = walk_do (up k) (omega (arith, low)) (level _ _ ms (omega arith)) (walk_none (up k))
+    operate_walks o n k = walk_do (up k) (omega (arith, low)) (shape_at_equal_height _ _ ms (omega arith)) (walk_none (up k))
 
     pub choice_walks : (test a b : List (Item K)) (other end : ℕ) (u : Shape) → at other ≡ Some form_flow_here → at end ≡ Some u
         → WalksOn test form_flow_here form_flow_here → WalksOn a form_flow_here u → WalksOn b form_flow_here u
@@ -75,23 +75,23 @@ module _ (K : Type 0) (at : ℕ → Option Shape) where
     if_walks test a end ee ht ha = walk_then ht (walk_then ha (walk_label ee (walk_none form_flow_here)))
 
     pub test_walks : (a : List (Item K)) (c : Bool) (to : ℕ) → at to ≡ Some form_flow_here → WalksOn a form_flow_here (up 1) → WalksOn (a ++ Do (JumpIf c to) ∷ []) form_flow_here form_flow_here
-    test_walks a c to e ha = walk_then ha (walk_do form_flow_here ((omega (arith, low)), e ∙ ap Some (level _ _ ms (omega arith))) (level _ _ ms (omega arith)) (walk_none form_flow_here))
+    test_walks a c to e ha = walk_then ha (walk_do form_flow_here ((omega (arith, low)), e ∙ ap Some (shape_at_equal_height _ _ ms (omega arith))) (shape_at_equal_height _ _ ms (omega arith)) (walk_none form_flow_here))
 
     pub short_walks : (d : Bool) (a b : List (Item K)) (end : ℕ) → at end ≡ Some (up 1) → WalksOn a form_flow_here (up 1) → WalksOn b form_flow_here (up 1)
         → WalksOn (a ++ (Do (JumpIfOrPop d end) ∷ b)) form_flow_here (up 1)
-    short_walks d a b end e ha hb = walk_then ha (walk_do form_flow_here ((omega (arith, low)), e) (level _ _ ms (omega arith)) hb)
+    short_walks d a b end e ha hb = walk_then ha (walk_do form_flow_here ((omega (arith, low)), e) (shape_at_equal_height _ _ ms (omega arith)) hb)
 
     -- a link of a chain: out is one higher than a value
     pub link_walks : (o : Operation) (out : ℕ) → at out ≡ Some (up 2) → WalksOn (link_code o out) (up 2) (up 1)
     link_walks o out e =
-        walk_do (up 3) (omega (arith, low)) (level _ _ ms (omega arith)) (walk_do (up 3) (omega (arith, low)) refl
-        (walk_do (up 2) (omega (arith, low)) (level _ _ ms (omega arith)) (walk_do (up 1) ((omega (arith, low)), e) (level _ _ ms (omega arith)) (walk_none (up 1)))))
+        walk_do (up 3) (omega (arith, low)) (shape_at_equal_height _ _ ms (omega arith)) (walk_do (up 3) (omega (arith, low)) refl
+        (walk_do (up 2) (omega (arith, low)) (shape_at_equal_height _ _ ms (omega arith)) (walk_do (up 1) ((omega (arith, low)), e) (shape_at_equal_height _ _ ms (omega arith)) (walk_none (up 1)))))
 
     pub chain_walks : (a : List (Item K)) (out end : ℕ) → at out ≡ Some (up 2) → at end ≡ Some (up 1) → WalksOn a (up 1) (up 1) → WalksOn (chain_code out end a) (up 1) (up 1)
     chain_walks a out end eo ee ha =
         walk_then ha (walk_do (up 2) (up 1, ee, inl refl) tt
         (walk_label eo (walk_do (up 2) (omega (arith, low)) refl
-        (walk_do (up 1) (omega (arith, low)) (level _ _ ms (omega arith)) (walk_label ee (walk_none (up 1)))))))
+        (walk_do (up 1) (omega (arith, low)) (shape_at_equal_height _ _ ms (omega arith)) (walk_label ee (walk_none (up 1)))))))
 
     abbrev pub form_flow_in_loop : Shape
     form_flow_in_loop = shape h (mark LoopSort h ∷ ms)
@@ -119,8 +119,8 @@ module _ (K : Type 0) (at : ℕ → Option Shape) where
     for_walks start other end iter turn orelse es eo ee hi ht he =
         walk_do form_flow_in_loop tt refl
         (walk_then hi
-        (walk_label es (walk_do in_turn ((omega arith), eo ∙ ap Some (level _ _ (mark LoopSort h ∷ ms) (omega arith)))
-        (level _ _ (mark LoopSort h ∷ ms) (omega arith))
+        (walk_label es (walk_do in_turn ((omega arith), eo ∙ ap Some (shape_at_equal_height _ _ (mark LoopSort h ∷ ms) (omega arith)))
+        (shape_at_equal_height _ _ (mark LoopSort h ∷ ms) (omega arith))
         (walk_then ht (walk_do form_flow_in_loop (in_for, es, inl refl) tt
         (walk_label eo (walk_do form_flow_here (tt, omega (arith, low)) refl
         (walk_then he (walk_label ee (walk_none form_flow_here))))))))))
@@ -130,7 +130,7 @@ module _ (K : Type 0) (at : ℕ → Option Shape) where
         → WalksOn (each_code start end iter assign filter body) form_flow_here form_flow_here
     each_walks start end iter assign filter body es ee hi ha hf hb =
         walk_then hi
-        (walk_label es (walk_do (up 2) ((omega (arith, low)), ee ∙ ap Some (level _ _ ms (omega arith))) (level _ _ ms (omega arith))
+        (walk_label es (walk_do (up 2) ((omega (arith, low)), ee ∙ ap Some (shape_at_equal_height _ _ ms (omega arith))) (shape_at_equal_height _ _ ms (omega arith))
         (walk_then ha
         (walk_then hf (walk_then hb (walk_do form_flow_here (up 1, es, inl refl) tt (walk_label ee (walk_none form_flow_here))))))))
 
@@ -164,9 +164,9 @@ module _ (K : Type 0) (at : ℕ → Option Shape) where
         → WalksOn (typed_code final next end type body others) in_handler form_flow_here
     typed_walks final next end type body others u w en ee j hy hb ht ho =
         let hs : List Mark = mark HandlerSort h ∷ ms in
-        walk_do (shape (2 + h) hs) (omega arith) (level _ _ hs (omega arith))
-        (walk_then hy (walk_do (shape (2 + h) hs) (omega arith) (level _ _ hs (omega arith))
-        (walk_do in_handler ((omega arith), en ∙ ap Some (level _ _ hs (omega arith))) (level _ _ hs (omega arith))
+        walk_do (shape (2 + h) hs) (omega arith) (shape_at_equal_height _ _ hs (omega arith))
+        (walk_then hy (walk_do (shape (2 + h) hs) (omega arith) (shape_at_equal_height _ _ hs (omega arith))
+        (walk_do in_handler ((omega arith), en ∙ ap Some (shape_at_equal_height _ _ hs (omega arith))) (shape_at_equal_height _ _ hs (omega arith))
         (any_walks final next end body others u w en ee j hb ht ho))))
 
     abbrev pub in_finally : Shape
@@ -193,25 +193,25 @@ module _ (K : Type 0) (at : ℕ → Option Shape) where
         → WalksOn (with_code handler item body) form_flow_here form_flow_here
     with_walks handler item body eh hi hb =
         let hs : List Mark = mark CleanupSort (1 + h) ∷ ms in
-        walk_then hi (walk_do (shape (2 + h) (mark ExitSort (1 + h) ∷ ms)) ((omega (arith, low)), eh) (level _ _ (mark ExitSort (1 + h) ∷ ms) (omega arith))
+        walk_then hi (walk_do (shape (2 + h) (mark ExitSort (1 + h) ∷ ms)) ((omega (arith, low)), eh) (shape_at_equal_height _ _ (mark ExitSort (1 + h) ∷ ms) (omega arith))
         (walk_then hb (walk_do (up 1) (tt, omega (arith, low)) refl
         (walk_do (shape (1 + h) (mark OpenSort (1 + h) ∷ ms)) tt refl
         (walk_join eh (inr (inr refl))
         (walk_do (shape (1 + h) hs) (tt, (omega arith)) refl
-        (walk_do form_flow_here (tt, (omega arith), refl, omega (arith, low)) (level _ _ ms (omega arith))
+        (walk_do form_flow_here (tt, (omega arith), refl, omega (arith, low)) (shape_at_equal_height _ _ ms (omega arith))
         (walk_none form_flow_here))))))))
 
     pub augment_walks : (held value : List (Item K)) (get op put : Operation) → WalksOn held form_flow_here (up 1) → WalksOn value (up 2) (up 3)
         → WalksOn (augment_code held get value op put) form_flow_here form_flow_here
     augment_walks held value get op put hh hv =
-        walk_then hh (walk_do (up 2) (omega (arith, low)) (level _ _ ms (omega arith))
-        (walk_do (up 2) (omega (arith, low)) (level _ _ ms (omega arith))
-        (walk_then hv (walk_do (up 2) (omega (arith, low)) (level _ _ ms (omega arith))
+        walk_then hh (walk_do (up 2) (omega (arith, low)) (shape_at_equal_height _ _ ms (omega arith))
+        (walk_do (up 2) (omega (arith, low)) (shape_at_equal_height _ _ ms (omega arith))
+        (walk_then hv (walk_do (up 2) (omega (arith, low)) (shape_at_equal_height _ _ ms (omega arith))
         (walk_do (up 2) (omega (arith, low)) refl
-        (walk_do form_flow_here (omega (arith, low)) (level _ _ ms (omega arith)) (walk_none form_flow_here)))))))
+        (walk_do form_flow_here (omega (arith, low)) (shape_at_equal_height _ _ ms (omega arith)) (walk_none form_flow_here)))))))
 
     pub append_walks : (a : List (Item K)) (o : Operation) (n d : ℕ) → suc d ≤ h → WalksOn a form_flow_here (up n) → WalksOn (a ++ Do (Append o n d) ∷ []) form_flow_here form_flow_here
-    append_walks a o n d le ha = walk_then ha (walk_do form_flow_here ((omega (arith, low)), (omega (arith, le))) (level _ _ ms (omega arith)) (walk_none form_flow_here))
+    append_walks a o n d le ha = walk_then ha (walk_do form_flow_here ((omega (arith, low)), (omega (arith, le))) (shape_at_equal_height _ _ ms (omega arith)) (walk_none form_flow_here))
 
     pub unpack_walks : (o : Operation) (n : ℕ) (b : List (Item K)) → WalksOn b (up n) form_flow_here → WalksOn (Do (Unpack o n) ∷ b) (up 1) form_flow_here
-    unpack_walks o n b hb = walk_do (up n) (omega (arith, low)) (level _ _ ms (omega arith)) hb
+    unpack_walks o n b hb = walk_do (up n) (omega (arith, low)) (shape_at_equal_height _ _ ms (omega arith)) hb

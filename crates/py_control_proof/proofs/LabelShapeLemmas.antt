@@ -11,9 +11,9 @@ use Rattle.py_control.specs.Code.{count, labels_v, labels_vs, labels_t, labels_g
 use Rattle.py_control.specs.Fit.{Loops}
 use Rattle.py_control.specs.Looped.{Looped, LoopedAll}
 use Rattle.py_control_proof.specs.Walks.{LoopSort, ExceptSort, FinallySort, ExitSort, HandlerSort, LastSort, Mark, mark, Shape, shape, loop_at, cut_height, BreaksTo, ContinuesTo}
-use Rattle.py_control_proof.proofs.Fits.{FitsV, FitsVs, FitsSs, FitsLs, FitsT, FitsTs, FitsG, FitsGs, FitsBs, FitsC, ControlFits, FitsH}
-use Rattle.py_control_proof.proofs.LabelShapes.{shapes_v, shapes_vs, shapes_ss, shapes_ls, shapes_t, shapes_ts, shapes_g, shapes_gs}
-use Rattle.py_control_proof.proofs.LabelShapes.{shapes_bs, shapes_c, shapes, shapes_h, len_v, len_vs, len_t, len_g, len_bs, len, len_h}
+use Rattle.py_control_proof.proofs.LabelFitDefinitions.{FitsV, FitsVs, FitsSs, FitsLs, FitsT, FitsTs, FitsG, FitsGs, FitsBs, FitsC, ControlFits, FitsH}
+use Rattle.py_control_proof.proofs.LabelShapeListLemmas.{shapes_v, shapes_vs, shapes_ss, shapes_ls, shapes_t, shapes_ts, shapes_g, shapes_gs}
+use Rattle.py_control_proof.proofs.LabelShapeListLemmas.{shapes_bs, shapes_c, shapes, shapes_h, len_v, len_vs, len_t, len_g, len_bs, len, len_h}
 
 module _ (at : ℕ → Option Shape) where
   abbrev pub LabelShapeHolds : ℕ → List Shape → Type 0

@@ -9,7 +9,7 @@ use Rattle.py_bytecode.specs.Blocks as blocks
 use Rattle.py_bytecode.specs.Blocks.{Place, Of, block_at, hop, settle}
 use Rattle.py_control.specs.Code.{Item, Do, Label}
 use Rattle.py_control_proof.specs.Blocks.{Inside, IsItem, Stable, Lies, Laid, TablesGrow, BlocksGrow, Ends, placed_labels}
-use Rattle.py_control_proof.proofs.DecodeGrows.{decode_grows}
+use Rattle.py_control_proof.proofs.DecodeGrowthLemmas.{decode_grows}
 
 inside_grows : (bs cs : List blocks.Block) (to : Option ℕ) → length bs ≤ length cs → Inside bs to → Inside cs to
 inside_grows bs cs None le h = tt

@@ -8,7 +8,7 @@ use Rattle.py_control.specs.Form.{Scope, MkScope, Resolved, VConst, VLoad, VOp, 
 use Rattle.py_control.specs.Code.{size, body_code}
 use Rattle.py_control_proof.specs.Reachable.{reachable_count}
 use Rattle.py_control.specs.Agree.{exactly, form_of}
-use Rattle.py_control_proof.proofs.SampleTools.{sample_tool_unit, sample_tool_coded, sample_tool_at, program_head, Does}
+use Rattle.py_control_proof.proofs.CodeSampleDefinitions.{sample_tool_unit, sample_tool_coded, sample_tool_at, program_head, Does}
 
 -- `while c: break`, `else: raise x`, then `f(a, b)`
 abbrev loop_code : Object

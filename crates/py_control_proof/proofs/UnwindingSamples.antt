@@ -5,7 +5,7 @@ use Rattle.py_bytecode.specs.Objects as obj
 use Rattle.py_bytecode.specs.Objects.{Object}
 use Rattle.py_bytecode.specs.Values.{operation, Bare, Number, Constant, Given, It, Operates, Accesses, AsksTruth, AsksNext, Gives, Truth, End, Raised, Load, Store, ByName, Global, Returned, RaisedOut, Stopped, Ran, ran}
 use Rattle.py_control.specs.Form.{Scope, MkScope, Resolved, VConst, VLoad, VOp, VAt, VNone, VMore, GStore, GDrop, SSkip, SThen, SInto, SFor, SContinue, SReturn, SReraise, STry, SWith, SAt, HNone, HAny}
-use Rattle.py_control_proof.proofs.SampleTools.{sample_tool_unit, sample_tool_coded, sample_tool_at, program_head, function_head, Does}
+use Rattle.py_control_proof.proofs.CodeSampleDefinitions.{sample_tool_unit, sample_tool_coded, sample_tool_at, program_head, function_head, Does}
 
 -- `with a: return b` in a function
 abbrev with_return_code : Object

@@ -8,7 +8,7 @@ use Rattle.py_dataflow.specs.declared.known.Refused.{Refused}
 use Rattle.py_dataflow.specs.Walks.{State, state, Seen, UnevenHeights, BlockMismatch}
 use Rattle.py_dataflow.specs.Known.{Torn, join, state_at, arrival, Fits, IsUneven, Unfit, Arrives, Moves, combined_change, unknown}
 use Rattle.py_dataflow.specs.Shown.{Shown, Both, Covers, Covered, AllShown, Grows, RefusalAt}
-use Rattle.py_dataflow.proofs.RefusedStateLemmas.{uneven, unlike, torn}
+use Rattle.py_dataflow.proofs.RefusedStateLemmas.{heights_uneven, unlike_differs, torn_differs}
 use Rattle.py_dataflow.proofs.ClosedStateLemmas.{covers_self, covers_trans, covers_old, covers_new}
 
 pub moves_combine : (a b : Change) (old mid new : List (Option KnownState)) → Moves a old mid → Moves b mid new → Moves (combined_change a b) old new
@@ -73,13 +73,13 @@ module _ (look : ℕ → Option (Seen ℕ)) (count : ℕ) where
 
   uneven_at : (k : ℕ) (o : Option State) (t : State) → ((s : State) → o ≡ Some s → Shown look k s) → Shown look k t → IsUneven o t → UnevenHeights look 0 k
   uneven_at k None t h ht u = absurd u
-  uneven_at k (Some s) t h ht u = uneven look k s t (h s refl) ht u
+  uneven_at k (Some s) t h ht u = heights_uneven look k s t (h s refl) ht u
 
   unfit_at : (k : ℕ) (o : Option State) (t : State) → ((s : State) → o ≡ Some s → Shown look k s) → Shown look k t → Unfit o t → BlockMismatch look 0 k
-  unfit_at k None t h ht u = inr (torn look k t ht u)
+  unfit_at k None t h ht u = inr (torn_differs look k t ht u)
   unfit_at k (Some s) t h ht u = elim u.1 [
-    | inl n ↦ inr (unlike look k s t (h s refl) ht n)
-    | inr c ↦ inr (torn look k (state s.height (join s.shape t.shape)) (Both (state s.height (join s.shape t.shape)) s t (h s refl) ht u.0 c.0 refl) c.1)
+    | inl n ↦ inr (unlike_differs look k s t (h s refl) ht n)
+    | inr c ↦ inr (torn_differs look k (state s.height (join s.shape t.shape)) (Both (state s.height (join s.shape t.shape)) s t (h s refl) ht u.0 c.0 refl) c.1)
   ]
 
   pub refused_at : (ks : List (Option KnownState)) (place : ℕ) (t : State) (e : Refused) → AllShown look count ks → Shown look place t

@@ -172,5 +172,5 @@ module _ {K P : Type 0} (fetch : P → Fetched K P) (start : P) (limit : ℕ) (o
   walk_stacked zero p t w = subst (λ (z : State). Stacked z.height z.shape) (sym w.1) tt
   walk_stacked (suc n) p t w = seen_stacked (fetch w.0) w.1 w.2 p t w.4 (walk_stacked n w.0 w.2 w.3) (falls_fine w.0 w.1 w.2 (n, w.3) w.4) (jumps_fine w.0 w.1 w.2 (n, w.3) w.4) w.5
 
-  pub stacked : (p : P) (t : State) → Reached block_height_look start p t → Stacked t.height t.shape
-  stacked p t r = walk_stacked r.0 p t r.1
+  pub reached_is_stacked : (p : P) (t : State) → Reached block_height_look start p t → Stacked t.height t.shape
+  reached_is_stacked p t r = walk_stacked r.0 p t r.1

@@ -7,7 +7,7 @@ use Rattle.py_dataflow.specs.declared.flow.Flow.{Flow}
 use Rattle.py_dataflow.specs.Walks.{Shape, State, state, kept_shape, with_opening, falls_to, jumps_to, Alike, Seen, Edge, Falls, Jumps, Walk, Reached}
 use Rattle.py_dataflow.specs.Known.{joined_mark, join}
 use Rattle.py_dataflow.specs.Shown.{Covers, Covered, Closed, Closed_at}
-use Rattle.py_dataflow.proofs.Joins.{alike_refl, alike_sym, alike_trans, join_alike, kept_alike, kept_join, opened_alike, opened_join, jump_alike, jump_join, jump_height_alike}
+use Rattle.py_dataflow.proofs.JoinedShapeLemmas.{alike_refl, alike_sym, alike_trans, join_alike, kept_alike, kept_join, opened_alike, opened_join, jump_alike, jump_join, jump_height_alike}
 
 closed_state_or_assoc : (a b c : Bool) → ((a || b) || c) ≡ (a || (b || c))
 closed_state_or_assoc true b c = refl
@@ -118,5 +118,5 @@ module _ (look : ℕ → Option (Seen ℕ)) (st : ℕ → Option State) (c : Clo
       let e : Covered st k m.to = at.edges k m.to m.edge in
       record { by = e.by; there = e.there; covers = covers_trans e.by m.to t e.covers m.covers }
 
-  pub covered : (k : ℕ) (t : State) → Reached look 0 k t → Covered st k t
-  covered k t w = covered_by w.0 k t w.1
+  pub reached_is_covered : (k : ℕ) (t : State) → Reached look 0 k t → Covered st k t
+  reached_is_covered k t w = covered_by w.0 k t w.1

@@ -6,9 +6,9 @@ use Rattle.py_dataflow.specs.Walks.{Shape, State, has_block, falls_enough, jumps
 use Rattle.py_dataflow.specs.Walks.{UnevenHeights, HeightOutOfRange, LacksBlock, ShapesDiffer, Sound, IsDepth}
 use Rattle.py_dataflow.specs.Known.{join, Torn}
 use Rattle.py_dataflow.specs.Shown.{Shown, Covered, Closed}
-use Rattle.py_dataflow.proofs.Joins.{alike_sym, alike_trans, block_join, falls_enough_alike, jumps_enough_alike, or_right}
+use Rattle.py_dataflow.proofs.JoinedShapeLemmas.{alike_sym, alike_trans, block_join, falls_enough_alike, jumps_enough_alike, or_right}
 use Rattle.py_dataflow.proofs.ReachedPlaceLemmas.{some_walk}
-use Rattle.py_dataflow.proofs.ClosedStateLemmas.{covered}
+use Rattle.py_dataflow.proofs.ClosedStateLemmas.{reached_is_covered}
 
 and_right : (a b : Bool) → (a && b) ≡ true → b ≡ true
 and_right true b h = h
@@ -31,7 +31,7 @@ clash_self (m ∷ s) (inr (inr c)) = inr (clash_self s c)
 
 module _ (look : ℕ → Option (Seen ℕ)) (st : ℕ → Option State) (c : Closed look st) where
   cov : (k : ℕ) (t : State) → Reached look 0 k t → Covered st k t
-  cov k t r = covered look st c k t r
+  cov k t r = reached_is_covered look st c k t r
 
   ends_not : (k : ℕ) → ¬ LeavesEnd look 0 k
   ends_not k e = let v = cov k e.at e.reached in c.inside k v.by v.there e.nothing

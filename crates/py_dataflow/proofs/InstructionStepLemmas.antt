@@ -15,8 +15,8 @@ use Rattle.py_dataflow.specs.declared.flow.Kind.{Kind as BlockKind}
 use Rattle.py_dataflow.specs.declared.flow.Mark.{Mark}
 use Rattle.py_dataflow.specs.Flow.{one_if, flow_of, target_of}
 use Rattle.py_dataflow.specs.Walks.{Shape, state, rest_of, height_of, is_final, is_with, left_by, tops, has_block, falls_enough, jumps_enough, falls_to, jumps_to, Seen, Reached}
-use Rattle.py_dataflow.proofs.Rows.{Proper}
-use Rattle.py_dataflow.proofs.UnwindLemmas.{unwind_mark, plain_mark, exit_mark, Stacked, Arrives_for, UnwindKeeps, Matches_one, Matches, unwind_in_loop, unwinds}
+use Rattle.py_dataflow.proofs.InstructionRowLemmas.{Proper}
+use Rattle.py_dataflow.proofs.UnwindLemmas.{unwind_mark, plain_mark, exit_mark, Stacked, Arrives_for, UnwindKeeps, Matches_one, Matches, unwind_in_loop, unwind_to_goal}
 use Rattle.py_dataflow.proofs.BlockHeightLemmas.{stacked_at, enough_true}
 use Rattle.py_dataflow.proofs.RunStepLemmas.{length-push, length-stack_of, Step, Raising, run_step_raises, got_step, entry_step, top_step}
 use Rattle.py_dataflow.proofs.RunStepLemmas.{below_step, pop_step, closure_step, given_step, none_step, nowhere_step, choose_step}
@@ -177,7 +177,7 @@ module _ (K P : Type 0) (look : P → Option (Seen P)) (start : P) where
         go (Some x) old bs1 m ms1 h mo mt1 eh ex st1 r1 = elim mo.2 [
           | inl p ↦
               let b : left_by m ≡ m.height = ap (λ c. if c then m.height - 1 else m.height) (ap is_with mo.0) in
-              unwinds K P look start x bs1 s ms1 old w (subst (λ g. Stacked g ms1) (b ∙ eh) st1.1) mt1 (subst (λ g. Arrives_for K P look start x g ms1) eh p.1)
+              unwind_to_goal K P look start x bs1 s ms1 old w (subst (λ g. Stacked g ms1) (b ∙ eh) st1.1) mt1 (subst (λ g. Arrives_for K P look start x g ms1) eh p.1)
           | inr p ↦ absurd (let q : false ≡ true = sym (ap not p.0) ∙ ex in cc)
         ]
 
@@ -197,14 +197,14 @@ module _ (K P : Type 0) (look : P → Option (Seen P)) (start : P) where
         → Does (after_exit t k n rest bs1 old w1)
     exits t None rest bs1 old w1 m ms1 ks p e mt1 g = g
     exits t (Some x) rest bs1 old w1 m ms1 (inl q) p e mt1 g = absurd (let z : false ≡ true = sym (ap not q.0) ∙ p in cc)
-    exits t (Some (BreakTo y)) rest bs1 old w1 m ms1 (inr q) p e mt1 g = unwinds K P look start (BreakTo y) bs1 rest ms1 old w1 (subst (λ h. Stacked h ms1) e q.2) mt1 q.1
+    exits t (Some (BreakTo y)) rest bs1 old w1 m ms1 (inr q) p e mt1 g = unwind_to_goal K P look start (BreakTo y) bs1 rest ms1 old w1 (subst (λ h. Stacked h ms1) e q.2) mt1 q.1
     exits t (Some (ContinueTo y)) rest bs1 old w1 m ms1 (inr q) p e mt1 g =
-        unwinds K P look start (ContinueTo y) bs1 rest ms1 old w1 (subst (λ h. Stacked h ms1) e q.2) mt1
+        unwind_to_goal K P look start (ContinueTo y) bs1 rest ms1 old w1 (subst (λ h. Stacked h ms1) e q.2) mt1
         (subst (λ h. Arrives_for K P look start (ContinueTo y) h ms1) e q.1)
-    exits t (Some (ReturnOf v)) rest bs1 old w1 m ms1 (inr q) p e mt1 g = unwinds K P look start (ReturnOf v) bs1 rest ms1 old w1 (subst (λ h. Stacked h ms1) e q.2) mt1 tt
+    exits t (Some (ReturnOf v)) rest bs1 old w1 m ms1 (inr q) p e mt1 g = unwind_to_goal K P look start (ReturnOf v) bs1 rest ms1 old w1 (subst (λ h. Stacked h ms1) e q.2) mt1 tt
     exits t (Some (RaiseOf v)) rest bs1 old w1 m ms1 (inr q) p e mt1 g =
         choose_step K P look start t (At n rest bs1 old w1) (unwind (RaiseOf v) rest bs1 old w1) g
-        (unwinds K P look start (RaiseOf v) bs1 rest ms1 old w1 (subst (λ h. Stacked h ms1) e q.2) mt1 tt)
+        (unwind_to_goal K P look start (RaiseOf v) bs1 rest ms1 old w1 (subst (λ h. Stacked h ms1) e q.2) mt1 tt)
 
     finishes : tops (instruction_step_ends (λ m. m.plain) (length s)) ms ≡ true → 1 ≤ length s → height_of (rest_of ms) ≤ length s - 1
         → At_walk n (length s - 1 + 0) (rest_of ms) → Does (act M.WithCleanupFinish n s bs slot w)
@@ -283,76 +283,76 @@ module _ (K P : Type 0) (look : P → Option (Seen P)) (start : P) where
     pub next : (flow_of i).falls ≡ true → Reached look start n (falls_to (flow_of i) (state h ms))
     pub target : (q : P) → target_of i ≡ Some q → Reached look start q (jumps_to (flow_of i).branch (state h ms))
 
-  pub does : (i : Instr K P) (n : P) (s : List (Entry K)) (bs : List (Block K P)) (slot : Option (Value K)) (w : World K) (ms : Shape) → Stacked (length s) ms
+  pub instruction_in_step : (i : Instr K P) (n : P) (s : List (Entry K)) (bs : List (Block K P)) (slot : Option (Value K)) (w : World K) (ms : Shape) → Stacked (length s) ms
       → Matches K P look start bs ms → InstructionStepReady i n (length s) ms → Does (act i n s bs slot w)
-  does (M.Push e) n s bs slot w ms st mt y = run_step_here K P look start n (e ∷ s) bs slot w (length s - 0 + 1) ms (y.next refl) (omega arith) mt
-  does (M.Access k Load name p) n s bs slot w ms st mt y = let f = enough_true (height_of ms) 0 0 (length s) y.falls in instruction_step_loads n s bs slot w ms st mt k name p f.1 (y.next refl)
-  does (M.Access k Store name p) n s bs slot w ms st mt y = let f =
+  instruction_in_step (M.Push e) n s bs slot w ms st mt y = run_step_here K P look start n (e ∷ s) bs slot w (length s - 0 + 1) ms (y.next refl) (omega arith) mt
+  instruction_in_step (M.Access k Load name p) n s bs slot w ms st mt y = let f = enough_true (height_of ms) 0 0 (length s) y.falls in instruction_step_loads n s bs slot w ms st mt k name p f.1 (y.next refl)
+  instruction_in_step (M.Access k Store name p) n s bs slot w ms st mt y = let f =
       enough_true (height_of ms) 1 0 (length s) y.falls in stores n s bs slot w ms st mt k name p s refl (omega (arith, f.0)) f.1
       (y.next refl)
-  does (M.Access k Delete name p) n s bs slot w ms st mt y = let f = enough_true (height_of ms) 0 0 (length s) y.falls in deletes n s bs slot w ms st mt k name p f.1 (y.next refl)
-  does (M.Operate o m (Some k)) n s bs slot w ms st mt y = let f =
+  instruction_in_step (M.Access k Delete name p) n s bs slot w ms st mt y = let f = enough_true (height_of ms) 0 0 (length s) y.falls in deletes n s bs slot w ms st mt k name p f.1 (y.next refl)
+  instruction_in_step (M.Operate o m (Some k)) n s bs slot w ms st mt y = let f =
       enough_true (height_of ms) m 0 (length s) y.falls in operates n s bs slot w ms st mt o m k y.proper (omega (arith, f.0)) f.1
       (y.next refl)
-  does (M.Operate o m None) n s bs slot w ms st mt y = let f =
+  instruction_in_step (M.Operate o m None) n s bs slot w ms st mt y = let f =
       enough_true (height_of ms) m 0 (length s) y.falls in only_raises n s bs slot w ms st mt o m (λ e. let q = y.proper e in absurd (cc))
       (omega (arith, f.0)) f.1
-  does (M.MakeFunction fl c m) n s bs slot w ms st mt y = let f =
+  instruction_in_step (M.MakeFunction fl c m) n s bs slot w ms st mt y = let f =
       enough_true (height_of ms) (2 + one_if c + m) 0 (length s) y.falls in instruction_step_makes n s bs slot w ms st mt fl c m
       (omega (arith, f.0)) f.1 (y.next refl)
-  does (M.Import o) n s bs slot w ms st mt y = let f =
+  instruction_in_step (M.Import o) n s bs slot w ms st mt y = let f =
       enough_true (height_of ms) 0 1 (length s) y.falls in instruction_step_imports n s bs slot w ms st mt o (omega (arith, f.0))
       (omega (arith, f.1)) (y.next refl)
-  does (M.Append o m d) n s bs slot w ms st mt y = let f = enough_true (height_of ms) m (d + 1) (length s) y.falls in appends n s bs slot w ms st mt o m d f.0 f.1 (y.next refl)
-  does (M.Unpack o m) n s bs slot w ms st mt y = let f = enough_true (height_of ms) 1 0 (length s) y.falls in instruction_step_unpacks n s bs slot w ms st mt o m (omega (arith, f.0)) f.1 (y.next refl)
-  does M.Nop n s bs slot w ms st mt y = run_step_here K P look start n s bs slot w (length s - 0 + 0) ms (y.next refl) (omega arith) mt
-  does M.Pop n s bs slot w ms st mt y = let f = enough_true (height_of ms) 1 0 (length s) y.falls in entry_step K P look start s w
+  instruction_in_step (M.Append o m d) n s bs slot w ms st mt y = let f = enough_true (height_of ms) m (d + 1) (length s) y.falls in appends n s bs slot w ms st mt o m d f.0 f.1 (y.next refl)
+  instruction_in_step (M.Unpack o m) n s bs slot w ms st mt y = let f = enough_true (height_of ms) 1 0 (length s) y.falls in instruction_step_unpacks n s bs slot w ms st mt o m (omega (arith, f.0)) f.1 (y.next refl)
+  instruction_in_step M.Nop n s bs slot w ms st mt y = run_step_here K P look start n s bs slot w (length s - 0 + 0) ms (y.next refl) (omega arith) mt
+  instruction_in_step M.Pop n s bs slot w ms st mt y = let f = enough_true (height_of ms) 1 0 (length s) y.falls in entry_step K P look start s w
       (λ v rest. At n rest bs slot w) (omega (arith, f.0))
       (λ v rest e. run_step_here K P look start n rest bs slot w (length s - 1 + 0) ms (y.next refl) (omega (arith, e)) mt)
-  does M.Rotate2 n s bs slot w ms st mt y = let f = enough_true (height_of ms) 2 0 (length s) y.falls in rotates2 n s bs slot w ms st mt s refl (omega (arith, f.0)) (y.next refl)
-  does M.Rotate3 n s bs slot w ms st mt y = let f = enough_true (height_of ms) 3 0 (length s) y.falls in rotates3 n s bs slot w ms st mt s refl (omega (arith, f.0)) (y.next refl)
-  does M.Duplicate n s bs slot w ms st mt y = let f =
+  instruction_in_step M.Rotate2 n s bs slot w ms st mt y = let f = enough_true (height_of ms) 2 0 (length s) y.falls in rotates2 n s bs slot w ms st mt s refl (omega (arith, f.0)) (y.next refl)
+  instruction_in_step M.Rotate3 n s bs slot w ms st mt y = let f = enough_true (height_of ms) 3 0 (length s) y.falls in rotates3 n s bs slot w ms st mt s refl (omega (arith, f.0)) (y.next refl)
+  instruction_in_step M.Duplicate n s bs slot w ms st mt y = let f =
       enough_true (height_of ms) 1 0 (length s) y.falls in entry_step K P look start s w (λ v rest. At n (v ∷ v ∷ rest) bs slot w)
       (omega (arith, f.0)) (λ v rest e. run_step_here K P look start n (v ∷ v ∷ rest) bs slot w (length s - 1 + 2) ms (y.next refl)
       (omega (arith, e)) mt)
-  does M.Duplicate2 n s bs slot w ms st mt y = let f = enough_true (height_of ms) 2 0 (length s) y.falls in duplicates2 n s bs slot w ms st mt s refl (omega (arith, f.0)) (y.next refl)
-  does (M.JumpIf c p) n s bs slot w ms st mt y = let f = enough_true (height_of ms) 1 0 (length s) y.falls in tests n s bs slot w ms st mt c p (omega (arith, f.0)) f.1 (y.next refl) (y.target p refl)
-  does (M.JumpIfOrPop c p) n s bs slot w ms st mt y = let f =
+  instruction_in_step M.Duplicate2 n s bs slot w ms st mt y = let f = enough_true (height_of ms) 2 0 (length s) y.falls in duplicates2 n s bs slot w ms st mt s refl (omega (arith, f.0)) (y.next refl)
+  instruction_in_step (M.JumpIf c p) n s bs slot w ms st mt y = let f = enough_true (height_of ms) 1 0 (length s) y.falls in tests n s bs slot w ms st mt c p (omega (arith, f.0)) f.1 (y.next refl) (y.target p refl)
+  instruction_in_step (M.JumpIfOrPop c p) n s bs slot w ms st mt y = let f =
       enough_true (height_of ms) 1 0 (length s) y.falls in keeps_or_pops n s bs slot w ms st mt c p (omega (arith, f.0)) f.1 (y.next refl)
       (y.target p refl)
-  does (M.Jump p) n s bs slot w ms st mt y = run_step_here K P look start p s bs slot w (length s - 0 + 0) ms (y.target p refl) (omega arith) mt
-  does M.SetupLoop n s bs slot w ms st mt y = run_step_here K P look start n s (Loop (length s) ∷ bs) slot w (length s - 0 + 0)
+  instruction_in_step (M.Jump p) n s bs slot w ms st mt y = run_step_here K P look start p s bs slot w (length s - 0 + 0) ms (y.target p refl) (omega arith) mt
+  instruction_in_step M.SetupLoop n s bs slot w ms st mt y = run_step_here K P look start n s (Loop (length s) ∷ bs) slot w (length s - 0 + 0)
       (unwind_mark BlockKind.Loop (length s) ∷ ms) (y.next refl) (omega arith) ((refl, refl), mt)
-  does M.PopBlock n s bs slot w ms st mt y = pops_block K P look start n s bs slot w ms mt y.block (y.next refl)
-  does (M.Break p) n s bs slot w ms st mt y = unwind_in_loop K P look start bs ms (unwind (BreakTo p) s bs slot w) w mt y.block
-      (unwinds K P look start (BreakTo p) bs s ms slot w st mt (y.block, y.target p refl))
-  does (M.Continue p) n s bs slot w ms st mt y = unwind_in_loop K P look start bs ms (unwind (ContinueTo p) s bs slot w) w mt y.block
-      (unwinds K P look start (ContinueTo p) bs s ms slot w st mt (y.block, y.target p refl))
-  does M.ReturnValue n s bs slot w ms st mt y = let f =
+  instruction_in_step M.PopBlock n s bs slot w ms st mt y = pops_block K P look start n s bs slot w ms mt y.block (y.next refl)
+  instruction_in_step (M.Break p) n s bs slot w ms st mt y = unwind_in_loop K P look start bs ms (unwind (BreakTo p) s bs slot w) w mt y.block
+      (unwind_to_goal K P look start (BreakTo p) bs s ms slot w st mt (y.block, y.target p refl))
+  instruction_in_step (M.Continue p) n s bs slot w ms st mt y = unwind_in_loop K P look start bs ms (unwind (ContinueTo p) s bs slot w) w mt y.block
+      (unwind_to_goal K P look start (ContinueTo p) bs s ms slot w st mt (y.block, y.target p refl))
+  instruction_in_step M.ReturnValue n s bs slot w ms st mt y = let f =
       enough_true (height_of ms) 1 0 (length s) y.falls in entry_step K P look start s w (λ v rest. unwind (ReturnOf v) rest bs slot w)
-      (omega (arith, f.0)) (λ v rest e. unwinds K P look start (ReturnOf v) bs rest ms slot w
+      (omega (arith, f.0)) (λ v rest e. unwind_to_goal K P look start (ReturnOf v) bs rest ms slot w
       (stacked_at (length rest) (length s) ms (omega (arith, f.1, e)) st) mt tt)
-  does (M.ReturnConst v) n s bs slot w ms st mt y = unwinds K P look start (ReturnOf (It v)) bs s ms slot w st mt tt
-  does (M.SetupExcept p) n s bs slot w ms st mt y = let e : length s - 0 + 1 ≡ suc (length s) =
+  instruction_in_step (M.ReturnConst v) n s bs slot w ms st mt y = unwind_to_goal K P look start (ReturnOf (It v)) bs s ms slot w st mt tt
+  instruction_in_step (M.SetupExcept p) n s bs slot w ms st mt y = let e : length s - 0 + 1 ≡ suc (length s) =
       omega arith in run_step_here K P look start n s (Except (length s) p ∷ bs) slot w (length s - 0 + 0)
       (unwind_mark BlockKind.Except (length s) ∷ ms) (y.next refl) (omega arith)
       ((refl, refl, subst (λ h. At_walk p h (unwind_mark BlockKind.ExceptHandler (length s) ∷ ms)) e (y.target p refl)), mt)
-  does (M.SetupFinally p) n s bs slot w ms st mt y = let e : length s - 0 + 0 ≡ length s =
+  instruction_in_step (M.SetupFinally p) n s bs slot w ms st mt y = let e : length s - 0 + 0 ≡ length s =
       omega arith in run_step_here K P look start n s (Finally (length s) p ∷ bs) slot w (length s - 0 + 0)
       (unwind_mark BlockKind.Finally (length s) ∷ ms) (y.next refl) (omega arith)
       ((refl, inl (refl, subst (λ h. At_walk p h (plain_mark (length s) ∷ ms)) e (y.target p refl))), mt)
-  does M.PopException n s bs slot w ms st mt y = pops_exception K P look start n s bs w ms mt y.block (y.next refl)
-  does M.EnterFinally n s bs slot w ms st mt y = run_step_here K P look start n s (FinallyHandler (length s) None slot ∷ bs) slot w
+  instruction_in_step M.PopException n s bs slot w ms st mt y = pops_exception K P look start n s bs w ms mt y.block (y.next refl)
+  instruction_in_step M.EnterFinally n s bs slot w ms st mt y = run_step_here K P look start n s (FinallyHandler (length s) None slot ∷ bs) slot w
       (length s - 0 + 0) (unwind_mark BlockKind.FinallyHandler (length s) ∷ ms) (y.next refl) (omega arith) ((refl, refl, tt), mt)
-  does M.EndFinally n s bs slot w ms st mt y = ends_finally n s bs slot w ms st mt y.block (y.next refl)
-  does M.Reraise n s bs slot w ms st mt y = let f = enough_true (height_of ms) 0 0 (length s) y.falls in reraises n s bs slot w ms st mt slot (omega (arith, f.1))
-  does (M.ForIter p) n s bs slot w ms st mt y = let f = enough_true (height_of ms) 0 1 (length s) y.falls in let j =
+  instruction_in_step M.EndFinally n s bs slot w ms st mt y = ends_finally n s bs slot w ms st mt y.block (y.next refl)
+  instruction_in_step M.Reraise n s bs slot w ms st mt y = let f = enough_true (height_of ms) 0 0 (length s) y.falls in reraises n s bs slot w ms st mt slot (omega (arith, f.1))
+  instruction_in_step (M.ForIter p) n s bs slot w ms st mt y = let f = enough_true (height_of ms) 0 1 (length s) y.falls in let j =
       enough_true (height_of ms) 1 0 (length s) (y.jumps p refl) in iterates n s bs slot w ms st mt p (omega (arith, f.0)) j.1 (y.next refl)
       (y.target p refl)
-  does (M.SetupWith p) n s bs slot w ms st mt y = let f = enough_true (height_of ms) 1 0 (length s) y.falls in withs n p s bs slot w ms st mt (omega (arith, f.0)) f.1 (y.next refl) (y.target p refl)
-  does M.WithCleanupStart n s bs slot w ms st mt y = let f =
+  instruction_in_step (M.SetupWith p) n s bs slot w ms st mt y = let f = enough_true (height_of ms) 1 0 (length s) y.falls in withs n p s bs slot w ms st mt (omega (arith, f.0)) f.1 (y.next refl) (y.target p refl)
+  instruction_in_step M.WithCleanupStart n s bs slot w ms st mt y = let f =
       enough_true (height_of ms) 0 1 (length s) y.falls in calls_exit n s bs slot w ms st mt y.block (omega (arith, f.0))
       (omega (arith, f.1)) (y.next refl)
-  does M.WithCleanupFinish n s bs slot w ms st mt y = let f =
+  instruction_in_step M.WithCleanupFinish n s bs slot w ms st mt y = let f =
       enough_true (height_of (rest_of ms)) 1 0 (length s) y.falls in finishes n s bs slot w ms st mt y.block (omega (arith, f.0)) f.1
       (y.next refl)

@@ -12,9 +12,9 @@ use Rattle.py_dataflow.specs.declared.info.InstructionInfo.{InstructionInfo}
 use Rattle.py_dataflow.specs.Flow.{flow_of, target_of}
 use Rattle.py_dataflow.specs.Walks.{Seen, seen_instr}
 use Rattle.py_dataflow.specs.Flat.{named_place, sees, look_at, decoded_item, fetch_at}
-use Rattle.py_dataflow.proofs.Rows.{RowIs, row_is}
-use Rattle.py_dataflow.proofs.SameRuns.{fetched_at}
-use Rattle.py_dataflow.proofs.Images.{seen_at}
+use Rattle.py_dataflow.proofs.InstructionRowLemmas.{RowIs, row_is}
+use Rattle.py_dataflow.proofs.SameMachineLemmas.{fetched_at}
+use Rattle.py_dataflow.proofs.ImageWalkLemmas.{seen_at}
 
 module _ {K P Q : Type 0} (f : P → Q) where
   flow_same : (i : Instr K P) → flow_of (at_places f i) ≡ flow_of i

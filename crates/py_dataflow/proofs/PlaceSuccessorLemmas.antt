@@ -15,7 +15,7 @@ use Rattle.py_dataflow.specs.Known.{state_of, known_at, state_at, flow_in, jumps
 use Rattle.py_dataflow.specs.Shown.{Shown, One, Covered, Closed, Closed_at, AllShown, Grows, RefusalAt, SameBut, SameTo, Steps, Settled}
 use Rattle.py_dataflow.proofs.ArrivalLemmas.{moves_combine}
 use Rattle.py_dataflow.proofs.ReachedPlaceLemmas.{shown_edge}
-use Rattle.py_dataflow.proofs.RefusedStateLemmas.{lacks, refused_state_outside, refused_state_ends, falls_outside, jumps_outside}
+use Rattle.py_dataflow.proofs.RefusedStateLemmas.{block_lacked, refused_state_outside, refused_state_ends, falls_outside, jumps_outside}
 
 pub state_known : (ks : List (Option KnownState)) (k : ℕ) (d : Option KnownState) (known : KnownState) → k < length ks → get_or ks k d ≡ Some known → state_at ks k ≡ Some (state_of known)
 state_known ks k d known lt is = ap known_at (slice_get-get_or ks k d lt) ∙ ap (λ z. known_at (Some z)) is
@@ -106,7 +106,7 @@ module _ (starts : List ℕ) (items : List InstructionInfo) where
   fails_at ks k s x Refused.HeightOutOfRange h es ex (inr f) =
       refused_state_outside place_successor_look k (sees starts k x) s (h.shown k s es) ex
       (jumps_outside place_successor_look (sees starts k x) s (named_place starts x) (goal_is x f.0) f.1)
-  fails_at ks k s x Refused.BlockMismatch h es ex f = inl (lacks place_successor_look k (sees starts k x) s (h.shown k s es) ex f)
+  fails_at ks k s x Refused.BlockMismatch h es ex f = inl (block_lacked place_successor_look k (sees starts k x) s (h.shown k s es) ex f)
   fails_at ks k s x Refused.OutOfMemory h es ex f = tt
 
   pub fall_shown : (k : ℕ) (s : State) (x : InstructionInfo) (fall : Option KnownState) → Shown place_successor_look k s

@@ -5,7 +5,7 @@ use Rattle.py_dataflow.specs.declared.flow.Flow.{Flow}
 use Rattle.py_dataflow.specs.Walks.{State, state, kept_shape, with_opening, falls_to, jumps_to, Alike, Seen, Edge, Falls, Jumps, Reached}
 use Rattle.py_dataflow.specs.Shown.{Shown, One, Both}
 use Rattle.py_dataflow.specs.Known.{join}
-use Rattle.py_dataflow.proofs.Joins.{alike_refl, alike_sym, alike_trans, join_alike, kept_alike, kept_join, opened_alike, opened_join, jump_alike, jump_join, jump_height_alike}
+use Rattle.py_dataflow.proofs.JoinedShapeLemmas.{alike_refl, alike_sym, alike_trans, join_alike, kept_alike, kept_join, opened_alike, opened_join, jump_alike, jump_join, jump_height_alike}
 
 module _ (look : ℕ → Option (Seen ℕ)) where
   pub record Some_walk (k : ℕ) (r : State) : Type 0 where

@@ -8,7 +8,7 @@ use Rattle.py_dataflow.specs.Walks.{Clash, Seen, Edge, Falls, Jumps, Reached, Le
 use Rattle.py_dataflow.specs.Walks.{HeightOutOfRange, LacksBlock, ShapesDiffer}
 use Rattle.py_dataflow.specs.Known.{join, Torn, falls_within, jumps_within}
 use Rattle.py_dataflow.specs.Shown.{Shown, One, Both}
-use Rattle.py_dataflow.proofs.Joins.{alike_sym, alike_trans, block_join, falls_enough_alike, jumps_enough_alike, jump_height_alike, clash_left, clash_sym, torn_clash}
+use Rattle.py_dataflow.proofs.JoinedShapeLemmas.{alike_sym, alike_trans, block_join, falls_enough_alike, jumps_enough_alike, jump_height_alike, clash_left, clash_sym, torn_clash}
 use Rattle.py_dataflow.proofs.ReachedPlaceLemmas.{some_walk}
 
 refused_state_and_false : (a b : Bool) → (a && b) ≡ false → (a ≡ false) ⊎ (b ≡ false)
@@ -16,15 +16,15 @@ refused_state_and_false true b h = inr h
 refused_state_and_false false b h = inl refl
 
 module _ (look : ℕ → Option (Seen ℕ)) (k : ℕ) where
-  pub lacks : (x : Seen ℕ) (r : State) → Shown look k r → look k ≡ Some x → has_block x.flow.needs r.height r.shape ≡ false → LacksBlock look 0 k
-  lacks x r (One t w) e h = record { sees = x; at = t; reached = w; sees_is = e; lacks = h }
-  lacks x r (Both r1 s t hs ht eh a er) e h =
+  pub block_lacked : (x : Seen ℕ) (r : State) → Shown look k r → look k ≡ Some x → has_block x.flow.needs r.height r.shape ≡ false → LacksBlock look 0 k
+  block_lacked x r (One t w) e h = record { sees = x; at = t; reached = w; sees_is = e; lacks = h }
+  block_lacked x r (Both r1 s t hs ht eh a er) e h =
       let q : has_block x.flow.needs r.height r.shape
       ≡ (has_block x.flow.needs s.height s.shape && has_block x.flow.needs s.height t.shape) =
       ap (λ (z : State). has_block x.flow.needs z.height z.shape) er ∙ block_join x.flow.needs s.height s.shape t.shape a in
       elim (refused_state_and_false (has_block x.flow.needs s.height s.shape) (has_block x.flow.needs s.height t.shape) (sym q ∙ h)) [
-        | inl l ↦ lacks x s hs e l
-        | inr l ↦ lacks x t ht e (subst (λ g. has_block x.flow.needs g t.shape ≡ false) eh l)
+        | inl l ↦ block_lacked x s hs e l
+        | inr l ↦ block_lacked x t ht e (subst (λ g. has_block x.flow.needs g t.shape ≡ false) eh l)
       ]
 
   too_high_alike : (x : Seen ℕ) (r t : State) → t.height ≡ r.height → Alike r.shape t.shape → TooHigh look 0 (2 ^ 32) x r → TooHigh look 0 (2 ^ 32) x t
@@ -51,14 +51,14 @@ module _ (look : ℕ → Option (Seen ℕ)) (k : ℕ) where
       let w = some_walk look k r h in
       record { sees = x; at = w.at; reached = w.reached; sees_is = e; outside = out_alike x r w.at w.level w.alike o }
 
-  pub uneven : (r s : State) → Shown look k r → Shown look k s → r.height ≢ s.height → UnevenHeights look 0 k
-  uneven r s hr hs n =
+  pub heights_uneven : (r s : State) → Shown look k r → Shown look k s → r.height ≢ s.height → UnevenHeights look 0 k
+  heights_uneven r s hr hs n =
       let u = some_walk look k r hr in
       let v = some_walk look k s hs in
       record { one = u.at; other = v.at; one_reached = u.reached; other_reached = v.reached; uneven = λ e. n (sym u.level ∙ e ∙ v.level) }
 
-  pub unlike : (r s : State) → Shown look k r → Shown look k s → ¬ Alike r.shape s.shape → ShapesDiffer look 0 k
-  unlike r s hr hs n =
+  pub unlike_differs : (r s : State) → Shown look k r → Shown look k s → ¬ Alike r.shape s.shape → ShapesDiffer look 0 k
+  unlike_differs r s hr hs n =
       let u = some_walk look k r hr in
       let v = some_walk look k s hs in
       record {
@@ -76,14 +76,14 @@ module _ (look : ℕ → Option (Seen ℕ)) (k : ℕ) where
   clash_one t r w (Both r1 p q hp hq eh a er) c =
       elim (clash_left p.shape q.shape t.shape a (subst (λ (z : State). Clash z.shape t.shape) er c)) [ inl l ↦ clash_one t p w hp l | inr l ↦ clash_one t q w hq l ]
 
-  pub clash : (r s : State) → Shown look k r → Shown look k s → Clash r.shape s.shape → ShapesDiffer look 0 k
-  clash r s hr (One t w) c = clash_one t r w hr c
-  clash r s hr (Both r1 p q hp hq eh a er) c =
+  pub clash_differs : (r s : State) → Shown look k r → Shown look k s → Clash r.shape s.shape → ShapesDiffer look 0 k
+  clash_differs r s hr (One t w) c = clash_one t r w hr c
+  clash_differs r s hr (Both r1 p q hp hq eh a er) c =
       let c1 : Clash (join p.shape q.shape) r.shape = clash_sym r.shape (join p.shape q.shape) (subst (λ (z : State). Clash r.shape z.shape) er c) in
-      elim (clash_left p.shape q.shape r.shape a c1) [ inl l ↦ clash r p hr hp (clash_sym p.shape r.shape l) | inr l ↦ clash r q hr hq (clash_sym q.shape r.shape l) ]
+      elim (clash_left p.shape q.shape r.shape a c1) [ inl l ↦ clash_differs r p hr hp (clash_sym p.shape r.shape l) | inr l ↦ clash_differs r q hr hq (clash_sym q.shape r.shape l) ]
 
-  pub torn : (r : State) → Shown look k r → Torn r.shape → ShapesDiffer look 0 k
-  torn r h c = clash r r h h (torn_clash r.shape c)
+  pub torn_differs : (r : State) → Shown look k r → Torn r.shape → ShapesDiffer look 0 k
+  torn_differs r h c = clash_differs r r h h (torn_clash r.shape c)
 
   pub refused_state_ends : (r : State) → Shown look k r → look k ≡ None → LeavesEnd look 0 k
   refused_state_ends r h l = let w = some_walk look k r h in record { at = w.at; reached = w.reached; nothing = l }

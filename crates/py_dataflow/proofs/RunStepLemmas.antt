@@ -9,7 +9,7 @@ use Rattle.py_bytecode.specs.Machine.{pop_block, pop_exception, on_last, joins, 
 use Rattle.py_dataflow.specs.declared.flow.Mark.{Mark}
 use Rattle.py_dataflow.specs.Flow.{one_if}
 use Rattle.py_dataflow.specs.Walks.{Shape, State, state, rest_of, height_of, is_entered, is_handler, is_final, tops, Seen, Reached}
-use Rattle.py_dataflow.proofs.UnwindLemmas.{Stacked, Matches_one, Matches, InStep, unwinds}
+use Rattle.py_dataflow.proofs.UnwindLemmas.{Stacked, Matches_one, Matches, InStep, unwind_to_goal}
 use Rattle.py_dataflow.proofs.BlockHeightLemmas.{stacked_at}
 
 pub length-push : {K : Type 0} (gs : List (Value K)) (s : List (Entry K)) → length (push gs s) ≡ length gs + length s
@@ -33,7 +33,7 @@ module _ (K P : Type 0) (look : P → Option (Seen P)) (start : P) where
 
   pub run_step_raises : (h : ℕ) (rest : List (Entry K)) (bs : List (Block K P)) (slot : Option (Value K)) (ms : Shape) → Stacked h ms
       → height_of ms ≤ length rest → Matches K P look start bs ms → Raising rest bs slot
-  run_step_raises h rest bs slot ms st l mt v w = unwinds K P look start (RaiseOf v) bs rest ms slot w (stacked_at (length rest) h ms l st) mt tt
+  run_step_raises h rest bs slot ms st l mt v w = unwind_to_goal K P look start (RaiseOf v) bs rest ms slot w (stacked_at (length rest) h ms l st) mt tt
 
   pub got_step : {A : Type 0} (r : Got K A) (land : A → World K → Config K P) (rest : List (Entry K)) (bs : List (Block K P)) (slot : Option (Value K))
       → Raising rest bs slot → ((a : A) (w : World K) → Step (land a w)) → Step (on_got r land (raise rest bs slot) stopped_config)

@@ -157,22 +157,22 @@ module _ (K P : Type 0) (look : P → Option (Seen P)) (start : P) where
       let st1 : Stacked (h - 1) ms = subst (λ g. Stacked g ms) b st.1 in
       cut_step h s w (λ s1. At q s1 (FinallyHandler h (Some r) old ∷ bs) slot w) (omega (arith, eh, st.0)) (λ s1 z. (state h (exit_mark h ∷ ms), f.1, sym z, ((refl, refl, inr (refl, a1, st1)), mt)))
 
-  pub unwinds : (r : Reason K P) (bs : List (Block K P)) → Goal r bs
-  unwinds (BreakTo p) [] s [] slot w st mt a = absurd (let q : false ≡ true = a.0 in cc)
-  unwinds (ContinueTo p) [] s [] slot w st mt a = absurd (let q : false ≡ true = a.0 in cc)
-  unwinds (ReturnOf v) [] s [] slot w st mt a = λ e. absurd (cc)
-  unwinds (RaiseOf v) [] s [] slot w st mt a = λ e. absurd (cc)
-  unwinds r [] s (m ∷ ms) slot w st mt a = absurd mt
-  unwinds r (b ∷ bs) s [] slot w st mt a = absurd mt
-  unwinds (BreakTo p) (Loop h ∷ bs) s (m ∷ ms) slot w st mt a =
+  pub unwind_to_goal : (r : Reason K P) (bs : List (Block K P)) → Goal r bs
+  unwind_to_goal (BreakTo p) [] s [] slot w st mt a = absurd (let q : false ≡ true = a.0 in cc)
+  unwind_to_goal (ContinueTo p) [] s [] slot w st mt a = absurd (let q : false ≡ true = a.0 in cc)
+  unwind_to_goal (ReturnOf v) [] s [] slot w st mt a = λ e. absurd (cc)
+  unwind_to_goal (RaiseOf v) [] s [] slot w st mt a = λ e. absurd (cc)
+  unwind_to_goal r [] s (m ∷ ms) slot w st mt a = absurd mt
+  unwind_to_goal r (b ∷ bs) s [] slot w st mt a = absurd mt
+  unwind_to_goal (BreakTo p) (Loop h ∷ bs) s (m ∷ ms) slot w st mt a =
       cut_step h s w (λ s1. At p s1 bs slot w) (omega (arith, mt.0.1, st.0)) (λ s1 q. (state m.height ms, at_loop p (length s) m ms mt.0.0 a, mt.0.1 ∙ sym q, mt.1))
-  unwinds (ContinueTo p) (Loop h ∷ bs) s (m ∷ ms) slot w st mt a = (state (length s) (m ∷ ms), at_continue p (length s) m ms mt.0.0 a, refl, mt)
-  unwinds (ReturnOf v) (Loop h ∷ bs) s (m ∷ ms) slot w st mt a = past_with (ReturnOf v) bs s m ms slot w h (unwinds (ReturnOf v) bs) mt.0.1 (kind_below m Kind.Loop mt.0.0 refl) st mt.1 tt
-  unwinds (RaiseOf v) (Loop h ∷ bs) s (m ∷ ms) slot w st mt a = past_with (RaiseOf v) bs s m ms slot w h (unwinds (RaiseOf v) bs) mt.0.1 (kind_below m Kind.Loop mt.0.0 refl) st mt.1 tt
-  unwinds (BreakTo p) (Except h q ∷ bs) s (m ∷ ms) slot w st mt a = past_kind (BreakTo p) bs s m ms slot w h Kind.Except (unwinds (BreakTo p) bs) mt.0.0 refl refl mt.0.1 st mt.1 a
-  unwinds (ContinueTo p) (Except h q ∷ bs) s (m ∷ ms) slot w st mt a = past_kind (ContinueTo p) bs s m ms slot w h Kind.Except (unwinds (ContinueTo p) bs) mt.0.0 refl refl mt.0.1 st mt.1 a
-  unwinds (ReturnOf v) (Except h q ∷ bs) s (m ∷ ms) slot w st mt a = past_kind (ReturnOf v) bs s m ms slot w h Kind.Except (unwinds (ReturnOf v) bs) mt.0.0 refl refl mt.0.1 st mt.1 a
-  unwinds (RaiseOf v) (Except h q ∷ bs) s (m ∷ ms) slot w st mt a = unwind_taken s bs w v slot m ms h q mt.0.1 mt.0.2 st.0 mt.1
-  unwinds r (Finally h q ∷ bs) s (m ∷ ms) slot w st mt a = unwind_held r s bs (slot_for r slot) w slot m ms h q mt.0 st mt.1 a
-  unwinds r (ExceptHandler h old ∷ bs) s (m ∷ ms) slot w st mt a = past_kind r bs s m ms old w h Kind.ExceptHandler (unwinds r bs) mt.0.0 refl refl mt.0.1 st mt.1 a
-  unwinds r (FinallyHandler h k old ∷ bs) s (m ∷ ms) slot w st mt a = past_kind r bs s m ms old w h Kind.FinallyHandler (unwinds r bs) mt.0.0 refl refl mt.0.1 st mt.1 a
+  unwind_to_goal (ContinueTo p) (Loop h ∷ bs) s (m ∷ ms) slot w st mt a = (state (length s) (m ∷ ms), at_continue p (length s) m ms mt.0.0 a, refl, mt)
+  unwind_to_goal (ReturnOf v) (Loop h ∷ bs) s (m ∷ ms) slot w st mt a = past_with (ReturnOf v) bs s m ms slot w h (unwind_to_goal (ReturnOf v) bs) mt.0.1 (kind_below m Kind.Loop mt.0.0 refl) st mt.1 tt
+  unwind_to_goal (RaiseOf v) (Loop h ∷ bs) s (m ∷ ms) slot w st mt a = past_with (RaiseOf v) bs s m ms slot w h (unwind_to_goal (RaiseOf v) bs) mt.0.1 (kind_below m Kind.Loop mt.0.0 refl) st mt.1 tt
+  unwind_to_goal (BreakTo p) (Except h q ∷ bs) s (m ∷ ms) slot w st mt a = past_kind (BreakTo p) bs s m ms slot w h Kind.Except (unwind_to_goal (BreakTo p) bs) mt.0.0 refl refl mt.0.1 st mt.1 a
+  unwind_to_goal (ContinueTo p) (Except h q ∷ bs) s (m ∷ ms) slot w st mt a = past_kind (ContinueTo p) bs s m ms slot w h Kind.Except (unwind_to_goal (ContinueTo p) bs) mt.0.0 refl refl mt.0.1 st mt.1 a
+  unwind_to_goal (ReturnOf v) (Except h q ∷ bs) s (m ∷ ms) slot w st mt a = past_kind (ReturnOf v) bs s m ms slot w h Kind.Except (unwind_to_goal (ReturnOf v) bs) mt.0.0 refl refl mt.0.1 st mt.1 a
+  unwind_to_goal (RaiseOf v) (Except h q ∷ bs) s (m ∷ ms) slot w st mt a = unwind_taken s bs w v slot m ms h q mt.0.1 mt.0.2 st.0 mt.1
+  unwind_to_goal r (Finally h q ∷ bs) s (m ∷ ms) slot w st mt a = unwind_held r s bs (slot_for r slot) w slot m ms h q mt.0 st mt.1 a
+  unwind_to_goal r (ExceptHandler h old ∷ bs) s (m ∷ ms) slot w st mt a = past_kind r bs s m ms old w h Kind.ExceptHandler (unwind_to_goal r bs) mt.0.0 refl refl mt.0.1 st mt.1 a
+  unwind_to_goal r (FinallyHandler h k old ∷ bs) s (m ∷ ms) slot w st mt a = past_kind r bs s m ms old w h Kind.FinallyHandler (unwind_to_goal r bs) mt.0.0 refl refl mt.0.1 st mt.1 a

@@ -1,1 +1,1 @@
-pub mod Prefixes
+pub mod OperandPrefixLemmas

@@ -1,33 +1,33 @@
-pub mod ShortTables
-pub mod FewScopes
-mod Among
-pub mod Fits
-mod Threads
-mod Turns
-pub mod Accesses
-pub mod FitParts
-mod FitTests
-mod FitScopes
-mod FitLambdas
+pub mod ShortTableLemmas
+pub mod TreeScopeCountLemmas
+mod UsedNameCountLemmas
+pub mod EmissionCapacityLemmas
+mod ScopeNumberLemmas
+mod EmissionListCapacityLemmas
+pub mod AccessCapacityLemmas
+pub mod DisplayCapacityLemmas
+mod TestCapacityLemmas
+mod NestedScopeCapacityLemmas
+mod LambdaCapacityLemmas
 pub mod AvailableCellLemmas
-mod StandingForms
-mod StandingExprs
-pub mod Scopeless
-mod Hands
-mod FitPieces
-pub mod FitExprs
-mod FitNotes
-mod FitDefs
-mod FitControl
-mod FitChanges
-mod FitGeneric
-mod FitClasses
-mod FitDefinitions
-mod FitHandlers
-mod FitImports
-pub mod FitStmts
-pub mod FitFutures
-mod FitMods
-pub mod Premises
-pub mod Whole
-pub mod WithoutScopes
+mod FormScopeLemmas
+mod ExpressionScopeLemmas
+pub mod DocstringScopeLemmas
+mod AvailableFreeNameLemmas
+mod ExpressionPartCapacityLemmas
+pub mod ExpressionCapacityLemmas
+mod AnnotationCapacityLemmas
+mod FunctionCapacityLemmas
+mod ControlCapacityLemmas
+mod AssignmentCapacityLemmas
+mod TypeParameterCapacityLemmas
+mod ClassCapacityLemmas
+mod DecoratorCapacityLemmas
+mod HandlerNameCapacityLemmas
+mod ImportCapacityLemmas
+pub mod StatementCapacityLemmas
+pub mod FutureImportCapacityLemmas
+mod ProgramCapacityLemmas
+pub mod FaultlessTreeLemmas
+pub mod TreeCapacityLemmas
+pub mod EmissionWithoutScopesLemmas

@@ -1,10 +1,10 @@
-mod Nests
-mod NestingParts
-mod NestingTests
-mod NestingScopes
-mod NestingExprs
-mod NestingControl
-mod NestingImports
-mod NestingDefs
-mod NestingStmts
-pub mod NestingMods
+mod EmissionNestingLemmas
+mod DisplayNestingLemmas
+mod TestNestingLemmas
+mod FunctionNestingLemmas
+mod ExpressionNestingLemmas
+mod ControlNestingLemmas
+mod ImportNestingLemmas
+mod DefinitionNestingLemmas
+mod StatementNestingLemmas
+pub mod ProgramNestingLemmas

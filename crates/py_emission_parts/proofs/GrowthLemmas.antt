@@ -9,8 +9,8 @@ use Rattle.py_emission_parts.specs.Running.{run}
 use Rattle.py_emission_parts.proofs.EmissionLawLemmas.{EmissionLawHolds, Law, all_hold, next_law}
 
 -- where an emission is done
-pub of_done : (P : State → Type 0) (o : Outcome) (r : State) → o ≡ Done r → EmissionLawHolds P o → P r
-of_done P o r e h = subst (EmissionLawHolds P) e h
+pub law_of_done : (P : State → Type 0) (o : Outcome) (r : State) → o ≡ Done r → EmissionLawHolds P o → P r
+law_of_done P o r e h = subst (EmissionLawHolds P) e h
 
 -- no block that was made before begins since
 pub record Grows (s r : State) : Type 0 where
@@ -51,11 +51,11 @@ grow_law = record {
 
 -- every emission keeps a block from beginning that was made before it
 pub all_grow : (a : Emission) (s r : State) → run a s ≡ Done r → Grows s r
-all_grow a s r e = of_done (Grows s) (run a s) r e (all_hold Grows grow_law a s)
+all_grow a s r e = law_of_done (Grows s) (run a s) r e (all_hold Grows grow_law a s)
 
 -- and passes numbers of scopes over, or takes them
 pub numbers_grow : (a : Emission) (s r : State) → run a s ≡ Done r → s.next ≤ r.next
-numbers_grow a s r e = of_done (λ t. s.next ≤ t.next) (run a s) r e (all_hold (λ s t. s.next ≤ t.next) next_law a s)
+numbers_grow a s r e = law_of_done (λ t. s.next ≤ t.next) (run a s) r e (all_hold (λ s t. s.next ≤ t.next) next_law a s)
 
 -- the context stays
 node_context_law : Law (λ s t. t.node_context ≡ s.node_context)
@@ -77,4 +77,4 @@ node_context_law = record {
 }
 
 pub node_context_stays : (a : Emission) (s r : State) → run a s ≡ Done r → r.node_context ≡ s.node_context
-node_context_stays a s r e = of_done (λ t. t.node_context ≡ s.node_context) (run a s) r e (all_hold (λ s t. t.node_context ≡ s.node_context) node_context_law a s)
+node_context_stays a s r e = law_of_done (λ t. t.node_context ≡ s.node_context) (run a s) r e (all_hold (λ s t. t.node_context ≡ s.node_context) node_context_law a s)

@@ -6,7 +6,7 @@ use Rattle.py_emission_parts.specs.Emitting.{State, Done, Emission, with_step, w
 use Rattle.py_emission_parts.specs.Running.{run}
 use Rattle.py_emission_parts.specs.Growth.{Extends, Longer}
 use Rattle.py_emission_parts.proofs.EmissionLawLemmas.{Law, all_hold}
-use Rattle.py_emission_parts.proofs.GrowthLemmas.{of_done}
+use Rattle.py_emission_parts.proofs.GrowthLemmas.{law_of_done}
 
 module _ {A : Type 0} where
   extends_same : (xs : List A) → Extends xs xs
@@ -58,4 +58,4 @@ longer_law = record {
 }
 
 pub all_lengthen : (a : Emission) (s r : State) → run a s ≡ Done r → Longer s r
-all_lengthen a s r e = of_done (Longer s) (run a s) r e (all_hold Longer longer_law a s)
+all_lengthen a s r e = law_of_done (Longer s) (run a s) r e (all_hold Longer longer_law a s)

@@ -14,7 +14,7 @@ use Rattle.py_ir.specs.BlockList.{BlockList, IsOutside, IsWhole, block_at, curre
 use Rattle.py_emission_parts.specs.Emitting.{Step, Begin, State}
 use Rattle.py_emission_parts.specs.Listed.{Begun}
 use Rattle.py_emit.specs.Steps.{step_of, onwards, steps_from, steps_in, IsOpen}
-use Rattle.py_emit.proofs.Chains.{ChainLeads, chain_leads, chain_short, short_list}
+use Rattle.py_emit.proofs.ChainListLemmas.{ChainLeads, chain_leads, chain_short, short_list}
 
 -- the steps of a block and of those that come after it
 abbrev pub path_steps : List Blk → ℕ → List ℕ → List Step

@@ -22,7 +22,7 @@ impl Emitter {
     /// # Errors
     /// MissingCell where the name is no cell of the scope and does not reach it from outside, at the present location,
     /// or OutOfMemory.
-    #[tactic(auto, unfolding(py_emission_parts::specs::Children::load_cell, py_emission_parts::specs::Emitting::by_context, py_emission_parts::specs::Emitting::refuse), using(crate::proofs::CellPlaces::any_within, crate::proofs::CellPlaces::none_within))]
+    #[tactic(auto, unfolding(py_emission_parts::specs::Children::load_cell, py_emission_parts::specs::Emitting::by_context, py_emission_parts::specs::Emitting::refuse), using(crate::proofs::CellPlaceLemmas::any_within, crate::proofs::CellPlaceLemmas::none_within))]
     pub fn load_cell(&mut self, name: &str) -> Result<(), CodegenError>
         ensures emits { Emits result (cell_load name.now) self.old self.new }
         ensures missing { list_any (text_eq name.now)
@@ -55,7 +55,7 @@ impl Emitter {
     /// # Errors
     /// MissingCell, at the present location, where one of them is no cell of the scope and does not reach it from outside,
     /// or OutOfMemory.
-    #[tactic(auto, using(crate::proofs::Closures::closure_is))]
+    #[tactic(auto, using(crate::proofs::NonemptyClosureLemmas::closure_is))]
     pub fn build_closure(&mut self, code: &CodeObject) -> Result<bool, CodegenError>
         ensures emits { Emits result (closure code.now.freevars) self.old self.new }
         ensures any { IfOk result (λ any. some_flag 1 code.now.freevars ≡ (if any then 1 else 0)) }

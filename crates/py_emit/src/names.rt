@@ -45,7 +45,7 @@ pub fn is_debug(name: &str) -> bool
 }
 
 /// The constant that `__debug__` is.
-#[tactic(auto, using(py_bytecode::proofs::View::views))]
+#[tactic(auto, using(py_bytecode::proofs::ConstantViewLemmas::views))]
 pub fn debug_constant(opts: CompileOpts) -> ConstantData
     ensures { constant result ≡ constant_debug opts.optimize }
 {
@@ -351,7 +351,7 @@ impl Emitter {
 }
 
 /// The place of a name among cells and free names, or one past the last.
-#[tactic(auto, using(crate::proofs::CellPlaces::place_first, crate::proofs::CellPlaces::place_after))]
+#[tactic(auto, using(crate::proofs::CellPlaceLemmas::place_first, crate::proofs::CellPlaceLemmas::place_after))]
 pub(crate) fn cell_position(code: &FlatCode, name: &str) -> usize
     ensures { result ≡ position_or_len (text_eq name.now)
         (code.now.cellvar_cache ++ code.now.freevar_cache) }
@@ -364,7 +364,7 @@ pub(crate) fn cell_position(code: &FlatCode, name: &str) -> usize
 }
 
 /// The place of a name, or one past the last.
-#[tactic(auto, using(crate::proofs::CellPlaces::cell_place_found, crate::proofs::CellPlaces::missing, crate::proofs::CellPlaces::place_within))]
+#[tactic(auto, using(crate::proofs::CellPlaceLemmas::cell_place_found, crate::proofs::CellPlaceLemmas::position_missing, crate::proofs::CellPlaceLemmas::place_within))]
 fn place_among(names: &NameSet, name: &str) -> usize
     ensures place { result ≡ position_or_len (text_eq name.now) names.now }
     ensures small { result < 2 ^ 63 }

@@ -91,7 +91,7 @@ impl Emitter {
 }
 
 /// The last part goes, where there is one.
-#[tactic(auto, using(crate::proofs::Dotted::but_last_is))]
+#[tactic(auto, using(crate::proofs::QualifiedNameLemmas::but_last_is))]
 fn drop_last(path: &mut Names)
     ensures { path.new ≡ but_last path.old }
 {

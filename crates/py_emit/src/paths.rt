@@ -92,7 +92,7 @@ impl Emitter {
 ///
 /// # Errors
 /// There is no memory for it.
-#[tactic(auto, using(crate::proofs::Dotted::dotted_after, crate::proofs::Dotted::bare))]
+#[tactic(auto, using(crate::proofs::QualifiedNameLemmas::dotted_after, crate::proofs::QualifiedNameLemmas::after_dot_bare))]
 fn after_dot(alloc: Global, path: &str, name: &str, end: &str) -> Result<Text, AllocError>
     ensures { IfOk result (λ full. full ≡ after_dot path.now name.now ++ end.now) }
 {
@@ -110,7 +110,7 @@ fn after_dot(alloc: Global, path: &str, name: &str, end: &str) -> Result<Text, A
 ///
 /// # Errors
 /// There is no memory for it.
-#[tactic(auto, using(crate::proofs::Dotted::dotted_first))]
+#[tactic(auto, using(crate::proofs::QualifiedNameLemmas::dotted_first))]
 pub(crate) fn joined(alloc: Global, parts: &[Text]) -> Result<Text, AllocError>
     ensures { IfOk result (λ full. full ≡ dotted parts.now) }
 {

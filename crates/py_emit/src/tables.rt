@@ -144,7 +144,7 @@ impl Emitter {
     ///
     /// # Errors
     /// OutOfMemory alone.
-    #[tactic(auto, unfolding(py_emission_parts::specs::Emitting::with_constant, crate::specs::States::rest), using(py_bytecode::proofs::Entered::constants_entered, py_bytecode::proofs::Entered::constant_place))]
+    #[tactic(auto, unfolding(py_emission_parts::specs::Emitting::with_constant, crate::specs::States::rest), using(py_bytecode::proofs::EnteredConstantLemmas::constants_entered, py_bytecode::proofs::EnteredConstantLemmas::constant_place))]
     pub fn add_constant(&mut self, constant: ConstantData) -> Result<u32, CodegenError>
         ensures place { IfOk result (λ place.
             place ≡ place_in const_eq (state self.old).constants (constant_of constant)) }

@@ -1,2 +1,2 @@
-pub mod Locations
-pub mod Runs
+pub mod ExpressionLocationLemmas
+pub mod ElementRunLemmas

@@ -126,7 +126,7 @@ fn compile_plain(em: &mut Emitter, args: &[Expr]) -> Result<(), CodegenError>
 
 /// Emits a tuple of arguments, after `additional` values: where some are starred, of these first.
 #[cycle(code)]
-#[tactic(auto, using(py_expr_parts::proofs::Groups::many_elements, crate::proofs::Runs::few_runs))]
+#[tactic(auto, using(py_expr_parts::proofs::ElementGroupLemmas::many_elements, crate::proofs::ElementRunLemmas::few_runs))]
 fn compile_argument_tuple(
     em: &mut Emitter,
     additional: u32,

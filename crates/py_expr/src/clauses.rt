@@ -45,7 +45,7 @@ pub(crate) fn open_clauses(
 /// Emits what stands before what is within a clause: the iterator, the store of what it gives, and the conditions. Answers
 /// the blocks of the clause.
 #[cycle(code)]
-#[tactic(auto, using(py_expr_parts::proofs::Steps::step_steps))]
+#[tactic(auto, using(py_expr_parts::proofs::EmissionStepLemmas::step_steps))]
 fn open_clause(
     em: &mut Emitter,
     clause: &Comprehension,
@@ -66,7 +66,7 @@ fn open_clause(
 
 /// Emits what stands before what is within a clause of these blocks.
 #[cycle(code)]
-#[tactic(auto, using(py_expr_parts::proofs::Steps::step_steps))]
+#[tactic(auto, using(py_expr_parts::proofs::EmissionStepLemmas::step_steps))]
 fn begin_clause(
     em: &mut Emitter,
     clause: &Comprehension,

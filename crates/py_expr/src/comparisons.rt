@@ -36,7 +36,7 @@ pub(crate) fn compile_compare(em: &mut Emitter, e: &ExprCompare) -> Result<(), C
 }
 
 #[cycle(code)]
-#[tactic(auto, using(py_expr_parts::proofs::Steps::step_steps))]
+#[tactic(auto, using(py_expr_parts::proofs::EmissionStepLemmas::step_steps))]
 fn compile_one_comparison(em: &mut Emitter, e: &ExprCompare) -> Result<(), CodegenError>
     requires { 0 < length e.now.ops }
     ensures { Emits result ((emissions (expr_tree e.now.left.value)).value
@@ -50,7 +50,7 @@ fn compile_one_comparison(em: &mut Emitter, e: &ExprCompare) -> Result<(), Codeg
 
 /// Emits a chain of comparisons. What a false one leaves lies above a value that goes.
 #[cycle(code)]
-#[tactic(auto, using(py_expr_parts::proofs::Steps::step_steps))]
+#[tactic(auto, using(py_expr_parts::proofs::EmissionStepLemmas::step_steps))]
 fn compile_chain(em: &mut Emitter, e: &ExprCompare) -> Result<(), CodegenError>
     requires { length e.now.ops ≡ length e.now.comparators }
     ensures { Emits result (chain (emissions (expr_tree e.now.left.value)).value e.now.ops

@@ -26,7 +26,7 @@ use py_tree::{
 };
 
 #[cycle(code)]
-#[tactic(auto, using(py_expr_parts::proofs::Steps::step_steps))]
+#[tactic(auto, using(py_expr_parts::proofs::EmissionStepLemmas::step_steps))]
 pub(crate) fn compile_list_comp(em: &mut Emitter, e: &ExprListComp) -> Result<(), CodegenError>
     requires at { (state em.old).location ≡ e.now.location }
     ensures { Emits result (emission (list_comp_tree e.now)) em.old em.new }
@@ -36,7 +36,7 @@ pub(crate) fn compile_list_comp(em: &mut Emitter, e: &ExprListComp) -> Result<()
 }
 
 #[cycle(code)]
-#[tactic(auto, using(py_expr_parts::proofs::Steps::step_steps))]
+#[tactic(auto, using(py_expr_parts::proofs::EmissionStepLemmas::step_steps))]
 pub(crate) fn compile_set_comp(em: &mut Emitter, e: &ExprSetComp) -> Result<(), CodegenError>
     requires at { (state em.old).location ≡ e.now.location }
     ensures { Emits result (emission (set_comp_tree e.now)) em.old em.new }
@@ -46,7 +46,7 @@ pub(crate) fn compile_set_comp(em: &mut Emitter, e: &ExprSetComp) -> Result<(), 
 }
 
 #[cycle(code)]
-#[tactic(auto, using(py_expr_parts::proofs::Steps::step_steps))]
+#[tactic(auto, using(py_expr_parts::proofs::EmissionStepLemmas::step_steps))]
 pub(crate) fn compile_dict_comp(em: &mut Emitter, e: &ExprDictComp) -> Result<(), CodegenError>
     requires at { (state em.old).location ≡ e.now.location }
     ensures { Emits result (emission (dict_comp_tree e.now)) em.old em.new }
@@ -59,7 +59,7 @@ pub(crate) fn compile_dict_comp(em: &mut Emitter, e: &ExprDictComp) -> Result<()
 }
 
 #[cycle(code)]
-#[tactic(auto, using(py_expr_parts::proofs::Steps::step_steps))]
+#[tactic(auto, using(py_expr_parts::proofs::EmissionStepLemmas::step_steps))]
 pub(crate) fn compile_generator_exp(
     em: &mut Emitter,
     e: &ExprGeneratorExp,

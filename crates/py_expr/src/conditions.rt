@@ -16,7 +16,7 @@ use py_ir::BlockIdx;
 use py_tree::{BoolOp, Expr, ExprBoolOp, Malformed, UnaryOp};
 
 #[cycle(code)]
-#[tactic(auto, using(py_expr_parts::proofs::Steps::step_steps))]
+#[tactic(auto, using(py_expr_parts::proofs::EmissionStepLemmas::step_steps))]
 pub(crate) fn compile_bool_op(em: &mut Emitter, e: &ExprBoolOp) -> Result<(), CodegenError>
     requires at { (state em.old).location ≡ e.now.location }
     ensures { Emits result (emission (bool_op_tree e.now)) em.old em.new }
@@ -38,7 +38,7 @@ fn compile_bool_value(em: &mut Emitter, op: BoolOp, values: &[Expr]) -> Result<(
 
 /// Emits values, each but the last of which decides where its truth does.
 #[cycle(code)]
-#[tactic(auto, using(py_expr_parts::proofs::Steps::step_steps))]
+#[tactic(auto, using(py_expr_parts::proofs::EmissionStepLemmas::step_steps))]
 fn compile_some_values(em: &mut Emitter, op: BoolOp, values: &[Expr]) -> Result<(), CodegenError>
     ensures { Emits result (some_values op (all_emissions (exprs expr_tree values.now))) em.old
         em.new }
@@ -110,7 +110,7 @@ pub fn compile_jump_if(
 
 /// Emits an expression as a test.
 #[cycle(code)]
-#[tactic(auto, using(py_tree::proofs::View::trees, py_expr_parts::proofs::Steps::step_steps))]
+#[tactic(auto, using(py_tree::proofs::TreeViewLemmas::trees, py_expr_parts::proofs::EmissionStepLemmas::step_steps))]
 pub(crate) fn compile_test(em: &mut Emitter, expr: &Expr, jump: &JumpIf) -> Result<(), CodegenError>
     requires below { jump.now.block.0 < 0xffff_ffff }
     ensures { Emits result (emission_of_test (expr_tree expr.now) jump.now.truth jump.now.block.0)
@@ -128,7 +128,7 @@ pub(crate) fn compile_test(em: &mut Emitter, expr: &Expr, jump: &JumpIf) -> Resu
 
 /// Emits the test that is turned: that of `not` where the operand is this.
 #[cycle(code)]
-#[tactic(auto, using(py_expr_parts::proofs::Steps::step_steps))]
+#[tactic(auto, using(py_expr_parts::proofs::EmissionStepLemmas::step_steps))]
 fn compile_not(em: &mut Emitter, operand: &Expr, jump: &JumpIf) -> Result<(), CodegenError>
     requires below { jump.now.block.0 < 0xffff_ffff }
     ensures { Emits result (emission_of_test (expr_tree operand.now)
@@ -188,7 +188,7 @@ fn compile_some_test(
 
 /// Emits values as tests, where one that decides goes past the others.
 #[cycle(code)]
-#[tactic(auto, using(py_expr_parts::proofs::Steps::step_steps))]
+#[tactic(auto, using(py_expr_parts::proofs::EmissionStepLemmas::step_steps))]
 fn compile_past_tests(
     em: &mut Emitter,
     deciding: bool,

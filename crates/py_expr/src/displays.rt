@@ -18,7 +18,7 @@ use py_expr_parts::elements::has_star;
 use py_tree::{Expr, ExprDict, ExprList, ExprSet, ExprSlice, ExprTuple, Malformed};
 
 #[cycle(code)]
-#[tactic(auto, using(py_expr_parts::proofs::Steps::step_steps))]
+#[tactic(auto, using(py_expr_parts::proofs::EmissionStepLemmas::step_steps))]
 pub(crate) fn compile_list(em: &mut Emitter, e: &ExprList) -> Result<(), CodegenError>
     requires at { (state em.old).location ≡ e.now.location }
     ensures { Emits result (emission (list_tree e.now)) em.old em.new }
@@ -32,7 +32,7 @@ pub(crate) fn compile_list(em: &mut Emitter, e: &ExprList) -> Result<(), Codegen
 }
 
 #[cycle(code)]
-#[tactic(auto, using(py_expr_parts::proofs::Steps::step_steps))]
+#[tactic(auto, using(py_expr_parts::proofs::EmissionStepLemmas::step_steps))]
 pub(crate) fn compile_tuple(em: &mut Emitter, e: &ExprTuple) -> Result<(), CodegenError>
     requires at { (state em.old).location ≡ e.now.location }
     ensures { Emits result (emission (tuple_tree e.now)) em.old em.new }
@@ -46,7 +46,7 @@ pub(crate) fn compile_tuple(em: &mut Emitter, e: &ExprTuple) -> Result<(), Codeg
 }
 
 #[cycle(code)]
-#[tactic(auto, using(py_expr_parts::proofs::Steps::step_steps))]
+#[tactic(auto, using(py_expr_parts::proofs::EmissionStepLemmas::step_steps))]
 pub(crate) fn compile_set(em: &mut Emitter, e: &ExprSet) -> Result<(), CodegenError>
     requires at { (state em.old).location ≡ e.now.location }
     ensures { Emits result (emission (set_tree e.now)) em.old em.new }
@@ -132,7 +132,7 @@ fn begin_entry(
 }
 
 #[cycle(code)]
-#[tactic(auto, using(py_expr_parts::proofs::Steps::step_steps))]
+#[tactic(auto, using(py_expr_parts::proofs::EmissionStepLemmas::step_steps))]
 pub(crate) fn compile_slice(em: &mut Emitter, e: &ExprSlice) -> Result<(), CodegenError>
     requires at { (state em.old).location ≡ e.now.location }
     ensures { Emits result (emission (slice_tree e.now)) em.old em.new }
@@ -144,7 +144,7 @@ pub(crate) fn compile_slice(em: &mut Emitter, e: &ExprSlice) -> Result<(), Codeg
 
 /// Emits a value, which is None where it is missing.
 #[cycle(code)]
-#[tactic(auto, using(py_bytecode::proofs::View::views))]
+#[tactic(auto, using(py_bytecode::proofs::ConstantViewLemmas::views))]
 pub(crate) fn compile_or_none(
     em: &mut Emitter,
     bound: &Option<Box<Expr>>,

@@ -30,7 +30,7 @@ use py_tree::{Expr, ExprAttribute, ExprBinOp, ExprIfExp, ExprSubscript, ExprUnar
 /// # Errors
 /// The first compile fault of the expression, with its location; MissingCell or TableMismatch; or OutOfMemory.
 #[cycle(code)]
-#[tactic(auto, using(py_expr_parts::proofs::Steps::step_steps))]
+#[tactic(auto, using(py_expr_parts::proofs::EmissionStepLemmas::step_steps))]
 pub fn compile_expression(em: &mut Emitter, expr: &Expr) -> Result<(), CodegenError>
     ensures { Emits result (emission (expr_tree expr.now)) em.old em.new }
 {
@@ -40,7 +40,7 @@ pub fn compile_expression(em: &mut Emitter, expr: &Expr) -> Result<(), CodegenEr
 
 /// Emits the value of an expression, at whose location the emitter is.
 #[cycle(code)]
-#[tactic(auto, using(py_tree::proofs::View::trees, py_expr_parts::proofs::Steps::step_steps))]
+#[tactic(auto, using(py_tree::proofs::TreeViewLemmas::trees, py_expr_parts::proofs::EmissionStepLemmas::step_steps))]
 pub(crate) fn compile_entered(em: &mut Emitter, expr: &Expr) -> Result<(), CodegenError>
     requires at { (state em.old).location ≡ expr_location (expr_tree expr.now) }
     ensures { Emits result (emission (expr_tree expr.now)) em.old em.new }
@@ -77,7 +77,7 @@ pub(crate) fn compile_entered(em: &mut Emitter, expr: &Expr) -> Result<(), Codeg
 }
 
 #[cycle(code)]
-#[tactic(auto, using(py_expr_parts::proofs::Steps::step_steps))]
+#[tactic(auto, using(py_expr_parts::proofs::EmissionStepLemmas::step_steps))]
 fn compile_bin_op(em: &mut Emitter, e: &ExprBinOp) -> Result<(), CodegenError>
     requires at { (state em.old).location ≡ e.now.location }
     ensures { Emits result (emission (bin_op_tree e.now)) em.old em.new }
@@ -89,7 +89,7 @@ fn compile_bin_op(em: &mut Emitter, e: &ExprBinOp) -> Result<(), CodegenError>
 }
 
 #[cycle(code)]
-#[tactic(auto, using(py_expr_parts::proofs::Steps::step_steps))]
+#[tactic(auto, using(py_expr_parts::proofs::EmissionStepLemmas::step_steps))]
 fn compile_unary_op(em: &mut Emitter, e: &ExprUnaryOp) -> Result<(), CodegenError>
     requires at { (state em.old).location ≡ e.now.location }
     ensures { Emits result (emission (unary_op_tree e.now)) em.old em.new }
@@ -100,7 +100,7 @@ fn compile_unary_op(em: &mut Emitter, e: &ExprUnaryOp) -> Result<(), CodegenErro
 }
 
 #[cycle(code)]
-#[tactic(auto, using(py_expr_parts::proofs::Steps::step_steps))]
+#[tactic(auto, using(py_expr_parts::proofs::EmissionStepLemmas::step_steps))]
 fn compile_if_exp(em: &mut Emitter, e: &ExprIfExp) -> Result<(), CodegenError>
     requires at { (state em.old).location ≡ e.now.location }
     ensures { Emits result (emission (if_exp_tree e.now)) em.old em.new }
@@ -121,7 +121,7 @@ fn compile_if_exp(em: &mut Emitter, e: &ExprIfExp) -> Result<(), CodegenError>
 }
 
 #[cycle(code)]
-#[tactic(auto, using(py_expr_parts::proofs::Steps::step_steps))]
+#[tactic(auto, using(py_expr_parts::proofs::EmissionStepLemmas::step_steps))]
 fn compile_attribute(em: &mut Emitter, e: &ExprAttribute) -> Result<(), CodegenError>
     requires at { (state em.old).location ≡ e.now.location }
     ensures { Emits result (emission (attribute_tree e.now)) em.old em.new }
@@ -131,7 +131,7 @@ fn compile_attribute(em: &mut Emitter, e: &ExprAttribute) -> Result<(), CodegenE
 }
 
 #[cycle(code)]
-#[tactic(auto, using(py_expr_parts::proofs::Steps::step_steps))]
+#[tactic(auto, using(py_expr_parts::proofs::EmissionStepLemmas::step_steps))]
 fn compile_subscript(em: &mut Emitter, e: &ExprSubscript) -> Result<(), CodegenError>
     requires at { (state em.old).location ≡ e.now.location }
     ensures { Emits result (emission (subscript_tree e.now)) em.old em.new }

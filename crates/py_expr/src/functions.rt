@@ -78,7 +78,7 @@ pub fn compile_defaults(em: &mut Emitter, params: &Arguments) -> Result<Defaults
 
 /// Emits the tuple of the defaults of positional parameters. Answers whether there are any.
 #[cycle(code)]
-#[tactic(auto, using(py_expr_scopes::proofs::Signatures::positional_goes, py_expr_scopes::proofs::Signatures::positional_any))]
+#[tactic(auto, using(py_expr_scopes::proofs::FunctionSignatureLemmas::positional_goes, py_expr_scopes::proofs::FunctionSignatureLemmas::positional_any))]
 fn compile_positional_defaults(em: &mut Emitter, params: &Arguments) -> Result<bool, CodegenError>
     ensures any { IfOk result (λ any. some_flag 0x08
         (default_emissions (arguments expr_tree params.now)).positional ≡ flag_if 0x08 any) }
@@ -94,7 +94,7 @@ fn compile_positional_defaults(em: &mut Emitter, params: &Arguments) -> Result<b
 
 /// Emits the map of the defaults of keyword-only parameters. Answers whether there are any.
 #[cycle(code)]
-#[tactic(auto, using(py_expr_scopes::proofs::Signatures::keyword_goes, py_expr_scopes::proofs::Signatures::keyword_any))]
+#[tactic(auto, using(py_expr_scopes::proofs::FunctionSignatureLemmas::keyword_goes, py_expr_scopes::proofs::FunctionSignatureLemmas::keyword_any))]
 fn compile_keyword_defaults(em: &mut Emitter, params: &Arguments) -> Result<bool, CodegenError>
     ensures any { IfOk result (λ any. some_flag 0x04
         (default_emissions (arguments expr_tree params.now)).keyword ≡ flag_if 0x04 any) }

@@ -22,7 +22,7 @@ use py_tree::{Expr, ExprJoinedStr};
 /// # Errors
 /// The first compile fault of the expression, with its location; MissingCell or TableMismatch; or OutOfMemory.
 #[cycle(code)]
-#[tactic(auto, using(py_tree::proofs::View::trees, py_expr_parts::proofs::Steps::step_steps))]
+#[tactic(auto, using(py_tree::proofs::TreeViewLemmas::trees, py_expr_parts::proofs::EmissionStepLemmas::step_steps))]
 pub fn compile_return(em: &mut Emitter, expr: &Expr) -> Result<(), CodegenError>
     ensures { Emits result (emission_of_return (expr_tree expr.now)) em.old em.new }
 {
@@ -32,7 +32,7 @@ pub fn compile_return(em: &mut Emitter, expr: &Expr) -> Result<(), CodegenError>
 
 /// Emits the return of an expression's value, at whose location the emitter is.
 #[cycle(code)]
-#[tactic(auto, using(py_tree::proofs::View::trees, py_expr_parts::proofs::Steps::step_steps))]
+#[tactic(auto, using(py_tree::proofs::TreeViewLemmas::trees, py_expr_parts::proofs::EmissionStepLemmas::step_steps))]
 fn return_entered(em: &mut Emitter, expr: &Expr) -> Result<(), CodegenError>
     requires at { (state em.old).location ≡ expr_location (expr_tree expr.now) }
     ensures { Emits result (emission_of_return (expr_tree expr.now)) em.old em.new }
@@ -47,7 +47,7 @@ fn return_entered(em: &mut Emitter, expr: &Expr) -> Result<(), CodegenError>
 
 /// Emits a value and its return.
 #[cycle(code)]
-#[tactic(auto, using(py_expr_parts::proofs::Steps::step_steps))]
+#[tactic(auto, using(py_expr_parts::proofs::EmissionStepLemmas::step_steps))]
 fn return_value(em: &mut Emitter, expr: &Expr) -> Result<(), CodegenError>
     requires at { (state em.old).location ≡ expr_location (expr_tree expr.now) }
     ensures { Emits result (emission (expr_tree expr.now) ▸ emitting Instruction.ReturnValue 0)
@@ -59,7 +59,7 @@ fn return_value(em: &mut Emitter, expr: &Expr) -> Result<(), CodegenError>
 }
 
 #[cycle(code)]
-#[tactic(auto, using(py_expr_parts::proofs::Steps::step_steps))]
+#[tactic(auto, using(py_expr_parts::proofs::EmissionStepLemmas::step_steps))]
 fn return_joined_str(em: &mut Emitter, e: &ExprJoinedStr) -> Result<(), CodegenError>
     requires at { (state em.old).location ≡ e.now.location }
     ensures { Emits result (emission_of_return (joined_str_tree e.now)) em.old em.new }
@@ -69,7 +69,7 @@ fn return_joined_str(em: &mut Emitter, e: &ExprJoinedStr) -> Result<(), CodegenE
 
 /// Emits the code that returns the parts of an f-string joined: one text by one instruction.
 #[cycle(code)]
-#[tactic(auto, using(py_bytecode::proofs::View::views))]
+#[tactic(auto, using(py_bytecode::proofs::ConstantViewLemmas::views))]
 fn return_joined(em: &mut Emitter, parts: &[Expr]) -> Result<(), CodegenError>
     ensures { Emits result (joined_return (texts_of (exprs expr_tree parts.now))
         (values (all_emissions (exprs expr_tree parts.now)))) em.old em.new }

@@ -22,7 +22,7 @@ use py_tree::{Expr, ExprAttribute, ExprNamedExpr, ExprSubscript, SourceLocation}
 /// The first compile fault of the expression as a target, with its location; MissingCell or TableMismatch; or
 /// OutOfMemory.
 #[cycle(code)]
-#[tactic(auto, using(py_tree::proofs::View::trees))]
+#[tactic(auto, using(py_tree::proofs::TreeViewLemmas::trees))]
 pub fn compile_store(em: &mut Emitter, target: &Expr) -> Result<(), CodegenError>
     ensures { Emits result (emission_of_store (expr_tree target.now)) em.old em.new }
 {
@@ -102,7 +102,7 @@ fn compile_stores(em: &mut Emitter, elts: &[Expr]) -> Result<(), CodegenError>
 
 /// Emits the code that stores to one of several targets. A starred one takes a list.
 #[cycle(code)]
-#[tactic(auto, using(py_tree::proofs::View::trees))]
+#[tactic(auto, using(py_tree::proofs::TreeViewLemmas::trees))]
 fn compile_element_store(em: &mut Emitter, elt: &Expr) -> Result<(), CodegenError>
     ensures { Emits result (bare_of (stores (expr_tree elt.now)).element) em.old em.new }
 {
@@ -118,7 +118,7 @@ fn compile_element_store(em: &mut Emitter, elt: &Expr) -> Result<(), CodegenErro
 /// The first compile fault of the expression as what is deleted, with its location; MissingCell or TableMismatch; or
 /// OutOfMemory.
 #[cycle(deletions)]
-#[tactic(auto, using(py_tree::proofs::View::trees))]
+#[tactic(auto, using(py_tree::proofs::TreeViewLemmas::trees))]
 pub fn compile_delete(em: &mut Emitter, target: &Expr) -> Result<(), CodegenError>
     ensures { Emits result (emission_of_delete (expr_tree target.now)) em.old em.new }
 {
@@ -154,7 +154,7 @@ pub fn compile_deletes(em: &mut Emitter, targets: &[Expr]) -> Result<(), Codegen
 
 /// Emits a value that is stored and kept.
 #[cycle(code)]
-#[tactic(auto, using(py_expr_parts::proofs::Steps::step_steps))]
+#[tactic(auto, using(py_expr_parts::proofs::EmissionStepLemmas::step_steps))]
 pub(crate) fn compile_named_expr(em: &mut Emitter, e: &ExprNamedExpr) -> Result<(), CodegenError>
     requires at { (state em.old).location ≡ e.now.location }
     ensures { Emits result (emission (named_expr_tree e.now)) em.old em.new }

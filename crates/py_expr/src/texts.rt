@@ -16,7 +16,7 @@ use py_node_values::operators::conversion_case_of;
 use py_tree::{Expr, ExprFormattedValue, ExprJoinedStr, Text};
 
 #[cycle(code)]
-#[tactic(auto, using(py_expr_parts::proofs::Steps::step_steps))]
+#[tactic(auto, using(py_expr_parts::proofs::EmissionStepLemmas::step_steps))]
 pub(crate) fn compile_joined_str(em: &mut Emitter, e: &ExprJoinedStr) -> Result<(), CodegenError>
     requires at { (state em.old).location ≡ e.now.location }
     ensures { Emits result (emission (joined_str_tree e.now)) em.old em.new }
@@ -26,7 +26,7 @@ pub(crate) fn compile_joined_str(em: &mut Emitter, e: &ExprJoinedStr) -> Result<
 
 /// Emits the parts of an f-string and the instruction that joins them, or where each is a text, the one text.
 #[cycle(code)]
-#[tactic(auto, using(py_bytecode::proofs::View::views))]
+#[tactic(auto, using(py_bytecode::proofs::ConstantViewLemmas::views))]
 fn compile_joined(em: &mut Emitter, parts: &[Expr]) -> Result<(), CodegenError>
     ensures { Emits result (joined_value (texts_of (exprs expr_tree parts.now))
         (values (all_emissions (exprs expr_tree parts.now)))) em.old em.new }
@@ -48,7 +48,7 @@ pub(crate) fn compile_parts(em: &mut Emitter, parts: &[Expr]) -> Result<(), Code
 }
 
 #[cycle(code)]
-#[tactic(auto, using(py_expr_parts::proofs::Steps::step_steps))]
+#[tactic(auto, using(py_expr_parts::proofs::EmissionStepLemmas::step_steps))]
 pub(crate) fn compile_formatted_value(
     em: &mut Emitter,
     e: &ExprFormattedValue,
@@ -68,7 +68,7 @@ pub(crate) fn compile_formatted_value(
 
 /// Emits what says how a value is formatted, which is the empty text where it is missing.
 #[cycle(code)]
-#[tactic(auto, using(py_bytecode::proofs::View::views))]
+#[tactic(auto, using(py_bytecode::proofs::ConstantViewLemmas::views))]
 fn compile_format_spec(em: &mut Emitter, spec: &Option<Box<Expr>>) -> Result<(), CodegenError>
     ensures { Emits result (value_or (object.str []) (opt_emission (opt_box expr_tree spec.now)))
         em.old em.new }

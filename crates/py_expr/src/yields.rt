@@ -16,7 +16,7 @@ use py_expr_parts::yields::check_in_function;
 use py_tree::{Expr, ExprYield, ExprYieldFrom};
 
 #[cycle(code)]
-#[tactic(auto, using(py_expr_parts::proofs::Steps::step_steps))]
+#[tactic(auto, using(py_expr_parts::proofs::EmissionStepLemmas::step_steps))]
 pub(crate) fn compile_yield(em: &mut Emitter, e: &ExprYield) -> Result<(), CodegenError>
     requires at { (state em.old).location ≡ e.now.location }
     ensures { Emits result (emission (yield_tree e.now)) em.old em.new }
@@ -37,7 +37,7 @@ fn yield_within(em: &mut Emitter, value: &Option<Box<Expr>>) -> Result<(), Codeg
 
 /// Emits a value, or None where it is missing, and what hands it on.
 #[cycle(code)]
-#[tactic(auto, using(py_expr_parts::proofs::Steps::step_steps))]
+#[tactic(auto, using(py_expr_parts::proofs::EmissionStepLemmas::step_steps))]
 fn yield_value(em: &mut Emitter, value: &Option<Box<Expr>>) -> Result<(), CodegenError>
     ensures { Emits result (generator_mark
         ▸ value_or object.none (opt_emission (opt_box expr_tree value.now))
@@ -50,7 +50,7 @@ fn yield_value(em: &mut Emitter, value: &Option<Box<Expr>>) -> Result<(), Codege
 }
 
 #[cycle(code)]
-#[tactic(auto, using(py_expr_parts::proofs::Steps::step_steps))]
+#[tactic(auto, using(py_expr_parts::proofs::EmissionStepLemmas::step_steps))]
 pub(crate) fn compile_yield_from(em: &mut Emitter, e: &ExprYieldFrom) -> Result<(), CodegenError>
     requires at { (state em.old).location ≡ e.now.location }
     ensures { Emits result (emission (yield_from_tree e.now)) em.old em.new }
@@ -72,7 +72,7 @@ fn yield_all_within(em: &mut Emitter, value: &Expr) -> Result<(), CodegenError>
 
 /// Emits a value, and what hands on all that it gives.
 #[cycle(code)]
-#[tactic(auto, using(py_bytecode::proofs::View::views))]
+#[tactic(auto, using(py_bytecode::proofs::ConstantViewLemmas::views))]
 fn yield_all(em: &mut Emitter, value: &Expr) -> Result<(), CodegenError>
     ensures { Emits result (generator_mark ▸ emission (expr_tree value.now)
         ▸ emitting Instruction.GetIter 0 ▸ emit_constant Instruction.LoadConst object.none

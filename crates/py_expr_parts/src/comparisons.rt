@@ -40,7 +40,7 @@ pub fn compile_link(em: &mut Emitter, op: CmpOp, out: BlockIdx) -> Result<(), Co
 ///
 /// # Errors
 /// OutOfMemory alone.
-#[tactic(auto, using(crate::proofs::Steps::step_steps))]
+#[tactic(auto, using(crate::proofs::EmissionStepLemmas::step_steps))]
 pub fn compile_comparison(em: &mut Emitter, op: CmpOp) -> Result<(), CodegenError>
     ensures { Emits result (emission_of_comparison op) em.old em.new }
 {

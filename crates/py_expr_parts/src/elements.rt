@@ -25,7 +25,7 @@ pub fn has_star(elts: &[Expr]) -> bool
 }
 
 /// Whether an expression is starred.
-#[tactic(auto, using(py_tree::proofs::View::trees))]
+#[tactic(auto, using(py_tree::proofs::TreeViewLemmas::trees))]
 pub(crate) fn is_star(elt: &Expr) -> bool
     ensures element { result ≡ is_spread (emissions (expr_tree elt.now)).element }
     ensures target { result ≡ is_spread (stores (expr_tree elt.now)).element }

@@ -13,7 +13,7 @@ use py_tree::{ExprAwait, ExprName, ExprStarred};
 ///
 /// # Errors
 /// NotImplementedYet.
-#[tactic(auto, using(crate::proofs::Steps::step_steps))]
+#[tactic(auto, using(crate::proofs::EmissionStepLemmas::step_steps))]
 pub fn refuse_unsupported(em: &mut Emitter) -> Result<(), CodegenError>
     ensures { Emits result (refuse CodegenErrorType.NotImplementedYet) em.old em.new }
 {
@@ -24,7 +24,7 @@ pub fn refuse_unsupported(em: &mut Emitter) -> Result<(), CodegenError>
 ///
 /// # Errors
 /// InvalidStarExpr.
-#[tactic(auto, using(crate::proofs::Steps::step_steps))]
+#[tactic(auto, using(crate::proofs::EmissionStepLemmas::step_steps))]
 pub fn compile_starred(em: &mut Emitter, e: &ExprStarred) -> Result<(), CodegenError>
     requires at { (state em.old).location ≡ e.now.location }
     ensures { Emits result (emission (starred_tree e.now)) em.old em.new }
@@ -36,7 +36,7 @@ pub fn compile_starred(em: &mut Emitter, e: &ExprStarred) -> Result<(), CodegenE
 ///
 /// # Errors
 /// OutOfMemory alone.
-#[tactic(auto, using(crate::proofs::Steps::step_steps))]
+#[tactic(auto, using(crate::proofs::EmissionStepLemmas::step_steps))]
 pub fn compile_name(em: &mut Emitter, e: &ExprName) -> Result<(), CodegenError>
     requires at { (state em.old).location ≡ e.now.location }
     ensures { Emits result (emission (name_tree e.now)) em.old em.new }
@@ -48,7 +48,7 @@ pub fn compile_name(em: &mut Emitter, e: &ExprName) -> Result<(), CodegenError>
 ///
 /// # Errors
 /// InvalidAwait.
-#[tactic(auto, using(crate::proofs::Steps::step_steps))]
+#[tactic(auto, using(crate::proofs::EmissionStepLemmas::step_steps))]
 pub fn compile_await(em: &mut Emitter, e: &ExprAwait) -> Result<(), CodegenError>
     requires at { (state em.old).location ≡ e.now.location }
     ensures { Emits result (emission (await_tree e.now)) em.old em.new }

@@ -79,7 +79,7 @@ pub fn load_names(em: &mut Emitter, keywords: &[Keyword]) -> Result<(), CodegenE
 }
 
 /// The tuple of the names of keywords.
-#[tactic(auto, using(py_bytecode::proofs::View::views))]
+#[tactic(auto, using(py_bytecode::proofs::ConstantViewLemmas::views))]
 fn name_tuple(alloc: Global, keywords: &[Keyword]) -> Result<ConstantData, AllocError>
     ensures { IfOk result (λ c. constant c
         ≡ tuple (names_in (keyword_emissions (keyword_trees expr_tree keywords.now)))) }

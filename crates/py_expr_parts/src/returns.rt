@@ -14,7 +14,7 @@ use py_tree::{ExprConstant, ExprName};
 ///
 /// # Errors
 /// OutOfMemory alone.
-#[tactic(auto, using(crate::proofs::Steps::step_steps))]
+#[tactic(auto, using(crate::proofs::EmissionStepLemmas::step_steps))]
 pub fn return_constant(em: &mut Emitter, e: &ExprConstant) -> Result<(), CodegenError>
     requires at { (state em.old).location ≡ e.now.location }
     ensures { Emits result (emission_of_return (constant_tree e.now)) em.old em.new }
@@ -27,7 +27,7 @@ pub fn return_constant(em: &mut Emitter, e: &ExprConstant) -> Result<(), Codegen
 ///
 /// # Errors
 /// OutOfMemory alone.
-#[tactic(auto, using(crate::proofs::Steps::step_steps))]
+#[tactic(auto, using(crate::proofs::EmissionStepLemmas::step_steps))]
 pub fn return_name(em: &mut Emitter, e: &ExprName) -> Result<(), CodegenError>
     requires at { (state em.old).location ≡ e.now.location }
     ensures { Emits result (emission_of_return (name_tree e.now)) em.old em.new }

@@ -104,7 +104,7 @@ pub fn refuse_lone_star(em: &mut Emitter) -> Result<(), CodegenError>
 ///
 /// # Errors
 /// Assign, which names the kind of the expression, or OutOfMemory for its name.
-#[tactic(auto, using(crate::proofs::Steps::step_steps))]
+#[tactic(auto, using(crate::proofs::EmissionStepLemmas::step_steps))]
 pub fn refuse_store(em: &mut Emitter, target: &Expr) -> Result<(), CodegenError>
     ensures { Emits result (refuse (CodegenErrorType.Assign (python_name (expr_tree target.now))))
         em.old em.new }
@@ -117,7 +117,7 @@ pub fn refuse_store(em: &mut Emitter, target: &Expr) -> Result<(), CodegenError>
 ///
 /// # Errors
 /// Delete, which names the kind of the expression, or OutOfMemory for its name.
-#[tactic(auto, using(crate::proofs::Steps::step_steps))]
+#[tactic(auto, using(crate::proofs::EmissionStepLemmas::step_steps))]
 pub fn refuse_delete(em: &mut Emitter, target: &Expr) -> Result<(), CodegenError>
     ensures { Emits result (refuse (CodegenErrorType.Delete (deletion_name (expr_tree target.now))))
         em.old em.new }
@@ -127,7 +127,7 @@ pub fn refuse_delete(em: &mut Emitter, target: &Expr) -> Result<(), CodegenError
 }
 
 /// What a message calls an expression that cannot be deleted.
-#[tactic(auto, using(py_tree::proofs::View::trees))]
+#[tactic(auto, using(py_tree::proofs::TreeViewLemmas::trees))]
 fn deletion_name(target: &Expr) -> &'static str
     ensures { result.now ≡ deletion_name (expr_tree target.now) }
 {

@@ -18,7 +18,7 @@ use py_tree::{Constant, Expr, ExprConstant, Text};
 ///
 /// # Errors
 /// OutOfMemory alone.
-#[tactic(auto, using(crate::proofs::Steps::step_steps))]
+#[tactic(auto, using(crate::proofs::EmissionStepLemmas::step_steps))]
 pub fn compile_constant(em: &mut Emitter, e: &ExprConstant) -> Result<(), CodegenError>
     requires at { (state em.old).location ≡ e.now.location }
     ensures { Emits result (emission (constant_tree e.now)) em.old em.new }

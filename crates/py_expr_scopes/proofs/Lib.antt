@@ -1,5 +1,5 @@
-pub mod OpenBlocks
-pub mod OpenClauses
-pub mod ComprehensionScopes
-pub mod Signatures
-pub mod Scopes
+pub mod OpenBlockLemmas
+pub mod OpenClauseLemmas
+pub mod ComprehensionScopeLemmas
+pub mod FunctionSignatureLemmas
+pub mod NestedScopeEmissionLemmas

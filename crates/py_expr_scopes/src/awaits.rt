@@ -8,7 +8,7 @@ use py_tree::{Comprehension, Expr, Keyword};
 /// Whether an `await` stands in the expression, within its operands, elements, arguments or parts, in the body of a lambda,
 /// or in an element or an iterable of a comprehension.
 #[cycle(awaits)]
-#[tactic(auto, using(py_tree::proofs::View::trees))]
+#[tactic(auto, using(py_tree::proofs::TreeViewLemmas::trees))]
 pub fn contains_await(expr: &Expr) -> bool
     ensures { result ≡ awaits (expr_tree expr.now) }
 {

@@ -136,7 +136,7 @@ pub fn begin_collection(
 ///
 /// # Errors
 /// OutOfMemory alone.
-#[tactic(auto, using(py_bytecode::proofs::View::views))]
+#[tactic(auto, using(py_bytecode::proofs::ConstantViewLemmas::views))]
 pub fn finish_collection(
     em: &mut Emitter,
     element: &ComprehensionElement<'_>,

@@ -131,7 +131,7 @@ fn enter_counted<L: Ledger>(
 ///
 /// # Errors
 /// SyntaxError where a parameter is named `__debug__`, or OutOfMemory.
-#[tactic(auto, using(py_bytecode::proofs::View::views))]
+#[tactic(auto, using(py_bytecode::proofs::ConstantViewLemmas::views))]
 pub fn begin_function(em: &mut Emitter, params: &Arguments) -> Result<(), CodegenError>
     ensures { Emits result (enter_parameters (parameters (arguments expr_tree params.now))
         ▸ add_constant object.none) em.old em.new }
@@ -232,7 +232,7 @@ pub fn load_default_name(em: &mut Emitter, name: &Text, named: bool) -> Result<(
 ///
 /// # Errors
 /// OutOfMemory alone.
-#[tactic(auto, using(py_bytecode::proofs::View::views))]
+#[tactic(auto, using(py_bytecode::proofs::ConstantViewLemmas::views))]
 pub fn load_name(em: &mut Emitter, name: &Text) -> Result<(), CodegenError>
     ensures { Emits result (emit_constant Instruction.LoadConst (str name.now)) em.old em.new }
 {

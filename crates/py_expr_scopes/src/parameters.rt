@@ -53,7 +53,7 @@ fn code_flags(vararg: bool, kwarg: bool) -> CodeFlags
 
 /// Enters the names of parameters among those that the code object has of its own: keyword-only ones without a default
 /// before those with one, and the two that take what is left over last.
-#[tactic(auto, using(crate::proofs::Signatures::parameters_go))]
+#[tactic(auto, using(crate::proofs::FunctionSignatureLemmas::parameters_go))]
 pub(crate) fn enter_names(em: &mut Emitter, params: &Arguments) -> Result<(), CodegenError>
     ensures { Emits result (enter_parameters (parameters (arguments expr_tree params.now))) em.old
         em.new }

@@ -9,8 +9,8 @@ use Rattle.py_interp.specs.Shortened.{short_got, short_world}
 use Rattle.py_interp.specs.Interpreters.{interpret_expr, interpret_test, interpret_target}
 use Rattle.py_control.specs.Agree.{plainly}
 use Rattle.py_interp.specs.TreeLaws.{InterpretsMeanings, InterpretsTrees}
-use Rattle.py_interp.proofs.Exprs.{same_expr, same_target}
-use Rattle.py_interp.proofs.Trees as trees
+use Rattle.py_interp.proofs.ExpressionMeaningLemmas.{same_expr, same_target}
+use Rattle.py_interp.proofs.TreeMeaningLemmas as trees
 
 -- a context that no class mangles in
 classless : (c : Context) → c.class ≡ None → record c { class = None } ≡ c

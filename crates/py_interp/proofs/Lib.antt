@@ -1,16 +1,16 @@
-mod Binds
-mod Shorter
-mod Groups
-mod Steps
-mod Dicts
-mod Lists
-mod Calls
-mod Exprs
-mod Ended
-mod Parts
-mod Imports
-mod Stmts
-mod Trees
+mod RunSequenceLemmas
+mod ShortenedRunLemmas
+mod GroupRunLemmas
+mod OperationMeaningLemmas
+mod DictRunLemmas
+mod ExpressionListMeaningLemmas
+mod CallMeaningLemmas
+mod ExpressionMeaningLemmas
+mod StatementEndLemmas
+mod StatementPartMeaningLemmas
+mod ImportMeaningLemmas
+mod StatementMeaningLemmas
+mod TreeMeaningLemmas
 mod Samples
 pub mod InterpreterLemmas
-pub mod Lengths
+pub mod ValueCountLemmas

@@ -15,7 +15,7 @@ use py_tree::Constant;
 use std::alloc::Global;
 
 /// None.
-#[tactic(auto, using(py_bytecode::proofs::View::views))]
+#[tactic(auto, using(py_bytecode::proofs::ConstantViewLemmas::views))]
 pub fn none() -> StepValue
     ensures { value_of result ≡ none }
 {
@@ -23,7 +23,7 @@ pub fn none() -> StepValue
 }
 
 /// The empty text.
-#[tactic(auto, using(py_bytecode::proofs::View::views))]
+#[tactic(auto, using(py_bytecode::proofs::ConstantViewLemmas::views))]
 pub fn empty_text(alloc: Global) -> StepValue
     ensures { value_of result ≡ values.Constant (object.str []) }
 {
@@ -35,7 +35,7 @@ pub fn empty_text(alloc: Global) -> StepValue
 ///
 /// # Errors
 /// OutOfMemory alone.
-#[tactic(auto, using(py_bytecode::proofs::View::views))]
+#[tactic(auto, using(py_bytecode::proofs::ConstantViewLemmas::views))]
 pub fn text(alloc: Global, text: &Text) -> Result<StepValue, Halt>
     ensures ok { IfOk result (λ v. value_of v ≡ values.Constant (object.str text.now)) }
     ensures err { IfErr result (λ h. h ≡ Halt.OutOfMemory) }

@@ -43,7 +43,7 @@ pub fn store(log: &mut Log<'_>, name: &Text, value: StepValue) -> Result<(), Hal
 ///
 /// # Errors
 /// What ends the run, or OutOfMemory.
-#[tactic(auto, using(py_bytecode::proofs::View::views))]
+#[tactic(auto, using(py_bytecode::proofs::ConstantViewLemmas::views))]
 pub fn name_value(log: &mut Log<'_>, level: u8, name: &Text) -> Result<StepValue, Halt>
     ensures { Gets value_of result (world_of log.new)
         (name_value level name.now (world_of log.old)) }

@@ -157,7 +157,7 @@ pub fn truth(log: &mut Log<'_>, value: &StepValue) -> Result<bool, Halt>
 ///
 /// # Errors
 /// What ends the run, or OutOfMemory.
-#[tactic(auto, using(crate::proofs::Lengths::lengths))]
+#[tactic(auto, using(crate::proofs::ValueCountLemmas::length-step_values))]
 pub fn build(log: &mut Log<'_>, op: Instruction, values: Vec<StepValue>) -> Result<StepValue, Halt>
     ensures { Gets value_of result (world_of log.new)
         (build op (values_of values.items) (world_of log.old)) }

@@ -45,9 +45,9 @@ pub continuation_ended : {Y A B : Type 0} (see : Y → B) (r : Result Y Halt) (h
 continuation_ended see r h w whole g k e p b = subst (λ q. Gets see q w whole) (sym e) (continuation_same see (Err h) w whole (then_get g k) p (continuation_ends see h w g k b))
 
 -- a value is given for which there may be no memory
-pub gives : {X A : Type 0} (view : X → A) (r : Result X Halt) (w : World Known) (g : Got Known A) (x : A) → IfOk r (λ v. view v ≡ x)
+pub gets_given_value : {X A : Type 0} (view : X → A) (r : Result X Halt) (w : World Known) (g : Got Known A) (x : A) → IfOk r (λ v. view v ≡ x)
     → IfErr r (λ h. h ≡ Halt.OutOfMemory) → g ≡ Fine x w → Gets view r w g
-gives view (Ok v) w g x p q e = e ∙ ap (λ y. Fine y w) (sym p)
-gives view (Err (Halt.Raised n)) w g x p q e = absurd cc
-gives view (Err Halt.Stopped) w g x p q e = absurd cc
-gives view (Err Halt.OutOfMemory) w g x p q e = tt
+gets_given_value view (Ok v) w g x p q e = e ∙ ap (λ y. Fine y w) (sym p)
+gets_given_value view (Err (Halt.Raised n)) w g x p q e = absurd cc
+gets_given_value view (Err Halt.Stopped) w g x p q e = absurd cc
+gets_given_value view (Err Halt.OutOfMemory) w g x p q e = tt

@@ -1,9 +1,9 @@
 pub mod ContinuationLemmas
-pub mod Places
-pub mod Turns
-pub mod Closings
-pub mod Chains
-pub mod Stars
-pub mod Otherwise
-pub mod Callings
-pub mod DefaultPlaces
+pub mod NodePlaceLemmas
+pub mod NodeLoopTurnLemmas
+pub mod ClosedRunLemmas
+pub mod ShortCircuitLemmas
+pub mod StarredElementLemmas
+pub mod OtherKindLemmas
+pub mod CallKindLemmas
+pub mod DefaultPlaceLemmas

@@ -42,7 +42,7 @@ pub(crate) fn interpret_call(
     interpret_placed(log, node_context, method, callee, e)
 }
 
-#[tactic(auto, using(py_tree::proofs::View::trees))]
+#[tactic(auto, using(py_tree::proofs::TreeViewLemmas::trees))]
 fn is_method(func: &Expr) -> bool
     ensures { result ≡ is_attribute (expr_tree func.now) }
 {
@@ -62,7 +62,7 @@ fn is_packed(e: &ExprCall) -> bool
 
 // Gets what is called: one value, or the three of a method.
 #[cycle(interpreter)]
-#[tactic(auto, using(py_tree::proofs::View::trees))]
+#[tactic(auto, using(py_tree::proofs::TreeViewLemmas::trees))]
 fn interpret_callee(
     log: &mut Log<'_>,
     node_context: NodeContext,

@@ -86,7 +86,7 @@ fn interpret_asked(log: &mut Log<'_>, node_context: NodeContext, expr: &Expr) ->
 /// # Errors
 /// What ends the run, or OutOfMemory.
 #[cycle(interpreter)]
-#[tactic(auto, using(py_tree::proofs::View::trees))]
+#[tactic(auto, using(py_tree::proofs::TreeViewLemmas::trees))]
 pub fn interpret_test(
     log: &mut Log<'_>,
     node_context: NodeContext,

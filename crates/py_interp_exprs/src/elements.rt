@@ -28,7 +28,7 @@ pub fn has_star(elts: &[Expr]) -> bool
 }
 
 /// Whether an expression is starred.
-#[tactic(auto, using(py_tree::proofs::View::trees))]
+#[tactic(auto, using(py_tree::proofs::TreeViewLemmas::trees))]
 pub fn is_star(elt: &Expr) -> bool
     ensures { result ≡ is_starred (expr_tree elt.now) }
 {

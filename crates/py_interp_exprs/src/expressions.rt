@@ -35,7 +35,7 @@ use py_tree::{
 /// # Errors
 /// What ends the run, or OutOfMemory.
 #[cycle(interpreter)]
-#[tactic(auto, using(py_tree::proofs::View::trees))]
+#[tactic(auto, using(py_tree::proofs::TreeViewLemmas::trees))]
 pub fn interpret_expression(
     log: &mut Log<'_>,
     node_context: NodeContext,

@@ -77,7 +77,7 @@ pub(crate) fn names_given(alloc: Global, keywords: &[Keyword]) -> Result<Vec<Ste
 }
 
 // The tuple of the names of keywords.
-#[tactic(auto, using(py_bytecode::proofs::View::views))]
+#[tactic(auto, using(py_bytecode::proofs::ConstantViewLemmas::views))]
 fn tuple_of_names(alloc: Global, keywords: &[Keyword]) -> Result<ConstantData, AllocError>
     ensures { IfOk result (λ c. constant c
         ≡ tuple (names_of (keyword_trees expr_tree keywords.now))) }
@@ -93,7 +93,7 @@ fn tuple_of_names(alloc: Global, keywords: &[Keyword]) -> Result<ConstantData, A
 }
 
 // The constant that a text is.
-#[tactic(auto, using(py_bytecode::proofs::View::views))]
+#[tactic(auto, using(py_bytecode::proofs::ConstantViewLemmas::views))]
 fn text_data(alloc: Global, text: &Text) -> Result<ConstantData, AllocError>
     ensures { IfOk result (λ c. constant c ≡ object.str text.now) }
 {

@@ -27,7 +27,7 @@ use py_tree::{Expr, ExprAttribute, ExprSubscript};
 /// # Errors
 /// What ends the run, or OutOfMemory.
 #[cycle(interpreter)]
-#[tactic(auto, using(py_tree::proofs::View::trees))]
+#[tactic(auto, using(py_tree::proofs::TreeViewLemmas::trees))]
 pub fn interpret_target(
     log: &mut Log<'_>,
     node_context: NodeContext,
@@ -126,7 +126,7 @@ fn put_each(
 
 // Gives a value to a target among others, which may be starred.
 #[cycle(interpreter)]
-#[tactic(auto, using(py_tree::proofs::View::trees))]
+#[tactic(auto, using(py_tree::proofs::TreeViewLemmas::trees))]
 fn put_element(
     log: &mut Log<'_>,
     node_context: NodeContext,

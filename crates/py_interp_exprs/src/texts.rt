@@ -16,7 +16,7 @@ use std::alloc::Global;
 ///
 /// # Errors
 /// OutOfMemory alone.
-#[tactic(auto, using(py_bytecode::proofs::View::views))]
+#[tactic(auto, using(py_bytecode::proofs::ConstantViewLemmas::views))]
 pub(crate) fn whole_text(alloc: Global, parts: &[Expr]) -> Result<Option<StepValue>, Halt>
     ensures ok { IfOk result (λ v. told_option v
         ≡ option_map (λ t. values.Constant (object.str t)) (texts_of (exprs expr_tree parts.now))) }

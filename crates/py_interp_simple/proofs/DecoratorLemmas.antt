@@ -10,7 +10,7 @@ use Rattle.py_interp.specs.declared.node_context.NodeContext.{NodeContext}
 use Rattle.py_interp.specs.Acting.{decorate}
 use Rattle.py_interp.specs.Doing.{Doing, does, get_all, values_of_all}
 use Rattle.py_interp.specs.Interpreters.{all_interpreters, value_interpreters, interpret_expr}
-use Rattle.py_interp.proofs.Lengths.{length_after}
+use Rattle.py_interp.proofs.ValueCountLemmas.{length_after}
 use Rattle.py_interp_exprs.proofs.ContinuationLemmas.{continuation_assoc, then_same}
 use Rattle.py_interp_simple.specs.Parts.{called_by}
 
@@ -40,19 +40,19 @@ pub last_is : (left rest : List StepValue) (x : StepValue) (v : Value Known) (w 
 last_is left rest x v w e = ap (λ xs. called_by xs v w) (ap values_of e ∙ length_after rest (x ∷ [])) ∙ last_called (values_of rest) (value_of x) v w
 
 -- what is got is called after others
-abbrev pub after_all : (done : List (Value Known)) → List (Doing (Value Known)) → Doing (Value Known) → Doing (Value Known)
-after_all done ds f w = then_get (get_all done ds w) (λ xs w1. then_get (f w1) (λ v w2. called_by xs v w2))
+abbrev pub called_after_all : (done : List (Value Known)) → List (Doing (Value Known)) → Doing (Value Known) → Doing (Value Known)
+called_after_all done ds f w = then_get (get_all done ds w) (λ xs w1. then_get (f w1) (λ v w2. called_by xs v w2))
 
 decorator_all_after : (done : List (Value Known)) (ds : List (Doing (Value Known))) (f : Doing (Value Known)) (w : World Known)
-    → then_get (decorate ds f w) (λ v w1. called_by done v w1) ≡ after_all done ds f w
+    → then_get (decorate ds f w) (λ v w1. called_by done v w1) ≡ called_after_all done ds f w
 decorator_all_after done [] f w = refl
 decorator_all_after done (d ∷ ds) f w =
     continuation_assoc (d w) (λ x w1. then_get (decorate ds f w1) (λ y w2. decorator_calls x y w2)) (λ v w1. called_by done v w1)
-    ∙ then_same (d w) (λ x w1. then_get (then_get (decorate ds f w1) (λ y w2. decorator_calls x y w2)) (λ v w2. called_by done v w2)) (λ x w1. after_all (done ++ x ∷ []) ds f w1)
+    ∙ then_same (d w) (λ x w1. then_get (then_get (decorate ds f w1) (λ y w2. decorator_calls x y w2)) (λ v w2. called_by done v w2)) (λ x w1. called_after_all (done ++ x ∷ []) ds f w1)
     (λ x w1. continuation_assoc (decorate ds f w1) (λ y w2. decorator_calls x y w2) (λ v w2. called_by done v w2)
     ∙ then_same (decorate ds f w1) (λ y w2. then_get (decorator_calls x y w2) (λ v w3. called_by done v w3)) (λ y w2. called_by (done ++ x ∷ []) y w2) (λ y w2. sym (last_called done x y w2))
     ∙ decorator_all_after (done ++ x ∷ []) ds f w1)
     ∙ sym (continuation_assoc (d w) (λ x w1. get_all (done ++ x ∷ []) ds w1) (λ xs w1. then_get (f w1) (λ v w2. called_by xs v w2)))
 
-pub decorated : (ds : List (Doing (Value Known))) (f : Doing (Value Known)) (w : World Known) → decorate ds f w ≡ then_get (get_all [] ds w) (λ xs w1. then_get (f w1) (λ v w2. called_by xs v w2))
-decorated ds f w = sym (decorator_itself (decorate ds f w)) ∙ decorator_all_after [] ds f w
+pub decorate_is : (ds : List (Doing (Value Known))) (f : Doing (Value Known)) (w : World Known) → decorate ds f w ≡ then_get (get_all [] ds w) (λ xs w1. then_get (f w1) (λ v w2. called_by xs v w2))
+decorate_is ds f w = sym (decorator_itself (decorate ds f w)) ∙ decorator_all_after [] ds f w

@@ -6,7 +6,7 @@ use Rattle.py_answers.specs.Told.{Known}
 use Rattle.py_interp.specs.Doing.{drop_it}
 use Rattle.py_interp_exprs.proofs.ContinuationLemmas.{ContinuationEnds}
 use Rattle.py_interp_simple.specs.Ends.{Ends, goes_on}
-use Rattle.py_interp_simple.proofs.Endings.{got_halted}
+use Rattle.py_interp_simple.proofs.RunPartEndLemmas.{got_halted}
 
 -- a value that is dropped after a part
 drop_after : {A : Type 0} (g : Got Known A) (k : A → World Known → Got Known (Value Known))

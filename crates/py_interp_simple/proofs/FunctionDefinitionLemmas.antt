@@ -18,9 +18,9 @@ function_definition_itself (Raises e w) = refl
 function_definition_itself (Stops es) = refl
 
 -- a function is made before its docstring is stored
-pub documented : (doc : Option (List ℕ)) (f : Doing (Value Known)) (w : World Known) → document doc f w ≡ then_get (f w) (λ v w1. document doc (λ w2. Fine v w2) w1)
-documented None f w = function_definition_itself (f w)
-documented (Some text) f w = refl
+pub document_after_function : (doc : Option (List ℕ)) (f : Doing (Value Known)) (w : World Known) → document doc f w ≡ then_get (f w) (λ v w1. document doc (λ w2. Fine v w2) w1)
+document_after_function None f w = function_definition_itself (f w)
+document_after_function (Some text) f w = refl
 
 -- the name of a type-parameter scope, as it is written
 pub name_within : (xs name ys : List ℕ) → (xs ++ name) ++ ys ≡ xs ++ (name ++ ys)

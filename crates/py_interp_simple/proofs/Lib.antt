@@ -1,6 +1,6 @@
-pub mod Endings
+pub mod RunPartEndLemmas
 pub mod DecoratorLemmas
 pub mod AnnotationLemmas
-pub mod ClassCalls
+pub mod ClassBaseLemmas
 pub mod FunctionDefinitionLemmas
 pub mod DropLemmas

@@ -42,7 +42,7 @@ pub fn interpret_type_alias(
     Ok(Flow::Normal)
 }
 
-#[tactic(auto, using(py_tree::proofs::View::trees))]
+#[tactic(auto, using(py_tree::proofs::TreeViewLemmas::trees))]
 fn define_alias(
     log: &mut Log<'_>,
     node_context: NodeContext,

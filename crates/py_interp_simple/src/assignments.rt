@@ -111,7 +111,7 @@ pub fn interpret_aug_assign(
     Ok(Flow::Normal)
 }
 
-#[tactic(auto, using(py_tree::proofs::View::trees))]
+#[tactic(auto, using(py_tree::proofs::TreeViewLemmas::trees))]
 fn augment(
     log: &mut Log<'_>,
     node_context: NodeContext,
@@ -251,7 +251,7 @@ fn declare(
 }
 
 // Keeps the annotation of a name.
-#[tactic(auto, using(py_tree::proofs::View::trees))]
+#[tactic(auto, using(py_tree::proofs::TreeViewLemmas::trees))]
 fn annotate(log: &mut Log<'_>, target: &Expr, note: StepValue) -> Result<(), Halt>
     ensures { Gets (λ u. u) result (world_of log.new)
         (annotate (expr_tree target.now) (value_of note) (world_of log.old)) }

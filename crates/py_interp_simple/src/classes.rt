@@ -54,7 +54,7 @@ pub fn interpret_class_def(
 ///
 /// # Errors
 /// What ends the run, or OutOfMemory.
-#[tactic(auto, using(crate::proofs::DecoratorLemmas::decorated))]
+#[tactic(auto, using(crate::proofs::DecoratorLemmas::decorate_is))]
 pub fn interpret_class(
     log: &mut Log<'_>,
     node_context: NodeContext,
@@ -140,7 +140,7 @@ fn build_placed(
 }
 
 // The function of a class, its name, and the values of its bases.
-#[tactic(auto, using(crate::proofs::ClassCalls::parts_first))]
+#[tactic(auto, using(crate::proofs::ClassBaseLemmas::parts_first))]
 fn interpret_placed(
     log: &mut Log<'_>,
     node_context: NodeContext,

@@ -42,7 +42,7 @@ fn delete_all(log: &mut Log<'_>, node_context: NodeContext, targets: &[Expr]) ->
 }
 
 #[cycle(delete)]
-#[tactic(auto, using(py_tree::proofs::View::trees))]
+#[tactic(auto, using(py_tree::proofs::TreeViewLemmas::trees))]
 fn delete_target(log: &mut Log<'_>, node_context: NodeContext, target: &Expr) -> Result<(), Halt>
     ensures { Ends goes_on result (world_of log.new)
         (delete_interpreter node_context (expr_tree target.now) (world_of log.old)) }

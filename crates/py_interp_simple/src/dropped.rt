@@ -21,7 +21,7 @@ use py_tree::{BoolOp, Expr, ExprIfExp};
 /// # Errors
 /// What ends the run, or OutOfMemory.
 #[cycle(dropped)]
-#[tactic(auto, using(py_tree::proofs::View::trees))]
+#[tactic(auto, using(py_tree::proofs::TreeViewLemmas::trees))]
 pub(crate) fn interpret_dropped(
     log: &mut Log<'_>,
     node_context: NodeContext,

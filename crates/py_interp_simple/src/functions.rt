@@ -52,7 +52,7 @@ pub fn interpret_function_def(
 ///
 /// # Errors
 /// What ends the run, or OutOfMemory.
-#[tactic(auto, using(crate::proofs::DecoratorLemmas::decorated))]
+#[tactic(auto, using(crate::proofs::DecoratorLemmas::decorate_is))]
 pub fn interpret_function(
     log: &mut Log<'_>,
     node_context: NodeContext,
@@ -83,7 +83,7 @@ fn define(
     call_with_defaults(log, node_context, &s.name, &s.args)
 }
 
-#[tactic(auto, using(crate::proofs::FunctionDefinitionLemmas::documented))]
+#[tactic(auto, using(crate::proofs::FunctionDefinitionLemmas::document_after_function))]
 fn make_documented(
     log: &mut Log<'_>,
     node_context: NodeContext,

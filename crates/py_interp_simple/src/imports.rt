@@ -80,7 +80,7 @@ fn import_renamed(log: &mut Log<'_>, path: &Text, name: &Text) -> Result<(), Hal
 }
 
 // Imports a module by its path, which is asked for no names.
-#[tactic(auto, using(py_bytecode::proofs::View::views))]
+#[tactic(auto, using(py_bytecode::proofs::ConstantViewLemmas::views))]
 fn import_whole(log: &mut Log<'_>, path: &Text) -> Result<StepValue, Halt>
     ensures { Gets value_of result (world_of log.new)
         (import_value (Some path.now) 0 object.none (world_of log.old)) }
@@ -159,7 +159,7 @@ fn import_module(
     }
 }
 
-#[tactic(auto, using(py_bytecode::proofs::View::views))]
+#[tactic(auto, using(py_bytecode::proofs::ConstantViewLemmas::views))]
 fn number(level: u32) -> StepValue
     ensures { value_of result ≡ values.Constant (object.integer (pos level)) }
 {

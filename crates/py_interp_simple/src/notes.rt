@@ -41,7 +41,7 @@ pub(crate) fn interpret_note(
 }
 
 // The text of an annotation. One that has none is not compiled.
-#[tactic(auto, using(py_bytecode::proofs::View::views))]
+#[tactic(auto, using(py_bytecode::proofs::ConstantViewLemmas::views))]
 fn note_text(alloc: Global, note: &Expr) -> Result<StepValue, Halt>
     ensures { (w : World Known) → Gets value_of result w
         (text_value (annotation (expr_tree note.now)) w) }
@@ -75,7 +75,7 @@ pub(crate) fn interpret_notes(
 }
 
 // The map of names and values, which take turns; none where there are none.
-#[tactic(auto, using(py_interp::proofs::Lengths::lengths))]
+#[tactic(auto, using(py_interp::proofs::ValueCountLemmas::length-step_values))]
 fn map_of(log: &mut Log<'_>, notes: Vec<StepValue>) -> Result<Vec<StepValue>, Halt>
     ensures { let run = values_of notes.items in Gets (λ v. values_of v.items) result
         (world_of log.new) (close_map [] (length run / 2) run (world_of log.old)) }

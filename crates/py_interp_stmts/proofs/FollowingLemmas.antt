@@ -9,7 +9,7 @@ use Rattle.py_answers.specs.Told.{Known, value_of}
 use Rattle.py_interp.specs.Acting.{Acting}
 use Rattle.py_interp_simple.specs.declared.flow.Flow.{Flow}
 use Rattle.py_interp_simple.specs.Ends.{Ends, flow_of, goes_on, is_normal, slot_of}
-use Rattle.py_interp_simple.proofs.Endings.{Halted, do_halts, other_leaves, ending_same, use_assoc}
+use Rattle.py_interp_simple.proofs.RunPartEndLemmas.{Halted, do_halts, other_leaves, ending_same, use_assoc}
 use Rattle.py_interp_stmts.specs.Leaving.{exit_truth, exit_end}
 use Rattle.py_interp_stmts.specs.Over.{in_hand_of, is_over}
 

@@ -10,19 +10,19 @@ use Rattle.py_answers.specs.Told.{Known}
 use Rattle.py_interp.specs.declared.node_context.NodeContext.{NodeContext}
 use Rattle.py_interp.specs.Acting.{Acting, import_from}
 use Rattle.py_interp.specs.Statements.{after_future, after_futures}
-use Rattle.py_interp_exprs.proofs.Places.{place_next}
+use Rattle.py_interp_exprs.proofs.NodePlaceLemmas.{place_next}
 use Rattle.py_interp_stmts.specs.Opened.{future}
 
 module _ (follow : NodeContext → tree.Stmts → Acting) where
   -- what the first statement is decides
-  pub turn : (a : NodeContext) (s : tree.Stmt) (ss : tree.Stmts) (o : Option Future) (w : World Known) → future_of s ≡ o →
+  pub first_statement_decides : (a : NodeContext) (s : tree.Stmt) (ss : tree.Stmts) (o : Option Future) (w : World Known) → future_of s ≡ o →
       after_futures follow a (tree.more_stmts s ss) w
       ≡ (elim o [
         | None ↦ follow a (tree.more_stmts s ss) w
         | Some f ↦ then_do (import_from f.path f.names f.level w)
             (after_futures follow (after_future f a) ss)
       ])
-  turn a s ss o w e = ap (λ (x : Option Future). elim x [
+  first_statement_decides a s ss o w e = ap (λ (x : Option Future). elim x [
     | None ↦ follow a (tree.more_stmts s ss) w
     | Some f ↦ then_do (import_from f.path f.names f.level w)
         (after_futures follow (after_future f a) ss)
@@ -32,13 +32,13 @@ module _ (follow : NodeContext → tree.Stmts → Acting) where
       after_futures follow a (stmts stmt_tree (drop i xs)) w ≡ then_do (import_from s.«module» s.names s.level w) (after_futures follow (after_future (future s) a) (stmts stmt_tree (drop (i + 1) xs)))
   future_at a xs i d x s w is lt e =
       ap (λ ys. after_futures follow a (stmts stmt_tree ys) w) (place_next xs i d x is lt)
-      ∙ turn a (stmt_tree x) (stmts stmt_tree (drop (i + 1) xs)) (Some (future s)) w e
+      ∙ first_statement_decides a (stmt_tree x) (stmts stmt_tree (drop (i + 1) xs)) (Some (future s)) w e
 
   pub future_import_none_at : (a : NodeContext) (xs : List Stmt) (i : ℕ) (d x : Stmt) (w : World Known) → x ≡ get_or xs i d → i < length xs → future_of (stmt_tree x) ≡ None →
       after_futures follow a (stmts stmt_tree (drop i xs)) w ≡ follow a (stmts stmt_tree (drop i xs)) w
   future_import_none_at a xs i d x w is lt e =
       ap (λ ys. after_futures follow a (stmts stmt_tree ys) w) (place_next xs i d x is lt)
-      ∙ turn a (stmt_tree x) (stmts stmt_tree (drop (i + 1) xs)) None w e
+      ∙ first_statement_decides a (stmt_tree x) (stmts stmt_tree (drop (i + 1) xs)) None w e
       ∙ ap (λ ys. follow a (stmts stmt_tree ys) w) (sym (place_next xs i d x is lt))
 
   pub future_import_none_left : (a : NodeContext) (xs : List Stmt) (w : World Known) → xs ≡ [] → after_futures follow a (stmts stmt_tree xs) w ≡ follow a (stmts stmt_tree xs) w

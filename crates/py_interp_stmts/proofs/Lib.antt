@@ -1,7 +1,7 @@
-pub mod Places
+pub mod StatementPlaceLemmas
 pub mod LoopTurnLemmas
 pub mod FollowingLemmas
 pub mod WithItemLemmas
 pub mod FutureImportLemmas
 pub mod PromptLemmas
-pub mod Lasts
+pub mod LastStatementLemmas

@@ -11,7 +11,7 @@ use Rattle.py_interp.specs.Acting.{Acting}
 use Rattle.py_interp.specs.Doing.{Doing}
 use Rattle.py_interp_simple.specs.declared.flow.Flow.{Flow}
 use Rattle.py_interp_simple.specs.Ends.{Ends, after_loop, flow_of, goes_again}
-use Rattle.py_interp_simple.proofs.Endings.{Halted, ending_same}
+use Rattle.py_interp_simple.proofs.RunPartEndLemmas.{Halted, ending_same}
 
 -- what follows a turn that has ended so
 abbrev pub then_turn : Ended Known → Acting → Ended Known

@@ -14,7 +14,7 @@ use Rattle.py_interp.specs.Doing.{Doing}
 use Rattle.py_interp.specs.Statements.{item_interpreter, with_interpreter}
 use Rattle.py_interp.specs.Interpreters.{interpret_expr}
 use Rattle.py_interp_exprs.proofs.ContinuationLemmas.{ContinuationEnds as Stopping}
-use Rattle.py_interp_exprs.proofs.Places.{place_next}
+use Rattle.py_interp_exprs.proofs.NodePlaceLemmas.{place_next}
 use Rattle.py_interp_stmts.specs.Leaving.{Enters, exit_end, left_all}
 
 -- the item at a place, and those after it
@@ -25,9 +25,9 @@ pub with_item_items_at : (a : NodeContext) (xs : List (WithItemOf Expr)) (i : �
 with_item_items_at a xs i d x body w is lt = ap (λ ys. with_interpreter a (with_items ys) body w) (place_next xs i d x is lt)
 
 -- one more is left first
-pub left_more : (xs : List ℕ) (n : ℕ) (end : Ended Known) → left_all (xs ++ n ∷ []) end ≡ left_all xs (exit_end (Given n 0) end)
-left_more [] n end = refl
-left_more (x ∷ xs) n end = ap (exit_end (Given x 0)) (left_more xs n end)
+pub one_more_item_left : (xs : List ℕ) (n : ℕ) (end : Ended Known) → left_all (xs ++ n ∷ []) end ≡ left_all xs (exit_end (Given n 0) end)
+one_more_item_left [] n end = refl
+one_more_item_left (x ∷ xs) n end = ap (exit_end (Given x 0)) (one_more_item_left xs n end)
 
 -- a run that is over leaves nothing
 pub left_halts : (xs : List ℕ) (es : List (Event Known)) → left_all xs (Halts es) ≡ Halts es

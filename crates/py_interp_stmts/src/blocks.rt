@@ -59,7 +59,7 @@ fn interpret_block(
     interpret_last(log, node_context, last)
 }
 
-#[tactic(auto, using(py_tree::proofs::View::trees))]
+#[tactic(auto, using(py_tree::proofs::TreeViewLemmas::trees))]
 fn interpret_last(
     log: &mut Log<'_>,
     node_context: NodeContext,

@@ -84,7 +84,7 @@ fn future_at(body: &[Stmt], place: usize) -> Option<&StmtImportFrom>
 }
 
 /// A statement as a future import, where it is one.
-#[tactic(auto, using(py_tree::proofs::View::trees))]
+#[tactic(auto, using(py_tree::proofs::TreeViewLemmas::trees))]
 pub(crate) fn as_future(statement: &Stmt) -> Option<&StmtImportFrom>
     ensures none { IfNone result (future_of (stmt_tree statement.now) ≡ None) }
     ensures is { IfSome result (λ s. future_of (stmt_tree statement.now) ≡ Some (future s.now)) }

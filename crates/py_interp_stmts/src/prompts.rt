@@ -85,7 +85,7 @@ fn interpret_entered(
 }
 
 // The value of a statement that is nothing else.
-#[tactic(auto, using(py_tree::proofs::View::trees))]
+#[tactic(auto, using(py_tree::proofs::TreeViewLemmas::trees))]
 fn value_in(statement: &Stmt) -> Option<&Expr>
     ensures none { IfNone result (value_in (stmt_tree statement.now) ≡ None) }
     ensures is { IfSome result (λ e. value_in (stmt_tree statement.now) ≡ Some (expr_tree e.now)) }

@@ -48,7 +48,7 @@ pub fn interpret_statements(
 /// # Errors
 /// What ends the run, or OutOfMemory.
 #[cycle(interpreter)]
-#[tactic(auto, using(py_tree::proofs::View::trees))]
+#[tactic(auto, using(py_tree::proofs::TreeViewLemmas::trees))]
 pub fn interpret_statement(
     log: &mut Log<'_>,
     node_context: NodeContext,

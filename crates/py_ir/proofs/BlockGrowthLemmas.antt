@@ -15,7 +15,7 @@ use Rattle.py_ir.specs.Chain.{Blk, blk, plain, flat}
 use Rattle.py_ir.specs.BlockList.{empty_block, last_item, without_last_item, with_appended, with_items, without_last}
 use Rattle.py_ir.specs.Spans.{block_of, blocks_of, blks_of, block_list_of, Follows}
 use Rattle.py_ir.proofs.ChainOrderLemmas.{last_push}
-use Rattle.py_ir.proofs.Kept.{path_kept, flat_kept, flat_last, starts_kept}
+use Rattle.py_ir.proofs.LastBlockLemmas.{path_kept, flat_kept, flat_last, starts_kept}
 use Rattle.py_ir.proofs.SpanLemmas.{length-blks, block_is, blk_is, span_rest_is, part_kept, blocks_set, blks_same, span_made, starts_low, span_within}
 
 abbrev block_growth_first_of : Span → ℕ
@@ -45,8 +45,8 @@ module _ (xs ys : List InstructionInfo) (ss : List Span) (c : ℕ) (d : Span) (h
   block_growth_same : (b : ℕ) (e : Span) → b < length ss → b ≢ c → block_of ys (get_or ts b e) ≡ block_of xs (get_or ss b e)
   block_growth_same b e l n = ap (block_of ys) (get_or-set_other ss c b now e n) ∙ kept b e l n
 
-  pub changed : (z : Block) → block_of ys now ≡ z → blocks_of ys ts ≡ set (blocks_of xs ss) c z
-  changed z e = blocks_set xs ys ss ts c block_growth_long block_growth_same d z (span_made xs ss c h) (ap (block_of ys) (at_now d) ∙ e)
+  pub blocks_after_change : (z : Block) → block_of ys now ≡ z → blocks_of ys ts ≡ set (blocks_of xs ss) c z
+  blocks_after_change z e = blocks_set xs ys ss ts c block_growth_long block_growth_same d z (span_made xs ss c h) (ap (block_of ys) (at_now d) ∙ e)
 
   was_here : blk (blks_of xs ss) c ≡ plain (block_of xs block_growth_here)
   was_here = blk_is xs ss c d (span_made xs ss c h)
@@ -120,7 +120,7 @@ module _ (xs : List InstructionInfo) (ss : List Span) (c : ℕ) (d : Span) (h : 
       ∙ ap (λ l. flat 0 (blks_of xs ss) h.before ++ l) (sym pushed_part))
 
   pub push_blocks : blocks_of (xs ++ zs) (set ss c (block_growth_ends_at block_growth_at (length (xs ++ zs)))) ≡ set (blocks_of xs ss) c (with_items (get_or (blocks_of xs ss) c empty_block) zs)
-  push_blocks = changed xs (xs ++ zs) ss c d h low_push kept_push (with_items (get_or (blocks_of xs ss) c empty_block) zs)
+  push_blocks = blocks_after_change xs (xs ++ zs) ss c d h low_push kept_push (with_items (get_or (blocks_of xs ss) c empty_block) zs)
       (ap (λ (l : List InstructionInfo). record { instructions = l; next = block_growth_at.next }) pushed_part
       ∙ ap (λ (b : Block). with_items b zs) (sym (block_is xs ss c d empty_block (span_made xs ss c h))))
 
@@ -159,7 +159,7 @@ module _ (xs : List InstructionInfo) (x : InstructionInfo) (ss : List Span) (c :
 
   pub pop_blocks : blocks_of xs (set ss c (block_growth_ends_at block_growth_ended (length xs)))
       ≡ set (blocks_of block_growth_all ss) c (without_last (get_or (blocks_of block_growth_all ss) c empty_block))
-  pop_blocks = changed block_growth_all xs ss c d h low_pop kept_pop (without_last (get_or (blocks_of block_growth_all ss) c empty_block)) (
+  pop_blocks = blocks_after_change block_growth_all xs ss c d h low_pop kept_pop (without_last (get_or (blocks_of block_growth_all ss) c empty_block)) (
       let ys : List InstructionInfo = (block_of xs (block_growth_ends_at block_growth_ended (length xs))).instructions in
       let e : ys ≡ take (length (get_or (blocks_of block_growth_all ss) c empty_block).instructions - 1) (get_or (blocks_of block_growth_all ss) c empty_block).instructions =
       sym (ap (λ (l : List InstructionInfo). take (length l - 1) l) was_items ∙ take_at ys (x ∷ []) (length (ys ++ x ∷ []) - 1) (let a = length_push ys x in omega (arith, a))) in

@@ -9,7 +9,7 @@ use Rattle.py_ir.specs.declared.blocks.Block.{Block}
 use Rattle.py_ir.specs.Flattened.{IsFlattened}
 use Rattle.py_ir.specs.BlockList.{empty_block}
 use Rattle.py_ir.specs.Chain.{Blk, blk, plain, body, flat, IsChain}
-use Rattle.py_ir.proofs.Pieces.{flat_more}
+use Rattle.py_ir.proofs.BlockPartLemmas.{flat_more}
 use Rattle.py_ir.proofs.ChainOrderLemmas.{blk_plain}
 
 pub record Flattening (level : ℕ) (blocks : List Block) (cs : List ℕ) (k : ℕ) (items : List InstructionInfo) (starts : List ℕ) : Type 0 where

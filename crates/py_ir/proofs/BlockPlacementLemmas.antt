@@ -16,7 +16,7 @@ use Rattle.py_ir.specs.Chain.{Blk, blk, plain, flat, block_number}
 use Rattle.py_ir.specs.BlockList.{IsOutside, IsWhole, empty_block, leading_to, with_next_block}
 use Rattle.py_ir.specs.Spans.{block_of, blocks_of, blks_of, block_list_of, Follows, unplaced_span}
 use Rattle.py_ir.proofs.ChainOrderLemmas.{last_push, path_push}
-use Rattle.py_ir.proofs.Kept.{path_kept, flat_kept, flat_last, front_kept, starts_kept}
+use Rattle.py_ir.proofs.LastBlockLemmas.{path_kept, flat_kept, flat_last, front_kept, starts_kept}
 use Rattle.py_ir.proofs.SpanLemmas.{length-blocks, length-blks, block_is, blk_is, blk_past, blocks_set, blks_same, span_made, span_within}
 
 abbrev block_placement_first_of : Span → ℕ

@@ -71,8 +71,8 @@ pub inside_now : (bs : List Blk) (cs : List ℕ) (block : ℕ) (met : List Bool)
 inside_now bs cs block met h = let l = length_push cs block in subst (λ b. b < length bs) (get_or_push cs block 0 (length cs) refl) (h.path.inside (length cs) 0 (omega (arith, l)))
 
 -- once the block is met
-pub fewer : (bs : List Blk) (cs : List ℕ) (block : ℕ) (met : List Bool) → Following bs cs block met → count_by not (set met block true) + 1 ≡ count_by not met
-fewer bs cs block met h =
+pub fewer_unmet_blocks : (bs : List Blk) (cs : List ℕ) (block : ℕ) (met : List Bool) → Following bs cs block met → count_by not (set met block true) + 1 ≡ count_by not met
+fewer_unmet_blocks bs cs block met h =
     let within = inside_now bs cs block met h in
     let s = sum_by-set (λ x. cond (not x) 1 0) met block true false (omega (arith, within, h.long)) in
     let one : ℕ = 1 in let o : cond (not (get_or met block false)) one 0 ≡ one = ap (λ x. cond (not x) one 0) h.here in
@@ -103,15 +103,15 @@ module _ (bs : List Blk) (cs : List ℕ) (block : ℕ) (met : List Bool) (h : Fo
     | inr n ↦ Contains-append_left cs (block ∷ []) c (h.met_there c (sym (get_or-set_other met block c true false n) ∙ e))
   ]
 
-  pub follow : (n : ℕ) → (blk bs block).next ≡ Some n → n < length bs → get_or (set met block true) n false ≡ false → Following bs (cs ++ block ∷ []) n (set met block true)
-  follow n e lt un = record {
+  pub chain_goes_on : (n : ℕ) → (blk bs block).next ≡ Some n → n < length bs → get_or (set met block true) n false ≡ false → Following bs (cs ++ block ∷ []) n (set met block true)
+  chain_goes_on n e lt un = record {
     path = path_push bs cs block n h.path e lt (λ k l q. (let w : true ≡ false = sym (all_met k l) ∙ ap (λ c. get_or (set met block true) c false) q ∙ un in cc));
     long = length-set met block true ∙ h.long;
     met_there = now_there;
     there_met = all_met;
     here = un;
-    count = let a = fewer bs cs block met h in let l = length_push cs block in omega (arith, a, l, h.count);
+    count = let a = fewer_unmet_blocks bs cs block met h in let l = length_push cs block in omega (arith, a, l, h.count);
   }
 
-  pub breaks : (n : ℕ) → (blk bs block).next ≡ Some n → (length bs ≤ n) ⊎ (get_or (set met block true) n false ≡ true) → BrokenChain bs block
-  breaks n e b = record { path = cs ++ block ∷ []; leads_here = h.path; here = last_push cs block; next = n; next_is = e; broken = elim b [ inl l ↦ inl l | inr m ↦ inr (now_there n m) ] }
+  pub chain_breaks : (n : ℕ) → (blk bs block).next ≡ Some n → (length bs ≤ n) ⊎ (get_or (set met block true) n false ≡ true) → BrokenChain bs block
+  chain_breaks n e b = record { path = cs ++ block ∷ []; leads_here = h.path; here = last_push cs block; next = n; next_is = e; broken = elim b [ inl l ↦ inl l | inr m ↦ inr (now_there n m) ] }

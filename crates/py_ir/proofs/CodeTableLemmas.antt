@@ -7,7 +7,7 @@ use Rattle.py_bytecode.specs.Machine.{fuel, limited_machine, start}
 use Rattle.py_bytecode.specs.Decode.{Tables, tables}
 use Rattle.py_bytecode.specs.Units.{fetch_unit, machine}
 use Rattle.py_bytecode.specs.View.{constant, object, head_of, constants_of}
-use Rattle.py_bytecode.proofs.View.{object_is}
+use Rattle.py_bytecode.proofs.ConstantViewLemmas.{object_is}
 use Rattle.py_dataflow.specs.Sound.{sound}
 use Rattle.py_ir.specs.declared.info.CodeInfo.{CodeInfo}
 use Rattle.py_ir.specs.Chain.{plain}
@@ -68,9 +68,9 @@ at_units level info code units locations depth f l =
     (subst (λ ls. IsLaid (tables_of info) level (map plain info.blocks) units ls code.max_stackdepth) (sym f.locations_are)
     (subst (λ d. IsLaid (tables_of info) level (map plain info.blocks) units locations d) (sym f.depth_is) l))
 
-pub finals : (level : ℕ) (info : CodeInfo) (code : CodeObject) (units : List CodeUnit) (locations : List SourceLocation) (depth : ℕ)
+pub laid_code_is_final : (level : ℕ) (info : CodeInfo) (code : CodeObject) (units : List CodeUnit) (locations : List SourceLocation) (depth : ℕ)
     → IsLaid (tables_of info) level (map plain info.blocks) units locations depth → IsFilled info units locations depth code → IsFinal level info code
-finals level info code units locations depth l f = is_final level info code f.given (at_units level info code units locations depth f l)
+laid_code_is_final level info code units locations depth l f = is_final level info code f.given (at_units level info code units locations depth f l)
 
 pub few_varnames : (level : ℕ) (info : CodeInfo) → NoneBefore 10 (tables_of info) level (map plain info.blocks) → length info.varname_cache < 2 ^ 31
 few_varnames level info n = elim (cases_lt (length info.varname_cache) (2 ^ 31)) [

@@ -5,7 +5,7 @@ use Rattle.std.specs.List.{Contains}
 use Rattle.std.proofs.lemmas.Bool.{cases_lt}
 use Rattle.std.proofs.lemmas.List.{get_or_past, get_or_default}
 use Rattle.std.proofs.lemmas.Option.{slice_get_within, get_or_from_slice_get}
-use Rattle.py_base.proofs.Booleans.{not_true_is_false}
+use Rattle.py_base.proofs.BooleanLemmas.{not_true_is_false}
 use Rattle.py_base.specs.declared.location.SourceLocation.{SourceLocation}
 use Rattle.py_bytecode.specs.declared.operand.CodeUnit.{CodeUnit}
 use Rattle.py_bytecode.specs.Machine.{machine}
@@ -16,13 +16,13 @@ use Rattle.py_dataflow.specs.declared.known.Refused.{Refused as Walked}
 use Rattle.py_dataflow.specs.Walks.{seen_instr, UnevenHeights, HeightOutOfRange, BlockMismatch, Sound, IsDepth}
 use Rattle.py_dataflow.specs.Flat.{is_jump, named_place, look_at, IsCode, IsLinked}
 use Rattle.py_dataflow.proofs.InstructionViewLemmas.{Decodes}
-use Rattle.py_dataflow.proofs.NeverWrong.{unlimited}
-use Rattle.py_dataflow.proofs.Codes.{unit_proper}
+use Rattle.py_dataflow.proofs.SoundRunLemmas.{limit_keeps_run}
+use Rattle.py_dataflow.proofs.SoundCodeLemmas.{unit_proper}
 use Rattle.py_bytecode.specs.Operands.{units_for}
 use Rattle.py_layout.specs.declared.widths.Need.TheVariants.{Fixed, Jump}
 use Rattle.py_layout.specs.Widths as widths
 use Rattle.py_layout.specs.Written.{InRange, IsAssembled, need_of, needs_of}
-use Rattle.py_layout.proofs.SameUnits.{units_sound, units_depth, units_run}
+use Rattle.py_layout.proofs.UnitMachineLemmas.{units_sound, units_depth, units_run}
 use Rattle.py_ir.specs.declared.checks.TableLens.{TableLens}
 use Rattle.py_ir.specs.declared.checks.Check.{Check}
 use Rattle.py_ir.specs.declared.error.FinalizeError.{FinalizeError}
@@ -32,9 +32,9 @@ use Rattle.py_ir.specs.Refusals.{block_look, block_start, capped_place, ItemAt, 
 use Rattle.py_ir.specs.Located.{check_error, walk_error, NamesCheck, ListRefused}
 use Rattle.py_ir.specs.Finished.{RunsAsBlocks, IsLaid}
 use Rattle.py_ir.proofs.OperandRangeLemmas.{in_range}
-use Rattle.py_ir.proofs.Unique.{no_blocks, not_broken, one_chain}
-use Rattle.py_ir.proofs.Clear.{Condition, item_not, item_is}
-use Rattle.py_ir.proofs.Walked as walked
+use Rattle.py_ir.proofs.UniqueChainLemmas.{no_blocks, not_broken, one_chain}
+use Rattle.py_ir.proofs.ListConditionLemmas.{Condition, item_not, item_is}
+use Rattle.py_ir.proofs.BlockWalkLemmas as walked
 
 flat_block_not_false : (b : Bool) → (b ≡ false → ⊥) → b ≡ true
 flat_block_not_false true h = refl
@@ -171,8 +171,8 @@ module _ (t : Tables) (level : ℕ) (bs : List Blk) (cs starts : List ℕ) (chai
         (subst (λ (y : InstructionInfo). y.target.0 ≢ 0xffff_ffff) q i.0, (c.0, c.1, get_or_default cs c.0 0 x.target.0 c.1 ∙ c.2))
 
     -- the checks are clear, and as much more as is said
-    pub clear : (n : ℕ) → (7 < n → ¬ TooLong lens) → (8 < n → WalksClear t bs) → (9 < n → ¬ TooWide level bs) → NoneBefore n t level bs
-    clear n a b c = none_before n t level bs (record {
+    pub checks_clear : (n : ℕ) → (7 < n → ¬ TooLong lens) → (8 < n → WalksClear t bs) → (9 < n → ¬ TooWide level bs) → NoneBefore n t level bs
+    checks_clear n a b c = none_before n t level bs (record {
       blocks = λ _. no_blocks bs cs chain;
       broken = λ _. not_broken bs cs chain;
       checks = λ d _. nowhere d;
@@ -182,7 +182,7 @@ module _ (t : Tables) (level : ℕ) (bs : List Blk) (cs starts : List ℕ) (chai
     })
 
     pub long_refused : TooLong lens → Refused t level bs FinalizeError.TooManyNames
-    long_refused h = (h, clear 7 (λ l. absurd (omega arith)) (λ l. absurd (omega arith)) (λ l. absurd (omega arith)))
+    long_refused h = (h, checks_clear 7 (λ l. absurd (omega arith)) (λ l. absurd (omega arith)) (λ l. absurd (omega arith)))
 
     -- the starts of blocks outside the chain set no width
     need_same : (starts1 : List ℕ) → StartsAt level bs cs starts1 → (j : ℕ) (x : InstructionInfo) → slice_get flat_block_items j ≡ Some x → need_of starts1 x ≡ need_of starts x
@@ -217,7 +217,7 @@ module _ (t : Tables) (level : ℕ) (bs : List Blk) (cs starts : List ℕ) (chai
 
       flat_block_runs : RunsAsBlocks t bs units d
       flat_block_runs fuel w =
-          unlimited (fetch_unit t units) 0 (suc d) sound_units (unit_proper t units) d refl fuel w
+          limit_keeps_run (fetch_unit t units) 0 (suc d) sound_units (unit_proper t units) d refl fuel w
           ∙ ap (λ us. machine (fetch_unit t us) fuel 0 w) done.units_are
           ∙ units_run starts flat_block_items done.widths code range done.least.fits t flat_block_decodes (suc d) ok1 fuel w
           ∙ walked.blocks_run t level bs cs starts chain short at linked flat_block_decodes (suc d) ok1 fuel w
@@ -246,10 +246,10 @@ module _ (t : Tables) (level : ℕ) (bs : List Blk) (cs starts : List ℕ) (chai
       }
 
       before_walk : (r : Walked) (last b i : ℕ) → NoneBefore (order (walk_error r last b i)) t level bs
-      before_walk Walked.NoEnd last b i = clear 8 (λ _. tables_fit) (λ l. absurd (omega arith)) (λ l. absurd (omega arith))
-      before_walk Walked.UnevenHeights last b i = clear 8 (λ _. tables_fit) (λ l. absurd (omega arith)) (λ l. absurd (omega arith))
-      before_walk Walked.HeightOutOfRange last b i = clear 8 (λ _. tables_fit) (λ l. absurd (omega arith)) (λ l. absurd (omega arith))
-      before_walk Walked.BlockMismatch last b i = clear 8 (λ _. tables_fit) (λ l. absurd (omega arith)) (λ l. absurd (omega arith))
+      before_walk Walked.NoEnd last b i = checks_clear 8 (λ _. tables_fit) (λ l. absurd (omega arith)) (λ l. absurd (omega arith))
+      before_walk Walked.UnevenHeights last b i = checks_clear 8 (λ _. tables_fit) (λ l. absurd (omega arith)) (λ l. absurd (omega arith))
+      before_walk Walked.HeightOutOfRange last b i = checks_clear 8 (λ _. tables_fit) (λ l. absurd (omega arith)) (λ l. absurd (omega arith))
+      before_walk Walked.BlockMismatch last b i = checks_clear 8 (λ _. tables_fit) (λ l. absurd (omega arith)) (λ l. absurd (omega arith))
       before_walk Walked.OutOfMemory last b i = (memory_refused t level bs).1
 
       pub list_refused : (e : FinalizeError) → ListRefused cs starts flat_block_items e → Refused t level bs e
@@ -263,13 +263,13 @@ module _ (t : Tables) (level : ℕ) (bs : List Blk) (cs starts : List ℕ) (chai
           )
       list_refused e (inr (inr u)) = subst (Refused t level bs) (sym u.is) (
         record { chain = cs; starts = starts; is_chain = chain; starts_at = at; too_many = u.too_many },
-        clear 9 (λ _. tables_fit) (λ _. walks_clear u.limit u.low u.sound) (λ l. absurd (omega arith)),
+        checks_clear 9 (λ _. tables_fit) (λ _. walks_clear u.limit u.low u.sound) (λ l. absurd (omega arith)),
       )
 
       pub all_clear : (d : ℕ) → d < 2 ^ 32 → Sound (look_at starts flat_block_items) 0 (d + 1) → ¬ widths.TooManyUnits (needs_of starts flat_block_items) → NoneBefore 10 t level bs
       all_clear d low ok few =
           let e : d + 1 ≡ suc d = omega arith in
-          clear 10 (λ _. tables_fit) (λ _. walks_clear (suc d) (omega arith) (subst (Sound (look_at starts flat_block_items) 0) e ok))
+          checks_clear 10 (λ _. tables_fit) (λ _. walks_clear (suc d) (omega arith) (subst (Sound (look_at starts flat_block_items) 0) e ok))
           (λ _ h. few (flat_block_narrow h.chain h.starts h.is_chain h.starts_at h.too_many))
 
 pub chain_some : (bs : List Blk) (cs : List ℕ) → IsChain bs cs → 0 < length cs

@@ -76,7 +76,7 @@ impl Eq for ConstantKey {
 
 impl Hash for ConstantKey {
     ghost use Rattle.py_bytecode.specs.View.{constant};
-    ghost use Rattle.py_bytecode.proofs.Same.{equal_constants};
+    ghost use Rattle.py_bytecode.proofs.DerivedEqualityLemmas.{equal_constants};
     ghost use Rattle.std.proofs.Common.{ap};
     ghost use Rattle.py_ir.specs.Feeding.{key_input};
 
@@ -91,7 +91,7 @@ impl Hash for ConstantKey {
 }
 
 /// Feeds the places of a code.
-#[tactic(auto, using(py_bytecode::proofs::View::views))]
+#[tactic(auto, using(py_bytecode::proofs::ConstantViewLemmas::views))]
 fn feed_places<H: Hasher>(item: &ConstantData, state: &mut H)
     ensures { state.new ≡ fold H.write state.old (places_input (constant item.now)) }
 {
@@ -109,7 +109,7 @@ fn feed_places<H: Hasher>(item: &ConstantData, state: &mut H)
 
 /// Feeds a constant, to any depth.
 #[cycle(feed)]
-#[tactic(auto, using(py_bytecode::proofs::View::views))]
+#[tactic(auto, using(py_bytecode::proofs::ConstantViewLemmas::views))]
 fn feed_constant<H: Hasher>(item: &ConstantData, state: &mut H)
     ensures { state.new ≡ fold H.write state.old (const_input (constant item.now)) }
 {
@@ -136,7 +136,7 @@ fn feed_constants<H: Hasher>(items: &[ConstantData], state: &mut H)
 }
 
 #[cycle(feed)]
-#[tactic(auto, using(py_bytecode::proofs::View::views))]
+#[tactic(auto, using(py_bytecode::proofs::ConstantViewLemmas::views))]
 fn feed_code<H: Hasher>(code: &CodeObject, state: &mut H)
     ensures { state.new ≡ fold H.write state.old (object_input (object code.now)) }
 {

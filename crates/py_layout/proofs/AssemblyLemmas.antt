@@ -9,7 +9,7 @@ use Rattle.py_dataflow.specs.Flat.{is_jump, named_place}
 use Rattle.py_layout.specs.declared.widths.Need.TheVariants.{Fixed, Jump}
 use Rattle.py_layout.specs.Widths.{Least, narrowest, offset}
 use Rattle.py_layout.specs.Written.{IsAssembled, need_of, needs_of, operand_in, units_of, written_units, unit_locations}
-use Rattle.py_layout.proofs.Offsets.{size-within}
+use Rattle.py_layout.proofs.OffsetLemmas.{size-within}
 use Rattle.py_layout.specs.Widened.{least_widths}
 use Rattle.py_layout.proofs.LeastWidthLemmas.{least_is}
 use Rattle.py_layout.specs.Assembled.{assembled_code}

@@ -7,10 +7,10 @@ use Rattle.std.proofs.lemmas.List.Elements.{All-from_get_or}
 use Rattle.py_layout.specs.declared.widths.Need.{Need}
 use Rattle.py_layout.specs.declared.widths.Need.TheVariants.{Fixed, Jump}
 use Rattle.py_layout.specs.Widths.{AtMost, Fits, IsWidth, Least, Reaches, narrowest, offset}
-use Rattle.py_layout.proofs.Offsets.{offset-le, sum-le, width_for-le, width_for-within}
+use Rattle.py_layout.proofs.OffsetLemmas.{offset-le, sum-le, width_for-le, width_for-within}
 use Rattle.py_layout.proofs.WidthRoundLemmas.{first_least}
 use Rattle.py_layout.specs.Widened.{wanted_width, raised_widths, round, least_widths}
-use Rattle.py_dataflow.proofs.Rounds.{round_ends, good_rounds}
+use Rattle.py_dataflow.proofs.RoundCountLemmas.{round_ends, good_rounds}
 
 module _ (want : Need → ℕ) where
   length-raised : (xs : List Need) (ws : List ℕ) → length ws ≡ length xs → length (raised_widths want xs ws) ≡ length xs
@@ -133,40 +133,40 @@ least_is needs ws small l =
 pub least_found : (needs : List Need) (ws : List ℕ) → All (λ x. narrowest x ≤ 4) needs → Fits needs ws → Least needs (least_widths needs)
 least_found needs ws small f = record { fits = least_width_holds needs ws small f; least = λ others g. (rounds needs others small g).below }
 
-pub widest : Need → ℕ
-widest (Fixed n) = n
-widest (Jump p) = 4
+pub widest_need : Need → ℕ
+widest_need (Fixed n) = n
+widest_need (Jump p) = 4
 
-widest_small : (x : Need) → narrowest x ≤ 4 → widest x ≤ 4
-unfolding widest
+widest_small : (x : Need) → narrowest x ≤ 4 → widest_need x ≤ 4
+unfolding widest_need
 widest_small (Fixed n) l = l
 widest_small (Jump p) l = omega arith
 
-widest_is : (x : Need) → IsWidth x (widest x)
-unfolding widest
+widest_is : (x : Need) → IsWidth x (widest_need x)
+unfolding widest_need
 widest_is (Fixed n) = refl
 widest_is (Jump p) = (omega arith, omega arith)
 
-widest_reaches : (x : Need) (ws : List ℕ) → sum ws < 2 ^ 32 → Reaches ws x (widest x)
-unfolding widest
+widest_reaches : (x : Need) (ws : List ℕ) → sum ws < 2 ^ 32 → Reaches ws x (widest_need x)
+unfolding widest_need
 widest_reaches (Fixed n) ws l = tt
 widest_reaches (Jump p) ws l = let t = sum_by-take-le (λ n. n) ws p in width_for-within (offset ws p) (omega (arith, t, l))
 
 -- so few instructions have widths that fit
-pub some_fit : (needs : List Need) → All (λ x. narrowest x ≤ 4) needs → 4 * length needs < 2 ^ 32 → Fits needs (map widest needs)
+pub some_fit : (needs : List Need) → All (λ x. narrowest x ≤ 4) needs → 4 * length needs < 2 ^ 32 → Fits needs (map widest_need needs)
 some_fit needs small few = record {
   chosen = record { long = long; each = λ k d l. subst (IsWidth (get_or needs k d)) (sym (at k d l)) (widest_is (get_or needs k d)) };
-  reaches = λ k d l. subst (Reaches (map widest needs) (get_or needs k d)) (sym (at k d l)) (widest_reaches (get_or needs k d) (map widest needs) total);
+  reaches = λ k d l. subst (Reaches (map widest_need needs) (get_or needs k d)) (sym (at k d l)) (widest_reaches (get_or needs k d) (map widest_need needs) total);
 }
   where
-    long : length (map widest needs) ≡ length needs
-    long = length-map needs widest
+    long : length (map widest_need needs) ≡ length needs
+    long = length-map needs widest_need
 
-    at : (k : ℕ) (d : Need) → k < length needs → get_or (map widest needs) k 0 ≡ widest (get_or needs k d)
-    at k d l = get_or-map widest needs k d 0 l
+    at : (k : ℕ) (d : Need) → k < length needs → get_or (map widest_need needs) k 0 ≡ widest_need (get_or needs k d)
+    at k d l = get_or-map widest_need needs k d 0 l
 
-    each : (k : ℕ) → k < length (map widest needs) → get_or (map widest needs) k 0 ≤ 4
+    each : (k : ℕ) → k < length (map widest_need needs) → get_or (map widest_need needs) k 0 ≤ 4
     each k l = let lt : k < length needs = omega (arith, l, long) in let e = at k (Jump 0) lt in let s = widest_small (get_or needs k (Jump 0)) (small k (Jump 0) lt) in omega (arith, e, s)
 
-    total : sum (map widest needs) < 2 ^ 32
-    total = let b = sum_by-le (λ n. n) 4 (map widest needs) (All-from_get_or (λ n. n ≤ 4) (map widest needs) 0 each) in omega (arith, b, long, few)
+    total : sum (map widest_need needs) < 2 ^ 32
+    total = let b = sum_by-le (λ n. n) 4 (map widest_need needs) (All-from_get_or (λ n. n ≤ 4) (map widest_need needs) 0 each) in omega (arith, b, long, few)

@@ -1,8 +1,8 @@
-pub mod Offsets
+pub mod OffsetLemmas
 pub mod WidthGrowthLemmas
 pub mod WidthRoundLemmas
 pub mod ReadBackLemmas
 pub mod UnitWriteLemmas
-pub mod SameUnits
+pub mod UnitMachineLemmas
 pub mod LeastWidthLemmas
 pub mod AssemblyLemmas

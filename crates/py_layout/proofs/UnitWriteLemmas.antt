@@ -17,7 +17,7 @@ use Rattle.py_dataflow.specs.Flat.{IsCode, named_place}
 use Rattle.py_layout.proofs.ReadBackLemmas.{length-units_of}
 use Rattle.py_layout.specs.declared.widths.Need.TheVariants.{Fixed, Jump}
 use Rattle.py_layout.specs.Widths.{Chosen, IsWidth, IsNeed, Offsets, offset}
-use Rattle.py_layout.proofs.Offsets.{size-pos, size-within}
+use Rattle.py_layout.proofs.OffsetLemmas.{size-pos, size-within}
 use Rattle.py_bytecode.specs.Operands.{units_for}
 use Rattle.py_layout.specs.Written.{unit_locations, unit, units_of, need_of, needs_of, operand_at, operand_in, written_units}
 

@@ -6,7 +6,7 @@ use Rattle.std.proofs.lemmas.List.Sums.{sum_by-set}
 use Rattle.py_layout.specs.declared.widths.Need.{Need}
 use Rattle.py_layout.specs.declared.widths.Need.TheVariants.{Fixed, Jump}
 use Rattle.py_layout.specs.Widths.{AtMost, Chosen, Fits, IsNeed, IsWidth, Reaches, Offsets, offset, width_for, wanted_at}
-use Rattle.py_layout.proofs.Offsets.{offset-le, width_for-le}
+use Rattle.py_layout.proofs.OffsetLemmas.{offset-le, width_for-le}
 
 pub record Growing (needs : List Need) (old ws : List ℕ) (k : ℕ) (grown : Bool) : Type 0 where
   pub chosen : Chosen needs ws
@@ -44,9 +44,9 @@ module _ (needs : List Need) (old offsets : List ℕ) (o : Offsets old offsets) 
             subst (λ n. Reaches old (get_or needs n d) (get_or old n 0)) jk r1
       ]
 
-  pub widened : (ws : List ℕ) (k : ℕ) (g : Bool) (x : Need) (w : ℕ) → Growing needs old ws k g → k < length needs → x ≡ get_or needs k x
+  pub growing_widened : (ws : List ℕ) (k : ℕ) (g : Bool) (x : Need) (w : ℕ) → Growing needs old ws k g → k < length needs → x ≡ get_or needs k x
       → IsNeed (length needs) x → IsWidth x w → w ≡ wanted_at offsets x → get_or ws k 0 < w → Growing needs old (set ws k w) (k + 1) true
-  widened ws k g x w h lt e i iw ew more = record {
+  growing_widened ws k g x w h lt e i iw ew more = record {
     chosen = record { long = length-set ws k w ∙ h.chosen.long; each = each };
     least = least;
     same = λ c. absurd (cc);
@@ -82,5 +82,5 @@ module _ (needs : List Need) (old offsets : List ℕ) (o : Offsets old offsets) 
         | inr n ↦ let g1 = get_or-set_other ws k j w 0 n in let l1 = h.least others f a j in omega (arith, g1, l1)
       ]
 
-pub carry : (needs : List Need) (old ws ws1 : List ℕ) (k : ℕ) (g g1 : Bool) → ws1 ≡ ws → g1 ≡ g → Growing needs old ws k g → Growing needs old ws1 k g1
-carry needs old ws ws1 k g g1 e f h = subst (λ v. Growing needs old v k g1) (sym e) (subst (λ b. Growing needs old ws k b) (sym f) h)
+pub growing_same : (needs : List Need) (old ws ws1 : List ℕ) (k : ℕ) (g g1 : Bool) → ws1 ≡ ws → g1 ≡ g → Growing needs old ws k g → Growing needs old ws1 k g1
+growing_same needs old ws ws1 k g g1 e f h = subst (λ v. Growing needs old v k g1) (sym e) (subst (λ b. Growing needs old ws k b) (sym f) h)

@@ -7,7 +7,7 @@ use Rattle.std.proofs.lemmas.List.Elements.{All-from_get_or}
 use Rattle.py_layout.specs.declared.widths.Need.{Need}
 use Rattle.py_layout.specs.declared.widths.Need.TheVariants.{Fixed, Jump}
 use Rattle.py_layout.specs.Widths.{AtMost, Chosen, Fits, IsNeed, IsWidth, TooManyUnits, narrowest}
-use Rattle.py_layout.proofs.Offsets.{sum-le}
+use Rattle.py_layout.proofs.OffsetLemmas.{sum-le}
 
 narrowest_is_least : (x : Need) (v : ℕ) → IsWidth x v → narrowest x ≤ v
 narrowest_is_least (Fixed n) v h = omega (arith, h)

@@ -1,2 +1,2 @@
-pub mod Counts
-mod Rows
+pub mod ItemCountLemmas
+mod CountSamples

@@ -12,7 +12,7 @@ use py_tree::{Expr, Mod, Stmts};
 /// The nesting of the tree: a node nests one deeper than its deepest child, and a leaf 1; a `with` of
 /// several items nests as many deeper. None exactly where it reaches `limit`. The recursion goes no deeper
 /// than `limit`.
-#[tactic(auto, using(py_tree::proofs::View::trees))]
+#[tactic(auto, using(py_tree::proofs::TreeViewLemmas::trees))]
 pub fn depth_of_tree(tree: &Mod, limit: u32) -> Option<u32>
     ensures { IsBelow result limit (nesting (mod_tree tree.now)) }
 {

@@ -12,7 +12,7 @@ use py_tree::{
 
 /// How deep the expression nests, or none where that is more than `most`.
 #[cycle(depth)]
-#[tactic(auto, using(py_tree::proofs::View::trees))]
+#[tactic(auto, using(py_tree::proofs::TreeViewLemmas::trees))]
 pub fn measure_expr(expr: &Expr, most: u32, room: &mut u32) -> Option<u32>
     ensures { IsMeasured result most room.old room.new (expr_nesting (view.expr_tree expr.now))
         (expr_size (view.expr_tree expr.now)) }
@@ -330,7 +330,7 @@ fn measure_arg(param: &Arg, most: u32, room: &mut u32) -> Option<u32>
 }
 
 #[cycle(constant)]
-#[tactic(auto, using(py_tree::proofs::View::literals))]
+#[tactic(auto, using(py_tree::proofs::TreeViewLemmas::literals))]
 fn measure_constant(value: &Constant, most: u32, room: &mut u32) -> Option<u32>
     ensures { IsMeasured result most room.old room.new (literal_nesting (view.literal_of value.now))
         (literal_size (view.literal_of value.now)) }

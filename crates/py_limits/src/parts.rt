@@ -12,7 +12,7 @@ use crate::room::{spend, spend_name, spend_path};
 use py_tree::{Alias, Arguments, Expr, Exprs, List, StmtClassDef, TypeParam, WithItem};
 
 /// The nesting of the deepest type parameter, 0 where there is none. None where it is above `most`, as below.
-#[tactic(auto, using(py_tree::proofs::View::trees))]
+#[tactic(auto, using(py_tree::proofs::TreeViewLemmas::trees))]
 pub fn measure_type_params(items: &[TypeParam], most: u32, room: &mut u32) -> Option<u32>
     ensures { IsMeasured result most room.old room.new
         (type_params_nesting (view.type_params items.now))
@@ -25,7 +25,7 @@ pub fn measure_type_params(items: &[TypeParam], most: u32, room: &mut u32) -> Op
     Some(deepest)
 }
 
-#[tactic(auto, using(py_tree::proofs::View::trees))]
+#[tactic(auto, using(py_tree::proofs::TreeViewLemmas::trees))]
 fn measure_type_param(item: &TypeParam, most: u32, room: &mut u32) -> Option<u32>
     ensures { IsMeasured result most room.old room.new
         (type_param_nesting (view.type_param_tree item.now))

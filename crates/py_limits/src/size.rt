@@ -18,7 +18,7 @@ const DEEPEST: u32 = 1 << 10;
 /// import, each operator of a comparison and each key that a dict lacks. None exactly where it reaches
 /// `limit`. It goes as deep as the tree, so a tree that may nest deeper than 2^10 is to be asked its depth
 /// first.
-#[tactic(auto, using(py_tree::proofs::View::trees))]
+#[tactic(auto, using(py_tree::proofs::TreeViewLemmas::trees))]
 pub fn size_of_tree(tree: &Mod, limit: u32) -> Option<u32>
     requires { nesting (mod_tree tree.now) < 2 ^ 10 }
     ensures { IsBelow result limit (size_of (mod_tree tree.now)) }

@@ -28,7 +28,7 @@ pub fn measure_stmts(body: &[Stmt], most: u32, room: &mut u32) -> Option<u32>
 }
 
 #[cycle(body)]
-#[tactic(auto, using(py_tree::proofs::View::trees))]
+#[tactic(auto, using(py_tree::proofs::TreeViewLemmas::trees))]
 fn measure_stmt(stmt: &Stmt, most: u32, room: &mut u32) -> Option<u32>
     ensures { IsMeasured result most room.old room.new (stmt_nesting (view.stmt_tree stmt.now))
         (stmt_size (view.stmt_tree stmt.now)) }
@@ -155,7 +155,7 @@ fn measure_stmt(stmt: &Stmt, most: u32, room: &mut u32) -> Option<u32>
 
 /// The nesting of a `with`: as many levels as it has items, and one for none.
 #[cycle(body)]
-#[tactic(auto, using(crate::proofs::Counts::count_items))]
+#[tactic(auto, using(crate::proofs::ItemCountLemmas::count_items))]
 fn measure_with(items: &[WithItem], body: &Stmts, most: u32, room: &mut u32) -> Option<u32>
     ensures { IsMeasured result most room.old room.new
         (max (with_items_nesting (view.with_items items.now))

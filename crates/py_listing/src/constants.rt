@@ -13,7 +13,7 @@ use std::alloc::AllocError;
 /// # Errors
 /// There is no memory for it.
 #[cycle(constant_text)]
-#[tactic(auto, using(py_bytecode::proofs::View::views))]
+#[tactic(auto, using(py_bytecode::proofs::ConstantViewLemmas::views))]
 pub fn push_constant(out: &mut String, item: &ConstantData) -> Result<(), AllocError>
     ensures { OnOk result (string_bytes out.new ≡ string_bytes out.old
         ++ constant_text (constant item.now)) }
@@ -30,7 +30,7 @@ pub fn push_constant(out: &mut String, item: &ConstantData) -> Result<(), AllocE
     }
 }
 
-#[tactic(auto, using(py_bytecode::proofs::View::views))]
+#[tactic(auto, using(py_bytecode::proofs::ConstantViewLemmas::views))]
 fn push_code_name(out: &mut String, code: &CodeObject) -> Result<(), AllocError>
     ensures { OnOk result (string_bytes out.new ≡ string_bytes out.old
         ++ code_text (object code.now)) }

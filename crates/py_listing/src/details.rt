@@ -16,7 +16,7 @@ use std::alloc::AllocError;
 ///
 /// # Errors
 /// There is no memory for it.
-#[tactic(auto, using(py_bytecode::proofs::View::views, crate::proofs::ConstantListLemmas::constant_entry))]
+#[tactic(auto, using(py_bytecode::proofs::ConstantViewLemmas::views, crate::proofs::ConstantListLemmas::constant_entry))]
 pub fn push_detail(
     out: &mut String,
     code: &CodeObject,
@@ -79,7 +79,7 @@ fn push_constant_entry(
 }
 
 /// Appends a constant after a space, and the line's end.
-#[tactic(auto, using(py_bytecode::proofs::View::views))]
+#[tactic(auto, using(py_bytecode::proofs::ConstantViewLemmas::views))]
 fn push_constant_line(out: &mut String, item: &ConstantData) -> Result<(), AllocError>
     ensures { OnOk result (string_bytes out.new ≡ string_bytes out.old
         ++ (codes " " ++ constant_text (constant item.now) ++ codes "\n")) }
@@ -102,7 +102,7 @@ fn push_name_entry(out: &mut String, names: &[Text], place: usize) -> Result<(),
     }
 }
 
-#[tactic(auto, using(py_bytecode::proofs::Tables::get_left, py_bytecode::proofs::Tables::get_right))]
+#[tactic(auto, using(py_bytecode::proofs::JoinedTableLemmas::get_left, py_bytecode::proofs::JoinedTableLemmas::get_right))]
 fn push_cell_entry(out: &mut String, code: &CodeObject, place: usize) -> Result<(), AllocError>
     ensures { OnOk result (string_bytes out.new ≡ string_bytes out.old
         ++ (entry quote (slice_get (code.now.cellvars ++ code.now.freevars) place) ++ codes "\n")) }

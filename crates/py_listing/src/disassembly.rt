@@ -21,7 +21,7 @@ pub fn listing(alloc: Global, code: &CodeObject) -> Result<String, AllocError>
 }
 
 #[cycle(listing)]
-#[tactic(auto, using(py_bytecode::proofs::View::views))]
+#[tactic(auto, using(py_bytecode::proofs::ConstantViewLemmas::views))]
 fn push_code(out: &mut String, code: &CodeObject) -> Result<(), AllocError>
     ensures { OnOk result (string_bytes out.new ≡ string_bytes out.old
         ++ listing_of (object code.now)) }
@@ -58,7 +58,7 @@ fn push_codes(out: &mut String, constants: &[ConstantData]) -> Result<(), AllocE
 }
 
 #[cycle(listing)]
-#[tactic(auto, using(py_bytecode::proofs::View::views))]
+#[tactic(auto, using(py_bytecode::proofs::ConstantViewLemmas::views))]
 fn push_code_in(out: &mut String, item: &ConstantData) -> Result<(), AllocError>
     ensures { OnOk result (string_bytes out.new ≡ string_bytes out.old
         ++ listing_in (constant item.now)) }

@@ -21,7 +21,7 @@ use Rattle.py_emission.specs.Emission.{emission}
 use Rattle.py_emission.specs.EmissionStmts.{emission_of_stmts}
 use Rattle.py_emission.specs.EmissionMods.{emission_outcome}
 use Rattle.py_meaning.specs.Table.{expr_form}
-use Rattle.py_meaning_samples.proofs.SampleTools.{source_place, line, lines_in, told_with}
+use Rattle.py_meaning_samples.proofs.TreeSampleDefinitions.{source_place, line, lines_in, lines_with}
 
 abbrev context_sample_symbol : (name : List ℕ) → SymbolScope → Symbol
 context_sample_symbol name s = record { name = name; scope = s; flags = record { 0 = 0 } }
@@ -66,12 +66,12 @@ abbrev emitted_in : Context → Emission → Outcome
 emitted_in c e = run e (initial_state c (source_place 1 1) 0)
 
 -- in a function a name of its own is a local one, a name that a nested scope needs is a cell, and a declared one is global
-function_names : lines_in (emitted_in in_f (add_varname (codes "p") ▸ add_varname (codes "q") ▸ emission_of_stmts (all_of (tree.Assign (source_place 3 5) (context_sample_one (context_sample_named 3 5 (codes "g"))) (context_sample_named 3 9 (codes "p")) ∷ tree.Delete (source_place 4 5) (context_sample_one (context_sample_named 4 9 (codes "q"))) ∷ tree.Assign (source_place 5 5) (context_sample_one (context_sample_named 5 5 (codes "u"))) (context_sample_named 5 9 (codes "g")) ∷ [])))) ≡ told_with (line op.LoadDeref 0 3 9 ∷ line op.StoreGlobal 0 3 9 ∷ line op.DeleteDeref 1 4 5 ∷ line op.LoadGlobal 0 5 9 ∷ line op.StoreFast 2 5 9 ∷ []) (codes "g" ∷ []) (codes "p" ∷ codes "q" ∷ codes "u" ∷ []) []
+function_names : lines_in (emitted_in in_f (add_varname (codes "p") ▸ add_varname (codes "q") ▸ emission_of_stmts (all_of (tree.Assign (source_place 3 5) (context_sample_one (context_sample_named 3 5 (codes "g"))) (context_sample_named 3 9 (codes "p")) ∷ tree.Delete (source_place 4 5) (context_sample_one (context_sample_named 4 9 (codes "q"))) ∷ tree.Assign (source_place 5 5) (context_sample_one (context_sample_named 5 5 (codes "u"))) (context_sample_named 5 9 (codes "g")) ∷ [])))) ≡ lines_with (line op.LoadDeref 0 3 9 ∷ line op.StoreGlobal 0 3 9 ∷ line op.DeleteDeref 1 4 5 ∷ line op.LoadGlobal 0 5 9 ∷ line op.StoreFast 2 5 9 ∷ []) (codes "g" ∷ []) (codes "p" ∷ codes "q" ∷ codes "u" ∷ []) []
 unfolding with_step with_block with_name with_varname with_constant with_loops with_location refuse emit jump one_block two_blocks three_blocks put_instruction emit_count emit_name emit_varname emit_mangled add_varname emit_constant move by_context by_level by_loops in_loop name_access inside nested_in_class
 function_names = refl
 
 -- in a class free variables are looked up in it first, and private names are mangled
-class_names : lines_in (emitted_in context_sample_in_class (emission_of_stmts (all_of (tree.Assign (source_place 7 9) (context_sample_one (tree.Attribute (source_place 7 9) (context_sample_named 7 9 (codes "p")) (codes "__m"))) (context_sample_named 7 17 (codes "q")) ∷ tree.Assign (source_place 8 9) (context_sample_one (context_sample_named 8 9 (codes "k"))) (tree.Constant (source_place 8 13) (literal.Int (pos 1))) ∷ tree.Delete (source_place 9 9) (context_sample_one (context_sample_named 9 13 (codes "k"))) ∷ [])))) ≡ told_with (line op.LoadClassDeref 0 7 17 ∷ line op.LoadClassDeref 1 7 9 ∷ line op.StoreAttr 0 7 9 ∷ line op.LoadConst 0 8 13 ∷ line op.StoreLocal 1 8 13 ∷ line op.DeleteLocal 1 9 9 ∷ []) (codes "_A__m" ∷ codes "k" ∷ []) [] (const.integer (pos 1) ∷ [])
+class_names : lines_in (emitted_in context_sample_in_class (emission_of_stmts (all_of (tree.Assign (source_place 7 9) (context_sample_one (tree.Attribute (source_place 7 9) (context_sample_named 7 9 (codes "p")) (codes "__m"))) (context_sample_named 7 17 (codes "q")) ∷ tree.Assign (source_place 8 9) (context_sample_one (context_sample_named 8 9 (codes "k"))) (tree.Constant (source_place 8 13) (literal.Int (pos 1))) ∷ tree.Delete (source_place 9 9) (context_sample_one (context_sample_named 9 13 (codes "k"))) ∷ [])))) ≡ lines_with (line op.LoadClassDeref 0 7 17 ∷ line op.LoadClassDeref 1 7 9 ∷ line op.StoreAttr 0 7 9 ∷ line op.LoadConst 0 8 13 ∷ line op.StoreLocal 1 8 13 ∷ line op.DeleteLocal 1 9 9 ∷ []) (codes "_A__m" ∷ codes "k" ∷ []) [] (const.integer (pos 1) ∷ [])
 unfolding with_step with_block with_name with_varname with_constant with_loops with_location refuse emit jump one_block two_blocks three_blocks put_instruction emit_count emit_name emit_varname emit_mangled add_varname emit_constant move by_context by_level by_loops in_loop name_access inside nested_in_class
 class_names = refl
 
@@ -81,7 +81,7 @@ context_sample_returned =
     tree.Tuple (source_place 11 20) (tree.more_exprs (context_sample_named 11 21 (codes "__x")) (tree.more_exprs (context_sample_named 11 26 (codes "q")) (tree.more_exprs (tree.Call (source_place 11 29) (tree.Attribute (source_place 11 29) (context_sample_named 11 29 (codes "self")) (codes "__m")) tree.no_exprs tree.no_keywords) (context_sample_one (context_sample_named 11 41 (codes "A"))))))
 
 -- in a method the class still mangles, and what no enclosing scope binds is global
-method_names : lines_in (emitted_in in_method (add_varname (codes "self") ▸ emission context_sample_returned)) ≡ told_with (line op.LoadGlobal 0 11 21 ∷ line op.LoadDeref 0 11 26 ∷ line op.LoadFast 0 11 29 ∷ line op.LoadMethod 1 11 29 ∷ line op.CallMethodPositional 0 11 29 ∷ line op.LoadDeref 1 11 41 ∷ line op.BuildTuple 4 11 41 ∷ []) (codes "_A__x" ∷ codes "_A__m" ∷ []) (codes "self" ∷ []) []
+method_names : lines_in (emitted_in in_method (add_varname (codes "self") ▸ emission context_sample_returned)) ≡ lines_with (line op.LoadGlobal 0 11 21 ∷ line op.LoadDeref 0 11 26 ∷ line op.LoadFast 0 11 29 ∷ line op.LoadMethod 1 11 29 ∷ line op.CallMethodPositional 0 11 29 ∷ line op.LoadDeref 1 11 41 ∷ line op.BuildTuple 4 11 41 ∷ []) (codes "_A__x" ∷ codes "_A__m" ∷ []) (codes "self" ∷ []) []
 unfolding with_step with_block with_name with_varname with_constant with_loops with_location refuse emit jump one_block two_blocks three_blocks put_instruction emit_count emit_name emit_varname emit_mangled add_varname emit_constant move by_context by_level by_loops in_loop name_access inside nested_in_class
 method_names = refl
 
@@ -103,6 +103,6 @@ shared =
     record { typ = kind.Function; symbols = context_sample_symbol (codes "g") scope.GlobalExplicit ∷ []; next = 2 } ∷ []
 
 -- the others are looked up by name
-module_names : lines_in (emission_outcome (tree.Module (all_of (tree.Assign (source_place 3 1) (context_sample_one (context_sample_named 3 1 (codes "g"))) (context_sample_named 3 5 (codes "h")) ∷ tree.StmtExpr (source_place 4 1) (tree.Call (source_place 4 1) (context_sample_named 4 1 (codes "f")) (context_sample_one (context_sample_named 4 3 (codes "g"))) tree.no_keywords) ∷ tree.Delete (source_place 5 1) (context_sample_one (context_sample_named 5 5 (codes "g"))) ∷ []))) Exec (outermost 0 [] shared)) ≡ told_with (line op.LoadNameAny 0 3 5 ∷ line op.StoreGlobal 1 3 5 ∷ line op.LoadNameAny 2 4 1 ∷ line op.LoadGlobal 1 4 3 ∷ line op.CallFunctionPositional 1 4 3 ∷ line op.Pop 0 4 3 ∷ line op.DeleteGlobal 1 5 1 ∷ line op.ReturnConst 0 5 1 ∷ []) (codes "h" ∷ codes "g" ∷ codes "f" ∷ []) [] (const.none ∷ [])
+module_names : lines_in (emission_outcome (tree.Module (all_of (tree.Assign (source_place 3 1) (context_sample_one (context_sample_named 3 1 (codes "g"))) (context_sample_named 3 5 (codes "h")) ∷ tree.StmtExpr (source_place 4 1) (tree.Call (source_place 4 1) (context_sample_named 4 1 (codes "f")) (context_sample_one (context_sample_named 4 3 (codes "g"))) tree.no_keywords) ∷ tree.Delete (source_place 5 1) (context_sample_one (context_sample_named 5 5 (codes "g"))) ∷ []))) Exec (outermost 0 [] shared)) ≡ lines_with (line op.LoadNameAny 0 3 5 ∷ line op.StoreGlobal 1 3 5 ∷ line op.LoadNameAny 2 4 1 ∷ line op.LoadGlobal 1 4 3 ∷ line op.CallFunctionPositional 1 4 3 ∷ line op.Pop 0 4 3 ∷ line op.DeleteGlobal 1 5 1 ∷ line op.ReturnConst 0 5 1 ∷ []) (codes "h" ∷ codes "g" ∷ codes "f" ∷ []) [] (const.none ∷ [])
 unfolding with_step with_block with_name with_varname with_constant with_loops with_location refuse emit jump one_block two_blocks three_blocks put_instruction emit_count emit_name emit_varname emit_mangled emit_constant move by_context by_level by_loops in_loop name_access inside
 module_names = refl

@@ -8,7 +8,7 @@ use Rattle.py_bytecode.specs.Values.{Value, Constant, Given, Gives, Truth, End, 
 use Rattle.py_control.specs.Form.{Scope}
 use Rattle.py_emission_parts.specs.Context.{inside}
 use Rattle.py_meaning.specs.Meaning.{body, meaning}
-use Rattle.py_meaning_samples.proofs.SampleTools.{source_place}
+use Rattle.py_meaning_samples.proofs.TreeSampleDefinitions.{source_place}
 
 abbrev control_sample_loads : List ℕ → Event Scope
 control_sample_loads name = Accesses Unsaid Load name 0 []

@@ -1,5 +1,5 @@
-mod SampleTools
-mod ObjectTools
+mod TreeSampleDefinitions
+mod ObjectSampleDefinitions
 mod MeaningSamples
 mod ContextSamples
 mod ScannedSamples

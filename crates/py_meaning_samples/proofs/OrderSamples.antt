@@ -16,7 +16,7 @@ use Rattle.py_control.specs.Form.{Scope}
 use Rattle.py_emission.specs.EmissionMods.{emission_outcome}
 use Rattle.py_meaning.specs.Faults.{compile_faults}
 use Rattle.py_meaning.specs.Meaning.{body, meaning}
-use Rattle.py_meaning_samples.proofs.SampleTools.{source_place, line, lines_in, sample_tool_faults, told_as, unscoped_context}
+use Rattle.py_meaning_samples.proofs.TreeSampleDefinitions.{source_place, line, lines_in, sample_tool_faults, lines_as, unscoped_context}
 
 abbrev order_sample_loads : List ℕ → Event Scope
 order_sample_loads name = Accesses Unsaid Load name 0 []
@@ -25,7 +25,7 @@ order_sample_loads name = Accesses Unsaid Load name 0 []
 abbrev spread_first : tree.Mod
 spread_first = (tree.Module (tree.more_stmts (tree.StmtExpr (source_place 1 1) (tree.Dict (source_place 1 1) (tree.more_opts tree.no_expr (tree.more_opts (tree.some_expr (tree.Constant (source_place 1 7) (literal.Str (codes "x")))) tree.no_opts)) (tree.more_exprs (tree.Name (source_place 1 4) (codes "a")) (tree.more_exprs (tree.Constant (source_place 1 12) (literal.Int (pos 1))) tree.no_exprs)))) tree.no_stmts))
 
-spread_first_emitted : lines_in (emission_outcome spread_first Exec (unscoped_context 0)) ≡ (told_as ((line op.BuildMap 0 1 1) ∷ (line op.LoadNameAny 0 1 4) ∷ (line op.DictUpdate 0 1 4) ∷ (line op.LoadConst 0 1 7) ∷ (line op.LoadConst 1 1 12) ∷ (line op.BuildMap 1 1 12) ∷ (line op.DictUpdate 0 1 12) ∷ (line op.Pop 0 1 12) ∷ (line op.ReturnConst 2 1 12) ∷ []) ((codes "a") ∷ []) ((const.str (codes "x")) ∷ (const.integer (pos 1)) ∷ const.none ∷ []))
+spread_first_emitted : lines_in (emission_outcome spread_first Exec (unscoped_context 0)) ≡ (lines_as ((line op.BuildMap 0 1 1) ∷ (line op.LoadNameAny 0 1 4) ∷ (line op.DictUpdate 0 1 4) ∷ (line op.LoadConst 0 1 7) ∷ (line op.LoadConst 1 1 12) ∷ (line op.BuildMap 1 1 12) ∷ (line op.DictUpdate 0 1 12) ∷ (line op.Pop 0 1 12) ∷ (line op.ReturnConst 2 1 12) ∷ []) ((codes "a") ∷ []) ((const.str (codes "x")) ∷ (const.integer (pos 1)) ∷ const.none ∷ []))
 unfolding with_step with_block with_name with_constant with_loops with_location refuse emit jump one_block two_blocks three_blocks put_instruction emit_count emit_name emit_mangled emit_constant move by_context by_level by_loops in_loop name_access inside
 spread_first_emitted = refl
 
@@ -37,7 +37,7 @@ spread_first_given = refl
 abbrev spread_between : tree.Mod
 spread_between = (tree.Module (tree.more_stmts (tree.StmtExpr (source_place 1 1) (tree.Dict (source_place 1 1) (tree.more_opts (tree.some_expr (tree.Name (source_place 1 2) (codes "a"))) (tree.more_opts tree.no_expr (tree.more_opts tree.no_expr (tree.more_opts (tree.some_expr (tree.Name (source_place 1 18) (codes "e"))) (tree.more_opts (tree.some_expr (tree.Name (source_place 1 24) (codes "g"))) tree.no_opts))))) (tree.more_exprs (tree.Name (source_place 1 5) (codes "b")) (tree.more_exprs (tree.Name (source_place 1 10) (codes "c")) (tree.more_exprs (tree.Name (source_place 1 15) (codes "d")) (tree.more_exprs (tree.Name (source_place 1 21) (codes "f")) (tree.more_exprs (tree.Name (source_place 1 27) (codes "h")) tree.no_exprs))))))) tree.no_stmts))
 
-spread_between_emitted : lines_in (emission_outcome spread_between Exec (unscoped_context 0)) ≡ (told_as ((line op.LoadNameAny 0 1 2) ∷ (line op.LoadNameAny 1 1 5) ∷ (line op.BuildMap 1 1 5) ∷ (line op.LoadNameAny 2 1 10) ∷ (line op.DictUpdate 0 1 10) ∷ (line op.LoadNameAny 3 1 15) ∷ (line op.DictUpdate 0 1 15) ∷ (line op.LoadNameAny 4 1 18) ∷ (line op.LoadNameAny 5 1 21) ∷ (line op.LoadNameAny 6 1 24) ∷ (line op.LoadNameAny 7 1 27) ∷ (line op.BuildMap 2 1 27) ∷ (line op.DictUpdate 0 1 27) ∷ (line op.Pop 0 1 27) ∷ (line op.ReturnConst 0 1 27) ∷ []) ((codes "a") ∷ (codes "b") ∷ (codes "c") ∷ (codes "d") ∷ (codes "e") ∷ (codes "f") ∷ (codes "g") ∷ (codes "h") ∷ []) (const.none ∷ []))
+spread_between_emitted : lines_in (emission_outcome spread_between Exec (unscoped_context 0)) ≡ (lines_as ((line op.LoadNameAny 0 1 2) ∷ (line op.LoadNameAny 1 1 5) ∷ (line op.BuildMap 1 1 5) ∷ (line op.LoadNameAny 2 1 10) ∷ (line op.DictUpdate 0 1 10) ∷ (line op.LoadNameAny 3 1 15) ∷ (line op.DictUpdate 0 1 15) ∷ (line op.LoadNameAny 4 1 18) ∷ (line op.LoadNameAny 5 1 21) ∷ (line op.LoadNameAny 6 1 24) ∷ (line op.LoadNameAny 7 1 27) ∷ (line op.BuildMap 2 1 27) ∷ (line op.DictUpdate 0 1 27) ∷ (line op.Pop 0 1 27) ∷ (line op.ReturnConst 0 1 27) ∷ []) ((codes "a") ∷ (codes "b") ∷ (codes "c") ∷ (codes "d") ∷ (codes "e") ∷ (codes "f") ∷ (codes "g") ∷ (codes "h") ∷ []) (const.none ∷ []))
 unfolding with_step with_block with_name with_constant with_loops with_location refuse emit jump one_block two_blocks three_blocks put_instruction emit_count emit_name emit_mangled emit_constant move by_context by_level by_loops in_loop name_access inside
 spread_between_emitted = refl
 
@@ -53,7 +53,7 @@ spread_between_stopped = refl
 abbrev spread_last : tree.Mod
 spread_last = (tree.Module (tree.more_stmts (tree.StmtExpr (source_place 1 1) (tree.Dict (source_place 1 1) (tree.more_opts (tree.some_expr (tree.Name (source_place 1 2) (codes "a"))) (tree.more_opts tree.no_expr tree.no_opts)) (tree.more_exprs (tree.Name (source_place 1 5) (codes "b")) (tree.more_exprs (tree.Name (source_place 1 10) (codes "c")) tree.no_exprs)))) tree.no_stmts))
 
-spread_last_emitted : lines_in (emission_outcome spread_last Exec (unscoped_context 0)) ≡ (told_as ((line op.LoadNameAny 0 1 2) ∷ (line op.LoadNameAny 1 1 5) ∷ (line op.BuildMap 1 1 5) ∷ (line op.LoadNameAny 2 1 10) ∷ (line op.DictUpdate 0 1 10) ∷ (line op.Pop 0 1 10) ∷ (line op.ReturnConst 0 1 10) ∷ []) ((codes "a") ∷ (codes "b") ∷ (codes "c") ∷ []) (const.none ∷ []))
+spread_last_emitted : lines_in (emission_outcome spread_last Exec (unscoped_context 0)) ≡ (lines_as ((line op.LoadNameAny 0 1 2) ∷ (line op.LoadNameAny 1 1 5) ∷ (line op.BuildMap 1 1 5) ∷ (line op.LoadNameAny 2 1 10) ∷ (line op.DictUpdate 0 1 10) ∷ (line op.Pop 0 1 10) ∷ (line op.ReturnConst 0 1 10) ∷ []) ((codes "a") ∷ (codes "b") ∷ (codes "c") ∷ []) (const.none ∷ []))
 unfolding with_step with_block with_name with_constant with_loops with_location refuse emit jump one_block two_blocks three_blocks put_instruction emit_count emit_name emit_mangled emit_constant move by_context by_level by_loops in_loop name_access inside
 spread_last_emitted = refl
 
@@ -65,7 +65,7 @@ spread_last_given = refl
 abbrev no_pair : tree.Mod
 no_pair = (tree.Module (tree.more_stmts (tree.StmtExpr (source_place 1 1) (tree.Dict (source_place 1 1) (tree.more_opts tree.no_expr tree.no_opts) (tree.more_exprs (tree.Name (source_place 1 4) (codes "a")) tree.no_exprs))) tree.no_stmts))
 
-no_pair_emitted : lines_in (emission_outcome no_pair Exec (unscoped_context 0)) ≡ (told_as ((line op.BuildMap 0 1 1) ∷ (line op.LoadNameAny 0 1 4) ∷ (line op.DictUpdate 0 1 4) ∷ (line op.Pop 0 1 4) ∷ (line op.ReturnConst 0 1 4) ∷ []) ((codes "a") ∷ []) (const.none ∷ []))
+no_pair_emitted : lines_in (emission_outcome no_pair Exec (unscoped_context 0)) ≡ (lines_as ((line op.BuildMap 0 1 1) ∷ (line op.LoadNameAny 0 1 4) ∷ (line op.DictUpdate 0 1 4) ∷ (line op.Pop 0 1 4) ∷ (line op.ReturnConst 0 1 4) ∷ []) ((codes "a") ∷ []) (const.none ∷ []))
 unfolding with_step with_block with_name with_constant with_loops with_location refuse emit jump one_block two_blocks three_blocks put_instruction emit_count emit_name emit_mangled emit_constant move by_context by_level by_loops in_loop name_access inside
 no_pair_emitted = refl
 
@@ -77,7 +77,7 @@ no_pair_given = refl
 abbrev order_sample_nested : tree.Mod
 order_sample_nested = (tree.Module (tree.more_stmts (tree.StmtExpr (source_place 1 1) (tree.Dict (source_place 1 1) (tree.more_opts tree.no_expr (tree.more_opts (tree.some_expr (tree.Name (source_place 1 17) (codes "d"))) (tree.more_opts tree.no_expr tree.no_opts))) (tree.more_exprs (tree.Dict (source_place 1 4) (tree.more_opts tree.no_expr (tree.more_opts (tree.some_expr (tree.Name (source_place 1 10) (codes "b"))) tree.no_opts)) (tree.more_exprs (tree.Name (source_place 1 7) (codes "a")) (tree.more_exprs (tree.Name (source_place 1 13) (codes "c")) tree.no_exprs))) (tree.more_exprs (tree.Dict (source_place 1 20) (tree.more_opts (tree.some_expr (tree.Name (source_place 1 21) (codes "e"))) tree.no_opts) (tree.more_exprs (tree.Name (source_place 1 24) (codes "f")) tree.no_exprs)) (tree.more_exprs (tree.Name (source_place 1 30) (codes "g")) tree.no_exprs))))) tree.no_stmts))
 
-order_nested_emitted : lines_in (emission_outcome order_sample_nested Exec (unscoped_context 0)) ≡ (told_as ((line op.BuildMap 0 1 1) ∷ (line op.BuildMap 0 1 4) ∷ (line op.LoadNameAny 0 1 7) ∷ (line op.DictUpdate 0 1 7) ∷ (line op.LoadNameAny 1 1 10) ∷ (line op.LoadNameAny 2 1 13) ∷ (line op.BuildMap 1 1 13) ∷ (line op.DictUpdate 0 1 13) ∷ (line op.DictUpdate 0 1 13) ∷ (line op.LoadNameAny 3 1 17) ∷ (line op.LoadNameAny 4 1 21) ∷ (line op.LoadNameAny 5 1 24) ∷ (line op.BuildMap 1 1 24) ∷ (line op.BuildMap 1 1 24) ∷ (line op.DictUpdate 0 1 24) ∷ (line op.LoadNameAny 6 1 30) ∷ (line op.DictUpdate 0 1 30) ∷ (line op.Pop 0 1 30) ∷ (line op.ReturnConst 0 1 30) ∷ []) ((codes "a") ∷ (codes "b") ∷ (codes "c") ∷ (codes "d") ∷ (codes "e") ∷ (codes "f") ∷ (codes "g") ∷ []) (const.none ∷ []))
+order_nested_emitted : lines_in (emission_outcome order_sample_nested Exec (unscoped_context 0)) ≡ (lines_as ((line op.BuildMap 0 1 1) ∷ (line op.BuildMap 0 1 4) ∷ (line op.LoadNameAny 0 1 7) ∷ (line op.DictUpdate 0 1 7) ∷ (line op.LoadNameAny 1 1 10) ∷ (line op.LoadNameAny 2 1 13) ∷ (line op.BuildMap 1 1 13) ∷ (line op.DictUpdate 0 1 13) ∷ (line op.DictUpdate 0 1 13) ∷ (line op.LoadNameAny 3 1 17) ∷ (line op.LoadNameAny 4 1 21) ∷ (line op.LoadNameAny 5 1 24) ∷ (line op.BuildMap 1 1 24) ∷ (line op.BuildMap 1 1 24) ∷ (line op.DictUpdate 0 1 24) ∷ (line op.LoadNameAny 6 1 30) ∷ (line op.DictUpdate 0 1 30) ∷ (line op.Pop 0 1 30) ∷ (line op.ReturnConst 0 1 30) ∷ []) ((codes "a") ∷ (codes "b") ∷ (codes "c") ∷ (codes "d") ∷ (codes "e") ∷ (codes "f") ∷ (codes "g") ∷ []) (const.none ∷ []))
 unfolding with_step with_block with_name with_constant with_loops with_location refuse emit jump one_block two_blocks three_blocks put_instruction emit_count emit_name emit_mangled emit_constant move by_context by_level by_loops in_loop name_access inside
 order_nested_emitted = refl
 
@@ -89,7 +89,7 @@ order_nested_given = refl
 abbrev order_sample_formatted : tree.Mod
 order_sample_formatted = (tree.Module (tree.more_stmts (tree.StmtExpr (source_place 1 1) (tree.JoinedStr (source_place 1 1) (tree.more_exprs (tree.FormattedValue (source_place 1 1) (tree.Name (source_place 1 4) (codes "a")) conversion.None (tree.some_expr (tree.JoinedStr (source_place 1 1) (tree.more_exprs (tree.Constant (source_place 1 1) (literal.Str (codes ">4"))) tree.no_exprs)))) tree.no_exprs))) tree.no_stmts))
 
-formatted_emitted : lines_in (emission_outcome order_sample_formatted Exec (unscoped_context 0)) ≡ (told_as ((line op.LoadNameAny 0 1 4) ∷ (line op.LoadConst 0 1 1) ∷ (line op.FormatValue 0 1 1) ∷ (line op.BuildString 1 1 1) ∷ (line op.Pop 0 1 1) ∷ (line op.ReturnConst 1 1 1) ∷ []) ((codes "a") ∷ []) ((const.str (codes ">4")) ∷ const.none ∷ []))
+formatted_emitted : lines_in (emission_outcome order_sample_formatted Exec (unscoped_context 0)) ≡ (lines_as ((line op.LoadNameAny 0 1 4) ∷ (line op.LoadConst 0 1 1) ∷ (line op.FormatValue 0 1 1) ∷ (line op.BuildString 1 1 1) ∷ (line op.Pop 0 1 1) ∷ (line op.ReturnConst 1 1 1) ∷ []) ((codes "a") ∷ []) ((const.str (codes ">4")) ∷ const.none ∷ []))
 unfolding with_step with_block with_name with_constant with_loops with_location refuse emit jump one_block two_blocks three_blocks put_instruction emit_count emit_name emit_mangled emit_constant move by_context by_level by_loops in_loop name_access inside
 formatted_emitted = refl
 
@@ -101,7 +101,7 @@ formatted_given = refl
 abbrev formatted_by : tree.Mod
 formatted_by = (tree.Module (tree.more_stmts (tree.StmtExpr (source_place 1 1) (tree.JoinedStr (source_place 1 1) (tree.more_exprs (tree.FormattedValue (source_place 1 1) (tree.Name (source_place 1 4) (codes "a")) conversion.Repr (tree.some_expr (tree.JoinedStr (source_place 1 1) (tree.more_exprs (tree.FormattedValue (source_place 1 1) (tree.Name (source_place 1 9) (codes "b")) conversion.None tree.no_expr) tree.no_exprs)))) (tree.more_exprs (tree.FormattedValue (source_place 1 1) (tree.Name (source_place 1 13) (codes "c")) conversion.None tree.no_expr) tree.no_exprs)))) tree.no_stmts))
 
-formatted_by_emitted : lines_in (emission_outcome formatted_by Exec (unscoped_context 0)) ≡ (told_as ((line op.LoadNameAny 0 1 4) ∷ (line op.LoadNameAny 1 1 9) ∷ (line op.LoadConst 0 1 9) ∷ (line op.FormatValue 0 1 9) ∷ (line op.BuildString 1 1 9) ∷ (line op.FormatValue 3 1 9) ∷ (line op.LoadNameAny 2 1 13) ∷ (line op.LoadConst 0 1 13) ∷ (line op.FormatValue 0 1 13) ∷ (line op.BuildString 2 1 13) ∷ (line op.Pop 0 1 13) ∷ (line op.ReturnConst 1 1 13) ∷ []) ((codes "a") ∷ (codes "b") ∷ (codes "c") ∷ []) ((const.str []) ∷ const.none ∷ []))
+formatted_by_emitted : lines_in (emission_outcome formatted_by Exec (unscoped_context 0)) ≡ (lines_as ((line op.LoadNameAny 0 1 4) ∷ (line op.LoadNameAny 1 1 9) ∷ (line op.LoadConst 0 1 9) ∷ (line op.FormatValue 0 1 9) ∷ (line op.BuildString 1 1 9) ∷ (line op.FormatValue 3 1 9) ∷ (line op.LoadNameAny 2 1 13) ∷ (line op.LoadConst 0 1 13) ∷ (line op.FormatValue 0 1 13) ∷ (line op.BuildString 2 1 13) ∷ (line op.Pop 0 1 13) ∷ (line op.ReturnConst 1 1 13) ∷ []) ((codes "a") ∷ (codes "b") ∷ (codes "c") ∷ []) ((const.str []) ∷ const.none ∷ []))
 unfolding with_step with_block with_name with_constant with_loops with_location refuse emit jump one_block two_blocks three_blocks put_instruction emit_count emit_name emit_mangled emit_constant move by_context by_level by_loops in_loop name_access inside
 formatted_by_emitted = refl
 

@@ -12,13 +12,13 @@ use Rattle.py_emission_parts.specs.Accesses.{name_access}
 use Rattle.py_emission_parts.specs.Context.{inside}
 use Rattle.py_emission.specs.EmissionMods.{emission_outcome}
 use Rattle.py_meaning.specs.Faults.{compile_faults}
-use Rattle.py_meaning_samples.proofs.SampleTools.{source_place, line, lines_in, sample_tool_faults, told_as, unscoped_context}
+use Rattle.py_meaning_samples.proofs.TreeSampleDefinitions.{source_place, line, lines_in, sample_tool_faults, lines_as, unscoped_context}
 
 -- an exception, one with its cause, and the one in hand
 abbrev raise_sample_raises : tree.Mod
 raise_sample_raises = (tree.Module (tree.more_stmts (tree.Raise (source_place 1 1) (tree.some_expr (tree.Name (source_place 1 7) (codes "x"))) tree.no_expr) (tree.more_stmts (tree.Raise (source_place 2 1) (tree.some_expr (tree.Name (source_place 2 7) (codes "y"))) (tree.some_expr (tree.Name (source_place 2 14) (codes "z")))) (tree.more_stmts (tree.Raise (source_place 3 1) tree.no_expr tree.no_expr) tree.no_stmts))))
 
-raises_emitted : lines_in (emission_outcome raise_sample_raises Exec (unscoped_context 0)) ≡ (told_as ((line op.LoadNameAny 0 1 7) ∷ (line op.Raise 0 1 7) ∷ (line op.LoadNameAny 1 2 7) ∷ (line op.LoadNameAny 2 2 14) ∷ (line op.Raise 1 2 14) ∷ (line op.Raise 2 3 1) ∷ (line op.ReturnConst 0 3 1) ∷ []) ((codes "x") ∷ (codes "y") ∷ (codes "z") ∷ []) (const.none ∷ []))
+raises_emitted : lines_in (emission_outcome raise_sample_raises Exec (unscoped_context 0)) ≡ (lines_as ((line op.LoadNameAny 0 1 7) ∷ (line op.Raise 0 1 7) ∷ (line op.LoadNameAny 1 2 7) ∷ (line op.LoadNameAny 2 2 14) ∷ (line op.Raise 1 2 14) ∷ (line op.Raise 2 3 1) ∷ (line op.ReturnConst 0 3 1) ∷ []) ((codes "x") ∷ (codes "y") ∷ (codes "z") ∷ []) (const.none ∷ []))
 unfolding with_step with_block with_name with_constant with_loops with_location refuse emit jump one_block two_blocks three_blocks put_instruction emit_count emit_name emit_mangled emit_constant move pass_over by_context by_level by_loops in_loop name_access inside
 raises_emitted = refl
 
@@ -29,7 +29,7 @@ raises_faults = refl
 abbrev raise_sample_finally_block : tree.Mod
 raise_sample_finally_block = (tree.Module (tree.more_stmts (tree.While (source_place 1 1) (tree.Name (source_place 1 7) (codes "a")) (tree.more_stmts (tree.Try (source_place 2 5) (tree.more_stmts (tree.Break (source_place 3 9)) tree.no_stmts) tree.no_handlers tree.no_stmts (tree.more_stmts (tree.StmtExpr (source_place 5 9) (tree.Name (source_place 5 9) (codes "b"))) tree.no_stmts)) tree.no_stmts) tree.no_stmts) tree.no_stmts))
 
-finally_block_emitted : lines_in (emission_outcome raise_sample_finally_block Exec (unscoped_context 0)) ≡ (told_as ((line op.SetupLoop 0 1 1) ∷ (line op.LoadNameAny 0 1 7) ∷ (line op.JumpIfFalse 15 1 7) ∷ (line op.SetupFinally 11 2 5) ∷ (line op.SetupExcept 8 2 5) ∷ (line op.Break 16 3 9) ∷ (line op.PopBlock 0 3 9) ∷ (line op.Jump 9 3 9) ∷ (line op.Raise 2 3 9) ∷ (line op.PopBlock 0 3 9) ∷ (line op.EnterFinally 0 3 9) ∷ (line op.LoadNameAny 1 5 9) ∷ (line op.Pop 0 5 9) ∷ (line op.EndFinally 0 5 9) ∷ (line op.Jump 1 5 9) ∷ (line op.PopBlock 0 5 9) ∷ (line op.ReturnConst 0 5 9) ∷ []) ((codes "a") ∷ (codes "b") ∷ []) (const.none ∷ []))
+finally_block_emitted : lines_in (emission_outcome raise_sample_finally_block Exec (unscoped_context 0)) ≡ (lines_as ((line op.SetupLoop 0 1 1) ∷ (line op.LoadNameAny 0 1 7) ∷ (line op.JumpIfFalse 15 1 7) ∷ (line op.SetupFinally 11 2 5) ∷ (line op.SetupExcept 8 2 5) ∷ (line op.Break 16 3 9) ∷ (line op.PopBlock 0 3 9) ∷ (line op.Jump 9 3 9) ∷ (line op.Raise 2 3 9) ∷ (line op.PopBlock 0 3 9) ∷ (line op.EnterFinally 0 3 9) ∷ (line op.LoadNameAny 1 5 9) ∷ (line op.Pop 0 5 9) ∷ (line op.EndFinally 0 5 9) ∷ (line op.Jump 1 5 9) ∷ (line op.PopBlock 0 5 9) ∷ (line op.ReturnConst 0 5 9) ∷ []) ((codes "a") ∷ (codes "b") ∷ []) (const.none ∷ []))
 unfolding with_step with_block with_name with_constant with_loops with_location refuse emit jump one_block two_blocks three_blocks put_instruction emit_count emit_name emit_mangled emit_constant move pass_over by_context by_level by_loops in_loop name_access inside
 finally_block_emitted = refl
 
@@ -40,7 +40,7 @@ finally_block_faults = refl
 abbrev raise_sample_tried : tree.Mod
 raise_sample_tried = (tree.Module (tree.more_stmts (tree.Try (source_place 1 1) (tree.more_stmts (tree.StmtExpr (source_place 2 5) (tree.Name (source_place 2 5) (codes "a"))) tree.no_stmts) (tree.more_handlers (tree.some_expr (tree.Name (source_place 3 8) (codes "b"))) (Some (codes "c")) (tree.more_stmts (tree.StmtExpr (source_place 4 5) (tree.Name (source_place 4 5) (codes "c"))) tree.no_stmts) (tree.more_handlers tree.no_expr None (tree.more_stmts (tree.Raise (source_place 6 5) tree.no_expr tree.no_expr) tree.no_stmts) tree.no_handlers)) (tree.more_stmts (tree.StmtExpr (source_place 8 5) (tree.Name (source_place 8 5) (codes "d"))) tree.no_stmts) tree.no_stmts) tree.no_stmts))
 
-tried_emitted : lines_in (emission_outcome raise_sample_tried Exec (unscoped_context 0)) ≡ (told_as ((line op.SetupExcept 5 1 1) ∷ (line op.LoadNameAny 0 2 5) ∷ (line op.Pop 0 2 5) ∷ (line op.PopBlock 0 2 5) ∷ (line op.Jump 26 2 5) ∷ (line op.Duplicate 0 2 5) ∷ (line op.LoadNameAny 1 3 8) ∷ (line op.TestOperation 4 3 8) ∷ (line op.JumpIfFalse 21 3 8) ∷ (line op.StoreLocal 2 3 8) ∷ (line op.SetupFinally 15 3 8) ∷ (line op.LoadNameAny 2 4 5) ∷ (line op.Pop 0 4 5) ∷ (line op.PopBlock 0 4 5) ∷ (line op.EnterFinally 0 4 5) ∷ (line op.LoadConst 0 4 5) ∷ (line op.StoreLocal 2 4 5) ∷ (line op.DeleteLocal 2 4 5) ∷ (line op.EndFinally 0 4 5) ∷ (line op.PopException 0 4 5) ∷ (line op.Jump 28 4 5) ∷ (line op.Pop 0 4 5) ∷ (line op.Raise 2 6 5) ∷ (line op.PopException 0 6 5) ∷ (line op.Jump 28 6 5) ∷ (line op.Raise 2 6 5) ∷ (line op.LoadNameAny 3 8 5) ∷ (line op.Pop 0 8 5) ∷ (line op.ReturnConst 0 8 5) ∷ []) ((codes "a") ∷ (codes "b") ∷ (codes "c") ∷ (codes "d") ∷ []) (const.none ∷ []))
+tried_emitted : lines_in (emission_outcome raise_sample_tried Exec (unscoped_context 0)) ≡ (lines_as ((line op.SetupExcept 5 1 1) ∷ (line op.LoadNameAny 0 2 5) ∷ (line op.Pop 0 2 5) ∷ (line op.PopBlock 0 2 5) ∷ (line op.Jump 26 2 5) ∷ (line op.Duplicate 0 2 5) ∷ (line op.LoadNameAny 1 3 8) ∷ (line op.TestOperation 4 3 8) ∷ (line op.JumpIfFalse 21 3 8) ∷ (line op.StoreLocal 2 3 8) ∷ (line op.SetupFinally 15 3 8) ∷ (line op.LoadNameAny 2 4 5) ∷ (line op.Pop 0 4 5) ∷ (line op.PopBlock 0 4 5) ∷ (line op.EnterFinally 0 4 5) ∷ (line op.LoadConst 0 4 5) ∷ (line op.StoreLocal 2 4 5) ∷ (line op.DeleteLocal 2 4 5) ∷ (line op.EndFinally 0 4 5) ∷ (line op.PopException 0 4 5) ∷ (line op.Jump 28 4 5) ∷ (line op.Pop 0 4 5) ∷ (line op.Raise 2 6 5) ∷ (line op.PopException 0 6 5) ∷ (line op.Jump 28 6 5) ∷ (line op.Raise 2 6 5) ∷ (line op.LoadNameAny 3 8 5) ∷ (line op.Pop 0 8 5) ∷ (line op.ReturnConst 0 8 5) ∷ []) ((codes "a") ∷ (codes "b") ∷ (codes "c") ∷ (codes "d") ∷ []) (const.none ∷ []))
 unfolding with_step with_block with_name with_constant with_loops with_location refuse emit jump one_block two_blocks three_blocks put_instruction emit_count emit_name emit_mangled emit_constant move pass_over by_context by_level by_loops in_loop name_access inside
 tried_emitted = refl
 
@@ -51,7 +51,7 @@ tried_faults = refl
 abbrev all_parts : tree.Mod
 all_parts = (tree.Module (tree.more_stmts (tree.Try (source_place 1 1) (tree.more_stmts (tree.StmtExpr (source_place 2 5) (tree.Name (source_place 2 5) (codes "a"))) tree.no_stmts) (tree.more_handlers (tree.some_expr (tree.Name (source_place 3 8) (codes "b"))) None (tree.more_stmts (tree.StmtExpr (source_place 4 5) (tree.Name (source_place 4 5) (codes "c"))) tree.no_stmts) (tree.more_handlers (tree.some_expr (tree.Attribute (source_place 5 8) (tree.Name (source_place 5 8) (codes "d")) (codes "e"))) (Some (codes "f")) (tree.more_stmts (tree.StmtExpr (source_place 6 5) (tree.Name (source_place 6 5) (codes "g"))) tree.no_stmts) tree.no_handlers)) (tree.more_stmts (tree.StmtExpr (source_place 8 5) (tree.Name (source_place 8 5) (codes "h"))) tree.no_stmts) (tree.more_stmts (tree.StmtExpr (source_place 10 5) (tree.Name (source_place 10 5) (codes "i"))) tree.no_stmts)) (tree.more_stmts (tree.StmtExpr (source_place 11 1) (tree.Name (source_place 11 1) (codes "j"))) tree.no_stmts)))
 
-all_parts_emitted : lines_in (emission_outcome all_parts Exec (unscoped_context 0)) ≡ (told_as ((line op.SetupFinally 41 1 1) ∷ (line op.SetupExcept 6 1 1) ∷ (line op.LoadNameAny 0 2 5) ∷ (line op.Pop 0 2 5) ∷ (line op.PopBlock 0 2 5) ∷ (line op.Jump 37 2 5) ∷ (line op.Duplicate 0 2 5) ∷ (line op.LoadNameAny 1 3 8) ∷ (line op.TestOperation 4 3 8) ∷ (line op.JumpIfFalse 17 3 8) ∷ (line op.Pop 0 3 8) ∷ (line op.LoadNameAny 2 4 5) ∷ (line op.Pop 0 4 5) ∷ (line op.PopException 0 4 5) ∷ (line op.PopBlock 0 4 5) ∷ (line op.EnterFinally 0 4 5) ∷ (line op.Jump 41 4 5) ∷ (line op.Duplicate 0 4 5) ∷ (line op.LoadNameAny 3 5 8) ∷ (line op.LoadAttr 4 5 8) ∷ (line op.TestOperation 4 5 8) ∷ (line op.JumpIfFalse 36 5 8) ∷ (line op.StoreLocal 5 5 8) ∷ (line op.SetupFinally 28 5 8) ∷ (line op.LoadNameAny 6 6 5) ∷ (line op.Pop 0 6 5) ∷ (line op.PopBlock 0 6 5) ∷ (line op.EnterFinally 0 6 5) ∷ (line op.LoadConst 0 6 5) ∷ (line op.StoreLocal 5 6 5) ∷ (line op.DeleteLocal 5 6 5) ∷ (line op.EndFinally 0 6 5) ∷ (line op.PopException 0 6 5) ∷ (line op.PopBlock 0 6 5) ∷ (line op.EnterFinally 0 6 5) ∷ (line op.Jump 41 6 5) ∷ (line op.Raise 2 6 5) ∷ (line op.LoadNameAny 7 8 5) ∷ (line op.Pop 0 8 5) ∷ (line op.PopBlock 0 8 5) ∷ (line op.EnterFinally 0 8 5) ∷ (line op.LoadNameAny 8 10 5) ∷ (line op.Pop 0 10 5) ∷ (line op.EndFinally 0 10 5) ∷ (line op.LoadNameAny 9 11 1) ∷ (line op.Pop 0 11 1) ∷ (line op.ReturnConst 0 11 1) ∷ []) ((codes "a") ∷ (codes "b") ∷ (codes "c") ∷ (codes "d") ∷ (codes "e") ∷ (codes "f") ∷ (codes "g") ∷ (codes "h") ∷ (codes "i") ∷ (codes "j") ∷ []) (const.none ∷ []))
+all_parts_emitted : lines_in (emission_outcome all_parts Exec (unscoped_context 0)) ≡ (lines_as ((line op.SetupFinally 41 1 1) ∷ (line op.SetupExcept 6 1 1) ∷ (line op.LoadNameAny 0 2 5) ∷ (line op.Pop 0 2 5) ∷ (line op.PopBlock 0 2 5) ∷ (line op.Jump 37 2 5) ∷ (line op.Duplicate 0 2 5) ∷ (line op.LoadNameAny 1 3 8) ∷ (line op.TestOperation 4 3 8) ∷ (line op.JumpIfFalse 17 3 8) ∷ (line op.Pop 0 3 8) ∷ (line op.LoadNameAny 2 4 5) ∷ (line op.Pop 0 4 5) ∷ (line op.PopException 0 4 5) ∷ (line op.PopBlock 0 4 5) ∷ (line op.EnterFinally 0 4 5) ∷ (line op.Jump 41 4 5) ∷ (line op.Duplicate 0 4 5) ∷ (line op.LoadNameAny 3 5 8) ∷ (line op.LoadAttr 4 5 8) ∷ (line op.TestOperation 4 5 8) ∷ (line op.JumpIfFalse 36 5 8) ∷ (line op.StoreLocal 5 5 8) ∷ (line op.SetupFinally 28 5 8) ∷ (line op.LoadNameAny 6 6 5) ∷ (line op.Pop 0 6 5) ∷ (line op.PopBlock 0 6 5) ∷ (line op.EnterFinally 0 6 5) ∷ (line op.LoadConst 0 6 5) ∷ (line op.StoreLocal 5 6 5) ∷ (line op.DeleteLocal 5 6 5) ∷ (line op.EndFinally 0 6 5) ∷ (line op.PopException 0 6 5) ∷ (line op.PopBlock 0 6 5) ∷ (line op.EnterFinally 0 6 5) ∷ (line op.Jump 41 6 5) ∷ (line op.Raise 2 6 5) ∷ (line op.LoadNameAny 7 8 5) ∷ (line op.Pop 0 8 5) ∷ (line op.PopBlock 0 8 5) ∷ (line op.EnterFinally 0 8 5) ∷ (line op.LoadNameAny 8 10 5) ∷ (line op.Pop 0 10 5) ∷ (line op.EndFinally 0 10 5) ∷ (line op.LoadNameAny 9 11 1) ∷ (line op.Pop 0 11 1) ∷ (line op.ReturnConst 0 11 1) ∷ []) ((codes "a") ∷ (codes "b") ∷ (codes "c") ∷ (codes "d") ∷ (codes "e") ∷ (codes "f") ∷ (codes "g") ∷ (codes "h") ∷ (codes "i") ∷ (codes "j") ∷ []) (const.none ∷ []))
 unfolding with_step with_block with_name with_constant with_loops with_location refuse emit jump one_block two_blocks three_blocks put_instruction emit_count emit_name emit_mangled emit_constant move pass_over by_context by_level by_loops in_loop name_access inside
 all_parts_emitted = refl
 
@@ -62,7 +62,7 @@ all_parts_faults = refl
 abbrev looped : tree.Mod
 looped = (tree.Module (tree.more_stmts (tree.For (source_place 1 1) (tree.Name (source_place 1 5) (codes "x")) (tree.Name (source_place 1 10) (codes "y")) (tree.more_stmts (tree.Try (source_place 2 5) (tree.more_stmts (tree.StmtExpr (source_place 3 9) (tree.Name (source_place 3 9) (codes "a"))) tree.no_stmts) (tree.more_handlers (tree.some_expr (tree.Name (source_place 4 12) (codes "b"))) (Some (codes "c")) (tree.more_stmts (tree.Continue (source_place 5 9)) tree.no_stmts) tree.no_handlers) tree.no_stmts (tree.more_stmts (tree.StmtExpr (source_place 7 9) (tree.Name (source_place 7 9) (codes "d"))) tree.no_stmts)) tree.no_stmts) tree.no_stmts) tree.no_stmts))
 
-looped_emitted : lines_in (emission_outcome looped Exec (unscoped_context 0)) ≡ (told_as ((line op.SetupLoop 0 1 1) ∷ (line op.LoadNameAny 0 1 10) ∷ (line op.GetIter 0 1 10) ∷ (line op.ForIter 35 1 10) ∷ (line op.StoreLocal 1 1 10) ∷ (line op.SetupFinally 31 2 5) ∷ (line op.SetupExcept 11 2 5) ∷ (line op.LoadNameAny 2 3 9) ∷ (line op.Pop 0 3 9) ∷ (line op.PopBlock 0 3 9) ∷ (line op.Jump 29 3 9) ∷ (line op.Duplicate 0 3 9) ∷ (line op.LoadNameAny 3 4 12) ∷ (line op.TestOperation 4 4 12) ∷ (line op.JumpIfFalse 28 4 12) ∷ (line op.StoreLocal 4 4 12) ∷ (line op.SetupFinally 20 4 12) ∷ (line op.Continue 3 5 9) ∷ (line op.PopBlock 0 5 9) ∷ (line op.EnterFinally 0 5 9) ∷ (line op.LoadConst 0 5 9) ∷ (line op.StoreLocal 4 5 9) ∷ (line op.DeleteLocal 4 5 9) ∷ (line op.EndFinally 0 5 9) ∷ (line op.PopException 0 5 9) ∷ (line op.PopBlock 0 5 9) ∷ (line op.EnterFinally 0 5 9) ∷ (line op.Jump 31 5 9) ∷ (line op.Raise 2 5 9) ∷ (line op.PopBlock 0 5 9) ∷ (line op.EnterFinally 0 5 9) ∷ (line op.LoadNameAny 5 7 9) ∷ (line op.Pop 0 7 9) ∷ (line op.EndFinally 0 7 9) ∷ (line op.Jump 3 7 9) ∷ (line op.PopBlock 0 7 9) ∷ (line op.ReturnConst 0 7 9) ∷ []) ((codes "y") ∷ (codes "x") ∷ (codes "a") ∷ (codes "b") ∷ (codes "c") ∷ (codes "d") ∷ []) (const.none ∷ []))
+looped_emitted : lines_in (emission_outcome looped Exec (unscoped_context 0)) ≡ (lines_as ((line op.SetupLoop 0 1 1) ∷ (line op.LoadNameAny 0 1 10) ∷ (line op.GetIter 0 1 10) ∷ (line op.ForIter 35 1 10) ∷ (line op.StoreLocal 1 1 10) ∷ (line op.SetupFinally 31 2 5) ∷ (line op.SetupExcept 11 2 5) ∷ (line op.LoadNameAny 2 3 9) ∷ (line op.Pop 0 3 9) ∷ (line op.PopBlock 0 3 9) ∷ (line op.Jump 29 3 9) ∷ (line op.Duplicate 0 3 9) ∷ (line op.LoadNameAny 3 4 12) ∷ (line op.TestOperation 4 4 12) ∷ (line op.JumpIfFalse 28 4 12) ∷ (line op.StoreLocal 4 4 12) ∷ (line op.SetupFinally 20 4 12) ∷ (line op.Continue 3 5 9) ∷ (line op.PopBlock 0 5 9) ∷ (line op.EnterFinally 0 5 9) ∷ (line op.LoadConst 0 5 9) ∷ (line op.StoreLocal 4 5 9) ∷ (line op.DeleteLocal 4 5 9) ∷ (line op.EndFinally 0 5 9) ∷ (line op.PopException 0 5 9) ∷ (line op.PopBlock 0 5 9) ∷ (line op.EnterFinally 0 5 9) ∷ (line op.Jump 31 5 9) ∷ (line op.Raise 2 5 9) ∷ (line op.PopBlock 0 5 9) ∷ (line op.EnterFinally 0 5 9) ∷ (line op.LoadNameAny 5 7 9) ∷ (line op.Pop 0 7 9) ∷ (line op.EndFinally 0 7 9) ∷ (line op.Jump 3 7 9) ∷ (line op.PopBlock 0 7 9) ∷ (line op.ReturnConst 0 7 9) ∷ []) ((codes "y") ∷ (codes "x") ∷ (codes "a") ∷ (codes "b") ∷ (codes "c") ∷ (codes "d") ∷ []) (const.none ∷ []))
 unfolding with_step with_block with_name with_constant with_loops with_location refuse emit jump one_block two_blocks three_blocks put_instruction emit_count emit_name emit_mangled emit_constant move pass_over by_context by_level by_loops in_loop name_access inside
 looped_emitted = refl
 
@@ -95,7 +95,7 @@ named_debug_faults = refl
 abbrev annotated_parts : tree.Mod
 annotated_parts = (tree.Module (tree.more_stmts (tree.Try (source_place 1 1) (tree.more_stmts (tree.AnnAssign (source_place 2 5) (tree.Name (source_place 2 5) (codes "a")) (tree.Name (source_place 2 8) (codes "b")) tree.no_expr true) tree.no_stmts) (tree.more_handlers tree.no_expr None (tree.more_stmts (tree.StmtExpr (source_place 4 5) (tree.Name (source_place 4 5) (codes "c"))) tree.no_stmts) tree.no_handlers) (tree.more_stmts (tree.AnnAssign (source_place 6 5) (tree.Name (source_place 6 5) (codes "d")) (tree.Name (source_place 6 8) (codes "e")) tree.no_expr true) tree.no_stmts) (tree.more_stmts (tree.AnnAssign (source_place 8 5) (tree.Name (source_place 8 5) (codes "f")) (tree.Name (source_place 8 8) (codes "g")) tree.no_expr true) tree.no_stmts)) tree.no_stmts))
 
-annotated_parts_emitted : lines_in (emission_outcome annotated_parts Exec (unscoped_context 0)) ≡ (told_as ((line op.SetupAnnotation 0 1 1) ∷ (line op.SetupFinally 23 1 1) ∷ (line op.SetupExcept 9 1 1) ∷ (line op.LoadNameAny 0 2 8) ∷ (line op.LoadNameAny 1 2 8) ∷ (line op.LoadConst 0 2 8) ∷ (line op.StoreSubscript 0 2 8) ∷ (line op.PopBlock 0 2 8) ∷ (line op.Jump 17 2 8) ∷ (line op.Pop 0 2 8) ∷ (line op.LoadNameAny 2 4 5) ∷ (line op.Pop 0 4 5) ∷ (line op.PopException 0 4 5) ∷ (line op.PopBlock 0 4 5) ∷ (line op.EnterFinally 0 4 5) ∷ (line op.Jump 23 4 5) ∷ (line op.Raise 2 4 5) ∷ (line op.LoadNameAny 3 6 8) ∷ (line op.LoadNameAny 1 6 8) ∷ (line op.LoadConst 1 6 8) ∷ (line op.StoreSubscript 0 6 8) ∷ (line op.PopBlock 0 6 8) ∷ (line op.EnterFinally 0 6 8) ∷ (line op.LoadNameAny 4 8 8) ∷ (line op.LoadNameAny 1 8 8) ∷ (line op.LoadConst 2 8 8) ∷ (line op.StoreSubscript 0 8 8) ∷ (line op.EndFinally 0 8 8) ∷ (line op.ReturnConst 3 8 8) ∷ []) ((codes "b") ∷ (codes "__annotations__") ∷ (codes "c") ∷ (codes "e") ∷ (codes "g") ∷ []) ((const.str (codes "a")) ∷ (const.str (codes "d")) ∷ (const.str (codes "f")) ∷ const.none ∷ []))
+annotated_parts_emitted : lines_in (emission_outcome annotated_parts Exec (unscoped_context 0)) ≡ (lines_as ((line op.SetupAnnotation 0 1 1) ∷ (line op.SetupFinally 23 1 1) ∷ (line op.SetupExcept 9 1 1) ∷ (line op.LoadNameAny 0 2 8) ∷ (line op.LoadNameAny 1 2 8) ∷ (line op.LoadConst 0 2 8) ∷ (line op.StoreSubscript 0 2 8) ∷ (line op.PopBlock 0 2 8) ∷ (line op.Jump 17 2 8) ∷ (line op.Pop 0 2 8) ∷ (line op.LoadNameAny 2 4 5) ∷ (line op.Pop 0 4 5) ∷ (line op.PopException 0 4 5) ∷ (line op.PopBlock 0 4 5) ∷ (line op.EnterFinally 0 4 5) ∷ (line op.Jump 23 4 5) ∷ (line op.Raise 2 4 5) ∷ (line op.LoadNameAny 3 6 8) ∷ (line op.LoadNameAny 1 6 8) ∷ (line op.LoadConst 1 6 8) ∷ (line op.StoreSubscript 0 6 8) ∷ (line op.PopBlock 0 6 8) ∷ (line op.EnterFinally 0 6 8) ∷ (line op.LoadNameAny 4 8 8) ∷ (line op.LoadNameAny 1 8 8) ∷ (line op.LoadConst 2 8 8) ∷ (line op.StoreSubscript 0 8 8) ∷ (line op.EndFinally 0 8 8) ∷ (line op.ReturnConst 3 8 8) ∷ []) ((codes "b") ∷ (codes "__annotations__") ∷ (codes "c") ∷ (codes "e") ∷ (codes "g") ∷ []) ((const.str (codes "a")) ∷ (const.str (codes "d")) ∷ (const.str (codes "f")) ∷ const.none ∷ []))
 unfolding with_step with_block with_name with_constant with_loops with_location refuse emit jump one_block two_blocks three_blocks put_instruction emit_count emit_name emit_mangled emit_constant move pass_over by_context by_level by_loops in_loop name_access inside
 annotated_parts_emitted = refl
 
@@ -106,7 +106,7 @@ annotated_parts_faults = refl
 abbrev annotated_last : tree.Mod
 annotated_last = (tree.Module (tree.more_stmts (tree.Try (source_place 1 1) (tree.more_stmts (tree.StmtExpr (source_place 2 5) (tree.Name (source_place 2 5) (codes "a"))) tree.no_stmts) tree.no_handlers tree.no_stmts (tree.more_stmts (tree.AnnAssign (source_place 4 5) (tree.Name (source_place 4 5) (codes "b")) (tree.Name (source_place 4 8) (codes "c")) tree.no_expr true) tree.no_stmts)) tree.no_stmts))
 
-annotated_last_emitted : lines_in (emission_outcome annotated_last Exec (unscoped_context 0)) ≡ (told_as ((line op.SetupAnnotation 0 1 1) ∷ (line op.SetupFinally 10 1 1) ∷ (line op.SetupExcept 7 1 1) ∷ (line op.LoadNameAny 0 2 5) ∷ (line op.Pop 0 2 5) ∷ (line op.PopBlock 0 2 5) ∷ (line op.Jump 8 2 5) ∷ (line op.Raise 2 2 5) ∷ (line op.PopBlock 0 2 5) ∷ (line op.EnterFinally 0 2 5) ∷ (line op.LoadNameAny 1 4 8) ∷ (line op.LoadNameAny 2 4 8) ∷ (line op.LoadConst 0 4 8) ∷ (line op.StoreSubscript 0 4 8) ∷ (line op.EndFinally 0 4 8) ∷ (line op.ReturnConst 1 4 8) ∷ []) ((codes "a") ∷ (codes "c") ∷ (codes "__annotations__") ∷ []) ((const.str (codes "b")) ∷ const.none ∷ []))
+annotated_last_emitted : lines_in (emission_outcome annotated_last Exec (unscoped_context 0)) ≡ (lines_as ((line op.SetupAnnotation 0 1 1) ∷ (line op.SetupFinally 10 1 1) ∷ (line op.SetupExcept 7 1 1) ∷ (line op.LoadNameAny 0 2 5) ∷ (line op.Pop 0 2 5) ∷ (line op.PopBlock 0 2 5) ∷ (line op.Jump 8 2 5) ∷ (line op.Raise 2 2 5) ∷ (line op.PopBlock 0 2 5) ∷ (line op.EnterFinally 0 2 5) ∷ (line op.LoadNameAny 1 4 8) ∷ (line op.LoadNameAny 2 4 8) ∷ (line op.LoadConst 0 4 8) ∷ (line op.StoreSubscript 0 4 8) ∷ (line op.EndFinally 0 4 8) ∷ (line op.ReturnConst 1 4 8) ∷ []) ((codes "a") ∷ (codes "c") ∷ (codes "__annotations__") ∷ []) ((const.str (codes "b")) ∷ const.none ∷ []))
 unfolding with_step with_block with_name with_constant with_loops with_location refuse emit jump one_block two_blocks three_blocks put_instruction emit_count emit_name emit_mangled emit_constant move pass_over by_context by_level by_loops in_loop name_access inside
 annotated_last_emitted = refl
 
@@ -117,7 +117,7 @@ annotated_last_faults = refl
 abbrev annotated_handler : tree.Mod
 annotated_handler = (tree.Module (tree.more_stmts (tree.Try (source_place 1 1) (tree.more_stmts (tree.StmtExpr (source_place 2 5) (tree.Name (source_place 2 5) (codes "a"))) tree.no_stmts) (tree.more_handlers (tree.some_expr (tree.Name (source_place 3 8) (codes "b"))) None (tree.more_stmts (tree.AnnAssign (source_place 4 5) (tree.Name (source_place 4 5) (codes "c")) (tree.Name (source_place 4 8) (codes "d")) tree.no_expr true) tree.no_stmts) tree.no_handlers) tree.no_stmts tree.no_stmts) tree.no_stmts))
 
-annotated_handler_emitted : lines_in (emission_outcome annotated_handler Exec (unscoped_context 0)) ≡ (told_as ((line op.SetupExcept 5 1 1) ∷ (line op.LoadNameAny 0 2 5) ∷ (line op.Pop 0 2 5) ∷ (line op.PopBlock 0 2 5) ∷ (line op.Jump 17 2 5) ∷ (line op.Duplicate 0 2 5) ∷ (line op.LoadNameAny 1 3 8) ∷ (line op.TestOperation 4 3 8) ∷ (line op.JumpIfFalse 16 3 8) ∷ (line op.Pop 0 3 8) ∷ (line op.LoadNameAny 2 4 8) ∷ (line op.LoadNameAny 3 4 8) ∷ (line op.LoadConst 0 4 8) ∷ (line op.StoreSubscript 0 4 8) ∷ (line op.PopException 0 4 8) ∷ (line op.Jump 17 4 8) ∷ (line op.Raise 2 4 8) ∷ (line op.ReturnConst 1 4 8) ∷ []) ((codes "a") ∷ (codes "b") ∷ (codes "d") ∷ (codes "__annotations__") ∷ []) ((const.str (codes "c")) ∷ const.none ∷ []))
+annotated_handler_emitted : lines_in (emission_outcome annotated_handler Exec (unscoped_context 0)) ≡ (lines_as ((line op.SetupExcept 5 1 1) ∷ (line op.LoadNameAny 0 2 5) ∷ (line op.Pop 0 2 5) ∷ (line op.PopBlock 0 2 5) ∷ (line op.Jump 17 2 5) ∷ (line op.Duplicate 0 2 5) ∷ (line op.LoadNameAny 1 3 8) ∷ (line op.TestOperation 4 3 8) ∷ (line op.JumpIfFalse 16 3 8) ∷ (line op.Pop 0 3 8) ∷ (line op.LoadNameAny 2 4 8) ∷ (line op.LoadNameAny 3 4 8) ∷ (line op.LoadConst 0 4 8) ∷ (line op.StoreSubscript 0 4 8) ∷ (line op.PopException 0 4 8) ∷ (line op.Jump 17 4 8) ∷ (line op.Raise 2 4 8) ∷ (line op.ReturnConst 1 4 8) ∷ []) ((codes "a") ∷ (codes "b") ∷ (codes "d") ∷ (codes "__annotations__") ∷ []) ((const.str (codes "c")) ∷ const.none ∷ []))
 unfolding with_step with_block with_name with_constant with_loops with_location refuse emit jump one_block two_blocks three_blocks put_instruction emit_count emit_name emit_mangled emit_constant move pass_over by_context by_level by_loops in_loop name_access inside
 annotated_handler_emitted = refl
 

@@ -16,7 +16,7 @@ use Rattle.py_base.specs.declared.errors.CodegenErrorType.TheVariants as error
 use Rattle.py_meaning.specs.ExprFaults.{fault_at}
 use Rattle.py_meaning.specs.Faults.{faults}
 use Rattle.py_meaning.specs.Scanned.{scopes_of}
-use Rattle.py_meaning_samples.proofs.SampleTools.{source_place}
+use Rattle.py_meaning_samples.proofs.TreeSampleDefinitions.{source_place}
 
 abbrev scanned_sample_symbol : (name : List ℕ) → SymbolScope → (flags : ℕ) → Symbol
 scanned_sample_symbol name s flags = record { name = name; scope = s; flags = record { 0 = flags } }

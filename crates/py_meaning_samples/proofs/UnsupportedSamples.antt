@@ -11,7 +11,7 @@ use Rattle.py_emission_parts.specs.Context.{inside}
 use Rattle.py_emission.specs.EmissionMods.{emission_outcome}
 use Rattle.py_meaning.specs.ExprFaults.{Fault, fault_at}
 use Rattle.py_meaning.specs.Faults.{faults, unsupported_tree}
-use Rattle.py_meaning_samples.proofs.SampleTools.{unscoped_context}
+use Rattle.py_meaning_samples.proofs.TreeSampleDefinitions.{unscoped_context}
 
 abbrev unsupported_sample_at : ℕ → SourceLocation
 unsupported_sample_at column = record { row = 1; column = column }

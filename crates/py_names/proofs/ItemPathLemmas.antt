@@ -14,14 +14,14 @@ use Rattle.py_scope.specs.Names.{Name}
 use Rattle.py_scope.specs.Outward.{IsNumbered, parents}
 use Rattle.py_scope.specs.Resolved.{first_fault, resolved_table}
 use Rattle.py_scope.specs.Scanned.{Scanned}
-use Rattle.py_scope.proofs.Chains.{tells_same}
-use Rattle.py_scope.proofs.Truth.{left_or, truth_right_or}
+use Rattle.py_scope.proofs.ScopeChainLemmas.{tells_same}
+use Rattle.py_scope.proofs.TruthValueLemmas.{left_or, truth_right_or}
 use Rattle.py_name_uses.specs.Steps.{Outcome, Done, Refused, State, begun_state}
 use Rattle.py_name_uses.specs.declared.usage.Usage.TheVariants.{Load}
 use Rattle.py_scan.specs.Scan.{scan_expr, scan_stmts}
 use Rattle.py_symbol_tables.specs.Laws.{InOrder}
 use Rattle.py_symbol_tables.specs.Tables.{Fault, faults_of, table_of}
-use Rattle.py_symbol_tables.proofs.Preorder.{IsOrderly}
+use Rattle.py_symbol_tables.proofs.ScanPreorderLemmas.{IsOrderly}
 use Rattle.py_symbol_tables.proofs.EnteredScopeLemmas.{none_refused, program_orderly, value_orderly}
 use Rattle.py_names.specs.declared.items.Finding.{Finding}
 use Rattle.py_names.specs.declared.items.NameItem.{NameItem}
@@ -107,7 +107,7 @@ module _ (rows : List Row) (numbered : IsNumbered rows) (ordered : InOrder rows)
 
 module _ (s : Scanned) (orderly : IsOrderly s) (fine : first_fault s ≡ None) (table : SymbolTable) (is_table : resolved_table s ≡ Some table) where
   abbrev ps : List Place
-  ps = reporting.ps s orderly fine table is_table
+  ps = reporting.report_places s orderly fine table is_table
 
   path_is : (k : ℕ) → k < length s.rows → path_in ps k ≡ path s.rows k
   path_is k l =

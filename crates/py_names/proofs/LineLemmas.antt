@@ -10,7 +10,7 @@ use Rattle.py_name_uses.specs.Steps.{Outcome, Done, Refused, State, begun_state}
 use Rattle.py_name_uses.specs.declared.usage.Usage.TheVariants.{Load}
 use Rattle.py_scan.specs.Scan.{scan_expr, scan_stmts}
 use Rattle.py_symbol_tables.specs.Tables.{faults_of, table_of}
-use Rattle.py_symbol_tables.proofs.Preorder.{IsOrderly}
+use Rattle.py_symbol_tables.proofs.ScanPreorderLemmas.{IsOrderly}
 use Rattle.py_symbol_tables.proofs.EnteredScopeLemmas.{none_refused, program_orderly, value_orderly}
 use Rattle.py_names.specs.declared.items.Finding.{Finding}
 use Rattle.py_names.specs.declared.items.NameKind.{NameKind}
@@ -24,7 +24,7 @@ use Rattle.py_names.proofs.ReportLemmas as reporting
 
 module _ (s : Scanned) (orderly : IsOrderly s) (fine : first_fault s ≡ None) (table : SymbolTable) (is_table : resolved_table s ≡ Some table) where
   abbrev ps : List Place
-  ps = reporting.ps s orderly fine table is_table
+  ps = reporting.report_places s orderly fine table is_table
 
   text_is : (k : ℕ) → text_in ps k ≡ scope_text s.rows k
   text_is k = λ j. slashed_path (λ e. reporting.name_is s orderly fine table is_table e j) (k ∷ reporting.outward_is s orderly fine table is_table k j)

@@ -14,8 +14,8 @@ use Rattle.py_scope.specs.Lifts.{outward_from}
 use Rattle.py_scope.specs.Outward.{IsNumbered, enclosing_scopes, parent_of, parents}
 use Rattle.py_scope.specs.Resolve.{among, stands_in}
 use Rattle.py_scope.specs.Tables.{children_of, tables_from}
-use Rattle.py_scope.proofs.Chains.{equal_numbers, outward, tells_apart, tells_same, unequal_numbers}
-use Rattle.py_scope.proofs.Truth.{truth_and_false, truth_either, left_or, truth_right_or}
+use Rattle.py_scope.proofs.ScopeChainLemmas.{equal_numbers, enclosing_scopes_step, tells_apart, tells_same, unequal_numbers}
+use Rattle.py_scope.proofs.TruthValueLemmas.{truth_and_false, truth_either, left_or, truth_right_or}
 use Rattle.py_symbol_tables.specs.Laws.{InOrder}
 use Rattle.py_names.specs.declared.places.Place.{Place}
 use Rattle.py_names.specs.Places.{Placing, all_places, place_step, places_of, placing_of_table}
@@ -42,7 +42,7 @@ module _ (rows : List Row) (numbered : IsNumbered rows) (ordered : InOrder rows)
   way k = outward_from rows k
 
   way_next : (k : ℕ) → 0 < k → k < length rows → enclosing_scopes p k ≡ way (p k)
-  way_next k a l = outward p k (p k) refl (numbered k a l)
+  way_next k a l = enclosing_scopes_step p k (p k) refl (numbered k a l)
 
   -- the way outward goes down
   pub outward_below : (m k x : ℕ) → k ≤ m → k < length rows → among x (enclosing_scopes p k) ≡ true → x < k

@@ -21,11 +21,11 @@ use Rattle.py_scope.specs.Resolved.{first_fault, resolved_table}
 use Rattle.py_scope.specs.Scanned.{Scanned}
 use Rattle.py_scope.specs.Symbols.{is_local_kind}
 use Rattle.py_scope.specs.Tables.{is_plain}
-use Rattle.py_scope.proofs.Chains.{equal_numbers, tells_same}
-use Rattle.py_scope.proofs.Follows.{table_follows}
-use Rattle.py_scope.proofs.Truth.{any_scope, truth_both, truth_either, left_or, never_both, truth_right_or, same_truth, some_scope}
+use Rattle.py_scope.proofs.ScopeChainLemmas.{equal_numbers, tells_same}
+use Rattle.py_scope.proofs.TableUseLemmas.{table_follows}
+use Rattle.py_scope.proofs.TruthValueLemmas.{any_scope, truth_both, truth_either, left_or, never_both, truth_right_or, same_truth, some_scope}
 use Rattle.py_symbol_tables.specs.Laws.{Stands, has_cell, is_cell_kind, walk_to_cell}
-use Rattle.py_symbol_tables.proofs.Preorder.{IsOrderly}
+use Rattle.py_symbol_tables.proofs.ScanPreorderLemmas.{IsOrderly}
 use Rattle.py_symbol_tables.proofs.EnteredScopeLemmas.{binds_shown, binds_there, cell_kind, cell_there, get_within, entered_scope_stands, walks_end}
 use Rattle.py_names.specs.declared.items.Finding.{Finding}
 use Rattle.py_names.specs.declared.items.NameItem.{NameItem}
@@ -105,14 +105,14 @@ module _ (s : Scanned) (orderly : IsOrderly s) (fine : first_fault s ≡ None) (
   pub report_follows : TableFollows s.rows table
   report_follows = table_follows s orderly.scanned fine table is_table
 
-  pub stood : Stands s.rows
-  stood = entered_scope_stands s orderly fine
+  pub rows_stand : Stands s.rows
+  rows_stand = entered_scope_stands s orderly fine
 
-  abbrev pub ps : List Place
-  ps = preorder_placed s.rows 0 s.rows report_follows.symbols
+  abbrev pub report_places : List Place
+  report_places = preorder_placed s.rows 0 s.rows report_follows.symbols
 
-  pub report_places_are : places_of table ≡ ps
-  report_places_are = places_numbered s.rows report_follows.symbols table stood.numbered stood.ordered orderly.preorder.root report_follows.whole report_follows.nested
+  pub report_places_are : places_of table ≡ report_places
+  report_places_are = places_numbered s.rows report_follows.symbols table rows_stand.numbered rows_stand.ordered orderly.preorder.root report_follows.whole report_follows.nested
 
   -- what there is of scope k: its row, its symbols, its place
   record Told (k : ℕ) : Type 0 where
@@ -120,7 +120,7 @@ module _ (s : Scanned) (orderly : IsOrderly s) (fine : first_fault s ≡ None) (
     symbols : List Symbol
     is_row : slice_get s.rows k ≡ Some row
     is_symbols : slice_get report_follows.symbols k ≡ Some symbols
-    is_place : slice_get ps k ≡ Some (record { name = row.head.name; typ = row.kind; symbols = symbols; parent = row.parent; child = child_number s.rows k })
+    is_place : slice_get report_places k ≡ Some (record { name = row.head.name; typ = row.kind; symbols = symbols; parent = row.parent; child = child_number s.rows k })
 
   report_told_at : (k : ℕ) → k < length s.rows → Told k
   report_told_at k l =
@@ -141,31 +141,31 @@ module _ (s : Scanned) (orderly : IsOrderly s) (fine : first_fault s ≡ None) (
   symbols_follow : (k : ℕ) (t : Told k) → SymbolsFollow s.rows k t.symbols
   symbols_follow k t = report_follows.each k t.symbols t.is_symbols
 
-  parent_is : (e : ℕ) → parents_in ps e ≡ parents s.rows e
+  parent_is : (e : ℕ) → parents_in report_places e ≡ parents s.rows e
   parent_is e = by (slice_get s.rows e) refl
     where
-      by : (o : Option Row) → slice_get s.rows e ≡ o → parents_in ps e ≡ parents s.rows e
+      by : (o : Option Row) → slice_get s.rows e ≡ o → parents_in report_places e ≡ parents s.rows e
       by None g = ap parent_of_place (placed_none s.rows 0 s.rows report_follows.symbols e g) ∙ sym (ap parent_of g)
       by (Some r) g = let t = report_told_at e (get_within s.rows e r g) in ap parent_of_place t.is_place ∙ sym (ap parent_of t.is_row)
 
-  pub outward_is : (k : ℕ) → outward_in ps k ≡ outward_scopes s.rows k
+  pub outward_is : (k : ℕ) → outward_in report_places k ≡ outward_scopes s.rows k
   outward_is k = λ j. enclosing_scopes (λ e. parent_is e j) k
 
-  typ_is : (e : ℕ) → typ_of_place (slice_get ps e) ≡ kind_at s.rows e
+  typ_is : (e : ℕ) → typ_of_place (slice_get report_places e) ≡ kind_at s.rows e
   typ_is e = by (slice_get s.rows e) refl
     where
-      by : (o : Option Row) → slice_get s.rows e ≡ o → typ_of_place (slice_get ps e) ≡ kind_at s.rows e
+      by : (o : Option Row) → slice_get s.rows e ≡ o → typ_of_place (slice_get report_places e) ≡ kind_at s.rows e
       by None g = ap typ_of_place (placed_none s.rows 0 s.rows report_follows.symbols e g) ∙ sym (ap kind_of g)
       by (Some r) g = let t = report_told_at e (get_within s.rows e r g) in ap typ_of_place t.is_place ∙ sym (ap kind_of t.is_row)
 
-  pub name_is : (e : ℕ) → name_of_place (slice_get ps e) ≡ table_name (slice_get s.rows e)
+  pub name_is : (e : ℕ) → name_of_place (slice_get report_places e) ≡ table_name (slice_get s.rows e)
   name_is e = by (slice_get s.rows e) refl
     where
-      by : (o : Option Row) → slice_get s.rows e ≡ o → name_of_place (slice_get ps e) ≡ table_name (slice_get s.rows e)
+      by : (o : Option Row) → slice_get s.rows e ≡ o → name_of_place (slice_get report_places e) ≡ table_name (slice_get s.rows e)
       by None g = ap name_of_place (placed_none s.rows 0 s.rows report_follows.symbols e g) ∙ sym (ap table_name g)
       by (Some r) g = let t = report_told_at e (get_within s.rows e r g) in ap name_of_place t.is_place ∙ sym (ap table_name t.is_row)
 
-  pub child_is : (k : ℕ) → k < length s.rows → child_of_place (slice_get ps k) ≡ child_number s.rows k
+  pub child_is : (k : ℕ) → k < length s.rows → child_of_place (slice_get report_places k) ≡ child_number s.rows k
   child_is k l = ap child_of_place ((report_told_at k l).is_place)
 
   -- a test of a name that the uses decide
@@ -182,78 +182,78 @@ module _ (s : Scanned) (orderly : IsOrderly s) (fine : first_fault s ≡ None) (
         by true e = absurd (binds_there s.rows k n (bound k e) g)
         by false e = refl
 
-    such_told : (k : ℕ) → has_such test n (symbols_of_place (slice_get ps k)) ≡ truth k
+    such_told : (k : ℕ) → has_such test n (symbols_of_place (slice_get report_places k)) ≡ truth k
     such_told k = by (slice_get s.rows k) refl
       where
-        by : (o : Option Row) → slice_get s.rows k ≡ o → has_such test n (symbols_of_place (slice_get ps k)) ≡ truth k
+        by : (o : Option Row) → slice_get s.rows k ≡ o → has_such test n (symbols_of_place (slice_get report_places k)) ≡ truth k
         by None g = ap (λ o. has_such test n (symbols_of_place o)) (placed_none s.rows 0 s.rows report_follows.symbols k g) ∙ not_there k g
         by (Some r) g =
             let l = get_within s.rows k r g in
             let t = report_told_at k l in
             ap (λ o. has_such test n (symbols_of_place o)) t.is_place ∙ telling.such_is n test (truth k) t.symbols (λ i u a b. each k l t i u a b) (shown_there k t)
 
-    any_told : (k : ℕ) → has_any test n (symbols_of_place (slice_get ps k)) ≡ truth k
+    any_told : (k : ℕ) → has_any test n (symbols_of_place (slice_get report_places k)) ≡ truth k
     any_told k = by (slice_get s.rows k) refl
       where
-        by : (o : Option Row) → slice_get s.rows k ≡ o → has_any test n (symbols_of_place (slice_get ps k)) ≡ truth k
+        by : (o : Option Row) → slice_get s.rows k ≡ o → has_any test n (symbols_of_place (slice_get report_places k)) ≡ truth k
         by None g = ap (λ o. has_any test n (symbols_of_place o)) (placed_none s.rows 0 s.rows report_follows.symbols k g) ∙ not_there k g
         by (Some r) g =
             let l = get_within s.rows k r g in
             let t = report_told_at k l in
             ap (λ o. has_any test n (symbols_of_place o)) t.is_place ∙ telling.any_is n test (truth k) t.symbols (λ i u a b. each k l t i u a b) (shown_there k t)
 
-  bound_told : (n : Name) (k : ℕ) → has_such is_bound_symbol n (symbols_of_place (slice_get ps k)) ≡ binds_in s.rows k n
+  bound_told : (n : Name) (k : ℕ) → has_such is_bound_symbol n (symbols_of_place (slice_get report_places k)) ≡ binds_in s.rows k n
   bound_told n k = such_told n is_bound_symbol (λ e. binds_in s.rows e n)
       (λ e l t i u a b. telling.bound_told s.rows e (orderly.scanned.fresh e) t.symbols (symbols_follow e t) i u a ∙ ap (binds_in s.rows e) (sym b))
       (λ e h. h) k
 
   own_bound : (n : Name) (k : ℕ) → is_cell_kind (resolve s.rows k n).kind ≡ true → binds_in s.rows k n ≡ true
-  own_bound n k h = (truth_both (is_plain (holds_in s.rows k n)) _ ((stood.needed k n).0 (cell_kind (resolve s.rows k n).kind h)).0).1
+  own_bound n k h = (truth_both (is_plain (holds_in s.rows k n)) _ ((rows_stand.needed k n).0 (cell_kind (resolve s.rows k n).kind h)).0).1
 
-  cell_told : (n : Name) (k : ℕ) → holds_cell n (slice_get ps k) ≡ is_cell_kind (resolve s.rows k n).kind
+  cell_told : (n : Name) (k : ℕ) → holds_cell n (slice_get report_places k) ≡ is_cell_kind (resolve s.rows k n).kind
   cell_told n k = such_told n is_cell_symbol (λ e. is_cell_kind (resolve s.rows e n).kind)
       (λ e l t i u a b. ap is_cell_kind (telling.kind_told s.rows e (orderly.scanned.fresh e) t.symbols (symbols_follow e t) i u a) ∙ ap (λ m. is_cell_kind (resolve s.rows e m).kind) (sym b))
       (own_bound n) k
 
   -- walks outward
-  binding_is : (n : Name) (k : ℕ) → enclosing_binding ps k n ≡ shadowed_scope s.rows k n
+  binding_is : (n : Name) (k : ℕ) → enclosing_binding report_places k n ≡ shadowed_scope s.rows k n
   binding_is n k = λ j. find (λ e. not (is_class (typ_is e j)) && bound_told n e j) (outward_is k j)
 
-  report_cell_is : (n : Name) (k : ℕ) → needs s.rows k n ≡ true → enclosing_cell ps k n ≡ binder_in s.rows k n
+  report_cell_is : (n : Name) (k : ℕ) → needs s.rows k n ≡ true → enclosing_cell report_places k n ≡ binder_in s.rows k n
   report_cell_is n k h =
-      let w = walks_end s.rows stood table report_follows k n h in
-      (λ j. find (λ e. (cell_told n e ∙ sym (cell_there s.rows stood table report_follows n e)) j) (outward_is k j)) ∙ w.2 ∙ sym w.1
+      let w = walks_end s.rows rows_stand table report_follows k n h in
+      (λ j. find (λ e. (cell_told n e ∙ sym (cell_there s.rows rows_stand table report_follows n e)) j) (outward_is k j)) ∙ w.2 ∙ sym w.1
 
   -- the names that are stored as globals
-  stored_in : (n : Name) (k : ℕ) → has_any (is_noted false) n (symbols_of_place (slice_get ps k)) ≡ stores_globally s.rows n k
+  stored_in : (n : Name) (k : ℕ) → has_any (is_noted false) n (symbols_of_place (slice_get report_places k)) ≡ stores_globally s.rows n k
   stored_in n k = any_told n (is_noted false) (stores_globally s.rows n)
       (λ e l t i u a b. telling.noted_global s.rows e (orderly.scanned.fresh e) t.symbols (symbols_follow e t) i u a ∙ ap (λ m. stores_globally s.rows m e) (sym b))
       (λ e h. (truth_both (binds_in s.rows e n) _ h).0) k
 
-  first_bound : (n : Name) → has_any (is_noted true) n (symbols_of_place (slice_get ps 0)) ≡ binds_in s.rows 0 n
+  first_bound : (n : Name) → has_any (is_noted true) n (symbols_of_place (slice_get report_places 0)) ≡ binds_in s.rows 0 n
   first_bound n = any_told n (is_noted true) (λ e. binds_in s.rows e n)
       (λ e l t i u a b. telling.noted_all s.rows e (orderly.scanned.fresh e) t.symbols (symbols_follow e t) i u a ∙ ap (binds_in s.rows e) (sym b))
       (λ e h. h) 0
 
-  some_stored : (n : Name) → list_any (stores_global n) ps ≡ list_any (stores_globally s.rows n) (scopes s.rows)
+  some_stored : (n : Name) → list_any (stores_global n) report_places ≡ list_any (stores_globally s.rows n) (scopes s.rows)
   some_stored n = same_truth _ _ forth back
     where
-      forth : list_any (stores_global n) ps ≡ true → list_any (stores_globally s.rows n) (scopes s.rows) ≡ true
-      forth h = let w = any_index (stores_global n) ps h in
+      forth : list_any (stores_global n) report_places ≡ true → list_any (stores_globally s.rows n) (scopes s.rows) ≡ true
+      forth h = let w = any_index (stores_global n) report_places h in
           by w.0 (slice_get s.rows w.0) refl (ap (λ o. has_any (is_noted false) n (symbols_of_place o)) w.2 ∙ w.3) w.1 w.2
         where
-          by : (k : ℕ) (o : Option Row) → slice_get s.rows k ≡ o → has_any (is_noted false) n (symbols_of_place (slice_get ps k)) ≡ true → (x : Place)
-              → slice_get ps k ≡ Some x → list_any (stores_globally s.rows n) (scopes s.rows) ≡ true
+          by : (k : ℕ) (o : Option Row) → slice_get s.rows k ≡ o → has_any (is_noted false) n (symbols_of_place (slice_get report_places k)) ≡ true → (x : Place)
+              → slice_get report_places k ≡ Some x → list_any (stores_globally s.rows n) (scopes s.rows) ≡ true
           by k None g q x z = let y : None ≡ Some x = sym (placed_none s.rows 0 s.rows report_follows.symbols k g) ∙ z in cc
           by k (Some r) g q x z = some_scope (stores_globally s.rows n) s.rows k (get_within s.rows k r g) (sym (stored_in n k) ∙ q)
 
-      back : list_any (stores_globally s.rows n) (scopes s.rows) ≡ true → list_any (stores_global n) ps ≡ true
+      back : list_any (stores_globally s.rows n) (scopes s.rows) ≡ true → list_any (stores_global n) report_places ≡ true
       back h =
           let w = any_scope (stores_globally s.rows n) s.rows h in
           let t = report_told_at w.0 w.1 in
-          index_any (stores_global n) ps w.0 _ t.is_place (sym (ap (λ o. has_any (is_noted false) n (symbols_of_place o)) t.is_place) ∙ stored_in n w.0 ∙ w.2)
+          index_any (stores_global n) report_places w.0 _ t.is_place (sym (ap (λ o. has_any (is_noted false) n (symbols_of_place o)) t.is_place) ∙ stored_in n w.0 ∙ w.2)
 
-  known_is : (n : Name) → is_known ps n ≡ is_stored s.rows n
+  known_is : (n : Name) → is_known report_places n ≡ is_stored s.rows n
   known_is n = λ j. first_bound n j || some_stored n j
 
   -- what is found of one symbol
@@ -261,45 +261,45 @@ module _ (s : Scanned) (orderly : IsOrderly s) (fine : first_fault s ≡ None) (
     abbrev captured_by : Option ℕ → Bool → List Finding
     captured_by o b = found_if b (finding Captured k u.name o)
 
-    capture_is : captured_by (enclosing_cell ps k u.name) (captured_symbol u) ≡ captured_by (binder_in s.rows k u.name) (is_captured s.rows k u.name)
+    capture_is : captured_by (enclosing_cell report_places k u.name) (captured_symbol u) ≡ captured_by (binder_in s.rows k u.name) (is_captured s.rows k u.name)
     capture_is = by (captured_symbol u) refl ∙ ap (captured_by (binder_in s.rows k u.name)) (telling.captured_told s.rows k (orderly.scanned.fresh k) t.symbols (symbols_follow k t) i u at)
       where
-        by : (b : Bool) → captured_symbol u ≡ b → captured_by (enclosing_cell ps k u.name) b ≡ captured_by (binder_in s.rows k u.name) b
+        by : (b : Bool) → captured_symbol u ≡ b → captured_by (enclosing_cell report_places k u.name) b ≡ captured_by (binder_in s.rows k u.name) b
         by true e = ap (λ o. captured_by o true) (report_cell_is u.name k (sym (telling.needed_told s.rows k (orderly.scanned.fresh k) t.symbols (symbols_follow k t) i u at) ∙ e))
         by false e = refl
 
-    unbound_is : unbound_symbol ps u ≡ is_unbound s.rows k u.name
+    unbound_is : unbound_symbol report_places u ≡ is_unbound s.rows k u.name
     unbound_is = λ j. telling.unbound_told s.rows k (orderly.scanned.fresh k) t.symbols (symbols_follow k t) i u at j &&
         (is_open_kind (telling.kind_told s.rows k (orderly.scanned.fresh k) t.symbols (symbols_follow k t) i u at j) &&
         not (known_is u.name j))
 
-    report_found_is : found_at ps k u ≡ findings_at s.rows k u.name
+    report_found_is : found_at report_places k u ≡ findings_at s.rows k u.name
     report_found_is =
         ap (λ typ. found_if (unused_symbol typ u) (finding Unused k u.name None)
-        ++ (found_if (unbound_symbol ps u) (finding Unbound k u.name None)
-        ++ (found_shadowed (is_local_kind u.scope) k u.name (enclosing_binding ps k u.name)
-        ++ captured_by (enclosing_cell ps k u.name) (captured_symbol u)))) (typ_is k)
+        ++ (found_if (unbound_symbol report_places u) (finding Unbound k u.name None)
+        ++ (found_shadowed (is_local_kind u.scope) k u.name (enclosing_binding report_places k u.name)
+        ++ captured_by (enclosing_cell report_places k u.name) (captured_symbol u)))) (typ_is k)
         ∙ (λ j.
         found_if (telling.unused_told s.rows k (orderly.scanned.fresh k) t.symbols (symbols_follow k t) i u at j) (finding Unused k u.name None)
         ++ (found_if (unbound_is j) (finding Unbound k u.name None)
-        ++ (found_shadowed (telling.own_told s.rows k (orderly.scanned.fresh k) t.symbols (symbols_follow k t) i u at j) k u.name (binding_is u.name k j)
+        ++ (found_shadowed (telling.own_kind_told s.rows k (orderly.scanned.fresh k) t.symbols (symbols_follow k t) i u at j) k u.name (binding_is u.name k j)
         ++ capture_is j)))
 
   -- of the symbols of a scope
   found_of_symbols : (k : ℕ) (us : List Symbol)
-      → ((i : ℕ) (u : Symbol) → slice_get us i ≡ Some u → found_at ps k u ≡ findings_at s.rows k u.name)
-      → found_in ps k us ≡ findings_in s.rows k (map {B = Name} name_of_symbol us)
+      → ((i : ℕ) (u : Symbol) → slice_get us i ≡ Some u → found_at report_places k u ≡ findings_at s.rows k u.name)
+      → found_in report_places k us ≡ findings_in s.rows k (map {B = Name} name_of_symbol us)
   found_of_symbols k [] h = refl
   found_of_symbols k (u ∷ us) h = λ j. h 0 u refl j ++ found_of_symbols k us (λ i v. h (suc i) v) j
 
   -- of the scopes from k on
   found_of_scopes : (k : ℕ) (rest : List Place)
-      → ((i : ℕ) (x : Place) → slice_get rest i ≡ Some x → found_in ps (k + i) x.symbols ≡ findings_in s.rows (k + i) (names_in_place x))
-      → found_from ps k rest ≡ findings_from s.rows k (map {B = List Name} names_in_place rest)
+      → ((i : ℕ) (x : Place) → slice_get rest i ≡ Some x → found_in report_places (k + i) x.symbols ≡ findings_in s.rows (k + i) (names_in_place x))
+      → found_from report_places k rest ≡ findings_from s.rows k (map {B = List Name} names_in_place rest)
   found_of_scopes k [] h = refl
   found_of_scopes k (x ∷ rest) h =
-      λ j. (ap (λ z. found_in ps z x.symbols) same ∙ h 0 x refl ∙ ap (λ z. findings_in s.rows z (names_in_place x)) (sym same)) j
-      ++ found_of_scopes (suc k) rest (λ i y g. subst (λ z. found_in ps z y.symbols ≡ findings_in s.rows z (names_in_place y)) (next i) (h (suc i) y g)) j
+      λ j. (ap (λ z. found_in report_places z x.symbols) same ∙ h 0 x refl ∙ ap (λ z. findings_in s.rows z (names_in_place x)) (sym same)) j
+      ++ found_of_scopes (suc k) rest (λ i y g. subst (λ z. found_in report_places z y.symbols ≡ findings_in s.rows z (names_in_place y)) (next i) (h (suc i) y g)) j
     where
       same : k ≡ k + 0
       same = omega arith
@@ -307,22 +307,22 @@ module _ (s : Scanned) (orderly : IsOrderly s) (fine : first_fault s ≡ None) (
       next : (i : ℕ) → k + suc i ≡ suc k + i
       next i = omega arith
 
-  found_there : (i : ℕ) (x : Place) → slice_get ps i ≡ Some x → found_in ps i x.symbols ≡ findings_in s.rows i (names_in_place x)
+  found_there : (i : ℕ) (x : Place) → slice_get report_places i ≡ Some x → found_in report_places i x.symbols ≡ findings_in s.rows i (names_in_place x)
   found_there i x g = by (slice_get s.rows i) refl
     where
       unwrapped : {A : Type 0} {a b : A} → Some a ≡ Some b → a ≡ b
       unwrapped h = cc
 
-      by : (o : Option Row) → slice_get s.rows i ≡ o → found_in ps i x.symbols ≡ findings_in s.rows i (names_in_place x)
+      by : (o : Option Row) → slice_get s.rows i ≡ o → found_in report_places i x.symbols ≡ findings_in s.rows i (names_in_place x)
       by None z = let y : None ≡ Some x = sym (placed_none s.rows 0 s.rows report_follows.symbols i z) ∙ g in cc
       by (Some r) z =
           let t = report_told_at i (get_within s.rows i r z) in
-          subst (λ us. found_in ps i us ≡ findings_in s.rows i (map {B = Name} name_of_symbol us))
+          subst (λ us. found_in report_places i us ≡ findings_in s.rows i (map {B = Name} name_of_symbol us))
           (ap (λ (y : Place). y.symbols) (unwrapped (sym t.is_place ∙ g)))
           (found_of_symbols i t.symbols (λ m u a. report_found_is i t m u a))
 
-  findings_are : found_by_places ps ≡ findings_from s.rows 0 (map {B = List Name} names_in_place ps)
-  findings_are = found_of_scopes 0 ps (λ i x g. subst (λ z. found_in ps z x.symbols ≡ findings_in s.rows z (names_in_place x)) (at i) (found_there i x g))
+  findings_are : found_by_places report_places ≡ findings_from s.rows 0 (map {B = List Name} names_in_place report_places)
+  findings_are = found_of_scopes 0 report_places (λ i x g. subst (λ z. found_in report_places z x.symbols ≡ findings_in s.rows z (names_in_place x)) (at i) (found_there i x g))
     where
       at : (i : ℕ) → i ≡ 0 + i
       at i = omega arith

@@ -21,7 +21,7 @@ use Rattle.py_scope.specs.InOrder.{IsFresh, assigned_opt}
 use Rattle.py_scope.specs.Symbols.{is_global_kind, is_local_kind}
 use Rattle.py_scope.specs.Tables.{is_plain}
 use Rattle.py_scope.proofs.NameLemmas.{equal_names, intersects-or}
-use Rattle.py_scope.proofs.Truth.{and_both, truth_both, truth_either, left_or, truth_right_or, same_truth}
+use Rattle.py_scope.proofs.TruthValueLemmas.{and_both, truth_both, truth_either, left_or, truth_right_or, same_truth}
 use Rattle.py_symbol_tables.proofs.EnteredScopeLemmas.{any_named, binds_shown, named_any, symbol_named}
 use Rattle.py_names.specs.Places.{captured_symbol, has_any, is_bound_symbol, is_just_local, is_noted, is_such, unused_symbol}
 use Rattle.py_names.specs.Report.{is_captured, is_own_name, is_parameter, is_read, is_unused, stores_globally}
@@ -143,8 +143,8 @@ module _ (rows : List Row) (k : ℕ) (fresh : IsFresh (slice_get rows k)) where
     pub unused_told : unused_symbol (kind_at rows k) t ≡ is_unused rows k t.name
     unused_told = λ j. is_function (kind_at rows k) && (bound_told j && (not (parameter_told j) && (is_just_local (kind_told j) && not (read_told j))))
 
-    pub own_told : is_local_kind t.scope ≡ is_own_name rows k t.name
-    own_told = ap is_local_kind kind_told
+    pub own_kind_told : is_local_kind t.scope ≡ is_own_name rows k t.name
+    own_kind_told = ap is_local_kind kind_told
 
     pub noted_all : is_noted true t ≡ binds_in rows k t.name
     noted_all = ap (λ b. b && true) bound_told ∙ and_true (binds_in rows k t.name)

@@ -1,9 +1,9 @@
-pub mod Nodes
-pub mod Calls
-pub mod CallParts
-pub mod Missing
-pub mod Givens
-pub mod GivenExprs
-pub mod GivenParts
-pub mod GivenStmts
+pub mod NodeFaultLemmas
+pub mod CallAnswerLemmas
+pub mod PartCallAnswerLemmas
+pub mod MissingCellLemmas
+pub mod FaultErrorLemmas
+pub mod ExpressionErrorLemmas
+pub mod StatementPartErrorLemmas
+pub mod StatementErrorLemmas
 pub mod Samples

@@ -1,6 +1,6 @@
-pub mod LevelExprs
-pub mod LevelParts
-pub mod LevelStmts
-pub mod LevelTrees
-pub mod Alike
+pub mod ExpressionLevelLemmas
+pub mod StatementPartLevelLemmas
+pub mod StatementLevelLemmas
+pub mod TreeLevelLemmas
+pub mod LevelRunLemmas
 pub mod LevelSamples

@@ -20,7 +20,7 @@ use Rattle.py_emission_parts.specs.Running.{put_instruction, run}
 use Rattle.py_emission.specs.Emission.{emission}
 use Rattle.py_node_laws.specs.Adding.{IsReady}
 use Rattle.py_node_laws.specs.Running.{ExprRuns, Hold}
-use Rattle.py_node_laws.proofs.Runs.{exprs_run}
+use Rattle.py_node_laws.proofs.NodeRunLemmas.{exprs_run}
 
 abbrev sample_there : SourceLocation
 sample_there = record { row = 1; column = 1 }

@@ -18,7 +18,7 @@ use Rattle.py_emission.specs.Parameters.{function_shape, parameters}
 use Rattle.py_meaning.specs.Table.{expr_forms}
 use Rattle.py_node_laws.specs.Adding.{LoadsFew}
 use Rattle.py_node_laws.specs.Scopes.{EndsUnrefused}
-use Rattle.py_node_laws.proofs.Scopes.{lambdas_unrefused}
+use Rattle.py_node_laws.proofs.NestedScopeRefusalLemmas.{lambdas_unrefused}
 
 abbrev scope_sample_there : SourceLocation
 scope_sample_there = record { row = 1; column = 1 }

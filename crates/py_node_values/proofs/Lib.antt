@@ -1,3 +1,3 @@
-mod JoinedTexts
-mod Literals
-mod Segments
+mod JoinedTextLemmas
+mod ConstantOrderLemmas
+mod PathSegmentLemmas

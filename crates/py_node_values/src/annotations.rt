@@ -7,7 +7,7 @@ use py_tree::Stmt;
 
 /// Whether an annotated assignment stands among these statements, or in those nested in them that are no handlers.
 #[cycle(annotations)]
-#[tactic(auto, using(py_tree::proofs::View::trees))]
+#[tactic(auto, using(py_tree::proofs::TreeViewLemmas::trees))]
 pub fn has_annotation(body: &[Stmt]) -> bool
     ensures { result ≡ any_annotates (stmts stmt_tree body.now) }
 {
@@ -20,7 +20,7 @@ pub fn has_annotation(body: &[Stmt]) -> bool
 }
 
 #[cycle(annotations)]
-#[tactic(auto, using(py_tree::proofs::View::trees))]
+#[tactic(auto, using(py_tree::proofs::TreeViewLemmas::trees))]
 fn annotates(statement: &Stmt) -> bool
     ensures { result ≡ annotates (stmt_tree statement.now) }
 {

@@ -15,7 +15,7 @@ use std::alloc::{AllocError, Global};
 /// # Errors
 /// There is no memory for it.
 #[cycle(data)]
-#[tactic(auto, using(py_tree::proofs::View::literals, py_bytecode::proofs::View::views))]
+#[tactic(auto, using(py_tree::proofs::TreeViewLemmas::literals, py_bytecode::proofs::ConstantViewLemmas::views))]
 pub fn constant_data(alloc: Global, value: &Constant) -> Result<ConstantData, AllocError>
     ensures { IfOk result (λ c. constant c ≡ constant_of (literal_of value.now)) }
 {
@@ -34,7 +34,7 @@ pub fn constant_data(alloc: Global, value: &Constant) -> Result<ConstantData, Al
 ///
 /// # Errors
 /// There is no memory for it.
-#[tactic(auto, using(py_bytecode::proofs::View::views))]
+#[tactic(auto, using(py_bytecode::proofs::ConstantViewLemmas::views))]
 pub fn text_data(alloc: Global, text: &Text) -> Result<ConstantData, AllocError>
     ensures { IfOk result (λ c. constant c ≡ object.str text.now) }
 {
@@ -43,7 +43,7 @@ pub fn text_data(alloc: Global, text: &Text) -> Result<ConstantData, AllocError>
 }
 
 /// The constant that bytes are.
-#[tactic(auto, using(py_bytecode::proofs::View::views))]
+#[tactic(auto, using(py_bytecode::proofs::ConstantViewLemmas::views))]
 fn bytes_data(alloc: Global, bytes: &List<u8>) -> Result<ConstantData, AllocError>
     ensures { IfOk result (λ c. constant c ≡ object.bytes bytes.now) }
 {
@@ -53,7 +53,7 @@ fn bytes_data(alloc: Global, bytes: &List<u8>) -> Result<ConstantData, AllocErro
 
 /// The tuple of constants.
 #[cycle(data)]
-#[tactic(auto, using(py_bytecode::proofs::View::views))]
+#[tactic(auto, using(py_bytecode::proofs::ConstantViewLemmas::views))]
 fn tuple_data(alloc: Global, items: &[Constant]) -> Result<ConstantData, AllocError>
     ensures { IfOk result (λ c. constant c
         ≡ object.tuple (constants_of (literal_list literal_of items.now))) }

@@ -11,7 +11,7 @@ use py_tree::Alias;
 use std::alloc::{AllocError, Global};
 
 /// What stands after the first dot of a path.
-#[tactic(auto, using(crate::proofs::Segments::segment_after_is, crate::proofs::Segments::none_further, crate::proofs::Segments::is_nearer))]
+#[tactic(auto, using(crate::proofs::PathSegmentLemmas::segment_after_is, crate::proofs::PathSegmentLemmas::none_further, crate::proofs::PathSegmentLemmas::is_nearer))]
 pub fn after_dot(path: &str) -> Option<&str>
     ensures parts { MatchOption result (further_segments path.now ≡ [])
         (λ after. further_segments path.now ≡ package_name after.now ∷ further_segments after.now) }
@@ -65,7 +65,7 @@ pub fn name_taken(alias: &Alias) -> &Text
 ///
 /// # Errors
 /// There is no memory for it.
-#[tactic(auto, using(py_bytecode::proofs::View::views))]
+#[tactic(auto, using(py_bytecode::proofs::ConstantViewLemmas::views))]
 pub fn single_name(alloc: Global, value: Text) -> Result<ConstantData, AllocError>
     ensures { IfOk result (λ c. constant c ≡ tuple (consts_of (str value ∷ []))) }
 {
@@ -79,7 +79,7 @@ pub fn single_name(alloc: Global, value: Text) -> Result<ConstantData, AllocErro
 ///
 /// # Errors
 /// There is no memory for it.
-#[tactic(auto, using(py_bytecode::proofs::View::views))]
+#[tactic(auto, using(py_bytecode::proofs::ConstantViewLemmas::views))]
 pub fn asked_names(alloc: Global, names: &[Alias]) -> Result<ConstantData, AllocError>
     ensures { IfOk result (λ c. constant c ≡ asked_tuple names.now) }
 {

@@ -37,7 +37,7 @@ fn kept(text: Text, level: u8) -> Option<Text>
 }
 
 /// The text of the first statement, where it is nothing else.
-#[tactic(auto, using(py_tree::proofs::View::trees))]
+#[tactic(auto, using(py_tree::proofs::TreeViewLemmas::trees))]
 fn text_of_first(alloc: Global, body: &[Stmt]) -> Result<Option<Text>, AllocError>
     ensures { IfOk result (λ t. t ≡ first_text (stmts stmt_tree body.now)) }
 {
@@ -70,7 +70,7 @@ pub fn texts_of(alloc: Global, parts: &[Expr]) -> Result<Option<Text>, AllocErro
 
 /// Appends the text of an expression. Answers whether it has one.
 #[cycle(text)]
-#[tactic(auto, using(py_tree::proofs::View::trees))]
+#[tactic(auto, using(py_tree::proofs::TreeViewLemmas::trees))]
 fn push_text(expr: &Expr, text: &mut String) -> Result<bool, AllocError>
     ensures { IfOk result (λ is_text. Appended is_text (text_of (expr_tree expr.now))
         (string_bytes text.old) (string_bytes text.new)) }
@@ -97,7 +97,7 @@ fn push_texts(parts: &[Expr], text: &mut String) -> Result<bool, AllocError>
 }
 
 /// Appends a constant that is a text. Answers whether it is one.
-#[tactic(auto, using(py_tree::proofs::View::literals))]
+#[tactic(auto, using(py_tree::proofs::TreeViewLemmas::literals))]
 fn push_constant(value: &Constant, text: &mut String) -> Result<bool, AllocError>
     ensures { IfOk result (λ is_text. Appended is_text (text_in (literal_of value.now))
         (string_bytes text.old) (string_bytes text.new)) }

@@ -9,8 +9,8 @@ use Rattle.py_control.specs.Form.{Scope, MkScope, Interp, ended_so, run}
 use Rattle.py_control.specs.View.{View, entry_to, event_to, events_to, outcome_to, plain, ran_to, value_to, values_to}
 use Rattle.py_control.specs.Agree.{AllOf, OneOf, SameEntry, SameEvent, SameEvents, SameOutcome, SameRan, SameValue, SameValues, form_of, kids, meaning_by, plainly}
 use Rattle.py_control.specs.Agreement.{Agree, Agrees}
-use Rattle.py_control_proof.proofs.Agreement.{ended_so_to}
-use Rattle.py_control_proof.proofs.Carry.{Carries, form_carries}
+use Rattle.py_control_proof.proofs.AgreementLemmas.{ended_so_to}
+use Rattle.py_control_proof.proofs.InterpretationChangeLemmas.{Carries, form_carries}
 use Rattle.py_plain_forms.specs.Bare.{bare}
 use Rattle.py_plain_forms.proofs.BareKids.{all_bare, scope_kids}
 use Rattle.py_plain_forms.proofs.BareRuns.{form_bare, over}

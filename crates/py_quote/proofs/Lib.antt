@@ -1,1 +1,1 @@
-mod Quoted
+mod QuotedTextLemmas

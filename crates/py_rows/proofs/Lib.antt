@@ -1,4 +1,4 @@
-mod Words
+mod WordSamples
 mod WordLemmas
 mod LexLemmas
 mod ClosedLemmas

@@ -11,7 +11,7 @@ use py_tree::{Mod, ModExpression, ModFunctionType, ModInteractive, ModModule};
 use serde_json::Value;
 
 /// A program, of the fields of its kind.
-#[tactic(auto, using(py_tree::proofs::View::trees))]
+#[tactic(auto, using(py_tree::proofs::TreeViewLemmas::trees))]
 pub(crate) fn mod_node(
     kind: ModKind,
     fields: &[Value],

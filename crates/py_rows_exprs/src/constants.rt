@@ -28,7 +28,7 @@ fn bytes_of(alloc: Global, fields: &[Value], row: u32) -> Result<List<u8>, RowsE
 }
 
 /// A constant, of the fields of its kind.
-#[tactic(auto, using(py_tree::proofs::View::trees))]
+#[tactic(auto, using(py_tree::proofs::TreeViewLemmas::trees))]
 pub(crate) fn constant_node(
     kind: ConstantKind,
     fields: &[Value],

@@ -16,7 +16,7 @@ use py_tree::{
 use serde_json::Value;
 
 /// An expression, of the fields of its kind.
-#[tactic(auto, using(py_tree::proofs::View::trees))]
+#[tactic(auto, using(py_tree::proofs::TreeViewLemmas::trees))]
 fn expr_of_kind(
     kind: ExprKind,
     location: SourceLocation,

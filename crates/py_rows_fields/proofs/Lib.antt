@@ -1,6 +1,6 @@
-pub mod Arities
-pub mod FewRows
-pub mod Jsons
-pub mod Digits
-pub mod Sofar
-pub mod Tables
+pub mod RowArityLemmas
+pub mod RowCountLemmas
+pub mod JsonByteLemmas
+pub mod IntegerDigitLemmas
+pub mod ReadFrontDefinitions
+pub mod FieldTableLemmas

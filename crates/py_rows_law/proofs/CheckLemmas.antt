@@ -12,7 +12,7 @@ use Rattle.py_rows_format.specs.Fields.{◌>>=◌, Content, Contents, Entry, Fie
 use Rattle.py_rows_format.specs.Fields.{maybe, many, keys, text, truth, small, integer, bytes, operator, node}
 use Rattle.py_rows_format.specs.Making.{Made, all_of, deepest, depth_at, field_value, keys_of, made_of, names_as, names_by, names_in, names_or_none, node_as, node_at, one_or_none}
 use Rattle.py_rows_format.specs.Table.{Of}
-use Rattle.py_rows_law.proofs.FormLemmas.{part, parts_as, parts_in, parts_of, parts_or_none}
+use Rattle.py_rows_law.proofs.RowFormLemmas.{part, parts_as, parts_in, parts_of, parts_or_none}
 use Rattle.py_rows_law.proofs.TableLemmas.{sort_as}
 
 -- ---- rows that are alike: each has its sort and its nesting

@@ -16,7 +16,7 @@ use Rattle.py_rows.specs.Rows as reader
 use Rattle.py_rows_slots.specs.Nodes.{Nodes, is_left}
 use Rattle.py_rows_slots.specs.Taking.{is_left_at}
 use Rattle.py_rows_law.proofs.CheckLemmas.{Alike, fits_as}
-use Rattle.py_rows_law.proofs.FormLemmas.{is_part}
+use Rattle.py_rows_law.proofs.RowFormLemmas.{is_part}
 use Rattle.py_rows_law.proofs.StepLemmas.{SoFar}
 use Rattle.py_rows_law.proofs.TieLemmas.{Ties, list_of, number_of_sort}
 use Rattle.py_rows_law.proofs.TableLemmas.{sort_as}

@@ -15,11 +15,12 @@ use Rattle.py_rows_format.specs.Making as format
 use Rattle.py_rows_format.specs.Table.{Of}
 use Rattle.py_rows_slots.specs.Nodes.{Nodes}
 use Rattle.py_rows_slots.specs.Slots.{Made}
-use Rattle.py_rows_law.proofs.FormLemmas.{is_part, is_read, are_read, form_both_true}
+use Rattle.py_rows_law.proofs.RowFormLemmas.{is_part, is_read, are_read, form_both_true}
 use Rattle.py_rows_law.proofs.FillingLemmas.{AreOf, Datas, and_then_as, are_of_each, are_of_each_maybe, are_of_maybe, bind_some}
 use Rattle.py_rows_law.proofs.FillingLemmas.{comparisons_as, filled_row, map_some, optional_text_as, small_as, texts_as, ties_with}
 use Rattle.py_rows_law.proofs.FillingLemmas.{with_field}
-use Rattle.py_rows_law.proofs.TakingLemmas.{GivesMaybe, ReadsMaybe, Took, each_gives, each_reads, gives, gives_maybe, taking_reads, reads_maybe, took_each, took_each_maybe, took_maybe, took_one}
+use Rattle.py_rows_law.proofs.TakingLemmas.{GivesMaybe, ReadsMaybe, Took, each_gives, each_reads, all_of_gives, gives_maybe, taking_reads, reads_maybe, took_each, took_each_maybe, took_maybe}
+use Rattle.py_rows_law.proofs.TakingLemmas.{took_one}
 use Rattle.py_rows_law.proofs.TieLemmas.{Ties, are_new-append, numbers_after, numbers_after-append, list_of, rows_with, with_list}
 
 none_named : (l : Letter) → ((x : Entry l) → names_as l x ≡ []) → (xs : List (Entry l)) → flat_map (names_as l) xs ≡ []
@@ -87,14 +88,14 @@ module _ (made : List format.Made) (n : ℕ) where
   field_filled (many (node s)) i d ks v nodes names go ties e g =
       let at = bind_some (as_array d) (each_of (entry_of (node s))) ks e in
       let found = map_some (all_of (node_at made s) ks) (several s) v g in
-      let given = gives (node_at made s) ks found.0 found.1 in
+      let given = all_of_gives (node_at made s) ks found.0 found.1 in
       node_filled s i nodes names (flat_map (names_as (node s)) ks) ties (are_of_each s made ks found.0 given) found.0 (several s) v go _ _ found.2
       (rw (at.1) (took_each made nodes.rows ties.same s i n names (list_of s nodes) (ties.lists s i) at.0 ks found.0 (taking_reads (entry_of (node s)) at.0 ks at.2) given))
   field_filled keys i d os v nodes names go ties e g =
       let at = bind_some (as_array d) (each_of (or_null (entry_of (node Sort.Expr)))) os e in
       let found = map_some (all_of (one_or_none (node_at made Sort.Expr)) os) keys_of v g in
       let given = each_gives (one_or_none (node_at made Sort.Expr)) (GivesMaybe (node_at made Sort.Expr))
-      (gives_maybe (node_at made Sort.Expr)) os found.0 (gives (one_or_none (node_at made Sort.Expr)) os found.0 found.1) in
+      (gives_maybe (node_at made Sort.Expr)) os found.0 (all_of_gives (one_or_none (node_at made Sort.Expr)) os found.0 found.1) in
       let read = each_reads (or_null (entry_of (node Sort.Expr))) (ReadsMaybe (entry_of (node Sort.Expr)))
       (reads_maybe (entry_of (node Sort.Expr))) at.0 os (taking_reads (or_null (entry_of (node Sort.Expr))) at.0 os at.2) in
       node_filled Sort.Expr refl nodes names (flat_map (names_or_none (node Sort.Expr)) os) ties (are_of_each_maybe Sort.Expr made os found.0 given) found.0 keys_of v go _ _ found.2

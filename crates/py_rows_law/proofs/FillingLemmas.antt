@@ -21,10 +21,10 @@ use Rattle.py_rows_format.specs.Table.{Of}
 use Rattle.py_rows_slots.specs.Nodes.{Nodes}
 use Rattle.py_rows_slots.specs.Slots.{Made}
 use Rattle.py_rows_slots.specs.Taking as list
-use Rattle.py_rows_law.proofs.FormLemmas.{is_part}
+use Rattle.py_rows_law.proofs.RowFormLemmas.{is_part}
 use Rattle.py_rows_law.proofs.TakingLemmas.{EachPair, Gives, GivesMaybe, Reads, ReadsMaybe}
 use Rattle.py_rows_law.proofs.TieLemmas.{Same, Tied, Ties, among_after, numbers_after, list_of, list_with, number_of_sort, other_list, other_row}
-use Rattle.py_rows_law.proofs.TieLemmas.{part_number, rows_with, same_sort, tied_other, with_list, within}
+use Rattle.py_rows_law.proofs.TieLemmas.{part_number, rows_with, same_sort, tied_other, with_list, node_number_within}
 
 -- ---- a field, and then the rest
 
@@ -130,7 +130,7 @@ either_true false b e f g = g e
 among_within : (s : Sort) (made : List format.Made) (ks : List ℕ) → AreOf s made ks → (j : ℕ) → is_among j ks ≡ true → j < length made
 among_within s made [] a j e = absurd (true≢false (sym e))
 among_within s made (k ∷ ks) a j e = either_true (k == j) (is_among j ks) e
-    (λ f. let same : k ≡ j = grind (arith, nat_tests) in subst (λ k. k < length made) same (within made s k a.0.0 a.0.1))
+    (λ f. let same : k ≡ j = grind (arith, nat_tests) in subst (λ k. k < length made) same (node_number_within made s k a.0.0 a.0.1))
     (among_within s made ks a.1 j)
 
 not_among : (s : Sort) (made : List format.Made) (ks : List ℕ) → AreOf s made ks → is_part s ≡ true → (j : ℕ) (x : tree.Mod) → node_at made Sort.Mod j ≡ Some x → is_among j ks ≡ false

@@ -16,7 +16,7 @@ use Rattle.py_rows_format.specs.Making.{Made, all_names, is_among, node_as, node
 use Rattle.py_rows_format.specs.Rows.{program_of}
 use Rattle.py_rows_slots.specs.Nodes.{Nodes}
 use Rattle.py_rows_law.proofs.CheckLemmas.{Alike, AreAlike}
-use Rattle.py_rows_law.proofs.FormLemmas.{is_part}
+use Rattle.py_rows_law.proofs.RowFormLemmas.{is_part}
 use Rattle.py_rows_law.proofs.TieLemmas.{Same, Tied, Ties, among_after, numbers_after, list_of, number_of_sort, other_list, same_sort, sort_found, with_list}
 use Rattle.py_rows_law.proofs.TableLemmas.{sort_as}
 
@@ -103,21 +103,21 @@ made_at made rows alike s k r e f = by (slice_get made k) (slice_get rows k) ref
 -- ---- the rows with one more, of sort s
 
 module _ (made : List Made) (left : Nodes) (s : Sort) (y : Node s) (depth : ℕ) (names : List ℕ) where
-  abbrev pub last : Made
-  last = record { sort = s; made = y; depth = depth; names = names }
+  abbrev pub last_made : Made
+  last_made = record { sort = s; made = y; depth = depth; names = names }
 
-  abbrev pub more : List Made
-  more = made ++ last ∷ []
+  abbrev pub more_made : List Made
+  more_made = made ++ last_made ∷ []
 
   abbrev pub last_row : Row
   last_row = record { sort = sort_as s; depth = depth; index = index_for s left }
 
-  abbrev pub grown : Nodes
-  grown = with_row (with_node s y left) last_row
+  abbrev pub grown_nodes : Nodes
+  grown_nodes = with_row (with_node s y left) last_row
 
-  among_more : (k : ℕ) → is_among k (all_names more) ≡ is_among k (numbers_after names (all_names made))
+  among_more : (k : ℕ) → is_among k (all_names more_made) ≡ is_among k (numbers_after names (all_names made))
   among_more k =
-      ap (is_among k) (flat_map-append (λ (m : Made). m.names) made (last ∷ [])) ∙ ap (λ ns. is_among k (all_names made ++ ns)) (append-nil names)
+      ap (is_among k) (flat_map-append (λ (m : Made). m.names) made (last_made ∷ [])) ∙ ap (λ ns. is_among k (all_names made ++ ns)) (append-nil names)
       ∙ list_any-append (λ j. j == k) (all_names made) names ∙ swap (is_among k (all_names made)) (is_among k names) ∙ sym (among_after k names (all_names made))
     where
       swap : (a b : Bool) → a || b ≡ b || a
@@ -129,15 +129,15 @@ module _ (made : List Made) (left : Nodes) (s : Sort) (y : Node s) (depth : ℕ)
   row_more : (rows : List Row) → length rows ≡ length made → (k : ℕ) → slice_get (rows ++ last_row ∷ []) k ≡ cond (k == length made) (Some last_row) (slice_get rows k)
   row_more rows e k = get_more rows last_row k ∙ rw e refl
 
-  node_more : (t : Sort) (k : ℕ) → node_at more t k ≡ cond (k == length made) (node_as t s y) (node_at made t k)
-  node_more t k = rw (get_more made last k) (by (k == length made))
+  node_more : (t : Sort) (k : ℕ) → node_at more_made t k ≡ cond (k == length made) (node_as t s y) (node_at made t k)
+  node_more t k = rw (get_more made last_made k) (by (k == length made))
     where
-      by : (b : Bool) → (cond b (Some last) (slice_get made k) >>= λ m. node_as t m.sort m.made) ≡ cond b (node_as t s y) (node_at made t k)
+      by : (b : Bool) → (cond b (Some last_made) (slice_get made k) >>= λ m. node_as t m.sort m.made) ≡ cond b (node_as t s y) (node_at made t k)
       by true = refl
       by false = refl
 
   -- a list of the nodes has what it had
-  list_keeps : (t : Sort) (k : ℕ) (o : Option (Node t)) → slice_get (list_of t left) k ≡ Some o → slice_get (list_of t grown) k ≡ Some o
+  list_keeps : (t : Sort) (k : ℕ) (o : Option (Node t)) → slice_get (list_of t left) k ≡ Some o → slice_get (list_of t grown_nodes) k ≡ Some o
   list_keeps t k o e = rw (list_row t (with_node s y left) last_row) (by (number_of_sort s == number_of_sort t) refl)
     where
       part : (t : Sort) (o : Option (Node t)) → slice_get (list_of t left) k ≡ Some o → is_part t ≡ true
@@ -185,26 +185,26 @@ module _ (made : List Made) (left : Nodes) (s : Sort) (y : Node s) (depth : ℕ)
         by false true h i ej ek = let e : last_row ≡ q = cc in absurd (new j q p e ej (sym f) (ap (λ s. sort_number s == 0) (sym f) ∙ part) (sym g))
         by false false h i ej ek = ties.same.apart j k p q ej ek f part g
 
-    grown_alike : AreAlike more (left.rows ++ last_row ∷ [])
-    grown_alike k = rw (row_more left.rows counted k, get_more made last k) (by (k == length made))
+    grown_alike : AreAlike more_made (left.rows ++ last_row ∷ [])
+    grown_alike k = rw (row_more left.rows counted k, get_more made last_made k) (by (k == length made))
       where
-        by : (b : Bool) → Alike (cond b (Some last) (slice_get made k)) (cond b (Some last_row) (slice_get left.rows k))
+        by : (b : Bool) → Alike (cond b (Some last_made) (slice_get made k)) (cond b (Some last_row) (slice_get left.rows k))
         by true = (refl, refl)
         by false = ties.same.alike k
 
-    grown_same : Same more (left.rows ++ last_row ∷ [])
+    grown_same : Same more_made (left.rows ++ last_row ∷ [])
     grown_same = record {
-      counted = length-append left.rows (last_row ∷ []) ∙ ap (λ n. n + 1) counted ∙ sym (length-append made (last ∷ []));
+      counted = length-append left.rows (last_row ∷ []) ∙ ap (λ n. n + 1) counted ∙ sym (length-append made (last_made ∷ []));
       alike = grown_alike;
       apart = grown_apart;
     }
 
-    grown_list : (t : Sort) → is_part t ≡ true → Tied t (all_names more) more (left.rows ++ last_row ∷ []) (list_of t grown)
+    grown_list : (t : Sort) → is_part t ≡ true → Tied t (all_names more_made) more_made (left.rows ++ last_row ∷ []) (list_of t grown_nodes)
     grown_list t part k x r e f = rw (among_more k) (by (k == length made) refl (sym (node_more t k) ∙ e) (sym (row_more left.rows counted k) ∙ f))
       where
-        new : (t : Sort) → is_part t ≡ true → (x : Node t) → node_as t s y ≡ Some x → slice_get (list_of t grown) (index_for s left) ≡ Some (Some x)
+        new : (t : Sort) → is_part t ≡ true → (x : Node t) → node_as t s y ≡ Some x → slice_get (list_of t grown_nodes) (index_for s left) ≡ Some (Some x)
         new t part x e =
-            subst (λ t. is_part t ≡ true → (x : Node t) → node_as t s y ≡ Some x → slice_get (list_of t grown) (index_for s left) ≡ Some (Some x)) (sort_found t s y x e)
+            subst (λ t. is_part t ≡ true → (x : Node t) → node_as t s y ≡ Some x → slice_get (list_of t grown_nodes) (index_for s left) ≡ Some (Some x)) (sort_found t s y x e)
             (λ part x e.
             let yx : Some y ≡ Some x = sym (node_same s y) ∙ e in
             let same : y ≡ x = cc in
@@ -214,19 +214,19 @@ module _ (made : List Made) (left : Nodes) (s : Sort) (y : Node s) (depth : ℕ)
             part x e
 
         by : (b : Bool) → (k == length made) ≡ b → cond b (node_as t s y) (node_at made t k) ≡ Some x → cond b (Some last_row) (slice_get left.rows k) ≡ Some r
-            → slice_get (list_of t grown) r.index ≡ Some (if is_among k (numbers_after names (all_names made)) then None else Some x)
+            → slice_get (list_of t grown_nodes) r.index ≡ Some (if is_among k (numbers_after names (all_names made)) then None else Some x)
         by true h e f =
             let at : k ≡ length made = grind (arith, nat_tests) in
             let lr : last_row ≡ r = cc in
-            rw (at, no_last) (subst (λ (r : Row). slice_get (list_of t grown) r.index ≡ Some (Some x)) lr (new t part x e))
+            rw (at, no_last) (subst (λ (r : Row). slice_get (list_of t grown_nodes) r.index ≡ Some (Some x)) lr (new t part x e))
         by false h e f = list_keeps t r.index _ (ties.lists t part k x r e f)
 
-    pub grown_ties : Ties (all_names more) more grown
+    pub grown_ties : Ties (all_names more_made) more_made grown_nodes
     grown_ties = record {
-      same = subst (λ rows. Same more (rows ++ last_row ∷ [])) (sym (rows_node s y left)) grown_same;
-      earlier = λ k e. let h : k < length made = ties.earlier k (sym (among_more k) ∙ e) in rw (length-append made (last ∷ [])) (omega arith);
+      same = subst (λ rows. Same more_made (rows ++ last_row ∷ [])) (sym (rows_node s y left)) grown_same;
+      earlier = λ k e. let h : k < length made = ties.earlier k (sym (among_more k) ∙ e) in rw (length-append made (last_made ∷ [])) (omega arith);
       unnamed = λ k x e. among_more k ∙ by k x (k == length made) refl (sym (node_more Sort.Mod k) ∙ e);
-      lists = λ t part. subst (λ rows. Tied t (all_names more) more (rows ++ last_row ∷ []) (list_of t grown)) (sym (rows_node s y left)) (grown_list t part);
+      lists = λ t part. subst (λ rows. Tied t (all_names more_made) more_made (rows ++ last_row ∷ []) (list_of t grown_nodes)) (sym (rows_node s y left)) (grown_list t part);
     }
       where
         by : (k : ℕ) (x : tree.Mod) (b : Bool) → (k == length made) ≡ b → cond b (node_as Sort.Mod s y) (node_at made Sort.Mod k) ≡ Some x → is_among k (numbers_after names (all_names made)) ≡ false
@@ -234,8 +234,8 @@ module _ (made : List Made) (left : Nodes) (s : Sort) (y : Node s) (depth : ℕ)
         by k x false h e = ties.unnamed k x e
 
   -- where the last row makes a program, that is the program
-  pub grown_program : (x : tree.Mod) → program_of (last_or None more) ≡ Some x → grown.program ≡ Some x
-  grown_program x e = by s y (sym (ap program_of (last_more None made last)) ∙ e)
+  pub grown_program : (x : tree.Mod) → program_of (last_or None more_made) ≡ Some x → grown_nodes.program ≡ Some x
+  grown_program x e = by s y (sym (ap program_of (last_more None made last_made)) ∙ e)
     where
       by : (s : Sort) (y : Node s) → node_as Sort.Mod s y ≡ Some x → (with_node s y left).program ≡ Some x
       by Sort.Mod y e = e

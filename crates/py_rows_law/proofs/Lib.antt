@@ -3,7 +3,7 @@ mod StepLemmas
 mod EndLemmas
 pub mod FormatLemmas
 pub mod TableLemmas
-pub mod FormLemmas
+pub mod RowFormLemmas
 pub mod CheckLemmas
 pub mod TieLemmas
 pub mod TakingLemmas

@@ -26,13 +26,13 @@ use Rattle.py_rows_stmts.specs.Stmts.{stmt_of_kind}
 use Rattle.py_rows_stmts.specs.TypeParams.{type_param_of_kind}
 use Rattle.py_rows.specs.Making.{make}
 use Rattle.py_rows_law.proofs.FillingLemmas.{Datas, filled_row}
-use Rattle.py_rows_law.proofs.FormLemmas.{are_read}
+use Rattle.py_rows_law.proofs.RowFormLemmas.{are_read}
 use Rattle.py_rows_law.proofs.GrowthLemmas.{index_for, with_node}
 use Rattle.py_rows_law.proofs.TableLemmas.{row}
 
-abbrev pub entries : (fs : List Field) → Datas fs → Items
-entries [] ds = no_items
-entries (f ∷ fs) ds = item ds.0 (entries fs ds.1)
+abbrev pub field_entries : (fs : List Field) → Datas fs → Items
+field_entries [] ds = no_items
+field_entries (f ∷ fs) ds = item ds.0 (field_entries fs ds.1)
 
 -- the place of a new node, and the nodes with it
 abbrev pub add : (s : Sort) → Node s → Nodes → Made ℕ
@@ -47,7 +47,7 @@ abbrev pub made_row : (k : reader.Kind) → ℕ → SourceLocation → Datas (ro
 made_row k n at ds nodes = filled_row n (row k).fields ((row k).make at) ds nodes >>= λ (x, nodes). add (row k).sort x nodes
 
 expr_made : (k : ExprKind) (n : ℕ) (at : SourceLocation) (ds : Datas (row (kind.Expr k)).fields) (nodes : Nodes)
-    → (expr_of_kind n k at (entries (row (kind.Expr k)).fields ds) nodes >>= λ (x, nodes). add_expr x nodes) ≡ made_row (kind.Expr k) n at ds nodes
+    → (expr_of_kind n k at (field_entries (row (kind.Expr k)).fields ds) nodes >>= λ (x, nodes). add_expr x nodes) ≡ made_row (kind.Expr k) n at ds nodes
 expr_made expression.Set n at ds nodes = refl
 expr_made expression.Await n at ds nodes = refl
 expr_made expression.Yield n at ds nodes = refl
@@ -60,7 +60,7 @@ expr_made expression.Tuple n at ds nodes = refl
 expr_made k n at ds nodes = simp result_assoc
 
 stmt_made : (k : StmtKind) (n : ℕ) (at : SourceLocation) (ds : Datas (row (kind.Stmt k)).fields) (nodes : Nodes)
-    → (stmt_of_kind n k at (entries (row (kind.Stmt k)).fields ds) nodes >>= λ (x, nodes). add_stmt x nodes) ≡ made_row (kind.Stmt k) n at ds nodes
+    → (stmt_of_kind n k at (field_entries (row (kind.Stmt k)).fields ds) nodes >>= λ (x, nodes). add_stmt x nodes) ≡ made_row (kind.Stmt k) n at ds nodes
 stmt_made statement.Return n at ds nodes = refl
 stmt_made statement.Delete n at ds nodes = refl
 stmt_made statement.Import n at ds nodes = refl
@@ -71,7 +71,7 @@ stmt_made statement.Continue n at ds nodes = refl
 stmt_made k n at ds nodes = simp result_assoc
 
 type_param_made : (k : TypeParamKind) (n : ℕ) (at : SourceLocation) (ds : Datas (row (kind.TypeParam k)).fields) (nodes : Nodes)
-    → (type_param_of_kind n k at (entries (row (kind.TypeParam k)).fields ds) nodes >>= λ (x, nodes). add_type_param x nodes) ≡ made_row (kind.TypeParam k) n at ds nodes
+    → (type_param_of_kind n k at (field_entries (row (kind.TypeParam k)).fields ds) nodes >>= λ (x, nodes). add_type_param x nodes) ≡ made_row (kind.TypeParam k) n at ds nodes
 type_param_made generic.TypeVar n at ds nodes = simp result_assoc
 type_param_made k n at ds nodes = simp result_assoc
 
@@ -81,19 +81,19 @@ PlacedNode true n rest at own = (place_in n rest ≡ Ok at) × (after_place n re
 PlacedNode false n rest at own = rest ≡ own
 
 constant_made : (k : ConstantKind) (n : ℕ) (at : SourceLocation) (ds : Datas (row (kind.Constant k)).fields) (nodes : Nodes) → are_read (row (kind.Constant k)).fields ≡ true
-    → make n (kind.Constant k) (entries (row (kind.Constant k)).fields ds) nodes ≡ made_row (kind.Constant k) n at ds nodes
+    → make n (kind.Constant k) (field_entries (row (kind.Constant k)).fields ds) nodes ≡ made_row (kind.Constant k) n at ds nodes
 constant_made constant.Int n at ds nodes r = absurd (true≢false (sym r))
 constant_made constant.Bytes n at ds nodes r = absurd (true≢false (sym r))
 constant_made constant.Str n at ds nodes r = simp result_assoc
 constant_made k n at ds nodes r = refl
 
 program_made : (k : ModKind) (n : ℕ) (at : SourceLocation) (ds : Datas (row (kind.Mod k)).fields) (nodes : Nodes)
-    → make n (kind.Mod k) (entries (row (kind.Mod k)).fields ds) nodes ≡ made_row (kind.Mod k) n at ds nodes
+    → make n (kind.Mod k) (field_entries (row (kind.Mod k)).fields ds) nodes ≡ made_row (kind.Mod k) n at ds nodes
 program_made program.FunctionType n at ds nodes = simp result_assoc
 program_made k n at ds nodes = refl
 
 pub kind_made : (k : reader.Kind) (n : ℕ) (at : SourceLocation) (ds : Datas (row k).fields) (nodes : Nodes) (rest : Items) → are_read (row k).fields ≡ true
-    → PlacedNode (is_located (sort_of k)) n rest at (entries (row k).fields ds)
+    → PlacedNode (is_located (sort_of k)) n rest at (field_entries (row k).fields ds)
     → make n k rest nodes ≡ made_row k n at ds nodes
 kind_made (kind.Mod k) n at ds nodes rest r p = rw p (program_made k n at ds nodes)
 kind_made (kind.Stmt k) n at ds nodes rest r p = rw (p.0, p.1) (stmt_made k n at ds nodes)

@@ -52,9 +52,9 @@ use Rattle.py_rows.specs.Rows.{add_row, is_item, is_with, item_count, row_read, 
 use Rattle.py_rows_law.proofs.CheckLemmas.{AreAlike, deepest_alike, kinds_alike, later_alike, node_fits, number_of, numbers_in}
 use Rattle.py_rows_law.proofs.FieldLemmas.{Filled, FieldSays, all_filled}
 use Rattle.py_rows_law.proofs.FillingLemmas.{Datas, filled_row}
-use Rattle.py_rows_law.proofs.FormLemmas.{After, are_read, form_both_true, forms_alike, is_read, parts_in}
-use Rattle.py_rows_law.proofs.GrowthLemmas.{grown_program, grown_ties, index_for, more, rows_node, with_node, with_row}
-use Rattle.py_rows_law.proofs.NodeLemmas.{PlacedNode, add, entries, kind_made, made_row}
+use Rattle.py_rows_law.proofs.RowFormLemmas.{After, are_read, form_both_true, forms_alike, is_read, parts_in}
+use Rattle.py_rows_law.proofs.GrowthLemmas.{grown_program, grown_ties, index_for, more_made, rows_node, with_node, with_row}
+use Rattle.py_rows_law.proofs.NodeLemmas.{PlacedNode, add, field_entries, kind_made, made_row}
 use Rattle.py_rows_law.proofs.NumeralLemmas.{bytes_as, integer_as}
 use Rattle.py_rows_law.proofs.TieLemmas.{Ties, numbers_after}
 use Rattle.py_rows_law.proofs.TableLemmas.{row, same_kind, same_row, sort_as}
@@ -181,15 +181,15 @@ step_located k = located_as (row k).sort ∙ ap is_located (same_row k).0
 -- ---- fields
 
 said : (made_row : List format.Made) (n : ℕ) (fs : List Field) (ds : Items) (xs : Contents fs) → contents_of fs ds ≡ Some xs
-    → (given : Datas fs) × (ds ≡ entries fs given) × FieldSays made_row n fs given xs
+    → (given : Datas fs) × (ds ≡ field_entries fs given) × FieldSays made_row n fs given xs
 said made_row n [] no_items xs e = (tt, refl, tt)
 said made_row n [] (item d ds) xs e = absurd (cc)
 said made_row n (f ∷ fs) no_items xs e = absurd (cc)
 said made_row n (f ∷ fs) (item d ds) xs e = by (content_of f d) (contents_of fs ds) refl e (said made_row n fs ds)
   where
     by : (o : Option (Content f)) (p : Option (Contents fs)) → content_of f d ≡ o → (o >>> λ x. option_map {U = Content f × Contents fs} (λ xs. (x, xs)) p) ≡ Some xs
-        → ((xs : Contents fs) → p ≡ Some xs → (given : Datas fs) × (ds ≡ entries fs given) × FieldSays made_row n fs given xs)
-        → (given : Datas (f ∷ fs)) × (item d ds ≡ entries (f ∷ fs) given) × FieldSays made_row n (f ∷ fs) given xs
+        → ((xs : Contents fs) → p ≡ Some xs → (given : Datas fs) × (ds ≡ field_entries fs given) × FieldSays made_row n fs given xs)
+        → (given : Datas (f ∷ fs)) × (item d ds ≡ field_entries (f ∷ fs) given) × FieldSays made_row n (f ∷ fs) given xs
     by None p g e rest = absurd (cc)
     by (Some x) None g e rest = absurd (cc)
     by (Some x) (Some ys) g e rest =
@@ -238,7 +238,7 @@ module _ (rows : List format.Made) (nodes : Nodes) (ties : Ties (all_names rows)
   with_one r = law.row_after rows r >>= λ m. Ok (rows ++ m ∷ [])
 
   module _ (k : reader.Kind) (r : are_read (row k).fields ≡ true) (at : SourceLocation) (ds : Datas (row k).fields) (xs : Contents (row k).fields) (rest : Items)
-      (place : PlacedNode (is_located (sort_of k)) n rest at (entries (row k).fields ds)) (says : FieldSays rows n (row k).fields ds xs) where
+      (place : PlacedNode (is_located (sort_of k)) n rest at (field_entries (row k).fields ds)) (says : FieldSays rows n (row k).fields ds xs) where
     abbrev this : format.Row
     this = record { kind = row k; at = at; contents = xs }
 
@@ -268,7 +268,7 @@ module _ (rows : List format.Made) (nodes : Nodes) (ties : Ties (all_names rows)
             (where_holds b (TooDeep n) depth >>= λ depth. Ok (with_row (with_node (row k).sort y left) (record { sort = sort_of k; depth = depth; index = index_for (row k).sort left })))
         by false = refl
         by true = (
-          subst (λ s. SoFar (more rows left (row k).sort y depth names)
+          subst (λ s. SoFar (more_made rows left (row k).sort y depth names)
               (with_row (with_node (row k).sort y left) (record { sort = s; depth = depth; index = index_for (row k).sort left })))
               (same_row k).0
               (grown_ties rows left (row k).sort y depth names tied, grown_program rows left (row k).sort y depth names),

@@ -10,7 +10,7 @@ use Rattle.py_rows_fields.specs.Gives.{◌>>=◌}
 use Rattle.py_rows_format.specs.Fields.{◌>>=◌ as ◌>>>◌, Node, Sort, each_of, entry_of, or_null, node}
 use Rattle.py_rows_format.specs.Making.{Made, all_of, are_new, is_among, names_as, names_or_none, node_at, one_or_none}
 use Rattle.py_rows_slots.specs.Taking as list
-use Rattle.py_rows_law.proofs.FormLemmas.{is_part}
+use Rattle.py_rows_law.proofs.RowFormLemmas.{is_part}
 use Rattle.py_rows_law.proofs.TieLemmas.{Same, Tied, are_new-append, numbers_after, numbers_after-append, tie_row_at, tied_without}
 use Rattle.py_rows_law.proofs.TableLemmas.{sort_as}
 
@@ -37,10 +37,10 @@ taking_reads {A = A} f (item d ds) xs e = by (f d) (each_of f ds) xs refl e (tak
     by (Some y) (Some ys) [] g e rest = absurd (cc)
     by (Some y) (Some ys) (x ∷ xs) g e rest = (cc, rest xs (cc))
 
-pub gives : {A B : Type 0} (f : A → Option B) (xs : List A) (ys : List B) → all_of f xs ≡ Some ys → Gives f xs ys
-gives f [] [] e = tt
-gives f [] (y ∷ ys) e = absurd (cc)
-gives {B = B} f (x ∷ xs) ys e = by (f x) (all_of f xs) ys refl e (gives f xs)
+pub all_of_gives : {A B : Type 0} (f : A → Option B) (xs : List A) (ys : List B) → all_of f xs ≡ Some ys → Gives f xs ys
+all_of_gives f [] [] e = tt
+all_of_gives f [] (y ∷ ys) e = absurd (cc)
+all_of_gives {B = B} f (x ∷ xs) ys e = by (f x) (all_of f xs) ys refl e (all_of_gives f xs)
   where
     by : (o : Option B) (p : Option (List B)) (ys : List B) → f x ≡ o → (o >>> λ y. option_map (λ ys. y ∷ ys) p) ≡ Some ys → ((ys : List B) → p ≡ Some ys → Gives f xs ys) → Gives f (x ∷ xs) ys
     by None p ys g e rest = absurd (cc)

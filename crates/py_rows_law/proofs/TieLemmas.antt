@@ -12,7 +12,7 @@ use Rattle.py_rows_format.specs.Making.{Made, are_new, is_among, node_as, node_a
 use Rattle.py_rows_slots.specs.Nodes.{Nodes}
 use Rattle.py_rows_slots.specs.Taking.{emptied_nodes}
 use Rattle.py_rows_law.proofs.CheckLemmas.{Alike, AreAlike, fits_as}
-use Rattle.py_rows_law.proofs.FormLemmas.{is_part}
+use Rattle.py_rows_law.proofs.RowFormLemmas.{is_part}
 use Rattle.py_rows_law.proofs.TableLemmas.{sort_as}
 
 -- ---- the list of the nodes of a sort; programs have none
@@ -153,8 +153,8 @@ tie_row_at made rows alike s k x e = by (slice_get made k) (slice_get rows k) re
     by (Some m) None f a e = absurd a
     by (Some m) (Some r) f a e = (r, f, a.0 ∙ ap sort_as (sort_found s m.sort m.made x e))
 
-pub within : (made : List Made) (s : Sort) (k : ℕ) (x : Node s) → node_at made s k ≡ Some x → k < length made
-within made s k x e = by (slice_get made k) refl e
+pub node_number_within : (made : List Made) (s : Sort) (k : ℕ) (x : Node s) → node_at made s k ≡ Some x → k < length made
+node_number_within made s k x e = by (slice_get made k) refl e
   where
     by : (m : Option Made) → slice_get made k ≡ m → (m >>= λ m. node_as s m.sort m.made) ≡ Some x → k < length made
     by None f e = absurd (cc)

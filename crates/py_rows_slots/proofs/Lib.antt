@@ -1,4 +1,4 @@
 pub mod ReadingLemmas
-pub mod Leftovers
-pub mod ListsOf
-pub mod Sofar
+pub mod TakenNodeLemmas
+pub mod NodeListLemmas
+pub mod TakenFrontDefinitions

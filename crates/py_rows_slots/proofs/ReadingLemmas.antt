@@ -18,7 +18,7 @@ fails_on (NotNamed row) reading f h = rw h refl
 fails_on OutOfMemory reading f h = tt
 
 -- what was answered, seen otherwise, is what the reading gives that goes on by f
-pub carried : {X Y Z : Type 0} (v : X → Y) (w : X → Z) (f : Y → Result Z RowsError) (r : Result X RowsError) (reading : Result Y RowsError)
+pub reading_gives : {X Y Z : Type 0} (v : X → Y) (w : X → Z) (f : Y → Result Z RowsError) (r : Result X RowsError) (reading : Result Y RowsError)
     → ((x : X) → f (v x) ≡ Ok (w x)) → Gives v r reading → Gives w r (reading >>= f)
-carried v w f (Ok x) reading p h = rw h (p x)
-carried v w f (Err e) reading p h = fails_on e reading f h
+reading_gives v w f (Ok x) reading p h = rw h (p x)
+reading_gives v w f (Err e) reading p h = fails_on e reading f h

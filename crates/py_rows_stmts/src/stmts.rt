@@ -17,7 +17,7 @@ use py_tree::{
 use serde_json::Value;
 
 /// A statement, of the fields of its kind.
-#[tactic(auto, using(py_tree::proofs::View::trees))]
+#[tactic(auto, using(py_tree::proofs::TreeViewLemmas::trees))]
 fn stmt_of_kind(
     kind: StmtKind,
     location: SourceLocation,

@@ -13,7 +13,7 @@ use py_tree::{
 use serde_json::Value;
 
 /// A type parameter, of the fields of its kind.
-#[tactic(auto, using(py_tree::proofs::View::trees))]
+#[tactic(auto, using(py_tree::proofs::TreeViewLemmas::trees))]
 fn type_param_of_kind(
     kind: TypeParamKind,
     location: SourceLocation,

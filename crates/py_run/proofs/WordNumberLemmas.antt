@@ -30,8 +30,8 @@ module _ (high c : ℕ) (cs : List ℕ) where
       by true false h = cc
       by false few h = cc
 
-  pub stopped : with_digit high c ≡ None → count_after high (c ∷ cs) ≡ None
-  stopped = by (is_ascii_digit c) (nat_lt word_number_next (2 ^ 17)) refl
+  pub number_stopped : with_digit high c ≡ None → count_after high (c ∷ cs) ≡ None
+  number_stopped = by (is_ascii_digit c) (nat_lt word_number_next (2 ^ 17)) refl
     where
       by : (d few : Bool) → nat_lt word_number_next (2 ^ 17) ≡ few → (if d && few then Some word_number_next else None) ≡ None
           → (if (d && list_all is_ascii_digit cs) && nat_lt (number_after word_number_next cs) (2 ^ 17) then Some (number_after word_number_next cs) else None) ≡ None
@@ -40,4 +40,4 @@ module _ (high c : ℕ) (cs : List ℕ) where
           grows word_number_next cs in all_or_none (list_all is_ascii_digit cs) (number_after word_number_next cs) (omega (arith, l, g))
       by false few e h = refl
 
-pub ruleset word_number_counting = (word_number_ended, word_number_stepped, stopped)
+pub ruleset word_number_counting = (word_number_ended, word_number_stepped, number_stopped)

@@ -44,7 +44,7 @@ pub enum Prepared {
 }
 
 /// Makes what the words ask for of what the source has.
-#[tactic(auto, using(crate::proofs::Takes::takes_none))]
+#[tactic(auto, using(crate::proofs::SourceReadLemmas::takes_none))]
 pub fn prepare<S: Source>(alloc: Global, words: &Words, source: &mut S) -> Prepared
     ensures form { HasForm result (words_form words.now) }
     ensures due { IfSome (due_of words.now (S.left source.old)) (Prepares result) }

@@ -1,4 +1,4 @@
-pub mod Turns
-pub mod Quiet
-pub mod Scans
-pub mod Faultless
+pub mod SampleStatementLemmas
+pub mod QuietScopeLemmas
+pub mod SampleScanLemmas
+pub mod FaultlessSampleLemmas

@@ -35,7 +35,7 @@ pub fn summary(alloc: Global, statements: u32, code: &CodeObject) -> Result<Stri
 }
 
 /// How many constants the code object has.
-#[tactic(auto, using(crate::proofs::Turns::constants_counted))]
+#[tactic(auto, using(crate::proofs::SampleStatementLemmas::constants_counted))]
 fn constant_count(code: &CodeObject) -> usize
     ensures { result ≡ length (constants (object code.now)) }
 {
@@ -63,7 +63,7 @@ fn lines(
 
 /// With the counts of a code object and of those nested in it. None only where there are too many.
 #[cycle(summary)]
-#[tactic(auto, using(py_bytecode::proofs::View::views))]
+#[tactic(auto, using(py_bytecode::proofs::ConstantViewLemmas::views))]
 fn with_code(before: Counts, code: &CodeObject) -> Option<Counts>
     ensures { IfSome result (λ all. all ≡ with_code before (object code.now)) }
 {
@@ -94,7 +94,7 @@ fn with_all(before: Counts, constants: &[ConstantData]) -> Option<Counts>
 }
 
 #[cycle(summary)]
-#[tactic(auto, using(py_bytecode::proofs::View::views))]
+#[tactic(auto, using(py_bytecode::proofs::ConstantViewLemmas::views))]
 fn with_one(before: Counts, item: &ConstantData) -> Option<Counts>
     ensures { IfSome result (λ all. all ≡ with_one before (constant item.now)) }
 {

@@ -12,7 +12,7 @@ use std::alloc::{AllocError, Global};
 ///
 /// # Errors
 /// There is no memory for it.
-#[tactic(auto, using(crate::proofs::Turns::turn_one_more))]
+#[tactic(auto, using(crate::proofs::SampleStatementLemmas::turn_one_more))]
 pub fn sample(alloc: Global, n: u32) -> Result<Mod, AllocError>
     requires { n < 2 ^ 17 }
     ensures { IfOk result (λ made. mod_tree made ≡ program n) }
@@ -27,7 +27,7 @@ pub fn sample(alloc: Global, n: u32) -> Result<Mod, AllocError>
 }
 
 /// Statement `i`, counted from 0.
-#[tactic(auto, using(crate::proofs::Turns::turns))]
+#[tactic(auto, using(crate::proofs::SampleStatementLemmas::statement_turns))]
 fn statement(alloc: Global, i: u32) -> Result<Stmt, AllocError>
     requires { i < 2 ^ 17 }
     ensures { IfOk result (λ made. stmt_tree made ≡ statement i) }

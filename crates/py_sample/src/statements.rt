@@ -13,7 +13,7 @@ use py_tree::{
 use std::alloc::{AllocError, Global};
 
 /// `v = i`.
-#[tactic(auto, using(py_tree::proofs::View::tree_Assign))]
+#[tactic(auto, using(py_tree::proofs::TreeViewLemmas::tree_Assign))]
 pub(crate) fn an_assignment(alloc: Global, at: &SourceLocation, i: u32) -> Result<Stmt, AllocError>
     ensures { IfOk result (λ made. stmt_tree made ≡ an_assignment at.now i) }
 {
@@ -43,7 +43,7 @@ pub(crate) fn a_choice(alloc: Global, at: &SourceLocation) -> Result<Stmt, Alloc
 }
 
 /// `f(v)` as a statement.
-#[tactic(auto, using(py_tree::proofs::View::tree_StmtExpr))]
+#[tactic(auto, using(py_tree::proofs::TreeViewLemmas::tree_StmtExpr))]
 fn called(alloc: Global, at: &SourceLocation) -> Result<Stmt, AllocError>
     ensures { IfOk result (λ made. stmt_tree made ≡ tree.StmtExpr at.now (a_call at.now)) }
 {
@@ -90,7 +90,7 @@ pub(crate) fn a_function(alloc: Global, at: &SourceLocation) -> Result<Stmt, All
 }
 
 /// `return lambda: a + v`.
-#[tactic(auto, using(py_tree::proofs::View::tree_Return))]
+#[tactic(auto, using(py_tree::proofs::TreeViewLemmas::tree_Return))]
 fn a_return(alloc: Global, at: &SourceLocation) -> Result<Stmt, AllocError>
     ensures { IfOk result (λ made. stmt_tree made ≡ a_return at.now) }
 {
@@ -117,7 +117,7 @@ fn a_lambda(alloc: Global, at: &SourceLocation) -> Result<Expr, AllocError>
 }
 
 /// `a + v`.
-#[tactic(auto, using(py_tree::proofs::View::tree_BinOp))]
+#[tactic(auto, using(py_tree::proofs::TreeViewLemmas::tree_BinOp))]
 fn a_sum(alloc: Global, at: &SourceLocation) -> Result<Expr, AllocError>
     ensures { IfOk result (λ made. expr_tree made ≡ a_sum at.now) }
 {
@@ -146,7 +146,7 @@ pub(crate) fn a_loop(alloc: Global, at: &SourceLocation) -> Result<Stmt, AllocEr
 }
 
 /// `break`.
-#[tactic(auto, using(py_tree::proofs::View::tree_Break))]
+#[tactic(auto, using(py_tree::proofs::TreeViewLemmas::tree_Break))]
 fn a_break(at: &SourceLocation) -> Stmt
     ensures { stmt_tree result ≡ tree.Break at.now }
 {
@@ -190,7 +190,7 @@ fn one_parameter(alloc: Global, at: &SourceLocation, id: &str) -> Result<Box<Arg
 }
 
 /// A number.
-#[tactic(auto, using(py_tree::proofs::View::tree_Constant, py_tree::proofs::View::literal_Int))]
+#[tactic(auto, using(py_tree::proofs::TreeViewLemmas::tree_Constant, py_tree::proofs::TreeViewLemmas::literal_Int))]
 fn number(at: &SourceLocation, i: u32) -> Expr
     ensures { expr_tree result ≡ tree.Constant at.now (literal.Int (pos i)) }
 {
@@ -201,7 +201,7 @@ fn number(at: &SourceLocation, i: u32) -> Expr
 }
 
 /// A name.
-#[tactic(auto, using(py_tree::proofs::View::tree_Name))]
+#[tactic(auto, using(py_tree::proofs::TreeViewLemmas::tree_Name))]
 fn name(alloc: Global, at: &SourceLocation, id: &str) -> Result<Expr, AllocError>
     ensures { IfOk result (λ made. expr_tree made ≡ tree.Name at.now id.now) }
 {

@@ -1,9 +1,9 @@
-mod Classes
-pub mod Generic
-pub mod Induction
-pub mod InductionStatements
-pub mod Names
-pub mod Pairs
+mod ClassScanLemmas
+pub mod TypeParameterScanLemmas
+pub mod ScanInductionLemmas
+pub mod StatementScanInductionLemmas
+pub mod TypeParameterNameLemmas
+pub mod DictPairLemmas
 mod Samples
-pub mod Shown
+pub mod ScanResultDefinitions
 pub mod OpenScopeLemmas

@@ -16,8 +16,8 @@ use Rattle.py_name_uses.specs.Steps.{State, Outcome, Done, Refused, Step, ◌▸
 use Rattle.py_name_uses.specs.Steps.{postpone, refuse, set_class, unless_refused, use_name, when, written_name}
 use Rattle.py_name_uses.specs.Parts.{use_first_names, use_parameters}
 use Rattle.py_name_uses.specs.Goes.{IsOpen}
-use Rattle.py_scan.proofs.Induction.{Closed, clauses_closed, expr_closed, parameters_closed}
-use Rattle.py_scan.proofs.InductionStatements.{first_names_closed, stmts_closed}
+use Rattle.py_scan.proofs.ScanInductionLemmas.{Closed, clauses_closed, expr_closed, parameters_closed}
+use Rattle.py_scan.proofs.StatementScanInductionLemmas.{first_names_closed, stmts_closed}
 use Rattle.py_scan.specs.Scan.{scan_clauses, scan_expr, scan_stmts}
 
 -- the open scope and those that were there are where they were

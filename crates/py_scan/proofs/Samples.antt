@@ -12,7 +12,7 @@ use Rattle.py_base.specs.declared.operators.ConversionFlag.TheVariants as conver
 use Rattle.py_scope.specs.declared.kinds.SymbolScope.TheVariants as kind
 use Rattle.py_scope.specs.declared.table_type.SymbolTableType.TheVariants as scope
 use Rattle.py_scan.specs.Scan.{scan_program}
-use Rattle.py_scan.proofs.Shown.{Fault, Shown, Tables, shown_at, shown_scan}
+use Rattle.py_scan.proofs.ScanResultDefinitions.{Fault, Shown, Tables, shown_at, shown_scan}
 
 -- def f(x): return lambda: x
 closure_of_a_parameter : shown_scan (scan_program (tree.more_stmts (tree.FunctionDef (shown_at 1 1) (codes "f") (tree.arguments tree.no_args (tree.more_args (tree.arg (shown_at 1 7) (codes "x") tree.no_expr) tree.no_expr tree.no_args) tree.no_arg tree.no_args tree.no_arg) (tree.more_stmts (tree.Return (shown_at 1 11) (tree.some_expr (tree.Lambda (shown_at 1 18) (tree.arguments tree.no_args tree.no_args tree.no_arg tree.no_args tree.no_arg) (tree.Name (shown_at 1 26) (codes "x"))))) tree.no_stmts) tree.no_exprs tree.no_expr tree.no_type_params) tree.no_stmts)) ≡ Tables ((scope.Module, codes "top", 0, false, ((codes "f", kind.Local, 0x2) ∷ [])) ∷ (scope.Function, codes "f", 1, false, ((codes "x", kind.Cell, 0x4) ∷ [])) ∷ (scope.Function, codes "lambda", 1, true, ((codes "x", kind.Free, 0x1) ∷ [])) ∷ [])

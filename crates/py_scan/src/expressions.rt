@@ -23,7 +23,7 @@ use py_tree::{
 /// # Errors
 /// The first fault of the scan, or OutOfMemory.
 #[cycle(scan)]
-#[tactic(auto, using(py_tree::proofs::View::trees))]
+#[tactic(auto, using(py_tree::proofs::TreeViewLemmas::trees))]
 pub fn scan_expr(scan: &mut Scan, usage: Usage, expr: &Expr) -> Result<(), SymbolTableError>
     ensures goes { Goes result (state scan.new)
         (scan_expr usage (expr_tree expr.now) (state scan.old)) }
@@ -111,7 +111,7 @@ fn scan_named_expr(scan: &mut Scan, usage: Usage, e: &ExprNamedExpr) -> Result<(
 
 /// A name that a walrus stores is registered where the walrus stands.
 #[cycle(scan)]
-#[tactic(auto, using(py_tree::proofs::View::trees))]
+#[tactic(auto, using(py_tree::proofs::TreeViewLemmas::trees))]
 fn scan_walrus_target(scan: &mut Scan, e: &ExprNamedExpr) -> Result<(), SymbolTableError>
     ensures goes { Goes result (state scan.new)
         (walrus_target (plain_name (expr_tree e.now.target.value)) e.now.location

@@ -98,7 +98,7 @@ fn scan_alias_value(scan: &mut Scan, s: &StmtTypeAlias) -> Result<(), SymbolTabl
 }
 
 /// The name of a type alias, as that of its scope.
-#[tactic(auto, using(py_tree::proofs::View::trees))]
+#[tactic(auto, using(py_tree::proofs::TreeViewLemmas::trees))]
 fn alias_name(name: &Expr) -> &str
     ensures { result.now ≡ alias_name (plain_name (expr_tree name.now)) }
 {
@@ -139,7 +139,7 @@ fn scan_annotation(scan: &mut Scan, annotation: &Expr) -> Result<(), SymbolTable
 }
 
 /// A simple annotated name is registered where its statement stands.
-#[tactic(auto, using(py_tree::proofs::View::trees))]
+#[tactic(auto, using(py_tree::proofs::TreeViewLemmas::trees))]
 fn scan_annotated_target(scan: &mut Scan, s: &StmtAnnAssign) -> Result<(), SymbolTableError>
     ensures goes { Goes result (state scan.new)
         (annotated_target s.now.simple (plain_name (expr_tree s.now.target.value)) s.now.location

@@ -44,7 +44,7 @@ struct FunctionParts<'a> {
 /// # Errors
 /// The first fault of the scan, or OutOfMemory.
 #[cycle(scan)]
-#[tactic(auto, using(py_tree::proofs::View::trees))]
+#[tactic(auto, using(py_tree::proofs::TreeViewLemmas::trees))]
 fn scan_stmt(scan: &mut Scan, stmt: &Stmt) -> Result<(), SymbolTableError>
     ensures goes { Goes result (state scan.new) (scan_stmt (stmt_tree stmt.now) (state scan.old)) }
     ensures told { IfErr result IsTextOrMemory }

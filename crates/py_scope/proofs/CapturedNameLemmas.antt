@@ -10,9 +10,9 @@ use Rattle.py_scope.specs.declared.rows.Row.{Row}
 use Rattle.py_scope.specs.Outward.{Captures, Leaves, Passes, Touch, chain, enclosing_scopes, found_at, look, look_from, meetings, on_way, parents, touch, touch_here}
 use Rattle.py_scope.specs.Marks.{touch_by, settled_row, IsSettled, looks}
 use Rattle.py_scope.specs.Entries.{entry_at, entry_of}
-use Rattle.py_scope.proofs.Captured.{asks_for, CapturesAll}
+use Rattle.py_scope.proofs.CaptureDefinitions.{asks_for, CapturesAll}
 use Rattle.py_scope.specs.Flags.{captured_opt, is_captures, captures}
-use Rattle.py_scope.proofs.Chains.{equal_numbers, unequal_numbers, touch_above}
+use Rattle.py_scope.proofs.ScopeChainLemmas.{equal_numbers, unequal_numbers, touch_above}
 use Rattle.py_scope.proofs.SymbolFlagLemmas.{captured_settled, from_looks, to_looks}
 use Rattle.py_scope.specs.Names.{Name, same_name}
 use Rattle.py_scope.proofs.NameLemmas.{equal_names, names_same}
@@ -74,8 +74,8 @@ captured_name_right_or false b h = h
 
 module _ (old new : List Row) (order : List ℕ) (whole : IsSettled old (looks old order) new) where
   -- the flag of a name in the settled rows
-  pub flag : (t : ℕ) (n : Name) → t < length old → captured_opt (entry_at new t n) ≡ captured_opt (entry_at old t n) || list_any (captures old t n) (looks old order)
-  flag t n within = ap (λ o. captured_opt (entry_of n o)) (whole t) ∙ by (slice_get old t) refl
+  pub captured_flag : (t : ℕ) (n : Name) → t < length old → captured_opt (entry_at new t n) ≡ captured_opt (entry_at old t n) || list_any (captures old t n) (looks old order)
+  captured_flag t n within = ap (λ o. captured_opt (entry_of n o)) (whole t) ∙ by (slice_get old t) refl
     where
       by : (o : Option Row) → slice_get old t ≡ o
           → captured_opt (entry_of n (option_map (settled_row old (looks old order) t) o)) ≡ captured_opt (entry_of n o) || list_any (captures old t n) (looks old order)
@@ -90,7 +90,7 @@ module _ (old new : List Row) (order : List ℕ) (whole : IsSettled old (looks o
   -- it was set before, or a scope asks and its look ends here
   pub flag_asked : (t : ℕ) (n : Name) → t < length old → captured_opt (entry_at new t n) ≡ true
       → (captured_opt (entry_at old t n) ≡ true) ⊎ ((r : ℕ) × (asks_for old r n ≡ true) × (look_from old r n ≡ FreeOf t))
-  flag_asked t n within h = by (captured_name_either (captured_opt (entry_at old t n)) _ (sym (flag t n within) ∙ h))
+  flag_asked t n within h = by (captured_name_either (captured_opt (entry_at old t n)) _ (sym (captured_flag t n within) ∙ h))
     where
       by : (captured_opt (entry_at old t n) ≡ true) ⊎ (list_any (captures old t n) (looks old order) ≡ true)
           → (captured_opt (entry_at old t n) ≡ true) ⊎ ((r : ℕ) × (asks_for old r n ≡ true) × (look_from old r n ≡ FreeOf t))
@@ -110,7 +110,7 @@ module _ (old new : List Row) (order : List ℕ) (whole : IsSettled old (looks o
       → asks_for old r n ≡ true → look_from old r n ≡ FreeOf t → captured_opt (entry_at new t n) ≡ true
   asked_flag complete t n r within there asked ends =
       let touches : touch_by old r n t ≡ Captures = ends_captures (meetings old n) (parents old) t r (parents old r) ends in
-      flag t n within ∙ captured_name_right_or (captured_opt (entry_at old t n)) _ (to_looks (captures old t n) old order r n (complete r there) asked
+      captured_flag t n within ∙ captured_name_right_or (captured_opt (entry_at old t n)) _ (to_looks (captures old t n) old order r n (complete r there) asked
       ((λ j. names_same n j && is_captures (touches j))))
 
 -- the two together, after a loop over the whole order
@@ -118,7 +118,7 @@ pub captures_all : (old new : List Row) (order : List ℕ) (i : ℕ) → IsSettl
     → ((r : ℕ) → r < length old → list_any (nat_eq r) order ≡ true) → CapturesAll old new
 captures_all old new order i h past complete = record {
   only = λ t n within g. flag_asked old new order whole t n within g;
-  kept = λ t n within g. flag old new order whole t n within ∙ ap (λ b. b || list_any (captures old t n) (looks old order)) g;
+  kept = λ t n within g. captured_flag old new order whole t n within ∙ ap (λ b. b || list_any (captures old t n) (looks old order)) g;
   each = λ t n r within there asked ends. asked_flag old new order whole complete t n r within there asked ends;
 }
   where

@@ -13,7 +13,7 @@ use Rattle.py_scope.specs.Outward.{IsNumbered, asked_outward, asks, asks_as, loo
 use Rattle.py_scope.specs.Marks.{asking_of}
 use Rattle.py_scope.specs.Flags.{captured_opt}
 use Rattle.py_scope.specs.Entries.{entry_of, entry_at}
-use Rattle.py_scope.proofs.Captured.{wants, wants_as, wants_for, asks_for, ChildNeeds, IsCaptured, CapturesAll, hands_on, captured_is_lifted, is_lifted_as, LiftsCaptured, CellsWhereNeeded}
+use Rattle.py_scope.proofs.CaptureDefinitions.{wants, wants_as, wants_for, asks_for, ChildNeeds, IsCaptured, CapturesAll, hands_on, captured_is_lifted, is_lifted_as, LiftsCaptured, CellsWhereNeeded}
 use Rattle.py_scope.specs.Distinct.{names_of, AreDistinct, IsOnce}
 use Rattle.py_scope.proofs.NeededNameLemmas.{captured_by_child, child_captures, needed_name_is_there}
 use Rattle.py_scope.specs.Bits.{is_bound}

@@ -6,8 +6,8 @@ use Rattle.py_scope.specs.declared.refusal.Fault.TheVariants.{Refused, OutOfMemo
 use Rattle.py_scope.specs.Lifts.{first_of_two, IsRefusal}
 use Rattle.py_scope.specs.Checks.{first_by}
 
-pub two_none : (a b : Option Refusal) → a ≡ None → b ≡ None → first_of_two a b ≡ None
-two_none a b h g = λ j. first_of_two (h j) (g j)
+pub first_of_two_both_none : (a b : Option Refusal) → a ≡ None → b ≡ None → first_of_two a b ≡ None
+first_of_two_both_none a b h g = λ j. first_of_two (h j) (g j)
 
 -- a refusal of the first of two is that of both
 pub first_told : (e : Fault) (a b : Option Refusal) → IsRefusal e a → IsRefusal e (first_of_two a b)
@@ -31,8 +31,8 @@ module _ {A : Type 0} (f : A → Option Refusal) where
 
       go : (xs : List A) (i : ℕ) → slice_get xs i ≡ Some x → first_by f (take i xs) ≡ None → first_by f (take (suc i) xs) ≡ None
       go [] i g h = cc
-      go (y ∷ ys) zero g h = let e : y ≡ x = cc in two_none (f y) None (ap f e ∙ n) refl
-      go (y ∷ ys) (suc i) g h = two_none (f y) _ (left (f y) _ h) (go ys i g (right (f y) _ h))
+      go (y ∷ ys) zero g h = let e : y ≡ x = cc in first_of_two_both_none (f y) None (ap f e ∙ n) refl
+      go (y ∷ ys) (suc i) g h = first_of_two_both_none (f y) _ (left (f y) _ h) (go ys i g (right (f y) _ h))
 
   pub first_found : (xs : List A) (i : ℕ) (x : A) (e : Fault) → slice_get xs i ≡ Some x → first_by f (take i xs) ≡ None → IsRefusal e (f x) → IsRefusal e (first_by f xs)
   first_found [] i x e g h t = absurd (none_some g)

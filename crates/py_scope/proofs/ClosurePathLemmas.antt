@@ -9,10 +9,10 @@ use Rattle.py_scope.specs.declared.rows.Holds.{Holds}
 use Rattle.py_scope.specs.declared.rows.Holds.TheVariants.{Plain, DeclaredGlobal, DeclaredNonlocal, LiftedFree, LiftedGlobal, LiftedModule, Passed}
 use Rattle.py_scope.specs.Outward.{IsNumbered, Passes, chain, enclosing_scopes, found_at, look, look_from, meetings, on_way, parents, touch, touch_here}
 use Rattle.py_scope.specs.Marks.{touch_by}
-use Rattle.py_scope.proofs.Captured.{Needs, wants, wants_as, hands_on, binder_from, HasCell, CapturedLeads, HandsOn, ClosuresLead}
+use Rattle.py_scope.proofs.CaptureDefinitions.{Needs, wants, wants_as, hands_on, binder_from, HasCell, CapturedLeads, HandsOn, ClosuresLead}
 use Rattle.py_scope.specs.Entries.{entry_at}
 use Rattle.py_scope.specs.Resolve.{hands_on_as, binder, binder_at}
-use Rattle.py_scope.proofs.Chains.{equal_numbers, tells_same, tells_apart, outward}
+use Rattle.py_scope.proofs.ScopeChainLemmas.{equal_numbers, tells_same, tells_apart, enclosing_scopes_step}
 use Rattle.py_scope.proofs.NeededNameLemmas.{passes_look, passed_below, not_the_module, needed_name_is_there}
 use Rattle.py_scope.specs.Names.{Name}
 use Rattle.py_scope.specs.Bits.{is_bound}
@@ -20,7 +20,7 @@ use Rattle.py_scope.specs.Bits.{is_bound}
 module _ (m : ℕ → Meets) (p : ℕ → ℕ) where
   -- the look from a scope that stands in w passes w, where it goes on
   first_passed : (c w b : ℕ) → p c ≡ w → w < c → m w ≡ Past → look m (enclosing_scopes p w) ≡ FreeOf b → touch m w (enclosing_scopes p c) ≡ Passes
-  first_passed c w b e l x f = ap (touch m w) (outward p c w e l) ∙ (λ j. touch_here (x j) (tells_same w j) (f j) (touch m w (enclosing_scopes p w)))
+  first_passed c w b e l x f = ap (touch m w) (enclosing_scopes_step p c w e l) ∙ (λ j. touch_here (x j) (tells_same w j) (f j) (touch m w (enclosing_scopes p w)))
 
   -- a look that passes c passes the next scope too
   passes_next : (c w b : ℕ) → p c ≡ w → w < c → m w ≡ Past → look m (enclosing_scopes p c) ≡ FreeOf b → look m (enclosing_scopes p w) ≡ FreeOf b → (k v : ℕ)
@@ -90,7 +90,7 @@ module _ (rows : List Row) (numbered : IsNumbered rows) (handed : HandsOn rows) 
     closure_path_below = numbered c (not_the_module rows numbered (meetings rows n) c h.binding from_here) closure_path_low
 
     closure_path_outward : enclosing_scopes (parents rows) c ≡ parents rows c ∷ enclosing_scopes (parents rows) (parents rows c)
-    closure_path_outward = outward (parents rows) c (parents rows c) refl closure_path_below
+    closure_path_outward = enclosing_scopes_step (parents rows) c (parents rows c) refl closure_path_below
 
     closure_path_begins : found_at (parents rows c) (meetings rows n (parents rows c)) (look_from rows (parents rows c) n) ≡ FreeOf h.binding
     closure_path_begins = ap (look (meetings rows n)) (sym closure_path_outward) ∙ from_here

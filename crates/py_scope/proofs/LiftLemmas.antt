@@ -13,7 +13,7 @@ use Rattle.py_scope.specs.Outward.{chain, enclosing_scopes, parent_of, parents, 
 use Rattle.py_scope.specs.Lifts.{Stage, stages, stage_of, if_function, holds_opt, iterated_opt, as_in, or_absent, lifted_holds, lifted_by}
 use Rattle.py_scope.specs.Lifts.{refusal, refused_by, Lift, Stays, Through, Holder, lift_of, lift_here, after_lift, IsLiftedAlong}
 use Rattle.py_scope.specs.Lifts.{IsRefusal}
-use Rattle.py_scope.proofs.Chains.{equal_numbers, unequal_numbers, tells_same, tells_apart, outward}
+use Rattle.py_scope.proofs.ScopeChainLemmas.{equal_numbers, unequal_numbers, tells_same, tells_apart, enclosing_scopes_step}
 use Rattle.py_scope.proofs.MarkLemmas.{get_set_same, get_set_other}
 use Rattle.std.proofs.lemmas.Option.{slice_get_read, slice_get_within}
 
@@ -35,9 +35,9 @@ lift_above g p t (suc k) w h = by (nat_eq k w) (lift_above g p t k (p k) (omega 
         (λ j. lift_here (g k).kind (other j) (e j)) ∙ not_here (g k).kind
     by false e f = f
 
-pub unlifted : (k : Holds) (n : Name) (o : Option Row) → option_map (after_lift Stays k n) o ≡ o
-unlifted k n None = refl
-unlifted k n (Some t) = refl
+pub after_lift_stays : (k : Holds) (n : Name) (o : Option Row) → option_map (after_lift Stays k n) o ≡ o
+after_lift_stays k n None = refl
+after_lift_stays k n (Some t) = refl
 
 module _ (old : List Row) (n : Name) (at : ℕ) (w : Row) (kind : SymbolTableType) (within : at < length old) (is_w : w ≡ slice_index_or old at w) (is_kind : w.kind ≡ kind) (es : List ℕ) where
   lift_read : slice_get old at ≡ Some w
@@ -61,7 +61,7 @@ module _ (old : List Row) (n : Name) (at : ℕ) (w : Row) (kind : SymbolTableTyp
   -- a scope that stops the lift and is not changed
   pub stops_still : ((b : Bool) (x : Lift) → lift_here kind b x ≡ Stays) → IsLiftedAlong old n (at ∷ es) old
   stops_still still t = sym (ap (λ z. option_map (after_lift z (lifted_holds (stages old n) (at ∷ es)) n) (slice_get old t))
-      (lift_is t (nat_eq at t) refl ∙ still (nat_eq at t) _) ∙ unlifted (lifted_holds (stages old n) (at ∷ es)) n (slice_get old t))
+      (lift_is t (nat_eq at t) refl ∙ still (nat_eq at t) _) ∙ after_lift_stays (lifted_holds (stages old n) (at ∷ es)) n (slice_get old t))
 
   -- a scope that is changed, where the others are as they were or as the lift further out left them
   pub changed_here : (mid : List Row) (x : Lift) (k : Holds) (y z : Row) → lifted_holds (stages old n) (at ∷ es) ≡ k
@@ -86,7 +86,7 @@ pub holder_here : (old : List Row) (n : Name) (at : ℕ) (w y z : Row) (k : Hold
     → w.kind ≡ Function → y ≡ slice_index_or old at y → k ≡ as_in (or_absent (lookup n y.entries)).holds → z ≡ after_lift Holder k n y
     → (k ≡ lifted_holds (stages old n) (at ∷ es)) × IsLiftedAlong old n (at ∷ es) (slice_set old at z)
 holder_here old n at w y z k es within is_w is_kind is_y is_k is_z =
-    (sym kept, changed_here old n at w Function within is_w is_kind es old Holder k y z kept refl refl is_y is_z (λ t e. sym (unlifted k n (slice_get old t))))
+    (sym kept, changed_here old n at w Function within is_w is_kind es old Holder k y z kept refl refl is_y is_z (λ t e. sym (after_lift_stays k n (slice_get old t))))
   where
     same : (o : Option Entry) → holds_opt o ≡ (or_absent o).holds
     same None = refl
@@ -107,7 +107,7 @@ module _ (old mid : List Row) (n : Name) (at : ℕ) (w v y z : Row) (k : Holds) 
   lift_out : enclosing_scopes (parents old) at ≡ v.parent ∷ enclosing_scopes (parents old) v.parent
   lift_out =
       let e : parents old at ≡ v.parent = ap parent_of (slice_get_read old (length old) at v refl within is_v) in
-      outward (parents old) at v.parent e (subst (λ x. x < at) e (numbered at above within))
+      enclosing_scopes_step (parents old) at v.parent e (subst (λ x. x < at) e (numbered at above within))
 
   module _ (is_k : k ≡ lifted_holds (stages old n) (v.parent ∷ enclosing_scopes (parents old) v.parent)) (along : IsLiftedAlong old n (v.parent ∷ enclosing_scopes (parents old) v.parent) mid) where
     lift_further : lifted_holds (stages old n) (enclosing_scopes (parents old) at) ≡ k
@@ -117,7 +117,7 @@ module _ (old mid : List Row) (n : Name) (at : ℕ) (w v y z : Row) (k : Holds) 
     lift_all t = along t ∙ (λ j. option_map (after_lift (lift_of (stages old n) t (sym lift_out j)) (sym is_k j) n) (slice_get old t))
 
     pub lift_untouched : slice_get mid at ≡ slice_get old at
-    lift_untouched = lift_all at ∙ ap (λ x. option_map (after_lift x k n) (slice_get old at)) (lift_above (stages old n) (parents old) at at (parents old at) (omega arith)) ∙ unlifted k n _
+    lift_untouched = lift_all at ∙ ap (λ x. option_map (after_lift x k n) (slice_get old at)) (lift_above (stages old n) (parents old) at at (parents old at) (omega arith)) ∙ after_lift_stays k n _
 
     pub still_there : at < length mid
     still_there = slice_get_within mid at w (lift_untouched ∙ slice_get_read old (length old) at w refl within is_w)
@@ -149,7 +149,7 @@ module _ (old mid : List Row) (n : Name) (s : ℕ) (w : Row) (numbered : IsNumbe
   lift_begins : enclosing_scopes (parents old) s ≡ w.parent ∷ enclosing_scopes (parents old) w.parent
   lift_begins =
       let e : parents old s ≡ w.parent = ap parent_of (slice_get_read old (length old) s w refl within is_w) in
-      outward (parents old) s w.parent e (subst (λ x. x < s) e (numbered s above within))
+      enclosing_scopes_step (parents old) s w.parent e (subst (λ x. x < s) e (numbered s above within))
 
   pub allowed_first : refusal n (stages old n) (w.parent ∷ enclosing_scopes (parents old) w.parent) ≡ None → refusal n (stages old n) (enclosing_scopes (parents old) s) ≡ None
   allowed_first h = ap (refusal n (stages old n)) lift_begins ∙ h

@@ -6,7 +6,7 @@ use Rattle.py_scope.specs.declared.outward.Meets.TheVariants.{Past}
 use Rattle.py_scope.specs.declared.outward.Found.{Found}
 use Rattle.py_scope.specs.declared.rows.Row.{Row}
 use Rattle.py_scope.specs.Outward.{IsNumbered, enclosing_scopes, look, look_from, meetings, meets, meets_of, parent_of, parents}
-use Rattle.py_scope.proofs.Chains.{outward, look_past}
+use Rattle.py_scope.proofs.ScopeChainLemmas.{enclosing_scopes_step, look_past}
 use Rattle.py_scope.specs.Names.{Name}
 
 module _ (rows : List Row) (n : Name) (at : ℕ) (w : Row) (f : Found) (numbered : IsNumbered rows) (within : at < length rows) (above : 0 < at) (is_w : w ≡ slice_index_or rows at w)
@@ -14,7 +14,7 @@ module _ (rows : List Row) (n : Name) (at : ℕ) (w : Row) (f : Found) (numbered
   lookup_out : enclosing_scopes (parents rows) at ≡ w.parent ∷ enclosing_scopes (parents rows) w.parent
   lookup_out =
       let e : parents rows at ≡ w.parent = ap parent_of (slice_get_read rows (length rows) at w refl within is_w) in
-      outward (parents rows) at w.parent e (subst (λ v. v < at) e (numbered at above within))
+      enclosing_scopes_step (parents rows) at w.parent e (subst (λ v. v < at) e (numbered at above within))
 
   pub found_outward : f ≡ look_from rows at n
   found_outward = found ∙ ap (look (meetings rows n)) (sym lookup_out)

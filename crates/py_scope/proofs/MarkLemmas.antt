@@ -8,7 +8,7 @@ use Rattle.py_scope.specs.declared.outward.Found.TheVariants.{Nowhere, Globally,
 use Rattle.py_scope.specs.declared.rows.Row.{Row}
 use Rattle.py_scope.specs.Outward.{enclosing_scopes, look, touch, touch_here, Leaves, Passes, on_way, is_free, parent_of, parents, meets, meets_of, meetings, IsNumbered}
 use Rattle.py_scope.specs.Marks.{after}
-use Rattle.py_scope.proofs.Chains.{touch_above, equal_numbers, unequal_numbers, outward, look_past}
+use Rattle.py_scope.proofs.ScopeChainLemmas.{touch_above, equal_numbers, unequal_numbers, enclosing_scopes_step, look_past}
 use Rattle.std.proofs.lemmas.Option.{slice_get_read, slice_get_within}
 use Rattle.py_scope.specs.Names.{Name}
 
@@ -89,7 +89,7 @@ module _ (old mid : List Row) (n : Name) (at : ℕ) (x w : Row) (r : Meets) (f :
   mark_out =
       let e : parents old at ≡ w.parent = ap parent_of (slice_get_read old (length old) at w refl within is_w) in
       let below : parents old at < at = numbered at above within in
-      outward (parents old) at w.parent e (subst (λ v. v < at) e below)
+      enclosing_scopes_step (parents old) at w.parent e (subst (λ v. v < at) e below)
 
   mark_further : look (meetings old n) (enclosing_scopes (parents old) at) ≡ f
   mark_further = ap (look (meetings old n)) mark_out ∙ sym found

@@ -14,7 +14,7 @@ use Rattle.py_scope.specs.Names.{Name, same_name, lookup, put_value}
 use Rattle.py_scope.specs.Outward.{counts, stop_of_entry, meets, meets_of, asks, asked_outward, asking_in, enclosing_scopes, touch, Touch}
 use Rattle.py_scope.specs.Outward.{Leaves, Passes, Captures, parent_of, parents, meetings, IsNumbered}
 use Rattle.py_scope.specs.Marks.{after, passed_entry, captured_entry, or_new, new_entry, touch_by, IsLooked, settled_row, IsSettled, asking_of, from_scope, looks}
-use Rattle.py_scope.proofs.Chains.{outward}
+use Rattle.py_scope.proofs.ScopeChainLemmas.{enclosing_scopes_step}
 use Rattle.py_scope.proofs.NameLemmas.{equal_names}
 
 module _ {V : Type 0} where
@@ -188,7 +188,7 @@ pub from_parent : (old new : List Row) (s : ℕ) (n : Name) (w : Row) → IsNumb
     → ((t : ℕ) → slice_get new t ≡ option_map (after (touch (meetings old n) t (w.parent ∷ enclosing_scopes (parents old) w.parent)) n) (slice_get old t)) → IsLooked old s n new
 from_parent old new s n w numbered within above is_w each t =
     let e : parents old s ≡ w.parent = ap parent_of (slice_get_read old (length old) s w refl within is_w) in
-    each t ∙ ap (λ es. option_map (after (touch (meetings old n) t es) n) (slice_get old t)) (sym (outward (parents old) s w.parent e (subst (λ v. v < s) e (numbered s above within))))
+    each t ∙ ap (λ es. option_map (after (touch (meetings old n) t es) n) (slice_get old t)) (sym (enclosing_scopes_step (parents old) s w.parent e (subst (λ v. v < s) e (numbered s above within))))
 
 -- the loop over all the names of one scope
 pub whole_scope : (base new : List Row) (s : ℕ) (w : Row) (names : List Name) (i : ℕ) → s < length base → w ≡ slice_index_or base s w → names ≡ asked_outward w.entries → length names ≤ i

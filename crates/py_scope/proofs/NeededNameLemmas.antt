@@ -7,9 +7,9 @@ use Rattle.py_scope.specs.declared.outward.Found.TheVariants.{FreeOf}
 use Rattle.py_scope.specs.declared.rows.Row.{Row}
 use Rattle.py_scope.specs.Outward.{IsNumbered, Passes, chain, enclosing_scopes, found_at, look, look_from, meetings, parents, touch, touch_here}
 use Rattle.py_scope.specs.Marks.{touch_by}
-use Rattle.py_scope.proofs.Captured.{IsCaptured, ChildNeeds, IsChild, wants, wants_for}
+use Rattle.py_scope.proofs.CaptureDefinitions.{IsCaptured, ChildNeeds, IsChild, wants, wants_for}
 use Rattle.py_scope.specs.Entries.{entry_of}
-use Rattle.py_scope.proofs.Chains.{equal_numbers, tells_same, outward, touch_above}
+use Rattle.py_scope.proofs.ScopeChainLemmas.{equal_numbers, tells_same, enclosing_scopes_step, touch_above}
 use Rattle.std.proofs.lemmas.Option.{slice_get_within}
 use Rattle.std.proofs.lemmas.Grind.{common_steps}
 use Rattle.py_scope.specs.Names.{Name}
@@ -64,7 +64,7 @@ module _ (m : ℕ → Meets) (p : ℕ → ℕ) where
 module _ (rows : List Row) (numbered : IsNumbered rows) where
   -- the scopes around a child begin with the scope that it stands in
   pub outward_child : (s c : ℕ) → IsChild rows s c → enclosing_scopes (parents rows) c ≡ s ∷ enclosing_scopes (parents rows) s
-  outward_child s c h = outward (parents rows) c s h.parent (subst (λ v. v < c) h.parent (numbered c h.above h.there))
+  outward_child s c h = enclosing_scopes_step (parents rows) c s h.parent (subst (λ v. v < c) h.parent (numbered c h.above h.there))
 
   -- a look that ends at a binding is not the module's
   pub not_the_module : (m : ℕ → Meets) (c b : ℕ) → look m (enclosing_scopes (parents rows) c) ≡ FreeOf b → 0 < c

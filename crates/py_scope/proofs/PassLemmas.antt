@@ -10,7 +10,7 @@ use Rattle.py_scope.specs.Lifts.{Lift, Stays, Through, Holder, after_lift, lift_
 use Rattle.py_scope.specs.Distinct.{names_of, AreDistinct, IsOnce}
 use Rattle.py_scope.specs.Resolved.{each_row, lifted_rows, settled_rows}
 use Rattle.py_scope.proofs.NameOrderLemmas.{keys_put}
-use Rattle.py_scope.proofs.Freshness.{distinct_add_name}
+use Rattle.py_scope.proofs.FreshNameLemmas.{distinct_add_name}
 
 pub get_each : (f : ℕ → Row → Row) (k : ℕ) (rs : List Row) (t : ℕ) → slice_get (each_row f k rs) t ≡ option_map (f (k + t)) (slice_get rs t)
 get_each f k [] t = refl

@@ -14,8 +14,8 @@ use Rattle.py_scope.specs.Outward.{chain, enclosing_scopes, parents, parent_of, 
 use Rattle.py_scope.specs.Lifts.{kind_of}
 use Rattle.py_scope.specs.Scanned.{Scanned, order_of, entered_row, entered_scan, used_in, changed_at, with_use, gone_out, inner, nests, IsWithin}
 use Rattle.py_scope.specs.InOrder.{IsFresh, IsScanned, AreEnclosing, outermost_first}
-use Rattle.py_scope.proofs.Chains.{outward, tells_same, tells_apart, equal_numbers, unequal_numbers}
-use Rattle.py_scope.proofs.Freshness.{fresh_empty, fresh_used}
+use Rattle.py_scope.proofs.ScopeChainLemmas.{enclosing_scopes_step, tells_same, tells_apart, equal_numbers, unequal_numbers}
+use Rattle.py_scope.proofs.FreshNameLemmas.{fresh_empty, fresh_used}
 
 module _ {A : Type 0} where
   abbrev scan_call_nothing : Option A
@@ -105,7 +105,7 @@ module _ (s : Scanned) (old : IsScanned s) (above : 0 < s.current) where
   scan_call_below = old.numbered s.current above old.inside
 
   same_order : order_of (gone_out s) ≡ order_of s
-  same_order = append_assoc s.left (s.current ∷ []) _ ∙ ap (λ es. s.left ++ s.current ∷ es) (sym (outward (parents s.rows) s.current (parents s.rows s.current) refl scan_call_below))
+  same_order = append_assoc s.left (s.current ∷ []) _ ∙ ap (λ es. s.left ++ s.current ∷ es) (sym (enclosing_scopes_step (parents s.rows) s.current (parents s.rows s.current) refl scan_call_below))
 
   pub scanned_left : IsScanned (gone_out s)
   scanned_left = record {
@@ -182,7 +182,7 @@ module _ (s : Scanned) (typ : SymbolTableType) (name : Name) (line : ℕ) (old :
       by false e = let h : k < length s.rows = omega (arith, scan_call_longer, unequal_numbers k (length s.rows) e) in subst (λ v. v < k) (sym (parent_old k h)) (old.numbered k a h)
 
   scan_call_outward : enclosing_scopes (parents scan_call_more) (length s.rows) ≡ s.current ∷ enclosing_scopes (parents s.rows) s.current
-  scan_call_outward = outward (parents scan_call_more) (length s.rows) s.current parent_new old.inside
+  scan_call_outward = enclosing_scopes_step (parents scan_call_more) (length s.rows) s.current parent_new old.inside
       ∙ ap (λ es. s.current ∷ es) (enclosing_same (parents scan_call_more) (parents s.rows) s.current
       (λ j h. let i = old.inside in parent_old j (omega arith)))
 
@@ -313,7 +313,7 @@ pub enclosing_left : (s : Scanned) (enclosing rest : List ℕ) (last : ℕ) → 
 enclosing_left s enclosing rest last old above h e =
     let p = parents s.rows s.current in
     let below : p < s.current = old.numbered s.current above old.inside in
-    let same = sym e ∙ h ∙ ap outermost_first (outward (parents s.rows) s.current p refl below) in
+    let same = sym e ∙ h ∙ ap outermost_first (enclosing_scopes_step (parents s.rows) s.current p refl below) in
     let r = same_last rest (outermost_first (enclosing_scopes (parents s.rows) p)) last p same in
     (r.1, r.0 ∙ ap (λ j. outermost_first (enclosing_scopes (parents s.rows) j)) (sym r.1))
 
@@ -329,7 +329,7 @@ enclosing_entered s row enclosing old e h =
     let own : parents all (length s.rows) ≡ s.current = ap parent_of (get_push_new s.rows row) ∙ e in
     ap (λ xs. xs ++ s.current ∷ []) h
     ∙ ap (λ xs. outermost_first xs ++ s.current ∷ []) (sym (enclosing_same (parents all) (parents s.rows) s.current (λ j l. ap parent_of (get_push_old s.rows row j (omega (arith, l, inside))))))
-    ∙ ap outermost_first (sym (outward (parents all) (length s.rows) s.current own inside))
+    ∙ ap outermost_first (sym (enclosing_scopes_step (parents all) (length s.rows) s.current own inside))
 
 -- a use changes no enclosing scope
 pub enclosing_used : (s : Scanned) (n : Name) (role : Role) (enclosing : List ℕ) → IsScanned s

@@ -1,15 +1,15 @@
 -- A symbol is captured where it was, or where a look ended.
 use Rattle.std.proofs.Common.{◌≡◌, refl, sym, ap, ◌∙◌, subst, ℕ, Bool, true, false, ◌||◌, ◌&&◌, List, [], ◌∷◌, ◌++◌, nat_eq, if◌then◌else◌, slice_get, Option, Some, None, ◌⊎◌, inl, inr}
 use Rattle.std.specs.List.{list_any}
-use Rattle.py_base.proofs.Booleans.{or_associates}
+use Rattle.py_base.proofs.BooleanLemmas.{or_associates}
 use Rattle.py_scope.specs.declared.rows.Entry.{Entry}
 use Rattle.py_scope.specs.declared.rows.Row.{Row}
 use Rattle.py_scope.specs.Names.{Name, same_name, lookup}
 use Rattle.py_scope.specs.Outward.{Touch, Leaves, Passes, Captures}
 use Rattle.py_scope.specs.Marks.{after, passed_entry, captured_entry, or_new, touch_by, settled_row, asking_of, from_scope, looks}
-use Rattle.py_scope.proofs.Captured.{asks_for}
+use Rattle.py_scope.proofs.CaptureDefinitions.{asks_for}
 use Rattle.py_scope.specs.Flags.{captured_opt, is_captures, captures}
-use Rattle.py_scope.proofs.Chains.{equal_numbers}
+use Rattle.py_scope.proofs.ScopeChainLemmas.{equal_numbers}
 use Rattle.py_scope.proofs.MarkSumLemmas.{lookup_put}
 use Rattle.py_scope.proofs.NameLemmas.{equal_names, names_same}
 

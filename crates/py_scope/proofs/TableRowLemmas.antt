@@ -4,7 +4,7 @@ use Rattle.std.proofs.Common.{slice_get, Option, Some, None, IsSome, MatchOption
 use Rattle.std.specs.List.{list_any}
 use Rattle.std.specs.Map.{keys_of}
 use Rattle.std.proofs.lemmas.Cmp.{nat_list_eq_equiv}
-use Rattle.py_base.proofs.Booleans.{or_false_left, or_false_right}
+use Rattle.py_base.proofs.BooleanLemmas.{or_false_left, or_false_right}
 use Rattle.py_scope.specs.declared.kinds.SymbolScope.{SymbolScope}
 use Rattle.py_scope.specs.declared.rows.Entry.{Entry}
 use Rattle.py_scope.specs.declared.rows.Row.{Row}
@@ -14,8 +14,8 @@ use Rattle.py_scope.specs.Distinct.{AreDistinct}
 use Rattle.py_scope.specs.Tables.{symbol_in, symbols_in, all_symbols}
 use Rattle.py_scope.specs.Making.{kind_at, kinds_at, kinds_in, all_kinds, symbol_with, symbols_with}
 
-pub take_next : {A : Type 0} (xs : List A) (i : ℕ) (x : A) → slice_get xs i ≡ Some x → take (i + 1) xs ≡ take i xs ++ x ∷ []
-take_next {A = A} xs i x g = ap (λ k. take k xs) (add-one i) ∙ go xs i g
+pub take_next_element : {A : Type 0} (xs : List A) (i : ℕ) (x : A) → slice_get xs i ≡ Some x → take (i + 1) xs ≡ take i xs ++ x ∷ []
+take_next_element {A = A} xs i x g = ap (λ k. take k xs) (add-one i) ∙ go xs i g
   where
     go : (xs : List A) (i : ℕ) → slice_get xs i ≡ Some x → take (suc i) xs ≡ take i xs ++ x ∷ []
     go [] i g = cc
@@ -48,8 +48,8 @@ rest_some {A = A} xs rest after i None l d h = absurd (go xs i l (sym d ∙ h.0)
     go (y ∷ ys) (suc i) l h = go ys i (omega arith) h
 rest_some xs rest after i (Some x) l d h = refl
 
-pub took : {A : Type 0} (rest after : List A) (r : Option A) (x : A) → MatchOption r ((rest ≡ []) × (after ≡ [])) (λ y. rest ≡ y ∷ after) → r ≡ Some x → rest ≡ x ∷ after
-took rest after r x h e = subst (λ o. MatchOption o ((rest ≡ []) × (after ≡ [])) (λ y. rest ≡ y ∷ after)) e h
+pub taken_element : {A : Type 0} (rest after : List A) (r : Option A) (x : A) → MatchOption r ((rest ≡ []) × (after ≡ [])) (λ y. rest ≡ y ∷ after) → r ≡ Some x → rest ≡ x ∷ after
+taken_element rest after r x h e = subst (λ o. MatchOption o ((rest ≡ []) × (after ≡ [])) (λ y. rest ≡ y ∷ after)) e h
 
 table_row_none_at : (n : Name) (es : List (Name × Entry)) (i : ℕ) (p : Name × Entry) → list_any (same_name n) (keys_of es) ≡ false → slice_get es i ≡ Some p → same_name p.0 n ≡ false
 table_row_none_at n [] i p h g = cc

@@ -12,7 +12,7 @@ use py_tree::{
 /// `count`, and one more for each lambda and each comprehension within the expression, of which annotations count only
 /// where they are not postponed. None exactly where the sum has no usize, as below.
 #[cycle(scopes)]
-#[tactic(auto, using(py_tree::proofs::View::trees))]
+#[tactic(auto, using(py_tree::proofs::TreeViewLemmas::trees))]
 pub fn scopes_in_expr(expr: &Expr, postponed: bool, count: usize) -> Option<usize>
     ensures { IsSum result (count + counts.scopes_in postponed (view.expr_tree expr.now)) }
 {

@@ -1,5 +1,5 @@
 pub mod EventLemmas
-pub mod Events
+pub mod RunEventLemmas
 pub mod CellPathLemmas
 pub mod CaptureLemmas
 pub mod ChainSamples

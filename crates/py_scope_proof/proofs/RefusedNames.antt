@@ -1,7 +1,7 @@
-pub mod Firsts
-pub mod Walruses
-pub mod Lifted
-pub mod Names
-pub mod Allowed
-pub mod Scans
+pub mod FirstRefusalLemmas
+pub mod RefusedWalrusLemmas
+pub mod LiftedWalrusLemmas
+pub mod RefusedNameLemmas
+pub mod FaultlessScanLemmas
+pub mod ScanLawLemmas
 pub mod Samples

@@ -1,4 +1,4 @@
-pub mod Checks
-pub mod Repeated
-mod Rows
-pub mod Steps
+pub mod ShapeCheckLemmas
+pub mod RepeatedNameLemmas
+mod ShapeSamples
+pub mod ListShapeLemmas

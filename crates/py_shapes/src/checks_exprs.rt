@@ -18,7 +18,7 @@ use py_tree::{
 /// # Errors
 /// The first of the shapes that the definition of the same name asks for and that is not there.
 #[cycle(shapes)]
-#[tactic(auto, using(crate::proofs::Checks::checks))]
+#[tactic(auto, using(crate::proofs::ShapeCheckLemmas::shape_checks))]
 pub fn check_expr(class: Option<&str>, expr: &Expr) -> Result<(), Malformed>
     ensures { result ≡ first_malformed
         (expr_shapes (option_copied class.entry) (view.expr_tree expr.now)) }
@@ -80,7 +80,7 @@ pub fn check_expr(class: Option<&str>, expr: &Expr) -> Result<(), Malformed>
 /// # Errors
 /// The first of the shapes that the definition of the same name asks for and that is not there.
 #[cycle(shapes)]
-#[tactic(auto, using(crate::proofs::Checks::checks))]
+#[tactic(auto, using(crate::proofs::ShapeCheckLemmas::shape_checks))]
 pub fn check_exprs(class: Option<&str>, items: &[Expr]) -> Result<(), Malformed>
     ensures { result ≡ first_malformed
         (exprs_shapes (option_copied class.entry) (view.exprs view.expr_tree items.now)) }
@@ -96,7 +96,7 @@ pub fn check_exprs(class: Option<&str>, items: &[Expr]) -> Result<(), Malformed>
 /// # Errors
 /// The first of the shapes that the definition of the same name asks for and that is not there.
 #[cycle(shapes)]
-#[tactic(auto, using(crate::proofs::Checks::checks))]
+#[tactic(auto, using(crate::proofs::ShapeCheckLemmas::shape_checks))]
 pub fn check_optional(class: Option<&str>, value: &Option<Box<Expr>>) -> Result<(), Malformed>
     ensures { result ≡ first_malformed
         (opt_expr_shapes (option_copied class.entry) (view.opt_box view.expr_tree value.now)) }
@@ -108,7 +108,7 @@ pub fn check_optional(class: Option<&str>, value: &Option<Box<Expr>>) -> Result<
 }
 
 #[cycle(shapes)]
-#[tactic(auto, using(crate::proofs::Checks::checks))]
+#[tactic(auto, using(crate::proofs::ShapeCheckLemmas::shape_checks))]
 fn check_if_exp(class: Option<&str>, e: &ExprIfExp) -> Result<(), Malformed>
     ensures { result ≡ first_malformed
         (expr_shapes (option_copied class.entry) (view.if_exp_tree e.now)) }
@@ -119,7 +119,7 @@ fn check_if_exp(class: Option<&str>, e: &ExprIfExp) -> Result<(), Malformed>
 }
 
 #[cycle(shapes)]
-#[tactic(auto, using(crate::proofs::Checks::checks))]
+#[tactic(auto, using(crate::proofs::ShapeCheckLemmas::shape_checks))]
 fn check_list_comp(class: Option<&str>, e: &ExprListComp) -> Result<(), Malformed>
     ensures { result ≡ first_malformed
         (expr_shapes (option_copied class.entry) (view.list_comp_tree e.now)) }
@@ -130,7 +130,7 @@ fn check_list_comp(class: Option<&str>, e: &ExprListComp) -> Result<(), Malforme
 }
 
 #[cycle(shapes)]
-#[tactic(auto, using(crate::proofs::Checks::checks))]
+#[tactic(auto, using(crate::proofs::ShapeCheckLemmas::shape_checks))]
 fn check_set_comp(class: Option<&str>, e: &ExprSetComp) -> Result<(), Malformed>
     ensures { result ≡ first_malformed
         (expr_shapes (option_copied class.entry) (view.set_comp_tree e.now)) }
@@ -141,7 +141,7 @@ fn check_set_comp(class: Option<&str>, e: &ExprSetComp) -> Result<(), Malformed>
 }
 
 #[cycle(shapes)]
-#[tactic(auto, using(crate::proofs::Checks::checks))]
+#[tactic(auto, using(crate::proofs::ShapeCheckLemmas::shape_checks))]
 fn check_generator_exp(class: Option<&str>, e: &ExprGeneratorExp) -> Result<(), Malformed>
     ensures { result ≡ first_malformed
         (expr_shapes (option_copied class.entry) (view.generator_exp_tree e.now)) }
@@ -152,7 +152,7 @@ fn check_generator_exp(class: Option<&str>, e: &ExprGeneratorExp) -> Result<(), 
 }
 
 #[cycle(shapes)]
-#[tactic(auto, using(crate::proofs::Checks::checks))]
+#[tactic(auto, using(crate::proofs::ShapeCheckLemmas::shape_checks))]
 fn check_dict_comp(class: Option<&str>, e: &ExprDictComp) -> Result<(), Malformed>
     ensures { result ≡ first_malformed
         (expr_shapes (option_copied class.entry) (view.dict_comp_tree e.now)) }
@@ -164,7 +164,7 @@ fn check_dict_comp(class: Option<&str>, e: &ExprDictComp) -> Result<(), Malforme
 }
 
 #[cycle(shapes)]
-#[tactic(auto, using(crate::proofs::Checks::checks))]
+#[tactic(auto, using(crate::proofs::ShapeCheckLemmas::shape_checks))]
 fn check_compare(class: Option<&str>, e: &ExprCompare) -> Result<(), Malformed>
     ensures { result ≡ first_malformed
         (expr_shapes (option_copied class.entry) (view.compare_tree e.now)) }
@@ -176,7 +176,7 @@ fn check_compare(class: Option<&str>, e: &ExprCompare) -> Result<(), Malformed>
 }
 
 #[cycle(shapes)]
-#[tactic(auto, using(crate::proofs::Checks::checks))]
+#[tactic(auto, using(crate::proofs::ShapeCheckLemmas::shape_checks))]
 fn check_call(class: Option<&str>, e: &ExprCall) -> Result<(), Malformed>
     ensures { result ≡ first_malformed
         (expr_shapes (option_copied class.entry) (view.call_tree e.now)) }
@@ -187,7 +187,7 @@ fn check_call(class: Option<&str>, e: &ExprCall) -> Result<(), Malformed>
 }
 
 #[cycle(shapes)]
-#[tactic(auto, using(crate::proofs::Checks::checks))]
+#[tactic(auto, using(crate::proofs::ShapeCheckLemmas::shape_checks))]
 fn check_dict(class: Option<&str>, e: &ExprDict) -> Result<(), Malformed>
     ensures { result ≡ first_malformed
         (expr_shapes (option_copied class.entry) (view.dict_tree e.now)) }
@@ -198,7 +198,7 @@ fn check_dict(class: Option<&str>, e: &ExprDict) -> Result<(), Malformed>
 }
 
 #[cycle(shapes)]
-#[tactic(auto, using(crate::proofs::Checks::checks))]
+#[tactic(auto, using(crate::proofs::ShapeCheckLemmas::shape_checks))]
 fn check_slice(class: Option<&str>, e: &ExprSlice) -> Result<(), Malformed>
     ensures { result ≡ first_malformed
         (expr_shapes (option_copied class.entry) (view.slice_tree e.now)) }
@@ -209,7 +209,7 @@ fn check_slice(class: Option<&str>, e: &ExprSlice) -> Result<(), Malformed>
 }
 
 #[cycle(shapes)]
-#[tactic(auto, using(crate::proofs::Checks::checks))]
+#[tactic(auto, using(crate::proofs::ShapeCheckLemmas::shape_checks))]
 fn check_keys(class: Option<&str>, keys: &[Option<Expr>]) -> Result<(), Malformed>
     ensures { result ≡ first_malformed
         (opt_exprs_shapes (option_copied class.entry) (view.opt_exprs view.expr_tree keys.now)) }
@@ -221,7 +221,7 @@ fn check_keys(class: Option<&str>, keys: &[Option<Expr>]) -> Result<(), Malforme
 }
 
 #[cycle(shapes)]
-#[tactic(auto, using(crate::proofs::Checks::checks))]
+#[tactic(auto, using(crate::proofs::ShapeCheckLemmas::shape_checks))]
 fn check_key(class: Option<&str>, key: &Option<Expr>) -> Result<(), Malformed>
     ensures { result ≡ first_malformed
         (opt_expr_shapes (option_copied class.entry) (view.opt_expr view.expr_tree key.now)) }
@@ -237,7 +237,7 @@ fn check_key(class: Option<&str>, key: &Option<Expr>) -> Result<(), Malformed>
 /// # Errors
 /// The first of the shapes that the definition of the same name asks for and that is not there.
 #[cycle(shapes)]
-#[tactic(auto, using(crate::proofs::Checks::checks))]
+#[tactic(auto, using(crate::proofs::ShapeCheckLemmas::shape_checks))]
 pub fn check_keywords(class: Option<&str>, items: &[Keyword]) -> Result<(), Malformed>
     ensures { result ≡ first_malformed
         (keywords_shapes (option_copied class.entry) (view.keywords view.expr_tree items.now)) }
@@ -249,7 +249,7 @@ pub fn check_keywords(class: Option<&str>, items: &[Keyword]) -> Result<(), Malf
 }
 
 #[cycle(shapes)]
-#[tactic(auto, using(crate::proofs::Checks::checks))]
+#[tactic(auto, using(crate::proofs::ShapeCheckLemmas::shape_checks))]
 fn check_keyword(class: Option<&str>, keyword: &Keyword) -> Result<(), Malformed>
     ensures { result ≡ first_malformed
         (opt_name_shapes keyword.now.arg ++ expr_shapes (option_copied class.entry)
@@ -260,7 +260,7 @@ fn check_keyword(class: Option<&str>, keyword: &Keyword) -> Result<(), Malformed
 }
 
 #[cycle(shapes)]
-#[tactic(auto, using(crate::proofs::Steps::generators_step))]
+#[tactic(auto, using(crate::proofs::ListShapeLemmas::generators_step))]
 fn check_generators(class: Option<&str>, clauses: &[Comprehension]) -> Result<(), Malformed>
     ensures { result ≡ first_malformed
         (generators_shapes (option_copied class.entry)
@@ -273,7 +273,7 @@ fn check_generators(class: Option<&str>, clauses: &[Comprehension]) -> Result<()
 }
 
 #[cycle(shapes)]
-#[tactic(auto, using(crate::proofs::Checks::checks))]
+#[tactic(auto, using(crate::proofs::ShapeCheckLemmas::shape_checks))]
 fn check_generator(class: Option<&str>, clause: &Comprehension) -> Result<(), Malformed>
     ensures { result ≡ first_malformed
         (expr_shapes (option_copied class.entry) (view.expr_tree clause.now.target.value)
@@ -290,7 +290,7 @@ fn check_generator(class: Option<&str>, clause: &Comprehension) -> Result<(), Ma
 /// # Errors
 /// The first of the shapes that the definition of the same name asks for and that is not there.
 #[cycle(shapes)]
-#[tactic(auto, using(crate::proofs::Checks::checks))]
+#[tactic(auto, using(crate::proofs::ShapeCheckLemmas::shape_checks))]
 pub fn check_arguments(class: Option<&str>, params: &Arguments) -> Result<(), Malformed>
     ensures { result ≡ first_malformed
         (arguments_shapes (option_copied class.entry) (view.arguments view.expr_tree params.now)) }
@@ -304,7 +304,7 @@ pub fn check_arguments(class: Option<&str>, params: &Arguments) -> Result<(), Ma
 }
 
 #[cycle(shapes)]
-#[tactic(auto, using(crate::proofs::Steps::args_step))]
+#[tactic(auto, using(crate::proofs::ListShapeLemmas::args_step))]
 fn check_args(class: Option<&str>, items: &[ArgWithDefault]) -> Result<(), Malformed>
     ensures { result ≡ first_malformed
         (args_shapes (option_copied class.entry) (view.args view.expr_tree items.now)) }
@@ -316,7 +316,7 @@ fn check_args(class: Option<&str>, items: &[ArgWithDefault]) -> Result<(), Malfo
 }
 
 #[cycle(shapes)]
-#[tactic(auto, using(crate::proofs::Checks::checks))]
+#[tactic(auto, using(crate::proofs::ShapeCheckLemmas::shape_checks))]
 fn check_default_arg(class: Option<&str>, item: &ArgWithDefault) -> Result<(), Malformed>
     ensures { result ≡ first_malformed
         (arg_shapes (option_copied class.entry) (view.arg view.expr_tree item.now.def)
@@ -328,7 +328,7 @@ fn check_default_arg(class: Option<&str>, item: &ArgWithDefault) -> Result<(), M
 }
 
 #[cycle(shapes)]
-#[tactic(auto, using(crate::proofs::Checks::checks))]
+#[tactic(auto, using(crate::proofs::ShapeCheckLemmas::shape_checks))]
 fn check_optional_arg(class: Option<&str>, value: &Option<Box<Arg>>) -> Result<(), Malformed>
     ensures { result ≡ first_malformed
         (opt_arg_shapes (option_copied class.entry) (view.opt_arg view.expr_tree value.now)) }
@@ -340,7 +340,7 @@ fn check_optional_arg(class: Option<&str>, value: &Option<Box<Arg>>) -> Result<(
 }
 
 #[cycle(shapes)]
-#[tactic(auto, using(crate::proofs::Checks::checks))]
+#[tactic(auto, using(crate::proofs::ShapeCheckLemmas::shape_checks))]
 fn check_arg(class: Option<&str>, param: &Arg) -> Result<(), Malformed>
     ensures { result ≡ first_malformed
         (arg_shapes (option_copied class.entry) (view.arg view.expr_tree param.now)) }

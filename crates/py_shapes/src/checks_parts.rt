@@ -12,7 +12,7 @@ use py_tree::{Malformed, TypeParam, WithItem};
 ///
 /// # Errors
 /// The first of the shapes that the definition of the same name asks for and that is not there.
-#[tactic(auto, using(crate::proofs::Steps::type_params_step))]
+#[tactic(auto, using(crate::proofs::ListShapeLemmas::type_params_step))]
 pub fn check_type_params(class: Option<&str>, items: &[TypeParam]) -> Result<(), Malformed>
     ensures { result ≡ first_malformed
         (type_params_shapes (option_copied class.entry) (view.type_params items.now)) }
@@ -23,7 +23,7 @@ pub fn check_type_params(class: Option<&str>, items: &[TypeParam]) -> Result<(),
     Ok(())
 }
 
-#[tactic(auto, using(crate::proofs::Checks::checks))]
+#[tactic(auto, using(crate::proofs::ShapeCheckLemmas::shape_checks))]
 fn check_type_param(class: Option<&str>, item: &TypeParam) -> Result<(), Malformed>
     ensures { result ≡ first_malformed
         (type_param_shapes (option_copied class.entry) (view.type_param_tree item.now)) }
@@ -42,7 +42,7 @@ fn check_type_param(class: Option<&str>, item: &TypeParam) -> Result<(), Malform
 ///
 /// # Errors
 /// The first of the shapes that the definition of the same name asks for and that is not there.
-#[tactic(auto, using(crate::proofs::Steps::items_step))]
+#[tactic(auto, using(crate::proofs::ListShapeLemmas::items_step))]
 pub fn check_items(class: Option<&str>, items: &[WithItem]) -> Result<(), Malformed>
     ensures { result ≡ first_malformed
         (with_items_shapes (option_copied class.entry) (view.with_items items.now)) }
@@ -53,7 +53,7 @@ pub fn check_items(class: Option<&str>, items: &[WithItem]) -> Result<(), Malfor
     Ok(())
 }
 
-#[tactic(auto, using(crate::proofs::Checks::checks))]
+#[tactic(auto, using(crate::proofs::ShapeCheckLemmas::shape_checks))]
 fn check_item(class: Option<&str>, item: &WithItem) -> Result<(), Malformed>
     ensures { result ≡ first_malformed
         (expr_shapes (option_copied class.entry) (view.expr_tree item.now.context_expr.value)

@@ -22,7 +22,7 @@ use py_tree::{
 /// # Errors
 /// The first of the shapes that the definition of the same name asks for and that is not there.
 #[cycle(body)]
-#[tactic(auto, using(crate::proofs::Checks::checks))]
+#[tactic(auto, using(crate::proofs::ShapeCheckLemmas::shape_checks))]
 pub fn check_stmts(class: Option<&str>, body: &[Stmt]) -> Result<(), Malformed>
     ensures { result ≡ first_malformed
         (stmts_shapes (option_copied class.entry) (view.stmts view.stmt_tree body.now)) }
@@ -34,7 +34,7 @@ pub fn check_stmts(class: Option<&str>, body: &[Stmt]) -> Result<(), Malformed>
 }
 
 #[cycle(body)]
-#[tactic(auto, using(crate::proofs::Checks::checks))]
+#[tactic(auto, using(crate::proofs::ShapeCheckLemmas::shape_checks))]
 fn check_stmt(class: Option<&str>, stmt: &Stmt) -> Result<(), Malformed>
     ensures { result ≡ first_malformed
         (stmt_shapes (option_copied class.entry) (view.stmt_tree stmt.now)) }
@@ -112,7 +112,7 @@ fn check_stmt(class: Option<&str>, stmt: &Stmt) -> Result<(), Malformed>
 }
 
 #[cycle(body)]
-#[tactic(auto, using(crate::proofs::Checks::checks))]
+#[tactic(auto, using(crate::proofs::ShapeCheckLemmas::shape_checks))]
 fn check_def(class: Option<&str>, s: &StmtFunctionDef) -> Result<(), Malformed>
     ensures { result ≡ first_malformed
         (stmt_shapes (option_copied class.entry) (view.function_def_tree s.now)) }
@@ -126,7 +126,7 @@ fn check_def(class: Option<&str>, s: &StmtFunctionDef) -> Result<(), Malformed>
 }
 
 #[cycle(body)]
-#[tactic(auto, using(crate::proofs::Checks::checks))]
+#[tactic(auto, using(crate::proofs::ShapeCheckLemmas::shape_checks))]
 fn check_async_def(class: Option<&str>, s: &StmtAsyncFunctionDef) -> Result<(), Malformed>
     ensures { result ≡ first_malformed
         (stmt_shapes (option_copied class.entry) (view.async_function_def_tree s.now)) }
@@ -141,7 +141,7 @@ fn check_async_def(class: Option<&str>, s: &StmtAsyncFunctionDef) -> Result<(), 
 
 /// A class: its body stands in it, and what stands before the body does not.
 #[cycle(body)]
-#[tactic(auto, using(crate::proofs::Checks::checks))]
+#[tactic(auto, using(crate::proofs::ShapeCheckLemmas::shape_checks))]
 fn check_class(class: Option<&str>, s: &StmtClassDef) -> Result<(), Malformed>
     ensures { result ≡ first_malformed
         (stmt_shapes (option_copied class.entry) (view.class_def_tree s.now)) }
@@ -155,7 +155,7 @@ fn check_class(class: Option<&str>, s: &StmtClassDef) -> Result<(), Malformed>
 }
 
 #[cycle(body)]
-#[tactic(auto, using(crate::proofs::Checks::checks))]
+#[tactic(auto, using(crate::proofs::ShapeCheckLemmas::shape_checks))]
 fn check_for(class: Option<&str>, s: &StmtFor) -> Result<(), Malformed>
     ensures { result ≡ first_malformed
         (stmt_shapes (option_copied class.entry) (view.for_tree s.now)) }
@@ -167,7 +167,7 @@ fn check_for(class: Option<&str>, s: &StmtFor) -> Result<(), Malformed>
 }
 
 #[cycle(body)]
-#[tactic(auto, using(crate::proofs::Checks::checks))]
+#[tactic(auto, using(crate::proofs::ShapeCheckLemmas::shape_checks))]
 fn check_async_for(class: Option<&str>, s: &StmtAsyncFor) -> Result<(), Malformed>
     ensures { result ≡ first_malformed
         (stmt_shapes (option_copied class.entry) (view.async_for_tree s.now)) }
@@ -179,7 +179,7 @@ fn check_async_for(class: Option<&str>, s: &StmtAsyncFor) -> Result<(), Malforme
 }
 
 #[cycle(body)]
-#[tactic(auto, using(crate::proofs::Checks::checks))]
+#[tactic(auto, using(crate::proofs::ShapeCheckLemmas::shape_checks))]
 fn check_try(class: Option<&str>, s: &StmtTry) -> Result<(), Malformed>
     ensures { result ≡ first_malformed
         (stmt_shapes (option_copied class.entry) (view.try_tree s.now)) }
@@ -191,7 +191,7 @@ fn check_try(class: Option<&str>, s: &StmtTry) -> Result<(), Malformed>
 }
 
 #[cycle(body)]
-#[tactic(auto, using(crate::proofs::Checks::checks))]
+#[tactic(auto, using(crate::proofs::ShapeCheckLemmas::shape_checks))]
 fn check_try_star(class: Option<&str>, s: &StmtTryStar) -> Result<(), Malformed>
     ensures { result ≡ first_malformed
         (stmt_shapes (option_copied class.entry) (view.try_star_tree s.now)) }
@@ -203,7 +203,7 @@ fn check_try_star(class: Option<&str>, s: &StmtTryStar) -> Result<(), Malformed>
 }
 
 #[cycle(body)]
-#[tactic(auto, using(crate::proofs::Steps::handlers_step))]
+#[tactic(auto, using(crate::proofs::ListShapeLemmas::handlers_step))]
 fn check_handlers(class: Option<&str>, handlers: &[ExceptHandler]) -> Result<(), Malformed>
     ensures { result ≡ first_malformed
         (handlers_shapes (option_copied class.entry) (view.handlers view.stmt_tree handlers.now)) }
@@ -215,7 +215,7 @@ fn check_handlers(class: Option<&str>, handlers: &[ExceptHandler]) -> Result<(),
 }
 
 #[cycle(body)]
-#[tactic(auto, using(crate::proofs::Checks::checks))]
+#[tactic(auto, using(crate::proofs::ShapeCheckLemmas::shape_checks))]
 fn check_handler(class: Option<&str>, handler: &ExceptHandler) -> Result<(), Malformed>
     ensures { result ≡ first_malformed
         (handler_own_shapes (view.opt_box view.expr_tree handler.now.type_) handler.now.name
@@ -230,7 +230,7 @@ fn check_handler(class: Option<&str>, handler: &ExceptHandler) -> Result<(), Mal
 }
 
 #[cycle(body)]
-#[tactic(auto, using(crate::proofs::Checks::checks))]
+#[tactic(auto, using(crate::proofs::ShapeCheckLemmas::shape_checks))]
 fn check_cases(class: Option<&str>, cases: &[MatchCase]) -> Result<(), Malformed>
     ensures { result ≡ first_malformed
         (cases_shapes (option_copied class.entry) (view.cases view.stmt_tree cases.now)) }
@@ -242,7 +242,7 @@ fn check_cases(class: Option<&str>, cases: &[MatchCase]) -> Result<(), Malformed
 }
 
 #[cycle(body)]
-#[tactic(auto, using(crate::proofs::Checks::checks))]
+#[tactic(auto, using(crate::proofs::ShapeCheckLemmas::shape_checks))]
 fn check_case(class: Option<&str>, case: &MatchCase) -> Result<(), Malformed>
     ensures { result ≡ first_malformed
         (stmts_shapes (option_copied class.entry) (view.stmts view.stmt_tree case.now.body)) }

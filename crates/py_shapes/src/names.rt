@@ -108,7 +108,7 @@ pub fn check_module(path: &Option<Text>) -> Result<(), Malformed>
 ///
 /// # Errors
 /// The first of the shapes that the definition of the same name asks for and that is not there.
-#[tactic(auto, using(crate::proofs::Checks::checks))]
+#[tactic(auto, using(crate::proofs::ShapeCheckLemmas::shape_checks))]
 pub fn check_aliases(names: &[Alias]) -> Result<(), Malformed>
     ensures { result ≡ first_malformed (aliases_shapes names.now) }
 {
@@ -134,7 +134,7 @@ fn check_alias(alias: &Alias) -> Result<(), Malformed>
 ///
 /// # Errors
 /// The first of the shapes that the definition of the same name asks for and that is not there.
-#[tactic(auto, using(crate::proofs::Checks::checks))]
+#[tactic(auto, using(crate::proofs::ShapeCheckLemmas::shape_checks))]
 pub fn check_imports(names: &[Alias]) -> Result<(), Malformed>
     ensures { result ≡ first_malformed (imports_shapes names.now) }
 {

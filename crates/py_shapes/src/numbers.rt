@@ -38,7 +38,7 @@ pub fn check_targets(count: usize) -> Result<(), Malformed>
 ///
 /// # Errors
 /// The first of the shapes that the definition of the same name asks for and that is not there.
-#[tactic(auto, using(crate::proofs::Checks::generators_given))]
+#[tactic(auto, using(crate::proofs::ShapeCheckLemmas::generators_given))]
 pub fn check_generators_given(clauses: &[Comprehension]) -> Result<(), Malformed>
     ensures { result ≡ first_malformed
         (when (not (has_generator (view.generators view.expr_tree clauses.now))) NoGenerator) }

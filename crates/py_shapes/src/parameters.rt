@@ -52,7 +52,7 @@ fn some_meet(class: Option<&str>, items: &[ArgWithDefault], others: &[ArgWithDef
 }
 
 /// Whether a parameter of the list has the name of the other one, where there is one.
-#[tactic(auto, using(crate::proofs::Repeated::repeated_parts))]
+#[tactic(auto, using(crate::proofs::RepeatedNameLemmas::repeated_parts))]
 fn some_meets(class: Option<&str>, items: &[ArgWithDefault], other: &Option<Box<Arg>>) -> bool
     ensures { result ≡ names_meet (args_names (option_copied class.entry)
         (view.args view.expr_tree items.now))
@@ -79,7 +79,7 @@ fn both_meet(class: Option<&str>, param: &Option<Box<Arg>>, other: &Option<Box<A
 }
 
 /// Whether a parameter of the list has the name of `*args` or `**kwargs`.
-#[tactic(auto, using(crate::proofs::Repeated::repeated_parts))]
+#[tactic(auto, using(crate::proofs::RepeatedNameLemmas::repeated_parts))]
 fn meets_ends(class: Option<&str>, items: &[ArgWithDefault], params: &Arguments) -> bool
     ensures { result ≡ names_meet (args_names (option_copied class.entry)
         (view.args view.expr_tree items.now))
@@ -89,7 +89,7 @@ fn meets_ends(class: Option<&str>, items: &[ArgWithDefault], params: &Arguments)
 }
 
 /// Whether a parameter of the list has the name of one that is no positional one.
-#[tactic(auto, using(crate::proofs::Repeated::repeated_parts))]
+#[tactic(auto, using(crate::proofs::RepeatedNameLemmas::repeated_parts))]
 fn meets_keyword(class: Option<&str>, items: &[ArgWithDefault], params: &Arguments) -> bool
     ensures { result ≡ names_meet (args_names (option_copied class.entry)
         (view.args view.expr_tree items.now))
@@ -100,7 +100,7 @@ fn meets_keyword(class: Option<&str>, items: &[ArgWithDefault], params: &Argumen
 }
 
 /// Whether two keyword-only parameters, `*args` and `**kwargs` have one name.
-#[tactic(auto, using(crate::proofs::Repeated::repeated_parts))]
+#[tactic(auto, using(crate::proofs::RepeatedNameLemmas::repeated_parts))]
 fn keyword_repeated(class: Option<&str>, params: &Arguments) -> bool
     ensures { result ≡ has_repeat (args_names (option_copied class.entry)
         (view.args view.expr_tree params.now.kwonlyargs)
@@ -113,7 +113,7 @@ fn keyword_repeated(class: Option<&str>, params: &Arguments) -> bool
 }
 
 /// Whether two parameters have one name.
-#[tactic(auto, using(crate::proofs::Repeated::repeated_parts))]
+#[tactic(auto, using(crate::proofs::RepeatedNameLemmas::repeated_parts))]
 fn same_parameter(class: Option<&str>, params: &Arguments) -> bool
     ensures { result ≡ has_repeat (parameter_names (option_copied class.entry)
         (view.arguments view.expr_tree params.now)) }
@@ -177,7 +177,7 @@ fn is_disordered(items: &[ArgWithDefault]) -> bool
 }
 
 /// Whether a positional parameter without a default stands after one with a default.
-#[tactic(auto, using(crate::proofs::Repeated::disordered_append))]
+#[tactic(auto, using(crate::proofs::RepeatedNameLemmas::disordered_append))]
 fn wrong_order(params: &Arguments) -> bool
     ensures { result ≡ has_disorder
         (defaults (view.args view.expr_tree params.now.posonlyargs)

@@ -14,7 +14,7 @@ use py_tree::{Expr, Malformed, Mod, Mode, Stmts};
 /// them. The call goes as deep as the tree, so a tree that may nest deeper than 2^10 is to be asked its depth
 /// first. It takes no memory, so each parameter of a function is compared with each other one: the steps grow
 /// as the square of their number.
-#[tactic(auto, using(crate::proofs::Checks::checks, crate::proofs::Checks::err_checked))]
+#[tactic(auto, using(crate::proofs::ShapeCheckLemmas::shape_checks, crate::proofs::ShapeCheckLemmas::err_checked))]
 pub fn valid(tree: &Mod, mode: Mode) -> Option<Malformed>
     requires { nesting (mod_tree tree.now) < 2 ^ 10 }
     ensures { result ≡ first (shapes (mod_tree tree.now) mode) }
@@ -31,7 +31,7 @@ pub fn valid(tree: &Mod, mode: Mode) -> Option<Malformed>
 }
 
 /// The first wrong shape of these statements, as `valid`.
-#[tactic(auto, using(crate::proofs::Checks::err_checked))]
+#[tactic(auto, using(crate::proofs::ShapeCheckLemmas::err_checked))]
 pub fn valid_body(body: &Stmts) -> Option<Malformed>
     requires { nesting (tree.Module (stmts stmt_tree body.now)) < 2 ^ 10 }
     ensures { result ≡ first (stmts_shapes None (stmts stmt_tree body.now)) }
@@ -40,7 +40,7 @@ pub fn valid_body(body: &Stmts) -> Option<Malformed>
 }
 
 /// The first wrong shape of the expression, as `valid`.
-#[tactic(auto, using(crate::proofs::Checks::err_checked))]
+#[tactic(auto, using(crate::proofs::ShapeCheckLemmas::err_checked))]
 pub fn valid_expr(expr: &Expr) -> Option<Malformed>
     requires { expr_nesting (expr_tree expr.now) + 1 < 2 ^ 10 }
     ensures { result ≡ first (expr_shapes None (expr_tree expr.now)) }

@@ -1,2 +1,2 @@
-mod Alike
-pub mod Told
+mod RunReportLemmas
+pub mod AgreementReportLemmas

@@ -4,11 +4,11 @@ pub mod UnwindLemmas
 pub mod InstructionLemmas
 pub mod RunViewLemmas
 pub mod ProgramStopLemmas
-pub mod BlocksLeft
+pub mod BlockExitLemmas
 pub mod TakenValueLemmas
 pub mod PushLemmas
 pub mod StackCutLemmas
 pub mod PeekLemmas
-pub mod Heights
+pub mod StackHeightLemmas
 pub mod FetchLemmas
 pub mod ReverseLemmas

@@ -112,6 +112,6 @@ told_fails End.Wrong events d n h = ap told_run h
 told_fails End.Leaked events d n h = ap told_run h
 told_fails End.OutOfMemory events d n h = absurd (cc)
 
-pub told_as : (went : Result ℕ End) (s : State) (d : Run ℕ) → lacks_memory went ≡ false → Runs (λ (p : ℕ). p) went s d → told_run d ≡ ran s.world.events (went_to went)
-told_as (Ok place) s d n h = ap told_run h
-told_as (Err e) s d n h = told_fails e s.world.events d n h
+pub run_told_as : (went : Result ℕ End) (s : State) (d : Run ℕ) → lacks_memory went ≡ false → Runs (λ (p : ℕ). p) went s d → told_run d ≡ ran s.world.events (went_to went)
+run_told_as (Ok place) s d n h = ap told_run h
+run_told_as (Err e) s d n h = told_fails e s.world.events d n h

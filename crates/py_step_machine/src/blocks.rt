@@ -14,7 +14,7 @@ use py_bytecode::{ConstantData, Instruction};
 use py_step_decode::{Entry, Value};
 
 impl<'c> Machine<'c> {
-    #[tactic(auto, using(crate::proofs::Heights::stacked_height), unfolding(crate::specs::Does::setting_loop))]
+    #[tactic(auto, using(crate::proofs::StackHeightLemmas::stacked_height), unfolding(crate::specs::Does::setting_loop))]
     pub fn set_up_loop(&mut self, next: usize) -> Result<usize, Stop<'c>>
         ensures { Does (λ p. p) result (state_of self.new) (setting_loop next (state_of self.old)) }
     {
@@ -23,7 +23,7 @@ impl<'c> Machine<'c> {
         Ok(next)
     }
 
-    #[tactic(auto, using(crate::proofs::Heights::stacked_height), unfolding(crate::specs::Does::setting_except))]
+    #[tactic(auto, using(crate::proofs::StackHeightLemmas::stacked_height), unfolding(crate::specs::Does::setting_except))]
     pub fn set_up_except(&mut self, handler: usize, next: usize) -> Result<usize, Stop<'c>>
         ensures { Does (λ p. p) result (state_of self.new)
             (setting_except handler next (state_of self.old)) }
@@ -33,7 +33,7 @@ impl<'c> Machine<'c> {
         Ok(next)
     }
 
-    #[tactic(auto, using(crate::proofs::Heights::stacked_height), unfolding(crate::specs::Does::setting_finally))]
+    #[tactic(auto, using(crate::proofs::StackHeightLemmas::stacked_height), unfolding(crate::specs::Does::setting_finally))]
     pub fn set_up_finally(&mut self, handler: usize, next: usize) -> Result<usize, Stop<'c>>
         ensures { Does (λ p. p) result (state_of self.new)
             (setting_finally handler next (state_of self.old)) }
@@ -43,7 +43,7 @@ impl<'c> Machine<'c> {
         Ok(next)
     }
 
-    #[tactic(auto, using(crate::proofs::Heights::stacked_height), unfolding(crate::specs::Does::entering_finally))]
+    #[tactic(auto, using(crate::proofs::StackHeightLemmas::stacked_height), unfolding(crate::specs::Does::entering_finally))]
     pub fn enter_finally(&mut self, next: usize) -> Result<usize, Stop<'c>>
         ensures { Does (λ p. p) result (state_of self.new)
             (entering_finally next (state_of self.old)) }
@@ -187,7 +187,7 @@ impl<'c> Machine<'c> {
         Ok(next)
     }
 
-    #[tactic(auto, using(crate::proofs::Heights::stacked_height), unfolding(crate::specs::Does::setting_with))]
+    #[tactic(auto, using(crate::proofs::StackHeightLemmas::stacked_height), unfolding(crate::specs::Does::setting_with))]
     pub fn set_up_with(&mut self, handler: usize, next: usize) -> Result<usize, Stop<'c>>
         ensures { Does (λ p. p) result (state_of self.new)
             (setting_with handler next (state_of self.old)) }

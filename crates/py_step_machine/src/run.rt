@@ -109,7 +109,7 @@ impl<'c> Machine<'c> {
     }
 
     // A state above the code's limit of height is wrong.
-    #[tactic(auto, using(crate::proofs::Heights::stacked_height))]
+    #[tactic(auto, using(crate::proofs::StackHeightLemmas::stacked_height))]
     fn keep(&mut self, code: &CodeObject, place: usize) -> Result<usize, End<'c>>
         ensures { Runs (λ p. p) result (state_of self.new)
             (keep_to_limit (head (object code.now)).max_stackdepth place (state_of self.old)) }

@@ -18,11 +18,11 @@ use Rattle.py_emission_parts.specs.TypeParameters.{in_type_param_scope, type_par
 use Rattle.py_emission.specs.Emission.{all_emissions, keyword_emissions}
 use Rattle.py_emission.specs.EmissionDefs.{class_call as emission_of_class_call, emission_of_built, emission_of_class, emission_of_generic_class}
 use Rattle.py_emission.specs.EmissionStmts.{emission_of_rest}
-use Rattle.py_emit.proofs.Joined.{joined_actions}
+use Rattle.py_emit.proofs.JoinedEmissionLemmas.{joined_actions}
 use Rattle.py_stmt_simple.proofs.EmissionGroupLemmas.{after_same, before_same}
 use Rattle.py_expr_parts.specs.Turns.{closed_run}
 use Rattle.py_expr_parts.specs.Calls.{argument_tuple, arguments, call_of_type, keyword_arguments, positional, taken_type, type_of}
-use Rattle.py_expr_parts.proofs.CallOperands.{call_is}
+use Rattle.py_expr_parts.proofs.CallOperandLemmas.{call_is}
 use Rattle.py_stmt.specs.Classes.{built_emission, built_of, class_body, class_built, class_emission, class_params, function_emission, generic_emission, emitted_class}
 use Rattle.py_stmt_parts.specs.Generics.{params_flag}
 use Rattle.py_stmt_simple.specs.Generics.{some_params}

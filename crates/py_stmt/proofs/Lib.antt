@@ -1,7 +1,7 @@
 pub mod LocationLemmas
-pub mod Parts
+pub mod TryPartLemmas
 pub mod PlacedStatementLemmas
-pub mod FunctionParts
+pub mod FunctionPartLemmas
 pub mod TypeParameterFunctionLemmas
 pub mod ClassCallLemmas
-pub mod Lasts
+pub mod PromptBlockLemmas

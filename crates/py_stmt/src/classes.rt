@@ -26,7 +26,7 @@ use py_tree::{StmtClassDef, Stmts, Text};
 
 /// Emits the definition of a class, and what stores it under its name.
 #[cycle(code)]
-#[tactic(auto, using(py_stmt_parts::proofs::Steps::step_steps))]
+#[tactic(auto, using(py_stmt_parts::proofs::StatementStepLemmas::step_steps))]
 pub(crate) fn compile_class_def(em: &mut Emitter, s: &StmtClassDef) -> Result<(), CodegenError>
     requires at { (state em.old).location ≡ s.now.location }
     ensures { Emits result (emission_of_stmt (class_def_tree s.now)) em.old em.new }
@@ -171,7 +171,7 @@ fn compile_class_scope(
 
 /// Emits what a class's own scope holds: its names, room for annotations where there are any, its statements and its end.
 #[cycle(code)]
-#[tactic(auto, using(crate::proofs::FunctionParts::function_part_rest_is))]
+#[tactic(auto, using(crate::proofs::FunctionPartLemmas::function_part_rest_is))]
 fn compile_inner(em: &mut Emitter, body: &Stmts, path: Text) -> Result<(), CodegenError>
     requires loops { AreMade (rest em.old).context.loop_blocks }
     requires path { path ≡ (state em.old).node_context.context.path }

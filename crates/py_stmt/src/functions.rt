@@ -29,7 +29,7 @@ use py_tree::{Stmt, StmtFunctionDef, Stmts, Text};
 
 /// Emits the definition of a function, and what stores it under its name.
 #[cycle(code)]
-#[tactic(auto, using(py_stmt_parts::proofs::Steps::step_steps))]
+#[tactic(auto, using(py_stmt_parts::proofs::StatementStepLemmas::step_steps))]
 pub(crate) fn compile_function_def(
     em: &mut Emitter,
     s: &StmtFunctionDef,
@@ -203,7 +203,7 @@ fn compile_inner(em: &mut Emitter, s: &StmtFunctionDef) -> Result<(), CodegenErr
 
 /// Emits the statements of a function but its docstring, and a return of None where no return ends them.
 #[cycle(code)]
-#[tactic(auto, using(crate::proofs::FunctionParts::function_part_rest_is))]
+#[tactic(auto, using(crate::proofs::FunctionPartLemmas::function_part_rest_is))]
 fn compile_body(em: &mut Emitter, body: &Stmts) -> Result<(), CodegenError>
     requires loops { AreMade (rest em.old).context.loop_blocks }
     ensures { Emits result (body_emission (stmts stmt_tree body.now)) em.old em.new }

@@ -21,7 +21,7 @@ use py_tree::{Stmt, StmtClassDef, StmtFunctionDef};
 ///
 /// # Errors
 /// The first compile fault of the statements, with its location; MissingCell or TableMismatch; or OutOfMemory.
-#[tactic(auto, using(py_bytecode::proofs::View::views))]
+#[tactic(auto, using(py_bytecode::proofs::ConstantViewLemmas::views))]
 pub(crate) fn compile_single(em: &mut Emitter, body: &[Stmt]) -> Result<(), CodegenError>
     requires loops { AreMade (rest em.old).context.loop_blocks }
     ensures { Emits result (emission_of_single (stmts stmt_tree body.now)) em.old em.new }
@@ -55,7 +55,7 @@ fn compile_prompted(em: &mut Emitter, body: &[Stmt]) -> Result<(), CodegenError>
 }
 
 /// Emits a statement at a prompt that others follow.
-#[tactic(auto, using(py_tree::proofs::View::trees))]
+#[tactic(auto, using(py_tree::proofs::TreeViewLemmas::trees))]
 fn compile_prompted_one(em: &mut Emitter, statement: &Stmt) -> Result<(), CodegenError>
     requires loops { AreMade (rest em.old).context.loop_blocks }
     ensures { Emits result (prompted_stmt (stmt_tree statement.now)) em.old em.new }
@@ -67,7 +67,7 @@ fn compile_prompted_one(em: &mut Emitter, statement: &Stmt) -> Result<(), Codege
 }
 
 /// Emits the last statement at a prompt.
-#[tactic(auto, using(py_tree::proofs::View::trees))]
+#[tactic(auto, using(py_tree::proofs::TreeViewLemmas::trees))]
 fn compile_shown(em: &mut Emitter, statement: &Stmt) -> Result<(), CodegenError>
     requires loops { AreMade (rest em.old).context.loop_blocks }
     ensures { Emits result (shown_stmt (stmt_tree statement.now)) em.old em.new }
@@ -79,7 +79,7 @@ fn compile_shown(em: &mut Emitter, statement: &Stmt) -> Result<(), CodegenError>
 }
 
 /// Emits a statement and a return of None.
-#[tactic(auto, using(py_bytecode::proofs::View::views))]
+#[tactic(auto, using(py_bytecode::proofs::ConstantViewLemmas::views))]
 fn compile_ended(em: &mut Emitter, statement: &Stmt) -> Result<(), CodegenError>
     requires loops { AreMade (rest em.old).context.loop_blocks }
     ensures { Emits result (emission_of_stmt (stmt_tree statement.now)
@@ -94,7 +94,7 @@ fn compile_ended(em: &mut Emitter, statement: &Stmt) -> Result<(), CodegenError>
 ///
 /// # Errors
 /// The first compile fault of the statements, with its location; MissingCell or TableMismatch; or OutOfMemory.
-#[tactic(auto, using(py_bytecode::proofs::View::views))]
+#[tactic(auto, using(py_bytecode::proofs::ConstantViewLemmas::views))]
 pub(crate) fn compile_block(em: &mut Emitter, body: &[Stmt]) -> Result<(), CodegenError>
     requires loops { AreMade (rest em.old).context.loop_blocks }
     ensures { Emits result (emission_of_block (stmts stmt_tree body.now)) em.old em.new }
@@ -117,7 +117,7 @@ fn compile_block_parts(em: &mut Emitter, first: &[Stmt], last: &Stmt) -> Result<
 }
 
 /// Emits the last statement of a block, and the return of its value.
-#[tactic(auto, using(py_tree::proofs::View::trees, py_stmt_parts::proofs::Steps::step_steps))]
+#[tactic(auto, using(py_tree::proofs::TreeViewLemmas::trees, py_stmt_parts::proofs::StatementStepLemmas::step_steps))]
 fn compile_value(em: &mut Emitter, statement: &Stmt) -> Result<(), CodegenError>
     requires loops { AreMade (rest em.old).context.loop_blocks }
     ensures { Emits result (emission_of_value (stmt_tree statement.now)) em.old em.new }
@@ -134,7 +134,7 @@ fn compile_value(em: &mut Emitter, statement: &Stmt) -> Result<(), CodegenError>
 }
 
 /// Emits a function that is stored and returned.
-#[tactic(auto, using(py_stmt_parts::proofs::Steps::step_steps))]
+#[tactic(auto, using(py_stmt_parts::proofs::StatementStepLemmas::step_steps))]
 fn return_function(em: &mut Emitter, s: &StmtFunctionDef) -> Result<(), CodegenError>
     ensures { Emits result (emission_of_value (function_def_tree s.now)) em.old em.new }
 {
@@ -144,7 +144,7 @@ fn return_function(em: &mut Emitter, s: &StmtFunctionDef) -> Result<(), CodegenE
 }
 
 /// Emits a class that is stored and returned.
-#[tactic(auto, using(py_stmt_parts::proofs::Steps::step_steps))]
+#[tactic(auto, using(py_stmt_parts::proofs::StatementStepLemmas::step_steps))]
 fn return_class(em: &mut Emitter, s: &StmtClassDef) -> Result<(), CodegenError>
     ensures { Emits result (emission_of_value (class_def_tree s.now)) em.old em.new }
 {

@@ -19,7 +19,7 @@ use py_tree::{Stmt, StmtFor, StmtWhile};
 
 /// Emits a loop over the values of an iterator. Its else part runs where there are no more, and stands outside its block.
 #[cycle(code)]
-#[tactic(auto, using(py_stmt_parts::proofs::Steps::step_steps))]
+#[tactic(auto, using(py_stmt_parts::proofs::StatementStepLemmas::step_steps))]
 pub(crate) fn compile_for(em: &mut Emitter, s: &StmtFor) -> Result<(), CodegenError>
     requires loops { AreMade (rest em.old).context.loop_blocks }
     ensures { Emits result (for_each (emission (expr_tree s.now.iter.value))
@@ -74,7 +74,7 @@ fn end_each(em: &mut Emitter, orelse: &[Stmt]) -> Result<(), CodegenError>
 
 /// Emits a loop. Its else part runs where the test ends it, and stands outside its block.
 #[cycle(code)]
-#[tactic(auto, using(py_stmt_parts::proofs::Steps::step_steps))]
+#[tactic(auto, using(py_stmt_parts::proofs::StatementStepLemmas::step_steps))]
 pub(crate) fn compile_while(em: &mut Emitter, s: &StmtWhile) -> Result<(), CodegenError>
     requires loops { AreMade (rest em.old).context.loop_blocks }
     requires at { (state em.old).location ≡ s.now.location }

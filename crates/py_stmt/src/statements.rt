@@ -40,7 +40,7 @@ pub fn compile_statements(em: &mut Emitter, body: &[Stmt]) -> Result<(), Codegen
 }
 
 #[cycle(code)]
-#[tactic(auto, using(py_stmt_parts::proofs::Steps::step_steps))]
+#[tactic(auto, using(py_stmt_parts::proofs::StatementStepLemmas::step_steps))]
 pub(crate) fn compile_statement(em: &mut Emitter, statement: &Stmt) -> Result<(), CodegenError>
     requires loops { AreMade (rest em.old).context.loop_blocks }
     ensures { Emits result (emission_of_stmt (stmt_tree statement.now)) em.old em.new }
@@ -51,7 +51,7 @@ pub(crate) fn compile_statement(em: &mut Emitter, statement: &Stmt) -> Result<()
 
 /// Emits a statement, at whose location the emitter is.
 #[cycle(code)]
-#[tactic(auto, using(py_tree::proofs::View::trees, py_stmt_parts::proofs::Steps::step_steps))]
+#[tactic(auto, using(py_tree::proofs::TreeViewLemmas::trees, py_stmt_parts::proofs::StatementStepLemmas::step_steps))]
 fn compile_entered(em: &mut Emitter, statement: &Stmt) -> Result<(), CodegenError>
     requires loops { AreMade (rest em.old).context.loop_blocks }
     requires at { (state em.old).location ≡ stmt_location (stmt_tree statement.now) }
@@ -88,7 +88,7 @@ fn compile_entered(em: &mut Emitter, statement: &Stmt) -> Result<(), CodegenErro
 }
 
 #[cycle(code)]
-#[tactic(auto, using(py_stmt_parts::proofs::Steps::step_steps))]
+#[tactic(auto, using(py_stmt_parts::proofs::StatementStepLemmas::step_steps))]
 fn compile_if(em: &mut Emitter, s: &StmtIf) -> Result<(), CodegenError>
     requires loops { AreMade (rest em.old).context.loop_blocks }
     requires at { (state em.old).location ≡ s.now.location }
@@ -102,7 +102,7 @@ fn compile_if(em: &mut Emitter, s: &StmtIf) -> Result<(), CodegenError>
 
 /// Emits a body that runs where a test holds.
 #[cycle(code)]
-#[tactic(auto, using(py_stmt_parts::proofs::Steps::step_steps))]
+#[tactic(auto, using(py_stmt_parts::proofs::StatementStepLemmas::step_steps))]
 fn compile_only(em: &mut Emitter, s: &StmtIf) -> Result<(), CodegenError>
     requires loops { AreMade (rest em.old).context.loop_blocks }
     ensures { Emits result (only (emission_of_test (expr_tree s.now.test.value))
@@ -117,7 +117,7 @@ fn compile_only(em: &mut Emitter, s: &StmtIf) -> Result<(), CodegenError>
 
 /// Emits a choice between two bodies.
 #[cycle(code)]
-#[tactic(auto, using(py_stmt_parts::proofs::Steps::step_steps))]
+#[tactic(auto, using(py_stmt_parts::proofs::StatementStepLemmas::step_steps))]
 fn compile_choice(em: &mut Emitter, s: &StmtIf) -> Result<(), CodegenError>
     requires loops { AreMade (rest em.old).context.loop_blocks }
     ensures { Emits result (choice (emission_of_test (expr_tree s.now.test.value))

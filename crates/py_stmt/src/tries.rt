@@ -17,7 +17,7 @@ use py_tree::{ExceptHandler, Stmt, StmtTry, Text};
 
 /// Emits a body, what handles its exceptions, an else part, and a finally block that runs on every way out.
 #[cycle(code)]
-#[tactic(auto, using(py_stmt_parts::proofs::Steps::step_steps))]
+#[tactic(auto, using(py_stmt_parts::proofs::StatementStepLemmas::step_steps))]
 pub(crate) fn compile_try(em: &mut Emitter, s: &StmtTry) -> Result<(), CodegenError>
     requires loops { AreMade (rest em.old).context.loop_blocks }
     requires at { (state em.old).location ≡ s.now.location }
@@ -28,7 +28,7 @@ pub(crate) fn compile_try(em: &mut Emitter, s: &StmtTry) -> Result<(), CodegenEr
 
 /// Emits the parts of a `try`, which has a finally block where `last` says so.
 #[cycle(code)]
-#[tactic(auto, using(py_stmt_parts::proofs::Steps::step_steps))]
+#[tactic(auto, using(py_stmt_parts::proofs::StatementStepLemmas::step_steps))]
 fn compile_parts(em: &mut Emitter, s: &StmtTry, last: bool) -> Result<(), CodegenError>
     requires loops { AreMade (rest em.old).context.loop_blocks }
     ensures { Emits result (try_body last (emission_of_stmts (stmts stmt_tree s.now.body))
@@ -123,7 +123,7 @@ fn compile_handlers(
 
 /// Emits one handler: an exception that it does not take goes on after it.
 #[cycle(code)]
-#[tactic(auto, using(py_stmt_parts::proofs::Steps::step_steps))]
+#[tactic(auto, using(py_stmt_parts::proofs::StatementStepLemmas::step_steps))]
 fn compile_handler(
     em: &mut Emitter,
     handler: &ExceptHandler,
@@ -172,7 +172,7 @@ fn compile_named(em: &mut Emitter, name: &Option<Text>, body: &[Stmt]) -> Result
 }
 
 #[cycle(code)]
-#[tactic(auto, using(py_stmt_parts::proofs::Steps::step_steps))]
+#[tactic(auto, using(py_stmt_parts::proofs::StatementStepLemmas::step_steps))]
 fn compile_forgetting(em: &mut Emitter, name: &Text, body: &[Stmt]) -> Result<(), CodegenError>
     requires loops { AreMade (rest em.old).context.loop_blocks }
     ensures { Emits result (finally_do (emission_of_stmts (stmts stmt_tree body.now))

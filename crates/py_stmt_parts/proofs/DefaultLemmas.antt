@@ -12,7 +12,7 @@ use Rattle.py_emission_parts.specs.Emitting.{◌▸◌, State, emit_varname}
 use Rattle.py_emission_parts.specs.Running.{Action, on_done, run}
 use Rattle.py_emission_parts.specs.TypeParameters.{load_handed}
 use Rattle.py_emission.specs.Emission.{default_emissions, keyword_only_emissions, positional_emissions}
-use Rattle.py_emit.proofs.Joined.{joined_actions}
+use Rattle.py_emit.proofs.JoinedEmissionLemmas.{joined_actions}
 use Rattle.py_expr_scopes.specs.declared.functions.Defaults.{Defaults}
 use Rattle.py_expr_scopes.specs.Functions.{flag_if}
 use Rattle.py_stmt_parts.specs.Generics.{defaults_of, given_flags, handed_by, name_if, params_flag}

@@ -5,7 +5,7 @@ use Rattle.std.proofs.lemmas.Bool.{le-ltb, lt-ltb}
 use Rattle.std.proofs.Math.Seq.{drop-cons}
 use Rattle.std.proofs.lemmas.List.{length-drop, take_all}
 use Rattle.std.specs.Prelude.{IfNone, if◌then◌else◌, nat_lt}
-use Rattle.py_base.proofs.Numbers.{suc_is_plus_one}
+use Rattle.py_base.proofs.NumberLemmas.{suc_is_plus_one}
 use Rattle.py_base.specs.declared.location.LocatedError.{LocatedError}
 use Rattle.py_tree.specs.Tree as tree
 use Rattle.py_tree.specs.View.{stmt_tree, stmts}
@@ -19,7 +19,7 @@ use Rattle.py_emission.specs.EmissionFutures.{check_features, emission_after, em
 use Rattle.py_emission.specs.Futures.{Future, future_of, is_feature, postpones}
 use Rattle.py_emit.specs.States.{Rest, rest, state}
 use Rattle.py_emit.specs.declared.emitter.Emitter.{Emitter}
-use Rattle.py_emit.proofs.Joined.{done_same, went}
+use Rattle.py_emit.proofs.JoinedEmissionLemmas.{done_same, on_done_goes}
 use Rattle.py_stmt_parts.specs.Futures.{BeginsOtherwise, Entered, IsRefusing, Leads, Opens, changed_rest, has_other, opens_postponed, restore_postponed, restored_state}
 use Rattle.py_stmt_parts.specs.declared.futures.Opening.{Opening}
 
@@ -27,10 +27,10 @@ abbrev pub flag : State → Bool
 flag s = s.node_context.context.postponed
 
 -- nothing is restored where nothing has changed
-pub unrestored : (o : Outcome) (p : Bool) → on_done o (restore_postponed false p) ≡ o
-unrestored (Done s) p = refl
-unrestored TooWide p = refl
-unrestored (Refused e at) p = refl
+pub nothing_restored : (o : Outcome) (p : Bool) → on_done o (restore_postponed false p) ≡ o
+nothing_restored (Done s) p = refl
+nothing_restored TooWide p = refl
+nothing_restored (Refused e at) p = refl
 
 -- what is restored last decides
 restored_twice : (o : Outcome) (q p : Bool) → on_done (on_done o (λ t. Done (with_postponed q t))) (restore_postponed true p) ≡ on_done o (restore_postponed true p)
@@ -42,7 +42,7 @@ restored_twice (Refused e at) q p = refl
 -- what is restored there is what was before
 pub restored_so : (c q p : Bool) (o : Outcome) → (c ≡ false → q ≡ p) → on_done (on_done o (λ t. Done (with_postponed q t))) (restore_postponed c p) ≡ on_done o (restore_postponed true p)
 restored_so true q p o h = restored_twice o q p
-restored_so false q p o h = unrestored (on_done o (λ t. Done (with_postponed q t))) p ∙ ap (λ b. on_done o (λ t. Done (with_postponed b t))) (h refl)
+restored_so false q p o h = nothing_restored (on_done o (λ t. Done (with_postponed q t))) p ∙ ap (λ b. on_done o (λ t. Done (with_postponed b t))) (h refl)
 
 -- what the state and the rest say of it is the same
 pub flag_is : (e : Emitter) → (state e).node_context.context.postponed ≡ (rest e).context.future_annotations
@@ -102,9 +102,9 @@ future_here emission all i d f lt e =
     ∙ ap (λ j. emission_of_future f ▸ after_future_import f (emission_after emission (stmts stmt_tree (drop j all)))) (suc_is_plus_one i)
 
 -- whether another statement stands after it, and whether one of those that stand first postpones annotations
-pub others_next : (all : List Stmt) (i : ℕ) (d : Stmt) (f : Future) → i < length all → future_of (stmt_tree (get_or all i d)) ≡ Some f
+pub other_statement_next : (all : List Stmt) (i : ℕ) (d : Stmt) (f : Future) → i < length all → future_of (stmt_tree (get_or all i d)) ≡ Some f
     → has_other (stmts stmt_tree (drop i all)) ≡ has_other (stmts stmt_tree (drop (i + 1) all))
-others_next all i d f lt e =
+other_statement_next all i d f lt e =
     ap (λ xs. has_other (stmts stmt_tree xs)) (drop-cons all i d lt)
     ∙ ap (λ (o : Option Future). elim o [ None ↦ true | Some g ↦ has_other (stmts stmt_tree (drop (suc i) all)) ]) e
     ∙ ap (λ j. has_other (stmts stmt_tree (drop j all))) (suc_is_plus_one i)
@@ -131,12 +131,12 @@ postponed_next all i d f before after lt e h =
     ∙ ap (λ (b : Bool). b || opens_postponed (stmts stmt_tree (drop (i + 1) all))) (sym h)
 
 -- where no future import follows
-pub others_last : (all : List Stmt) (i : ℕ) → i ≤ length all → BeginsOtherwise (drop i all) → has_other (stmts stmt_tree (drop i all)) ≡ nat_lt i (length all)
-others_last [] zero l h = sym (le-ltb 0 0 (omega arith))
-others_last [] (suc i) l h = absurd (omega (arith, l))
-others_last (s ∷ ss) zero l h =
+pub other_statement_last : (all : List Stmt) (i : ℕ) → i ≤ length all → BeginsOtherwise (drop i all) → has_other (stmts stmt_tree (drop i all)) ≡ nat_lt i (length all)
+other_statement_last [] zero l h = sym (le-ltb 0 0 (omega arith))
+other_statement_last [] (suc i) l h = absurd (omega (arith, l))
+other_statement_last (s ∷ ss) zero l h =
     ap (λ (o : Option Future). elim o [ None ↦ true | Some f ↦ has_other (stmts stmt_tree ss) ]) h ∙ sym (lt-ltb 0 (length (s ∷ ss)) (omega arith))
-others_last (s ∷ ss) (suc i) l h = others_last ss i (omega (arith, l)) h ∙ below i (length ss)
+other_statement_last (s ∷ ss) (suc i) l h = other_statement_last ss i (omega (arith, l)) h ∙ below i (length ss)
   where
     below : (a b : ℕ) → nat_lt a b ≡ nat_lt (suc a) (suc b)
     below a b = grind arith
@@ -168,9 +168,9 @@ future_import_one_of [] i lt = absurd (omega (arith, lt))
 future_import_one_of (x ∷ xs) i lt = x
 
 -- what follows where there is nothing
-pub none_then : {A : Type 0} (o : Option A) {P Q : Type 0} → IfNone o P → (P → Q) → IfNone o Q
-none_then None h f = f h
-none_then (Some x) h f = tt
+pub if_none_then : {A : Type 0} (o : Option A) {P Q : Type 0} → IfNone o P → (P → Q) → IfNone o Q
+if_none_then None h f = f h
+if_none_then (Some x) h f = tt
 
 -- each of several names is known, or none of those before it is not
 features_next : (x : Alias) (xs : List Alias) (m n : State) → run (check_features (x ∷ [])) m ≡ Done n → run (check_features (x ∷ xs)) m ≡ run (check_features xs) n
@@ -203,7 +203,7 @@ module _ (s m : State) (all : List Stmt) (i : ℕ) (c : Bool) (f : Future) (lt :
       → run (emission_after emission (stmts stmt_tree all)) s ≡ on_done (run (after_future_import f (emission_after emission (stmts stmt_tree (drop (i + 1) all)))) n) (restore_postponed c (flag s))
   future_import_after n done emission = future_import_here emission
       ∙ ap (λ o. on_done o (restore_postponed c (flag s)))
-      (went _ (run (after_future_import f (emission_after emission (stmts stmt_tree (drop (i + 1) all))))) n done)
+      (on_done_goes _ (run (after_future_import f (emission_after emission (stmts stmt_tree (drop (i + 1) all))))) n done)
 
   -- one that postpones nothing
   future_import_leads_on : (n : State) → run (emission_of_future f) m ≡ Done n → postpones f ≡ false → Leads s n all (i + 1) c

@@ -1,6 +1,6 @@
-pub mod Steps
+pub mod StatementStepLemmas
 pub mod WithItemLemmas
-pub mod LastReturn
+pub mod LastReturnLemmas
 pub mod FutureImportLemmas
 pub mod DefaultLemmas
-pub mod ClassParts
+pub mod ClassPartLemmas

@@ -5,8 +5,8 @@ use Rattle.py_dataflow.specs.declared.info.BlockIdx.{BlockIdx}
 use Rattle.py_emission_parts.specs.Emitting.{Begin, Done, State, with_step}
 use Rattle.py_emission_parts.specs.Running.{◌▹◌, begin, on_done, run}
 use Rattle.py_emit.specs.Steps.{IsOpen}
-use Rattle.py_emit.proofs.Joined.{joined_between, done_last, done_same, joined_grouped}
-use Rattle.py_expr_scopes.proofs.OpenBlocks.{begin_opens, opens}
+use Rattle.py_emit.proofs.JoinedEmissionLemmas.{joined_between, done_last, done_same, joined_grouped}
+use Rattle.py_expr_scopes.proofs.OpenBlockLemmas.{begin_opens, keeps_open}
 use Rattle.py_stmt_parts.specs.Managing.{AllOpen, AreApart, before_exit, exit_called, item_exit, left_all}
 
 pub left_push : (at : SourceLocation) (bs : List BlockIdx) (b : BlockIdx) (s : State) → left_all at (bs ++ b ∷ []) s ≡ (item_exit at b.0 ▹ left_all at bs) s
@@ -30,9 +30,9 @@ pub left_opens : (at : SourceLocation) (c : ℕ) (s r : State) (b : ℕ) → b �
 left_opens at c s r b n e i =
     let u = joined_between (run (before_exit at) s) (begin c ▹ run exit_called) r e in
     let v = joined_between (begin c u.mid) (run exit_called) r u.second in
-    let a = opens (before_exit at) s u.mid b u.first i in
+    let a = keeps_open (before_exit at) s u.mid b u.first i in
     let g = begin_opens u.mid v.mid b c n (sym (done_same (with_step (Begin c) u.mid) v.mid v.first)) a in
-    opens exit_called v.mid r b v.second g
+    keeps_open exit_called v.mid r b v.second g
 
 pub others_open : (at : SourceLocation) (bs : List BlockIdx) (c : BlockIdx) (s r : State) → item_exit at c.0 s ≡ Done r → AllOpen (bs ++ c ∷ []) s → AllOpen bs r
 others_open at [] c s r e a = tt

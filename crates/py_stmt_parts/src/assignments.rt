@@ -16,7 +16,7 @@ use py_tree::{Expr, ExprName};
 ///
 /// # Errors
 /// OutOfMemory alone.
-#[tactic(auto, using(py_tree::proofs::View::trees, py_bytecode::proofs::View::views))]
+#[tactic(auto, using(py_tree::proofs::TreeViewLemmas::trees, py_bytecode::proofs::ConstantViewLemmas::views))]
 pub fn compile_annotation(em: &mut Emitter, target: &Expr) -> Result<(), CodegenError>
     ensures { Emits result (emission_of_annotation (expr_tree target.now)) em.old em.new }
 {

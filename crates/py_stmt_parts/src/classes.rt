@@ -107,7 +107,7 @@ fn copy_name(em: &mut Emitter, from: &str, to: &str) -> Result<(), CodegenError>
 }
 
 /// Emits what stores a text under a name.
-#[tactic(auto, using(py_bytecode::proofs::View::views))]
+#[tactic(auto, using(py_bytecode::proofs::ConstantViewLemmas::views))]
 fn store_text(em: &mut Emitter, value: Text, name: &str) -> Result<(), CodegenError>
     ensures { Emits result (stored_as name.now (str value)) em.old em.new }
 {
@@ -124,7 +124,7 @@ fn store_doc(em: &mut Emitter, doc: Option<Text>, name: &str) -> Result<(), Code
 }
 
 /// A docstring, or None.
-#[tactic(auto, using(py_bytecode::proofs::View::views))]
+#[tactic(auto, using(py_bytecode::proofs::ConstantViewLemmas::views))]
 fn doc_constant(doc: Option<Text>) -> ConstantData
     ensures { constant result ≡ doc_const doc }
 {
@@ -147,7 +147,7 @@ pub fn end_class(em: &mut Emitter) -> Result<(), CodegenError>
 }
 
 /// Emits the end of a class by whether the cell of `__class__` is kept.
-#[tactic(auto, using(py_bytecode::proofs::View::views))]
+#[tactic(auto, using(py_bytecode::proofs::ConstantViewLemmas::views))]
 fn end_with(em: &mut Emitter, kept: bool) -> Result<(), CodegenError>
     ensures { Emits result (cell_returned (cells_kept kept)) em.old em.new }
 {

@@ -36,7 +36,7 @@ pub fn call_decorators(em: &mut Emitter, items: &[Expr]) -> Result<(), CodegenEr
 ///
 /// # Errors
 /// OutOfMemory alone.
-#[tactic(auto, using(py_bytecode::proofs::View::views))]
+#[tactic(auto, using(py_bytecode::proofs::ConstantViewLemmas::views))]
 pub fn end_function(em: &mut Emitter, body: &[Stmt]) -> Result<(), CodegenError>
     ensures { Emits result (emission_of_end (stmts stmt_tree body.now)) em.old em.new }
 {
@@ -47,7 +47,7 @@ pub fn end_function(em: &mut Emitter, body: &[Stmt]) -> Result<(), CodegenError>
 }
 
 /// Whether the last of the statements is a return.
-#[tactic(auto, using(crate::proofs::LastReturn::ends_some, crate::proofs::LastReturn::ends_none))]
+#[tactic(auto, using(crate::proofs::LastReturnLemmas::ends_some, crate::proofs::LastReturnLemmas::ends_none))]
 fn ends_in_return(body: &[Stmt]) -> bool
     ensures { result ≡ ends_in_return (stmts stmt_tree body.now) }
 {
@@ -57,7 +57,7 @@ fn ends_in_return(body: &[Stmt]) -> bool
     }
 }
 
-#[tactic(auto, using(py_tree::proofs::View::trees))]
+#[tactic(auto, using(py_tree::proofs::TreeViewLemmas::trees))]
 fn is_return(statement: &Stmt) -> bool
     ensures { result ≡ is_return (stmt_tree statement.now) }
 {
@@ -98,7 +98,7 @@ pub fn store_doc(em: &mut Emitter, body: &Stmts) -> Result<(), CodegenError>
 }
 
 /// Emits what stores a docstring to the function that lies there, where there is one.
-#[tactic(auto, using(py_bytecode::proofs::View::views))]
+#[tactic(auto, using(py_bytecode::proofs::ConstantViewLemmas::views))]
 fn store_text(em: &mut Emitter, doc: Option<Text>) -> Result<(), CodegenError>
     ensures { Emits result (docstring_store doc) em.old em.new }
 {

@@ -102,7 +102,7 @@ fn future_at(body: &[Stmt], place: usize) -> Option<&StmtImportFrom>
 }
 
 /// A statement as a future import, where it is one.
-#[tactic(auto, using(py_tree::proofs::View::trees))]
+#[tactic(auto, using(py_tree::proofs::TreeViewLemmas::trees))]
 fn as_future(statement: &Stmt) -> Option<&StmtImportFrom>
     ensures none { IfNone result (future_of (stmt_tree statement.now) ≡ None) }
     ensures is { IfSome result (λ s. future_of (stmt_tree statement.now) ≡ Some (future s.now)) }
@@ -114,7 +114,7 @@ fn as_future(statement: &Stmt) -> Option<&StmtImportFrom>
 }
 
 /// Emits a future import, and answers whether it postpones the annotations of what follows.
-#[tactic(auto, using(crate::proofs::Steps::step_steps))]
+#[tactic(auto, using(crate::proofs::StatementStepLemmas::step_steps))]
 fn compile_future(em: &mut Emitter, s: &StmtImportFrom) -> Result<bool, CodegenError>
     ensures postpones { IfOk result (λ p. p ≡ names_annotations s.now.names) }
     ensures emits { Emits result (emission_of_future (future s.now)) em.old em.new }
@@ -139,7 +139,7 @@ pub fn compile_future_features(em: &mut Emitter, names: &[Alias]) -> Result<(), 
 }
 
 /// Refuses a name that cannot be taken from the future.
-#[tactic(auto, using(py_expr_parts::proofs::Steps::refuse_goes))]
+#[tactic(auto, using(py_expr_parts::proofs::EmissionStepLemmas::refuse_goes))]
 fn check_feature(em: &mut Emitter, alias: &Alias) -> Result<(), CodegenError>
     ensures { Emits result (check_features (alias.now ∷ [])) em.old em.new }
 {

@@ -39,7 +39,7 @@ pub fn params_flag(params: &[TypeParam]) -> MakeFunctionFlags
 ///
 /// # Errors
 /// NotImplementedYet, always.
-#[tactic(auto, using(crate::proofs::Steps::step_steps))]
+#[tactic(auto, using(crate::proofs::StatementStepLemmas::step_steps))]
 pub fn refuse_param(em: &mut Emitter, location: SourceLocation) -> Result<(), CodegenError>
     ensures { Emits result (unsupported_node location) em.old em.new }
 {
@@ -74,7 +74,7 @@ pub fn keep_param(em: &mut Emitter, name: &str) -> Result<(), CodegenError>
 ///
 /// # Errors
 /// OutOfMemory alone.
-#[tactic(auto, using(py_bytecode::proofs::View::views))]
+#[tactic(auto, using(py_bytecode::proofs::ConstantViewLemmas::views))]
 pub fn load_text(em: &mut Emitter, text: &str) -> Result<(), CodegenError>
     ensures { Emits result (emit_constant Instruction.LoadConst (str text.now)) em.old em.new }
 {

@@ -70,7 +70,7 @@ fn import_itself(em: &mut Emitter, path: &str) -> Result<(), CodegenError>
 }
 
 /// Emits the import of a module by its path, which is asked for no names.
-#[tactic(auto, using(py_bytecode::proofs::View::views))]
+#[tactic(auto, using(py_bytecode::proofs::ConstantViewLemmas::views))]
 fn import_whole(em: &mut Emitter, path: &str) -> Result<(), CodegenError>
     ensures { Emits result (emission_of_module (Some path.now) 0 none) em.old em.new }
 {
@@ -130,7 +130,7 @@ fn import_module(
 }
 
 /// Emits the load of a number.
-#[tactic(auto, using(py_bytecode::proofs::View::views))]
+#[tactic(auto, using(py_bytecode::proofs::ConstantViewLemmas::views))]
 fn load_level(em: &mut Emitter, level: u32) -> Result<(), CodegenError>
     ensures { Emits result (emit_constant Instruction.LoadConst (integer (pos level))) em.old
         em.new }
@@ -145,7 +145,7 @@ fn load_level(em: &mut Emitter, level: u32) -> Result<(), CodegenError>
 /// # Errors
 /// InvalidFuturePlacement for one from the future, FunctionImportStar where a function takes all names, SyntaxError where a
 /// name that is stored is `__debug__`, or OutOfMemory.
-#[tactic(auto, using(crate::proofs::Steps::step_steps))]
+#[tactic(auto, using(crate::proofs::StatementStepLemmas::step_steps))]
 pub fn compile_import_from(em: &mut Emitter, s: &StmtImportFrom) -> Result<(), CodegenError>
     ensures { Emits result (emission_of_import_from s.now.«module» s.now.names s.now.level) em.old
         em.new }
@@ -167,7 +167,7 @@ pub(crate) fn import_from(em: &mut Emitter, s: &StmtImportFrom) -> Result<(), Co
 }
 
 /// Emits the import of all names of a module, and refuses it in a function.
-#[tactic(auto, using(py_expr_parts::proofs::Steps::refuse_goes), unfolding(py_emission_parts::specs::Emitting::by_context))]
+#[tactic(auto, using(py_expr_parts::proofs::EmissionStepLemmas::refuse_goes), unfolding(py_emission_parts::specs::Emitting::by_context))]
 fn import_star(em: &mut Emitter, s: &StmtImportFrom) -> Result<(), CodegenError>
     ensures { Emits result (emission_of_star s.now.«module» s.now.level) em.old em.new }
 {

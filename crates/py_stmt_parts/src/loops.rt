@@ -10,7 +10,7 @@ use py_emit::{Emitter, emit, refuse};
 ///
 /// # Errors
 /// InvalidBreak outside a loop, or OutOfMemory.
-#[tactic(auto, unfolding(py_emit::specs::States::rest), using(crate::proofs::Steps::step_steps))]
+#[tactic(auto, unfolding(py_emit::specs::States::rest), using(crate::proofs::StatementStepLemmas::step_steps))]
 pub fn compile_break(em: &mut Emitter) -> Result<(), CodegenError>
     requires loops { AreMade (rest em.old).context.loop_blocks }
     ensures { Emits result (leave_loop Instruction.Break
@@ -30,7 +30,7 @@ pub fn compile_break(em: &mut Emitter) -> Result<(), CodegenError>
 ///
 /// # Errors
 /// InvalidContinue outside a loop, or OutOfMemory.
-#[tactic(auto, unfolding(py_emit::specs::States::rest), using(crate::proofs::Steps::step_steps))]
+#[tactic(auto, unfolding(py_emit::specs::States::rest), using(crate::proofs::StatementStepLemmas::step_steps))]
 pub fn compile_continue(em: &mut Emitter) -> Result<(), CodegenError>
     requires loops { AreMade (rest em.old).context.loop_blocks }
     ensures { Emits result (leave_loop Instruction.Continue

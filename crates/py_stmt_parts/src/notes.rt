@@ -14,7 +14,7 @@ use py_tree::{Expr, Text};
 ///
 /// # Errors
 /// NotImplementedYet where an f-string stands in it, or OutOfMemory.
-#[tactic(auto, using(py_bytecode::proofs::View::views, py_expr_parts::proofs::Steps::refuse_goes))]
+#[tactic(auto, using(py_bytecode::proofs::ConstantViewLemmas::views, py_expr_parts::proofs::EmissionStepLemmas::refuse_goes))]
 pub fn load_annotation(em: &mut Emitter, annotation: &Expr) -> Result<(), CodegenError>
     ensures { Emits result (emission_of_text (annotation_of (expr_tree annotation.now))) em.old
         em.new }

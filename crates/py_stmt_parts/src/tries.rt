@@ -58,7 +58,7 @@ pub fn store_caught(em: &mut Emitter, name: &Option<Text>) -> Result<(), Codegen
 ///
 /// # Errors
 /// OutOfMemory alone.
-#[tactic(auto, using(py_bytecode::proofs::View::views))]
+#[tactic(auto, using(py_bytecode::proofs::ConstantViewLemmas::views))]
 pub fn forget(em: &mut Emitter, name: &Text) -> Result<(), CodegenError>
     ensures { Emits result (handler_name_removal name.now) em.old em.new }
 {

@@ -49,7 +49,7 @@ pub fn leave_items(
 }
 
 /// Emits what leaves an item on every way out of what it manages.
-#[tactic(auto, using(crate::proofs::Steps::step_steps))]
+#[tactic(auto, using(crate::proofs::StatementStepLemmas::step_steps))]
 fn leave_item(
     em: &mut Emitter,
     location: &SourceLocation,

@@ -2,7 +2,7 @@
 use Rattle.std.proofs.Common.{◌≡◌, ℕ, ◌+◌, ◌<◌, List, [], ◌∷◌, ◌++◌, length, drop, get_or, sym, ap, ◌∙◌, arith}
 use Rattle.std.specs.Prelude.{codes}
 use Rattle.std.proofs.Math.Seq.{drop-cons}
-use Rattle.py_base.proofs.Numbers.{suc_is_plus_one}
+use Rattle.py_base.proofs.NumberLemmas.{suc_is_plus_one}
 use Rattle.py_tree.specs.Tree as tree
 use Rattle.py_tree.specs.View.{args, arguments, expr_tree, opt_arg, opt_box}
 use Rattle.py_tree.specs.declared.expressions.Expr.{Expr}
@@ -17,7 +17,7 @@ use Rattle.py_emission_parts.specs.Running.{Action, run}
 use Rattle.py_emission_parts.specs.EmissionParts.{in_turn}
 use Rattle.py_emission.specs.EmissionDefs.{arg_notes, emission_of_note, notes, opt_arg_note, opt_note}
 use Rattle.py_stmt_simple.proofs.EmissionGroupLemmas.{after_same}
-use Rattle.py_emit.proofs.Joined.{keep_last, turn_append}
+use Rattle.py_emit.proofs.JoinedEmissionLemmas.{keep_last, turn_append}
 
 pub one_note : (name : List ℕ) (e : tree.Expr) (s : State)
     → run (in_turn (opt_note name (tree.some_expr e))) s ≡ run (by_context (λ c. emit_constant op.LoadConst (const.str (mangled_by c name))) ▸ emission_of_note e) s

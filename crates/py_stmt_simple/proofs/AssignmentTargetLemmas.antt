@@ -2,7 +2,7 @@
 use Rattle.std.proofs.Common.{◌≡◌, ◌<◌, ℕ, suc, ◌+◌, List, [], ◌∷◌, length, drop, get_or, true, false, refl, sym, ap, ◌∙◌, arith, rules}
 use Rattle.std.specs.Prelude.{nat_eq, nat_lt}
 use Rattle.std.proofs.Math.Seq.{drop-cons}
-use Rattle.py_base.proofs.Numbers.{suc_is_plus_one}
+use Rattle.py_base.proofs.NumberLemmas.{suc_is_plus_one}
 use Rattle.py_tree.specs.Tree as tree
 use Rattle.py_tree.specs.View.{expr_tree, exprs}
 use Rattle.py_tree.specs.declared.expressions.Expr.{Expr}
@@ -14,8 +14,8 @@ use Rattle.py_emission.specs.EmissionStmts.{emission_of_assign}
 use Rattle.py_base.specs.declared.errors.CodegenErrorType.TheVariants as error
 use Rattle.py_base.specs.declared.shapes.Malformed.TheVariants as shape
 use Rattle.py_stmt_simple.proofs.EmissionGroupLemmas.{after_same}
-use Rattle.py_emit.proofs.Joined.{joined_actions, keep_last}
-use Rattle.py_expr_parts.proofs.Turns.{more_left, some}
+use Rattle.py_emit.proofs.JoinedEmissionLemmas.{joined_actions, keep_last}
+use Rattle.py_expr_parts.proofs.ValueListLemmas.{more_left, is_nonempty}
 use Rattle.py_stmt_simple.specs.Assigning.{assigned_to, assigned_to_all, some_targets}
 
 pub assign_is : (e : tree.Expr) (es : tree.Exprs) → run (emission_of_assign (tree.more_exprs e es)) ≡ run (assigned_to_all (tree.more_exprs e es))
@@ -35,7 +35,7 @@ pub assign_some : (xs : List Expr) → nat_eq (length xs) 0 ≡ false → run (e
 assign_some [] e = absurd cc
 assign_some (x ∷ xs) e = assign_is (expr_tree x) (exprs expr_tree xs)
 
-assignment_target_some_is : (ys : List Expr) → some_targets (exprs expr_tree ys) ≡ some ys
+assignment_target_some_is : (ys : List Expr) → some_targets (exprs expr_tree ys) ≡ is_nonempty ys
 assignment_target_some_is [] = refl
 assignment_target_some_is (y ∷ ys) = refl
 

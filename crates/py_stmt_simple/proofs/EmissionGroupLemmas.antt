@@ -2,7 +2,7 @@
 use Rattle.std.proofs.Common.{◌≡◌, sym, ap, ◌∙◌}
 use Rattle.py_emission_parts.specs.Emitting.{Emission, ◌▸◌}
 use Rattle.py_emission_parts.specs.Running.{Action, ◌▹◌, run}
-use Rattle.py_emit.proofs.Joined.{joined_actions}
+use Rattle.py_emit.proofs.JoinedEmissionLemmas.{joined_actions}
 
 -- what is the same may come after another
 pub after_same : (a f g : Action) → f ≡ g → a ▹ f ≡ a ▹ g

@@ -3,7 +3,7 @@ use Rattle.std.proofs.Common.{◌≡◌, ◌≢◌, ◌≤◌, ℕ, suc, ◌+◌
 use Rattle.std.proofs.Math.Seq.{drop-cons}
 use Rattle.std.proofs.lemmas.List.{length-drop}
 use Rattle.std.specs.Prelude.{if◌then◌else◌, nat_lt, not}
-use Rattle.py_base.proofs.Numbers.{nat_lt_false, nat_lt_true, suc_is_plus_one}
+use Rattle.py_base.proofs.NumberLemmas.{nat_lt_false, nat_lt_true, suc_is_plus_one}
 use Rattle.py_base.specs.declared.location.LocatedError.{LocatedError}
 use Rattle.py_tree.specs.Tree as tree
 use Rattle.py_tree.specs.View.{expr_tree, stmt_tree, stmts}
@@ -18,7 +18,7 @@ use Rattle.py_emission.specs.EmissionFutures.{emission_of_future, after_future_i
 use Rattle.py_emission.specs.EmissionMods.{emission_of_prompt, emission_of_single}
 use Rattle.py_emission.specs.Futures.{Future, future_in, future_of}
 use Rattle.py_emission.specs.Predicates.{none}
-use Rattle.py_emit.proofs.Joined.{joined_actions, went}
+use Rattle.py_emit.proofs.JoinedEmissionLemmas.{joined_actions, on_done_goes}
 use Rattle.py_stmt_simple.specs.Futures.{Begins, NoBegin, Prompted, Prompts, begin_emission, begin_postpones, begins, followers}
 use Rattle.py_stmt_parts.specs.Futures.{Entered, IsRefusing, future, restore_postponed}
 use Rattle.py_stmt_simple.specs.declared.futures.Begin.{Begin}
@@ -95,7 +95,7 @@ module _ (s m : State) (all : List Stmt) (i : ℕ) (c : Bool) (b : Begin) (lt : 
   prompt_past : (n : State) → run (begin_emission b) m ≡ Done n
       → run (emission_of_prompt (stmts stmt_tree all)) s ≡ on_done (run (prompt_after (begin_postpones b) (emission_of_prompt (stmts stmt_tree (drop (i + 1) all)))) n) (restore_postponed c (flag s))
   prompt_past n done = prompt_here ∙ ap (λ o. on_done o (restore_postponed c (flag s)))
-      (went _ (run (prompt_after (begin_postpones b) (emission_of_prompt (stmts stmt_tree (drop (i + 1) all))))) n done)
+      (on_done_goes _ (run (prompt_after (begin_postpones b) (emission_of_prompt (stmts stmt_tree (drop (i + 1) all))))) n done)
 
   prompt_on : (n : State) → run (begin_emission b) m ≡ Done n → begin_postpones b ≡ false → Prompted s n all (i + 1) c
   prompt_on n done e = prompt_past n done ∙ ap (λ p. on_done (run (prompt_after p (emission_of_prompt (stmts stmt_tree (drop (i + 1) all)))) n) (restore_postponed c (flag s))) e

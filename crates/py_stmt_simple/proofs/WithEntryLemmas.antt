@@ -1,7 +1,7 @@
 -- What enters the items of a `with`, one at a time.
 use Rattle.std.proofs.Common.{◌≡◌, ◌≢◌, ◌<◌, ℕ, ◌+◌, List, [], ◌∷◌, ◌++◌, length, drop, get_or, refl, sym, ap, ◌∙◌, arith}
 use Rattle.std.proofs.Math.Seq.{drop-cons}
-use Rattle.py_base.proofs.Numbers.{suc_is_plus_one}
+use Rattle.py_base.proofs.NumberLemmas.{suc_is_plus_one}
 use Rattle.py_tree.specs.Tree as tree
 use Rattle.py_tree.specs.View.{expr_tree, opt_box, with_items}
 use Rattle.py_tree.specs.declared.expressions.Expr.{Expr}
@@ -15,8 +15,8 @@ use Rattle.py_emission.specs.Emission.{emission}
 use Rattle.py_emission.specs.ControlEmissions.{managed_body}
 use Rattle.py_emission.specs.EmissionStmts.{emission_of_item, emission_of_items}
 use Rattle.py_emit.specs.Steps.{IsOpen}
-use Rattle.py_emit.proofs.Joined.{joined_grouped}
-use Rattle.py_expr_scopes.proofs.OpenBlocks.{block_opens, opens}
+use Rattle.py_emit.proofs.JoinedEmissionLemmas.{joined_grouped}
+use Rattle.py_expr_scopes.proofs.OpenBlockLemmas.{block_opens, keeps_open}
 use Rattle.py_stmt_parts.specs.Managing.{AllOpen, AreApart, before_exit, exit_called, item_exit, left_all}
 use Rattle.py_stmt_simple.specs.Managing.{item_entry}
 use Rattle.py_stmt_simple.proofs.EmissionGroupLemmas.{first_four}
@@ -53,7 +53,7 @@ entered_refused at e t ts body ends s o h =
 
 -- a block that is open stays so where an item is entered
 pub entered_opens : (at : SourceLocation) (item store : Emission) (s r : State) (b : ℕ) → item_entry at item store s ≡ Done r → IsOpen b s → IsOpen b r
-entered_opens at item store s r b e i = opens (item ▸ move at ▸ jump op.SetupWith s.blocks ▸ store) (with_block s) r b e (block_opens s (with_block s) b refl i)
+entered_opens at item store s r b e i = keeps_open (item ▸ move at ▸ jump op.SetupWith s.blocks ▸ store) (with_block s) r b e (block_opens s (with_block s) b refl i)
 
 -- the item at a place
 pub with_entry_items_at : (xs : List (WithItemOf Expr)) (i : ℕ) (d x : WithItemOf Expr) → x ≡ get_or xs i d → i < length xs

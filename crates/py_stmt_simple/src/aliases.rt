@@ -26,7 +26,7 @@ use py_tree::{Expr, StmtTypeAlias, TypeParam};
 ///
 /// # Errors
 /// The first compile fault of the alias, with its location; MissingCell or TableMismatch; or OutOfMemory.
-#[tactic(auto, using(py_stmt_parts::proofs::Steps::step_steps))]
+#[tactic(auto, using(py_stmt_parts::proofs::StatementStepLemmas::step_steps))]
 pub fn compile_type_alias(em: &mut Emitter, s: &StmtTypeAlias) -> Result<(), CodegenError>
     requires at { (state em.old).location ≡ s.now.location }
     ensures { Emits result (emission_of_stmt (type_alias_tree s.now)) em.old em.new }
@@ -35,7 +35,7 @@ pub fn compile_type_alias(em: &mut Emitter, s: &StmtTypeAlias) -> Result<(), Cod
 }
 
 /// Emits an alias and its store. Only a name is an alias.
-#[tactic(auto, using(py_tree::proofs::View::trees))]
+#[tactic(auto, using(py_tree::proofs::TreeViewLemmas::trees))]
 fn compile_alias(
     em: &mut Emitter,
     target: &Expr,

@@ -25,7 +25,7 @@ use py_tree::{
 /// # Errors
 /// MalformedTree where there is no target; the first compile fault of the assignment, with its location; MissingCell or
 /// TableMismatch; or OutOfMemory.
-#[tactic(auto, using(py_stmt_parts::proofs::Steps::step_steps))]
+#[tactic(auto, using(py_stmt_parts::proofs::StatementStepLemmas::step_steps))]
 pub fn compile_assign(em: &mut Emitter, s: &StmtAssign) -> Result<(), CodegenError>
     requires at { (state em.old).location ≡ s.now.location }
     ensures { Emits result (emission_of_stmt (assign_tree s.now)) em.old em.new }
@@ -61,7 +61,7 @@ fn compile_target(em: &mut Emitter, more: bool, target: &Expr) -> Result<(), Cod
 ///
 /// # Errors
 /// The first compile fault of the assignment, with its location; MissingCell or TableMismatch; or OutOfMemory.
-#[tactic(auto, using(py_tree::proofs::View::trees))]
+#[tactic(auto, using(py_tree::proofs::TreeViewLemmas::trees))]
 pub fn compile_aug_assign(em: &mut Emitter, s: &StmtAugAssign) -> Result<(), CodegenError>
     ensures { Emits result (emission_of_augment (expr_tree s.now.target.value) s.now.op
         (emission (expr_tree s.now.value.value))) em.old em.new }
@@ -134,7 +134,7 @@ fn augment_subscript(
 ///
 /// # Errors
 /// The first compile fault of the assignment, with its location; MissingCell or TableMismatch; or OutOfMemory.
-#[tactic(auto, using(py_stmt_parts::proofs::Steps::step_steps))]
+#[tactic(auto, using(py_stmt_parts::proofs::StatementStepLemmas::step_steps))]
 pub fn compile_ann_assign(em: &mut Emitter, s: &StmtAnnAssign) -> Result<(), CodegenError>
     requires at { (state em.old).location ≡ s.now.location }
     ensures { Emits result (emission_of_stmt (ann_assign_tree s.now)) em.old em.new }

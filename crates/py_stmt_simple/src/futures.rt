@@ -57,7 +57,7 @@ fn begin_at(body: &[Stmt], place: usize) -> Option<Begin<'_>>
 
 /// A statement as what may stand at a prompt before a future import, where it is that: an expression, where more
 /// follow, or a future import.
-#[tactic(auto, using(py_tree::proofs::View::trees))]
+#[tactic(auto, using(py_tree::proofs::TreeViewLemmas::trees))]
 fn as_begin(statement: &Stmt, more: bool) -> Option<Begin<'_>>
     ensures none { IfNone result (begins more (stmt_tree statement.now) ≡ false) }
     ensures followed { IfSome result (λ b. followers b ≤ (if more then 1 else 0)) }

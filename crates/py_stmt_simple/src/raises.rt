@@ -19,7 +19,7 @@ use py_tree::{Expr, StmtAssert, StmtRaise};
 ///
 /// # Errors
 /// The first compile fault of the statement, with its location; MissingCell or TableMismatch; or OutOfMemory.
-#[tactic(auto, using(py_stmt_parts::proofs::Steps::step_steps))]
+#[tactic(auto, using(py_stmt_parts::proofs::StatementStepLemmas::step_steps))]
 pub fn compile_raise(em: &mut Emitter, s: &StmtRaise) -> Result<(), CodegenError>
     requires at { (state em.old).location ≡ s.now.location }
     ensures { Emits result (emission_of_stmt (raise_tree s.now)) em.old em.new }
@@ -64,7 +64,7 @@ pub fn compile_assert(em: &mut Emitter, s: &StmtAssert) -> Result<(), CodegenErr
     pass_assertion(em, s)
 }
 
-#[tactic(auto, using(py_stmt_parts::proofs::Steps::step_steps))]
+#[tactic(auto, using(py_stmt_parts::proofs::StatementStepLemmas::step_steps))]
 fn compile_asserted(em: &mut Emitter, s: &StmtAssert) -> Result<(), CodegenError>
     ensures { Emits result (assertion_of (emission_of_test (expr_tree s.now.test.value))
         (emission_of_message (opt_box expr_tree s.now.msg))

@@ -25,7 +25,7 @@ pub fn return_from_function(em: &mut Emitter, value: &Option<Box<Expr>>) -> Resu
 }
 
 /// Emits the return of a value, or of None where it is missing.
-#[tactic(auto, using(py_bytecode::proofs::View::views))]
+#[tactic(auto, using(py_bytecode::proofs::ConstantViewLemmas::views))]
 fn compile_returned(em: &mut Emitter, value: &Option<Box<Expr>>) -> Result<(), CodegenError>
     ensures { Emits result (emission_of_returned (opt_box expr_tree value.now)) em.old em.new }
 {

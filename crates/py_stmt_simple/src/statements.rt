@@ -14,7 +14,7 @@ use py_tree::StmtExpr;
 ///
 /// # Errors
 /// The first compile fault of the expression, with its location; MissingCell or TableMismatch; or OutOfMemory.
-#[tactic(auto, using(py_stmt_parts::proofs::Steps::step_steps))]
+#[tactic(auto, using(py_stmt_parts::proofs::StatementStepLemmas::step_steps))]
 pub fn compile_expr_statement(em: &mut Emitter, s: &StmtExpr) -> Result<(), CodegenError>
     requires at { (state em.old).location ≡ s.now.location }
     ensures { Emits result (emission_of_stmt (stmt_expr_tree s.now)) em.old em.new }

@@ -41,7 +41,7 @@ pub fn enter_items(
 }
 
 /// Emits an item, what enters it, and what stores the value that it gives. Answers the block at which it ends.
-#[tactic(auto, using(py_stmt_parts::proofs::Steps::step_steps))]
+#[tactic(auto, using(py_stmt_parts::proofs::StatementStepLemmas::step_steps))]
 fn enter_item(
     em: &mut Emitter,
     location: &SourceLocation,
@@ -76,7 +76,7 @@ fn store_entered(em: &mut Emitter, target: &Option<Box<Expr>>) -> Result<(), Cod
 }
 
 /// Emits the store to a target, which stands where the target does.
-#[tactic(auto, using(py_stmt_parts::proofs::Steps::step_steps))]
+#[tactic(auto, using(py_stmt_parts::proofs::StatementStepLemmas::step_steps))]
 fn store_at(em: &mut Emitter, target: &Expr) -> Result<(), CodegenError>
     ensures { Emits result (stored_at (expr_tree target.now)) em.old em.new }
 {

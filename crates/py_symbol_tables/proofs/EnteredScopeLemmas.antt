@@ -20,18 +20,18 @@ use Rattle.py_scope.specs.Roles.{bound_opt}
 use Rattle.py_scope.specs.Scanned.{Scanned, is_function}
 use Rattle.py_scope.specs.Tables.{is_plain}
 use Rattle.py_scope.proofs.NameLemmas.{equal_names, names_same}
-use Rattle.py_scope.proofs.SymbolLists.{none_past}
-use Rattle.py_scope.proofs.Truth.{truth_both, truth_either, left_or, never_both, truth_right_or, same_truth}
-use Rattle.py_scope.proofs.UsesLaws as laws
+use Rattle.py_scope.proofs.SymbolListLemmas.{none_past}
+use Rattle.py_scope.proofs.TruthValueLemmas.{truth_both, truth_either, left_or, never_both, truth_right_or, same_truth}
+use Rattle.py_scope.proofs.CellUseLemmas as laws
 use Rattle.py_name_uses.specs.Steps.{Done, State, Step, begun_state}
 use Rattle.py_name_uses.specs.declared.usage.Usage.TheVariants.{Load}
 use Rattle.py_scan.specs.Scan.{scan_expr, scan_stmts}
 use Rattle.py_symbol_tables.specs.Laws.{ScansStand, Stands, ValuesStand, WalksEnd, has_cell, is_cell_kind, symbols_or_none, walk_to_cell}
 use Rattle.py_symbol_tables.specs.Tables.{fault_of}
-use Rattle.py_scan.proofs.Induction.{expr_closed}
-use Rattle.py_scan.proofs.InductionStatements.{stmts_closed}
-use Rattle.py_symbol_tables.proofs.ScopeOrderLemmas.{EndsOrderly, Orders, orders}
-use Rattle.py_symbol_tables.proofs.Preorder.{IsOrderly, orderly_begun}
+use Rattle.py_scan.proofs.ScanInductionLemmas.{expr_closed}
+use Rattle.py_scan.proofs.StatementScanInductionLemmas.{stmts_closed}
+use Rattle.py_symbol_tables.proofs.ScopeOrderLemmas.{EndsOrderly, Orders, order_closed}
+use Rattle.py_symbol_tables.proofs.ScanPreorderLemmas.{IsOrderly, orderly_begun}
 
 -- the scopes of a scan that is done are in order
 pub scan_orderly : (f : Step) → Orders f → (s : State) → f begun_state ≡ Done s → IsOrderly s.scopes
@@ -41,10 +41,10 @@ scan_orderly f a s e = go (subst (EndsOrderly begun_state.scopes) e (a begun_sta
     go h = h.ordered
 
 pub program_orderly : (body : tree.Stmts) (s : State) → scan_stmts body begun_state ≡ Done s → IsOrderly s.scopes
-program_orderly body s e = scan_orderly (scan_stmts body) (stmts_closed orders body) s e
+program_orderly body s e = scan_orderly (scan_stmts body) (stmts_closed order_closed body) s e
 
 pub value_orderly : (value : tree.Expr) (s : State) → scan_expr Load value begun_state ≡ Done s → IsOrderly s.scopes
-value_orderly value s e = scan_orderly (scan_expr Load value) (expr_closed orders Load value) s e
+value_orderly value s e = scan_orderly (scan_expr Load value) (expr_closed order_closed Load value) s e
 
 pub none_refused : (o : Option Refusal) → fault_of o ≡ [] → o ≡ None
 none_refused None h = refl

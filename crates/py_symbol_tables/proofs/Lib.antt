@@ -1,4 +1,4 @@
-pub mod Firsts
-pub mod Preorder
+pub mod TreeFaultOrderLemmas
+pub mod ScanPreorderLemmas
 pub mod ScopeOrderLemmas
 pub mod EnteredScopeLemmas

@@ -10,9 +10,9 @@ use Rattle.py_scope.specs.Outward.{parents, parent_of}
 use Rattle.py_scope.specs.Scanned.{Scanned, entered_scan, entered_row, refused_here, with_use}
 use Rattle.py_scope.proofs.ScanCallLemmas.{get_push_new, get_push_old, length_push}
 use Rattle.py_name_uses.specs.Steps.{State, Outcome, Done, Refused, Step, ◌▸◌, go_on, in_class, inside, leave, nothing, noted_use, postpone, refuse, set_class, unless_refused, use_name, written_name}
-use Rattle.py_scan.proofs.Induction.{Closed}
+use Rattle.py_scan.proofs.ScanInductionLemmas.{Closed}
 use Rattle.py_scan.proofs.OpenScopeLemmas.{EndsStaying, Stays, ends_after, noted_stays, stays_refl}
-use Rattle.py_symbol_tables.proofs.Preorder.{IsOrderly, orderly_entered, orderly_left, orderly_used}
+use Rattle.py_symbol_tables.proofs.ScanPreorderLemmas.{IsOrderly, orderly_entered, orderly_left, orderly_used}
 
 -- the scope is open that was, and the scopes are in order
 pub record ScopeOrderKeeps (s t : Scanned) : Type 0 where
@@ -27,8 +27,8 @@ EndsOrderly s (Refused fault at) = Unit {0}
 abbrev pub Orders : Step → Type 0
 Orders f = (s : State) → IsOrderly s.scopes → EndsOrderly s.scopes (f s)
 
-pub as_it_was : (s : Scanned) → IsOrderly s → ScopeOrderKeeps s s
-as_it_was s i = record { stays = stays_refl s; ordered = i }
+pub order_kept : (s : Scanned) → IsOrderly s → ScopeOrderKeeps s s
+order_kept s i = record { stays = stays_refl s; ordered = i }
 
 pub then_orders : (f g : Step) → Orders f → Orders g → Orders (f ▸ g)
 then_orders f g a b s i = go (f s) (a s i)
@@ -97,16 +97,16 @@ choice_orders b f g k l s i = go (b s) (k s i) (l s i)
     go false x y = y
 
 classed_orders : (n : Name) (f : Step) → Orders f → Orders (in_class n f)
-classed_orders n f a s i = then_orders (set_class (Some n)) _ (λ t j. as_it_was t.scopes j) (then_orders f (set_class s.class) a (λ t j. as_it_was t.scopes j)) s i
+classed_orders n f a s i = then_orders (set_class (Some n)) _ (λ t j. order_kept t.scopes j) (then_orders f (set_class s.class) a (λ t j. order_kept t.scopes j)) s i
 
-pub orders : Closed Orders
-orders = record {
-  idle = λ s i. as_it_was s.scopes i;
+pub order_closed : Closed Orders
+order_closed = record {
+  idle = λ s i. order_kept s.scopes i;
   refused = λ r at s i. tt;
   used = use_orders;
   sequence = then_orders;
   choice = choice_orders;
   within = inside_orders;
   classed = classed_orders;
-  postponing = λ s i. as_it_was s.scopes i;
+  postponing = λ s i. order_kept s.scopes i;
 }

@@ -1,3 +1,3 @@
-pub mod Digits
-pub mod Paths
-pub mod Pieces
+pub mod WordDigitLemmas
+pub mod CodePathLemmas
+pub mod TracePieceLemmas

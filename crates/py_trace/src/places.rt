@@ -36,7 +36,7 @@ fn place_of(word: &str) -> Option<usize>
 }
 
 /// The place that the digits say.
-#[tactic(auto, using(crate::proofs::Digits::digit_counting))]
+#[tactic(auto, using(crate::proofs::WordDigitLemmas::digit_counting))]
 fn place_in(digits: &[u8]) -> Option<usize>
     ensures { result ≡ place_after 0 digits.now }
 {

@@ -1,2 +1,2 @@
-pub mod View
-pub mod Defaults
+pub mod TreeViewLemmas
+pub mod JoinedListLemmas

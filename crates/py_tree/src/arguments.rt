@@ -8,7 +8,7 @@ use crate::{ArgWithDefault, Arguments, Expr};
 impl Arguments {
     /// The i-th default, from 0, of the positional parameters, the positional-only ones first. None where there are
     /// not so many.
-    #[tactic(auto, using(crate::proofs::Defaults::default_joined))]
+    #[tactic(auto, using(crate::proofs::JoinedListLemmas::default_joined))]
     pub fn default_at(&self, i: usize) -> Option<&Expr>
         ensures { option_copied result ≡ slice_get
             (defaults_of self.now.posonlyargs ++ defaults_of self.now.args) i }

@@ -7,7 +7,7 @@ use crate::{Constant, Expr};
 
 impl Expr {
     /// What messages call the expression.
-    #[tactic(auto, using(crate::proofs::View::trees))]
+    #[tactic(auto, using(crate::proofs::TreeViewLemmas::trees))]
     pub fn python_name(&self) -> &'static str
         ensures { result.now ≡ python_name (expr_tree self.now) }
     {
@@ -41,7 +41,7 @@ impl Expr {
     }
 }
 
-#[tactic(auto, using(crate::proofs::View::literals))]
+#[tactic(auto, using(crate::proofs::TreeViewLemmas::literals))]
 fn constant_name(value: &Constant) -> &'static str
     ensures { result.now ≡ literal_name (literal_of value.now) }
 {
@@ -56,7 +56,7 @@ fn constant_name(value: &Constant) -> &'static str
 }
 
 /// Whether one of the values is an f-string.
-#[tactic(auto, using(crate::proofs::View::trees))]
+#[tactic(auto, using(crate::proofs::TreeViewLemmas::trees))]
 fn some_joined(values: &[Expr]) -> bool
     ensures { result ≡ some_joined (exprs expr_tree values.now) }
 {
@@ -68,7 +68,7 @@ fn some_joined(values: &[Expr]) -> bool
     false
 }
 
-#[tactic(auto, using(crate::proofs::View::trees))]
+#[tactic(auto, using(crate::proofs::TreeViewLemmas::trees))]
 fn is_joined(value: &Expr) -> bool
     ensures { result ≡ is_joined (expr_tree value.now) }
 {

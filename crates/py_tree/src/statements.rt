@@ -458,7 +458,7 @@ pub struct TypeParamTypeVarTuple {
 
 impl Stmt {
     /// Where the statement starts in the source.
-    #[tactic(auto, using(crate::proofs::View::trees))]
+    #[tactic(auto, using(crate::proofs::TreeViewLemmas::trees))]
     pub fn location(&self) -> SourceLocation
         ensures { result ≡ stmt_location (stmt_tree self.now) }
     {

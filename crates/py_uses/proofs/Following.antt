@@ -21,7 +21,7 @@ use Rattle.py_scope.specs.Names.{Name, lookup, same_name}
 use Rattle.py_scope.specs.Outward.{chain, enclosing_scopes, parent_of, parents}
 use Rattle.py_scope.specs.Refusals.{text_of}
 use Rattle.py_scope.specs.Scanned.{Scanned, changed_at, entered_row, entered_scan, gone_out, holder_here, holder_in, inner, kind_here, refused_here, refused_in_row, role_in, used_in, with_use}
-use Rattle.py_scope.proofs.Chains.{outward}
+use Rattle.py_scope.proofs.ScopeChainLemmas.{enclosing_scopes_step}
 use Rattle.py_scope.proofs.ScanCallLemmas.{enclosing_same, get_push_new, get_push_old, length_push, scanned_entered, scanned_left, scanned_used}
 use Rattle.py_name_uses.specs.Steps.{State, Outcome, Done, Refused, Step, ◌▸◌, go_on, enter, leave, noted_use, set_class, unless_refused, with_scopes, written_name}
 use Rattle.py_name_uses.specs.Steps as step
@@ -114,7 +114,7 @@ module _ (ss : List Scope) (p : Place) (h : Stands ss p) (kind : SymbolTableType
   begun_parent = ap parent_opt begun_here
 
   begun_way : enclosing_scopes (parent_at (ss ++ begun kind p ∷ [])) p.next ≡ p.scope ∷ enclosing_scopes (parent_at (ss ++ begun kind p ∷ [])) p.scope
-  begun_way = outward (parent_at (ss ++ begun kind p ∷ [])) p.next p.scope begun_parent (let i = h.inside in let n = h.next in omega (arith, i, n))
+  begun_way = enclosing_scopes_step (parent_at (ss ++ begun kind p ∷ [])) p.next p.scope begun_parent (let i = h.inside in let n = h.next in omega (arith, i, n))
 
   begun_stands : Stands (ss ++ begun kind p ∷ []) (place_within kind p)
   begun_stands = record {

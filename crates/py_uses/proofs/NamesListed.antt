@@ -14,9 +14,9 @@ use Rattle.py_scope.specs.Lifts.{walruses, walruses_of}
 use Rattle.py_scope.specs.Names.{Name, lookup, same_name}
 use Rattle.py_scope.specs.Resolve.{among, scopes}
 use Rattle.py_scope.specs.Scanned.{is_function}
-use Rattle.py_scope.proofs.Chains.{equal_numbers, tells_same}
+use Rattle.py_scope.proofs.ScopeChainLemmas.{equal_numbers, tells_same}
 use Rattle.py_scope.proofs.NameLemmas.{equal_names, names_same}
-use Rattle.py_scope.proofs.Truth.{any_scope, left_or, some_scope, truth_both, truth_either, truth_right_or}
+use Rattle.py_scope.proofs.TruthValueLemmas.{any_scope, left_or, some_scope, truth_both, truth_either, truth_right_or}
 use Rattle.py_uses.specs.Scopes.{Scopes}
 use Rattle.py_uses.specs.Resolve.{goes_through, holder, is_free_in, is_free_past, is_held, is_used, needs, outward, stores, way}
 use Rattle.py_uses.specs.Entries.{all_names, has_name}

@@ -3,7 +3,7 @@ use Rattle.std.proofs.Common.{◌≡◌, refl, sym, ap, ◌∙◌, ℕ, Bool, tr
 use Rattle.std.specs.Prelude.{is_some}
 use Rattle.std.specs.List.{list_any}
 use Rattle.std.specs.Int.RustNames.{bit_or}
-use Rattle.py_base.proofs.Booleans.{or_associates}
+use Rattle.py_base.proofs.BooleanLemmas.{or_associates}
 use Rattle.py_scope.specs.declared.roles.Role.{Role}
 use Rattle.py_scope.specs.declared.roles.Role.TheVariants.{Used, Assigned, Imported, Parameter, AnnotatedParameter, AnnotationAssigned, Walrus, Iterated, Global, Nonlocal}
 use Rattle.py_scope.specs.declared.rows.Entry.{Entry}

@@ -21,7 +21,7 @@ use Rattle.py_scope.specs.Outward.{enclosing_scopes, parents}
 use Rattle.py_scope.specs.Refusals.{text_of}
 use Rattle.py_scope.specs.Roles.{bound_opt}
 use Rattle.py_scope.specs.Scanned.{Scanned, initial_scan, module_row, order_of}
-use Rattle.py_scope.proofs.Freshness.{fresh_empty, fresh_none}
+use Rattle.py_scope.proofs.FreshNameLemmas.{fresh_empty, fresh_none}
 use Rattle.py_scope.proofs.NameLemmas.{equal_names, names_same}
 use Rattle.py_name_uses.specs.declared.usage.Usage.TheVariants.{Load}
 use Rattle.py_name_uses.specs.Steps.{State, Outcome, Done, Refused, Step, begun_state}

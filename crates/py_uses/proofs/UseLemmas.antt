@@ -26,7 +26,7 @@ use Rattle.py_scope.specs.Lifts.{holds_opt, or_absent}
 use Rattle.py_scope.specs.Names.{Name, lookup, same_name}
 use Rattle.py_scope.specs.Roles.{flags_of, register, with_role}
 use Rattle.py_scope.specs.Scanned.{changed_at, role_in, used_in}
-use Rattle.py_scope.proofs.Chains.{equal_numbers}
+use Rattle.py_scope.proofs.ScopeChainLemmas.{equal_numbers}
 use Rattle.py_scope.proofs.MarkSumLemmas.{lookup_put}
 use Rattle.py_scope.proofs.NameLemmas.{equal_names, intersects-or}
 use Rattle.py_scope.proofs.NameOrderLemmas.{keys_put}

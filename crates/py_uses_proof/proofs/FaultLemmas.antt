@@ -21,8 +21,8 @@ use Rattle.py_meaning.specs.Faults.{compile_faults, malformed_faults, too_deep, 
 use Rattle.py_meaning.specs.Faults as scanned
 use Rattle.py_meaning.specs.Scanned.{fault_as, scan_faults}
 use Rattle.py_scope_proof.specs.Refused.{first_refused}
-use Rattle.py_scope_proof.proofs.RefusedNames.Names.{name_names_are}
-use Rattle.py_scope_proof.proofs.RefusedNames.Walruses.{walruses_are}
+use Rattle.py_scope_proof.proofs.RefusedNames.RefusedNameLemmas.{name_names_are}
+use Rattle.py_scope_proof.proofs.RefusedNames.RefusedWalrusLemmas.{walruses_are}
 use Rattle.py_uses.specs.Uses.{Scan}
 use Rattle.py_uses.specs.Tree.{uses_of}
 use Rattle.py_uses.specs.Scopes.{scopes_of}

@@ -14,9 +14,9 @@ use Rattle.py_meaning.specs.Faults as scanned
 use Rattle.py_meaning.specs.Scanned as scanned_scopes
 use Rattle.py_scope_proof.specs.Entered.{ScansTo, kind_in_table, kind_of_scope_node, report_of_node, report_of_row}
 use Rattle.py_scope_proof.specs.StmtScopeNodes.{in_whole, scope_nodes_of}
-use Rattle.py_scope_proof.proofs.NodeScopes.EnteringPrograms.{scan_came}
-use Rattle.py_scope_proof.proofs.NodeScopes.Facts.{facts}
-use Rattle.py_scope_proof.proofs.NodeScopes.ScopeNodeTables.{scan_done, table_has_scope_nodes}
+use Rattle.py_scope_proof.proofs.NodeScopes.ProgramScanEntryLemmas.{scan_came}
+use Rattle.py_scope_proof.proofs.NodeScopes.ScanScopeLemmas.{scan_facts}
+use Rattle.py_scope_proof.proofs.NodeScopes.ScopeNodeTableLemmas.{scan_done, table_has_scope_nodes}
 use Rattle.py_plain_meaning.proofs.SameBodies.{agrees_over}
 use Rattle.py_plain_meaning.proofs.SameStmts.{scope_in}
 use Rattle.py_uses.specs.Uses.{Scan}
@@ -58,7 +58,7 @@ module _ (t : tree.Mod) (m : Mode) (level : ℕ) (h : scanned.faults t m level �
 
   within : (k : ℕ) (n : Name) → k < length s.scopes.rows → scope_among (symbols_in old k) n ≡ scope_among (symbols_in (entries_of (uses_of t)) k) n
   within k n l =
-      there_so c k n (symbols_in old k) (symbols_alike s.scopes.rows c listed.scopes k (symbols_in old k) ((facts t m level s h e).follows k l))
+      there_so c k n (symbols_in old k) (symbols_alike s.scopes.rows c listed.scopes k (symbols_in old k) ((scan_facts t m level s h e).follows k l))
       ∙ sym (given_so c k n (subst (λ (x : Scopes). has_name x k n ≡ true → list_any (same_name n) (all_names x) ≡ true) listed.scopes (names_all s.scopes.rows n k)))
       ∙ ap (λ (ts : List Symbol). scope_among ts n) (sym (range_symbols (entry_of c) c.count k (subst (λ (z : ℕ). k < z) (sym counted) l)))
 

@@ -17,11 +17,11 @@ use Rattle.py_meaning.specs.Meaning.{body}
 use Rattle.py_scope_proof.specs.Own.{OwnUpTo, number_of}
 use Rattle.py_scope_proof.specs.ScopeNodes.{Placed}
 use Rattle.py_scope_proof.specs.StmtScopeNodes.{scope_nodes_of}
-use Rattle.py_scope_proof.proofs.NodeScopes.EachOwn.{each_is_its_own}
-use Rattle.py_scope_proof.proofs.NodeScopes.Heads.{own_head}
-use Rattle.py_emission_proof.proofs.Additions.CodeNameLemmas.{IsMadeSo, Named}
+use Rattle.py_scope_proof.proofs.NodeScopes.TreeOwnScopeLemmas.{each_is_its_own}
+use Rattle.py_scope_proof.proofs.NodeScopes.ScopeHeadLemmas.{own_head}
+use Rattle.py_emission_proof.proofs.Additions.CodeNameDefinitions.{IsMadeSo, Named}
 use Rattle.py_scope_proof.specs.Chains.{IsChain, IsMadeIn, Link, child_as, closure_in, event_at, made_in, made_of, outermost}
-use Rattle.py_scope_proof.proofs.CellBinding.Events.{inner_made}
+use Rattle.py_scope_proof.proofs.CellBinding.RunEventLemmas.{inner_made}
 use Rattle.py_verifier_law.specs.Closures.{ClosuresFit}
 
 -- ---- what the meaning makes, where a run makes a function

@@ -14,7 +14,7 @@ use Rattle.py_emission_parts.specs.Everywhere.{Everywhere}
 use Rattle.py_emission.specs.EmissionMods.{emission_outcome}
 use Rattle.py_emission_proof.specs.Distinct.{AreApart, AreDistinct, HasDistinctNames}
 use Rattle.py_meaning.specs.Faults.{faults}
-use Rattle.py_scope_proof.proofs.NodeScopes.EnteringPrograms.{parts_none}
+use Rattle.py_scope_proof.proofs.NodeScopes.ProgramScanEntryLemmas.{parts_none}
 use Rattle.codegen.specs.Compiled.{IsLocated, IsSealed, tree_context}
 use Rattle.py_verify.specs.Nested.{path_place}
 use Rattle.py_well_formed.specs.declared.fault.FormFault.{FormFault}
@@ -24,9 +24,9 @@ use Rattle.py_well_formed.specs.declared.fault.FormSpot.{FormSpot}
 use Rattle.py_well_formed.specs.Conditions.{at_whole, cell_conditions, condition, first_of, first_unmet, own_fault, parameter_conditions, table_fault, unit_fault}
 use Rattle.py_well_formed.specs.Tables.{repeats, shares}
 use Rattle.py_well_formed.specs.WellFormed.{HasForm, WellFormed, at_path, fault_among, fault_in, first_fault, from}
-use Rattle.py_verifier_law.proofs.Forms.FormMods.{tree_meets}
-use Rattle.py_verifier_law.proofs.Forms.FormedStates.{MeetsConditions}
-use Rattle.py_verifier_law.proofs.Throughout.{throughout}
+use Rattle.py_verifier_law.proofs.Forms.ProgramRoomLemmas.{tree_meets}
+use Rattle.py_verifier_law.proofs.Forms.StateRoomLemmas.{MeetsConditions}
+use Rattle.py_verifier_law.proofs.NestedCodePathLemmas.{holds_along_path}
 
 -- ---- names that stand once
 
@@ -106,9 +106,9 @@ mutual
   constant_free obj.ellipsis w = refl
 
 -- a code whose own conditions are met at every depth
-pub faultless : (o : Object) → Everywhere MeetsConditions o → Everywhere IsLocated o → Everywhere HasDistinctNames o → first_fault o ≡ None
-faultless o meets located names =
-    object_free o (λ c w. own_form c (throughout MeetsConditions o w.0 c meets w.1) (throughout IsLocated o w.0 c located w.1) (throughout HasDistinctNames o w.0 c names w.1))
+pub no_form_fault : (o : Object) → Everywhere MeetsConditions o → Everywhere IsLocated o → Everywhere HasDistinctNames o → first_fault o ≡ None
+no_form_fault o meets located names =
+    object_free o (λ c w. own_form c (holds_along_path MeetsConditions o w.0 c meets w.1) (holds_along_path IsLocated o w.0 c located w.1) (holds_along_path HasDistinctNames o w.0 c names w.1))
 
 -- ---- the code of a tree
 

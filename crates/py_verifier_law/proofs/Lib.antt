@@ -3,4 +3,4 @@ mod FormLemmas
 mod Forms
 mod RoomLemmas
 mod RoomSamples
-mod Throughout
+mod NestedCodePathLemmas

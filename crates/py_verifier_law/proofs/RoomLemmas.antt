@@ -17,8 +17,8 @@ use Rattle.py_bytecode.specs.Units.{Read, fetch_of_read, fetch_unit, is_prefix, 
 use Rattle.py_decode.specs.Reading.{read_at}
 use Rattle.py_dataflow.specs.Sound.{code_look, sound}
 use Rattle.py_dataflow.specs.Walks.{Reached, State, seen_instr, state}
-use Rattle.py_dataflow.proofs.Codes.{unit_proper}
-use Rattle.py_dataflow.proofs.NeverWrong.{step_in}
+use Rattle.py_dataflow.proofs.SoundCodeLemmas.{unit_proper}
+use Rattle.py_dataflow.proofs.SoundRunLemmas.{step_in}
 use Rattle.py_dataflow.proofs.UnwindLemmas.{InStep}
 use Rattle.py_verify.specs.declared.verdict.FlawKind.{FlawKind}
 use Rattle.py_verify.specs.Flaws.{operand_fits, unit_count}

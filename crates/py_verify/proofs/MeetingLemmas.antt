@@ -5,8 +5,8 @@ use Rattle.std.proofs.lemmas.Option.{slice_get-get_or}
 use Rattle.py_dataflow.specs.declared.flow.Mark.{Mark}
 use Rattle.py_dataflow.specs.Walks.{Shape, Alike}
 use Rattle.py_dataflow.specs.Known.{join, joined_mark, lacking_in, missing_in}
-use Rattle.py_dataflow.proofs.Joins.{alike_refl, joined_self}
-use Rattle.py_dataflow.proofs.Marks.{lacking_joined, mark_blank}
+use Rattle.py_dataflow.proofs.JoinedShapeLemmas.{alike_refl, joined_self}
+use Rattle.py_dataflow.proofs.BlockMarkLemmas.{lacking_joined, mark_blank}
 use Rattle.py_verify.specs.declared.stacks.Entry.{Entry}
 use Rattle.py_verify.specs.Stacks.{blocks_of, IsStack, IsTop, IsLinked}
 use Rattle.py_verify.proofs.StackLemmas.{no_blocks}

@@ -19,7 +19,7 @@ use Rattle.py_dataflow.specs.Walks.{Shape, State, height_of, has_block, enough, 
 use Rattle.py_dataflow.specs.Shown.{Shown}
 use Rattle.py_dataflow.specs.Sound.{code_look}
 use Rattle.py_dataflow.proofs.ReachedPlaceLemmas.{some_walk}
-use Rattle.py_dataflow.proofs.RefusedStateLemmas.{lacks, falls_outside, jumps_outside}
+use Rattle.py_dataflow.proofs.RefusedStateLemmas.{block_lacked, falls_outside, jumps_outside}
 use Rattle.py_verify.specs.declared.verdict.FlawKind.{FlawKind}
 use Rattle.py_verify.specs.declared.exits.Arriving.{Arriving}
 use Rattle.py_verify.specs.declared.stacks.Entry.{Entry}
@@ -28,7 +28,7 @@ use Rattle.py_verify.specs.Flaws.{operand_fits, WalkFlaw}
 use Rattle.py_verify.specs.Stacks.{IsStack, Extends}
 use Rattle.py_verify.specs.UnitStates.{coming_in}
 use Rattle.py_verify.specs.Stepping.{Comes, Goes, HaltsAt, halt_by, FallsOn, JumpsOn, IsExits}
-use Rattle.py_verify.proofs.Comings.{coming_outside, lower_limit}
+use Rattle.py_verify.proofs.ReachedUnitLemmas.{coming_outside, lower_limit}
 use Rattle.py_verify.proofs.UnitStateLemmas.{coming_same}
 use Rattle.py_verify.proofs.UnitViewLemmas.{sees_of, unit_view_fit}
 
@@ -111,13 +111,13 @@ module _ (o : Object) (unit : ℕ) (s : State) (r : UnitRead) (info : Instructio
   too_far : (head o).max_stackdepth < 2 ^ 32 → Shown (code_look o) unit s → OutOfRange (code_look o) 0 (2 ^ 32) x s → WalkFlaw o unit FlawKind.HeightOutside
   too_far m h out = coming_outside (code_look o) (suc (head o).max_stackdepth) unit x s h looks (lower_limit (code_look o) (2 ^ 32) (suc (head o).max_stackdepth) x s (omega (arith, m)) out)
 
-  pub fails : (head o).max_stackdepth < 2 ^ 32 → Shown (code_look o) unit s → (e : Refused) → FailsAs info s e → HaltsAt o (halt_by e unit)
-  fails m h Refused.NoEnd f = absurd f
-  fails m h Refused.UnevenHeights f = absurd f
-  fails m h Refused.HeightOutOfRange (inl f) = too_far m h (falls_outside (code_look o) x s (ap (λ g. falls_within g s.height s.shape) (sym flow_is) ∙ f))
-  fails m h Refused.HeightOutOfRange (inr f) = too_far m h (jumps_outside (code_look o) x s r.arg.0 (target_there f.0) (ap (λ (g : Flow). jumps_within g.branch s.height s.shape) (sym flow_is) ∙ f.1))
-  fails m h Refused.BlockMismatch f = inl (lacks (code_look o) unit x s h looks (ap (λ (g : Flow). has_block g.needs s.height s.shape) (sym flow_is) ∙ f))
-  fails m h Refused.OutOfMemory f = tt
+  pub failure_halts : (head o).max_stackdepth < 2 ^ 32 → Shown (code_look o) unit s → (e : Refused) → FailsAs info s e → HaltsAt o (halt_by e unit)
+  failure_halts m h Refused.NoEnd f = absurd f
+  failure_halts m h Refused.UnevenHeights f = absurd f
+  failure_halts m h Refused.HeightOutOfRange (inl f) = too_far m h (falls_outside (code_look o) x s (ap (λ g. falls_within g s.height s.shape) (sym flow_is) ∙ f))
+  failure_halts m h Refused.HeightOutOfRange (inr f) = too_far m h (jumps_outside (code_look o) x s r.arg.0 (target_there f.0) (ap (λ (g : Flow). jumps_within g.branch s.height s.shape) (sym flow_is) ∙ f.1))
+  failure_halts m h Refused.BlockMismatch f = inl (block_lacked (code_look o) unit x s h looks (ap (λ (g : Flow). has_block g.needs s.height s.shape) (sym flow_is) ∙ f))
+  failure_halts m h Refused.OutOfMemory f = tt
 
 -- where exits lead, walks come; more stacks may be known then
 module _ (o : Object) (unit : ℕ) (s : State) (es fs : List Entry) (e : Exits) (h : Shown (code_look o) unit s) (x : Extends es fs) (is : IsExits o unit s es e) where

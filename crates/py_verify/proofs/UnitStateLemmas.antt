@@ -12,7 +12,7 @@ use Rattle.py_dataflow.specs.Walks.{State, state, Seen, UnevenHeights, BlockMism
 use Rattle.py_dataflow.specs.Known.{Torn, join, missing_in, arrival, Fits, IsUneven, IsWhole, Unfit, combined_change}
 use Rattle.py_dataflow.specs.Shown.{Shown, Both, Covers, Covered}
 use Rattle.py_dataflow.specs.Sound.{code_look}
-use Rattle.py_dataflow.proofs.RefusedStateLemmas.{uneven, unlike, torn}
+use Rattle.py_dataflow.proofs.RefusedStateLemmas.{heights_uneven, unlike_differs, torn_differs}
 use Rattle.py_dataflow.proofs.ClosedStateLemmas.{covers_self, covers_trans, covers_old, covers_new}
 use Rattle.py_verify.specs.declared.exits.Arriving.{Arriving}
 use Rattle.py_verify.specs.declared.exits.UnitState.{UnitState}
@@ -20,7 +20,7 @@ use Rattle.py_verify.specs.declared.stacks.Entry.{Entry}
 use Rattle.py_verify.specs.Stacks.{blocks_of, IsStack, Extends}
 use Rattle.py_verify.specs.UnitStates.{state_in, with_block, coming_in, known_in, state_at, AllStacks, unknown, unknown_at, missing_at, missing_marks, Moves, Arrives, Grows}
 use Rattle.py_verify.specs.Stepping.{Comes, KnownIn, HaltsAt, halt_by}
-use Rattle.py_verify.proofs.Comings.{comes_shown}
+use Rattle.py_verify.proofs.ReachedUnitLemmas.{comes_shown}
 
 module _ (es fs : List Entry) (x : Extends es fs) where
   known_same : (o : Option (Option UnitState)) → ((u : UnitState) → o ≡ Some (Some u) → IsStack es u.stack) → known_in fs o ≡ known_in es o
@@ -103,13 +103,13 @@ module _ (look : ℕ → Option (Seen ℕ)) where
 
   uneven_at : (k : ℕ) (o : Option State) (t : State) → ((s : State) → o ≡ Some s → Shown look k s) → Shown look k t → IsUneven o t → UnevenHeights look 0 k
   uneven_at k None t h ht u = absurd u
-  uneven_at k (Some s) t h ht u = uneven look k s t (h s refl) ht u
+  uneven_at k (Some s) t h ht u = heights_uneven look k s t (h s refl) ht u
 
   unfit_at : (k : ℕ) (o : Option State) (t : State) → ((s : State) → o ≡ Some s → Shown look k s) → Shown look k t → Unfit o t → BlockMismatch look 0 k
-  unfit_at k None t h ht u = inr (torn look k t ht u)
+  unfit_at k None t h ht u = inr (torn_differs look k t ht u)
   unfit_at k (Some s) t h ht u = elim u.1 [
-    | inl n ↦ inr (unlike look k s t (h s refl) ht n)
-    | inr c ↦ inr (torn look k (state s.height (join s.shape t.shape)) (Both (state s.height (join s.shape t.shape)) s t (h s refl) ht u.0 c.0 refl) c.1)
+    | inl n ↦ inr (unlike_differs look k s t (h s refl) ht n)
+    | inr c ↦ inr (torn_differs look k (state s.height (join s.shape t.shape)) (Both (state s.height (join s.shape t.shape)) s t (h s refl) ht u.0 c.0 refl) c.1)
   ]
 
 -- a height that arrives is that of the state, or of the one that was there
@@ -187,8 +187,8 @@ pub known_whole : (o : Object) (es : List Entry) (us : List (Option UnitState)) 
 known_whole o es us known k = whole_or_none (state_at es us k) (known.whole k)
 
 -- the state that is read is that of the unit
-pub known_there : (es : List Entry) (us vs : List (Option UnitState)) (k : ℕ) (u : UnitState) → vs ≡ us → slice_get vs k ≡ Some (Some u) → state_at es us k ≡ Some (state_in es u)
-known_there es us vs k u e h = ap (known_in es) (sym (ap (λ ws. slice_get ws k) e) ∙ h)
+pub unit_state_known : (es : List Entry) (us vs : List (Option UnitState)) (k : ℕ) (u : UnitState) → vs ≡ us → slice_get vs k ≡ Some (Some u) → state_at es us k ≡ Some (state_in es u)
+unit_state_known es us vs k u e h = ap (known_in es) (sym (ap (λ ws. slice_get ws k) e) ∙ h)
 
 pub none_known : (es : List Entry) (n k : ℕ) → state_at es (replicate n None) k ≡ None
 none_known es zero k = refl

@@ -14,9 +14,9 @@ use Rattle.py_decode.specs.Reading.{read_at}
 use Rattle.py_dataflow.specs.Flow.{flow_at, target_of}
 use Rattle.py_dataflow.specs.Walks.{Seen, seen_instr}
 use Rattle.py_dataflow.specs.Sound.{code_look}
-use Rattle.py_dataflow.proofs.Rows.{RowIs, row_is}
+use Rattle.py_dataflow.proofs.InstructionRowLemmas.{RowIs, row_is}
 use Rattle.py_verify.specs.Flaws.{unit_count, in_range, operand_fits}
-use Rattle.py_verify.proofs.Ranges.{IsThere, range_decodes}
+use Rattle.py_verify.proofs.DecodeRangeLemmas.{IsThere, range_decodes}
 
 -- what is seen of an instruction whose operand is in its range
 abbrev pub sees_of : Read → Seen ℕ
@@ -35,8 +35,8 @@ unit_view_whole [] high at r e = absurd (cc)
 unit_view_whole (u ∷ us) high at r e = whole_of u ((high * 256 + u.arg) % 2 ^ 32) at us (is_prefix u.op) r refl (λ h a q f. unit_view_whole us h a q f) e
 
 module _ (o : Object) (p : ℕ) where
-  pub unread : read_at o p ≡ None → code_look o p ≡ None
-  unread e = ap (λ r. seen_instr (fetch_of_read (tables o) (unit_count o) r)) e
+  pub unread_unit_unseen : read_at o p ≡ None → code_look o p ≡ None
+  unread_unit_unseen e = ap (λ r. seen_instr (fetch_of_read (tables o) (unit_count o) r)) e
 
   module _ (r : Read) (e : read_at o p ≡ Some r) where
     unit_view_look_is : code_look o p ≡ seen_instr (fetch_of_instr (instr_of (tables o) (place_in (unit_count o) r.operand) r.op r.operand) r.next)
@@ -45,8 +45,8 @@ module _ (o : Object) (p : ℕ) where
     unit_view_there : IsThere (operand_fits o r) (instr_of (tables o) (place_in (unit_count o) r.operand) r.op r.operand)
     unit_view_there = range_decodes (tables o) (unit_count o) r.op r.operand (unit_view_whole (drop p (head o).instructions) 0 p r e)
 
-    pub unfit : operand_fits o r ≡ false → code_look o p ≡ None
-    unfit f = unit_view_look_is ∙ ap (λ i. seen_instr (fetch_of_instr i r.next)) (subst (λ b. IsThere b (instr_of (tables o) (place_in (unit_count o) r.operand) r.op r.operand)) f unit_view_there)
+    pub unfit_unit_unseen : operand_fits o r ≡ false → code_look o p ≡ None
+    unfit_unit_unseen f = unit_view_look_is ∙ ap (λ i. seen_instr (fetch_of_instr i r.next)) (subst (λ b. IsThere b (instr_of (tables o) (place_in (unit_count o) r.operand) r.op r.operand)) f unit_view_there)
 
     label_in : (k : OperandKind) (n : ℕ) → is_label k ≡ true → in_range (tables o) (unit_count o) k n ≡ true → place_in (unit_count o) n ≡ Some n
     label_in kind.Label n l f = ap (λ b. if b then Some n else None) f
@@ -70,8 +70,8 @@ module _ (o : Object) (p : ℕ) where
         (subst (λ b. IsThere b (instr_of (tables o) (place_in (unit_count o) r.operand) r.op r.operand)) f unit_view_there) f
 
 -- why nothing is seen at a unit
-pub unseen : (o : Object) (p : ℕ) → code_look o p ≡ None → (read_at o p ≡ None) ⊎ ((r : Read) × (read_at o p ≡ Some r) × (operand_fits o r ≡ false))
-unseen o p e = by_read (read_at o p) refl
+pub why_unit_unseen : (o : Object) (p : ℕ) → code_look o p ≡ None → (read_at o p ≡ None) ⊎ ((r : Read) × (read_at o p ≡ Some r) × (operand_fits o r ≡ false))
+why_unit_unseen o p e = by_read (read_at o p) refl
   where
     by_range : (r : Read) (b : Bool) → read_at o p ≡ Some r → operand_fits o r ≡ b → (read_at o p ≡ None) ⊎ ((r : Read) × (read_at o p ≡ Some r) × (operand_fits o r ≡ false))
     by_range r true er f = absurd (let q : None ≡ Some (sees_of r) = sym e ∙ unit_view_fit o p r er f in cc)

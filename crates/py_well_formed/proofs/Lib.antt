@@ -1,3 +1,3 @@
 mod Samples
 mod StepLemmas
-mod FormLemmas
+mod WellFormednessLemmas

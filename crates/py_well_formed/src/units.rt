@@ -45,7 +45,7 @@ fn makes_function(op: Instruction) -> bool
     matches!(op, Instruction::MakeFunction)
 }
 
-#[tactic(auto, using(py_bytecode::proofs::View::views))]
+#[tactic(auto, using(py_bytecode::proofs::ConstantViewLemmas::views))]
 fn is_str(item: &ConstantData) -> bool
     ensures { result ≡ is_text (Some (constant item.now)) }
 {
@@ -68,7 +68,7 @@ fn free_len(code: &CodeObject) -> usize
 }
 
 // How many free names a constant has that is a code.
-#[tactic(auto, using(py_bytecode::proofs::View::views))]
+#[tactic(auto, using(py_bytecode::proofs::ConstantViewLemmas::views))]
 fn free_count_of(item: &ConstantData) -> Option<usize>
     ensures { result ≡ free_count (Some (constant item.now)) }
 {

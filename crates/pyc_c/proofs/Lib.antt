@@ -1,5 +1,5 @@
-mod AskedLemmas
-mod Ended
+mod ScriptRequestLemmas
+mod RunEndLemmas
 mod RunWordLemmas
 mod Utf8Lemmas
-mod Written
+mod SinkTextLemmas

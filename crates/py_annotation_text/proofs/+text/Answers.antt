@@ -2,9 +2,9 @@ use Rattle.std.proofs.Common.{◌++◌, [], codes, ap, ◌∙◌, drop, string_b
 use Rattle.py_tree.specs.View.{expr_tree, exprs, keywords}
 use Rattle.py_annotation_text.specs.Annotation.{keyword_texts, show, expr_texts}
 use Rattle.py_annotation_text.specs.Lists.{comma, separated_text}
-use Rattle.py_annotation_text.proofs.Pairs.{pair_ended, links_of, no_links, no_pairs, pairs_of}
-use Rattle.py_annotation_text.proofs.Parameters.{keyword_only_appended, positional_appended}
-use Rattle.py_annotation_text.proofs.Separated.{all_appended, both_appended, both_texts, three_texts}
+use Rattle.py_annotation_text.proofs.ListPairLemmas.{pair_ended, links_of, no_links, no_pairs, pairs_of}
+use Rattle.py_annotation_text.proofs.LambdaParameterLemmas.{keyword_only_appended, positional_appended}
+use Rattle.py_annotation_text.proofs.CommaListLemmas.{all_appended, both_appended, both_texts, three_texts}
 use Rattle.py_annotation_text.proofs.+text.Goals as goal
 
 pub operations::push_arguments-returns : goal.operations::push_arguments-returns

@@ -4,7 +4,7 @@ use denote.Text.{Utf8}
 use Rattle.py_tree.specs.View.{args, expr_tree, exprs, generators, keywords}
 use Rattle.py_annotation_text.specs.Annotation.{clause_texts, keyword_texts, parameter_texts, expr_texts}
 use Rattle.py_annotation_text.specs.Lists.{comma, separated_text}
-use Rattle.py_annotation_text.proofs.Pairs.{links_of, pairs_of}
+use Rattle.py_annotation_text.proofs.ListPairLemmas.{links_of, pairs_of}
 use Rattle.py_annotation_text.proofs.+text.Given as goal
 
 abbrev pub decreases-expressions::push_expr : goal.decreases-expressions::push_expr

@@ -7,8 +7,8 @@ use Rattle.py_bytecode.specs.Machine.{SetupWith, WithCleanupStart, WithCleanupFi
 use Rattle.py_dataflow.specs.Flow.{flow_of, target_of}
 use Rattle.py_dataflow.specs.Walks.{seen_instr}
 use Rattle.py_control.specs.Code.{Item, Do, Label}
-use Rattle.py_control_proof.proofs.Moves.{MoveStands}
-use Rattle.py_control_proof.proofs.Reach.{Ground}
+use Rattle.py_control_proof.proofs.CodeMoveLemmas.{MoveStands}
+use Rattle.py_control_proof.proofs.MachineReachLemmas.{Ground}
 use Rattle.py_control_proof.specs.Sound.{Sees}
 
 -- the flow of an instruction has no places

@@ -1,4 +1,4 @@
-use Rattle.py_control_proof.proofs.BlockMachine.{blocks_simulate}
+use Rattle.py_control_proof.proofs.BlockMachineLemmas.{blocks_simulate}
 use Rattle.py_control_proof.proofs.block_simulation.Goals as goal
 
 pub returns : goal.returns

@@ -1,4 +1,4 @@
-use Rattle.py_control_proof.proofs.Dataflow.Blocks.{blocks_are_sound}
+use Rattle.py_control_proof.proofs.Dataflow.BlockFlowLemmas.{blocks_are_sound}
 use Rattle.py_control_proof.proofs.blocks_are_sound.Goals as goal
 
 pub returns : goal.returns

@@ -1,4 +1,4 @@
-use Rattle.py_control_proof.proofs.BlockMachine.{blocks_run}
+use Rattle.py_control_proof.proofs.BlockMachineLemmas.{blocks_run}
 use Rattle.py_control_proof.proofs.blocks_run.Goals as goal
 
 pub returns : goal.returns

@@ -1,4 +1,4 @@
-use Rattle.py_control_proof.proofs.Dataflow.CodesAreSound.{codes_are_sound}
+use Rattle.py_control_proof.proofs.Dataflow.CodeSoundnessLemmas.{codes_are_sound}
 use Rattle.py_control_proof.proofs.codes_are_sound.Goals as goal
 
 pub returns : goal.returns

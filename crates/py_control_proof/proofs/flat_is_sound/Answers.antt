@@ -1,4 +1,4 @@
-use Rattle.py_control_proof.proofs.Dataflow.Flat.{flat_is_sound}
+use Rattle.py_control_proof.proofs.Dataflow.FlatCodeLemmas.{flat_is_sound}
 use Rattle.py_control_proof.proofs.flat_is_sound.Goals as goal
 
 pub returns : goal.returns

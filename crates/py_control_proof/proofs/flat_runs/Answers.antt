@@ -1,4 +1,4 @@
-use Rattle.py_control_proof.proofs.Dataflow.Flat.{flat_runs}
+use Rattle.py_control_proof.proofs.Dataflow.FlatCodeLemmas.{flat_runs}
 use Rattle.py_control_proof.proofs.flat_runs.Goals as goal
 
 pub returns : goal.returns

@@ -1,4 +1,4 @@
-use Rattle.py_control_proof.proofs.Dataflow.Blocks.{laid_is_sound}
+use Rattle.py_control_proof.proofs.Dataflow.BlockFlowLemmas.{laid_is_sound}
 use Rattle.py_control_proof.proofs.laid_is_sound.Goals as goal
 
 pub returns : goal.returns

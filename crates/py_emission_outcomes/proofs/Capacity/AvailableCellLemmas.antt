@@ -13,9 +13,9 @@ use Rattle.py_meaning.specs.Faults.{faults}
 use Rattle.py_meaning.specs.Meaning.{body}
 use Rattle.py_meaning.specs.Scanned.{scopes_of}
 use Rattle.py_scope_proof.specs.Cells.{StandUpTo, at_hand, is_one_of}
-use Rattle.py_scope_proof.proofs.NodeScopes.CellsOfScopes.{cells_stand}
+use Rattle.py_scope_proof.proofs.NodeScopes.ScopeCellLemmas.{cells_stand}
 use Rattle.py_emission_proof.proofs.Additions.EmissionSequenceLemmas.{emission_sequence_looping, emission_sequence_postponed_node_context}
-use Rattle.py_emission_outcomes.proofs.Capacity.Accesses.{AtHand, AccessReady}
+use Rattle.py_emission_outcomes.proofs.Capacity.AccessCapacityLemmas.{AtHand, AccessReady}
 
 -- what is free in a scope is at hand in the scope with this number, and so it is at every depth within it
 abbrev pub StandsIn : List ScopeEntry → (here : ℕ) → Scope → Type 0
@@ -52,9 +52,9 @@ available_cell_apart P [] ys h = (tt, h)
 available_cell_apart P (x ∷ xs) ys h = let r = available_cell_apart P xs ys h.1 in ((h.0, r.0), r.1)
 
 -- what is so of each of two lists is so of both together
-pub together : {A : Type 0} (P : A → Type 0) (xs ys : List A) → AllOf P xs → AllOf P ys → AllOf P (xs ++ ys)
-together P [] ys g h = h
-together P (x ∷ xs) ys g h = (g.0, together P xs ys g.1 h)
+pub all_of_append : {A : Type 0} (P : A → Type 0) (xs ys : List A) → AllOf P xs → AllOf P ys → AllOf P (xs ++ ys)
+all_of_append P [] ys g h = h
+all_of_append P (x ∷ xs) ys g h = (g.0, all_of_append P xs ys g.1 h)
 
 -- of a scope that stands so: its free variables are at hand, and the scopes in its form stand so within it
 pub names_at_hand : (scopes : List ScopeEntry) (here : ℕ) (head : Head) (f : SForm) → StandsIn scopes here (MkScope head f) → AllOf (λ x. is_one_of x (at_hand scopes here) ≡ true) head.free

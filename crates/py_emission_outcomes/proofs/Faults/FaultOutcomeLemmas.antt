@@ -25,11 +25,11 @@ use Rattle.py_emission_parts.specs.Context.{Context, inside, outermost}
 use Rattle.py_emission_parts.specs.Emitting.{NodeContext, State, Outcome, Done, Refused, nothing}
 use Rattle.py_emission_outcomes.proofs.Faults.RefusalLemmas.{RefusalEnds, Wide, Misses, Stops, GoesOn, Passes, constant_passes, last_ends}
 use Rattle.py_emission_outcomes.proofs.Faults.RefusalLemmas.{level_ends, name_passes, nothing_passes, refusal_outside, then_ends, Parts}
-use Rattle.py_emission_outcomes.proofs.Faults.ClassEnds.{setup_passes}
-use Rattle.py_emission_outcomes.proofs.Faults.FutureEnds.{future_after_ends, end_after}
-use Rattle.py_emission_outcomes.proofs.Faults.InteractiveEnds.{interactive_ends}
-use Rattle.py_emission_outcomes.proofs.Faults.RefusingExprs.{refusing_expr_both_none, expr_ends}
-use Rattle.py_emission_outcomes.proofs.Faults.RefusingStmts.{stmts_end_so}
+use Rattle.py_emission_outcomes.proofs.Faults.ClassFaultLemmas.{setup_passes}
+use Rattle.py_emission_outcomes.proofs.Faults.FutureImportFaultLemmas.{future_after_ends, end_after}
+use Rattle.py_emission_outcomes.proofs.Faults.PromptFaultLemmas.{interactive_ends}
+use Rattle.py_emission_outcomes.proofs.Faults.ExpressionFaultLemmas.{refusing_expr_both_none, expr_ends}
+use Rattle.py_emission_outcomes.proofs.Faults.StatementFaultLemmas.{stmts_end_so}
 
 module _ (class : Option (List ℕ)) where
   left_shapes : (text : Option (List ℕ)) (ts : tree.Stmts) → stmts_shapes class ts ≡ [] → stmts_shapes class (unless_text text ts) ≡ []

@@ -16,7 +16,7 @@ use Rattle.py_meaning.specs.ExprFaults.{Fault, fault_at, when, debug_faults}
 use Rattle.py_bytecode.specs.Values.{Usage, Load, Store, Delete, Kind, Unsaid, Fast, ByName, Global, Deref, ClassDeref}
 use Rattle.py_control.specs.Form.{Resolved}
 use Rattle.py_emission_parts.specs.Children.{child, load_cell}
-use Rattle.py_emission_proof.proofs.Additions.EmissionSequenceLemmas.{new_block, kept_on, emission_sequence_looping, emission_sequence_postponed_node_context}
+use Rattle.py_emission_proof.proofs.Additions.EmissionSequenceLemmas.{new_block, on_done_keep, emission_sequence_looping, emission_sequence_postponed_node_context}
 use Rattle.py_emission_parts.specs.Running.{Action, ◌▹◌, begin, after_child, code_head, on_done, on_sealed, put_instruction, run, ended}
 use Rattle.py_emission_parts.specs.NestedScopes.{Shape, type_param_scope_inside, lambda_inside, comprehension_inside, function_inside, nested_class}
 use Rattle.py_emission_parts.specs.Context.{Context, access_kind, cell_place, is_function, mangled_by, inside, with_path, nested_in_class}
@@ -85,22 +85,22 @@ after_ends {c = c} {a = a} {b = b} {m = m} {q = q} {fs = fs} {gs = gs} x y = rec
 pub then_ends : {c : NodeContext} {a b : Emission} {p m q : SourceLocation} {fs gs : List Fault} → RefusalEndsAs c a p m fs → RefusalEndsAs c b m q gs → RefusalEndsAs c (a ▸ b) p q (fs ++ gs)
 then_ends x y = record { ends = (after_ends (run_ends x) (run_ends y)).ends }
 
-pub ends_so : {c : NodeContext} {a : Emission} {p q : SourceLocation} {fs gs : List Fault} → fs ≡ gs → RefusalEndsAs c a p q fs → RefusalEndsAs c a p q gs
-ends_so {c = c} {a = a} {p = p} {q = q} e x = subst (RefusalEndsAs c a p q) e x
+pub ends_with_faults : {c : NodeContext} {a : Emission} {p q : SourceLocation} {fs gs : List Fault} → fs ≡ gs → RefusalEndsAs c a p q fs → RefusalEndsAs c a p q gs
+ends_with_faults {c = c} {a = a} {p = p} {q = q} e x = subst (RefusalEndsAs c a p q) e x
 
-pub ends_there : {c : NodeContext} {a : Emission} {p q r : SourceLocation} {fs : List Fault} → q ≡ r → RefusalEndsAs c a p q fs → RefusalEndsAs c a p r fs
-ends_there {c = c} {a = a} {p = p} {fs = fs} e x = subst (λ q. RefusalEndsAs c a p q fs) e x
+pub ends_at_place : {c : NodeContext} {a : Emission} {p q r : SourceLocation} {fs : List Fault} → q ≡ r → RefusalEndsAs c a p q fs → RefusalEndsAs c a p r fs
+ends_at_place {c = c} {a = a} {p = p} {fs = fs} e x = subst (λ q. RefusalEndsAs c a p q fs) e x
 
 pub three_end : {c : NodeContext} {a b d : Emission} {p m n q : SourceLocation} {fs gs hs : List Fault} → RefusalEndsAs c a p m fs → RefusalEndsAs c b m n gs
     → RefusalEndsAs c d n q hs → RefusalEndsAs c (a ▸ b ▸ d) p q (fs ++ gs ++ hs)
-three_end {fs = fs} {gs = gs} {hs = hs} x y z = ends_so (sym (append_assoc fs gs hs)) (then_ends x (then_ends y z))
+three_end {fs = fs} {gs = gs} {hs = hs} x y z = ends_with_faults (sym (append_assoc fs gs hs)) (then_ends x (then_ends y z))
 
 -- and then what only goes on, or nothing more is at fault
 pub last_ends : {c : NodeContext} {a b : Emission} {p q : SourceLocation} {fs : List Fault} → RefusalEndsAs c a p q fs → Passes c b q → RefusalEndsAs c (a ▸ b) p q fs
-last_ends {fs = fs} x y = ends_so (append-nil fs) (then_ends x y)
+last_ends {fs = fs} x y = ends_with_faults (append-nil fs) (then_ends x y)
 
 pub alone_ends : {c : NodeContext} {a : Emission} {p q : SourceLocation} {fs : List Fault} → RefusalEndsAs c a p q fs → RefusalEndsAs c a p q (fs ++ [])
-alone_ends {fs = fs} x = ends_so (sym (append-nil fs)) x
+alone_ends {fs = fs} x = ends_with_faults (sym (append-nil fs)) x
 
 -- what runs alike ends alike
 pub alike_ends : {c : NodeContext} {a b : Emission} {p q : SourceLocation} {fs : List Fault} → ((s : State) → run a s ≡ run b s) → RefusalEndsAs c b p q fs → RefusalEndsAs c a p q fs
@@ -111,7 +111,7 @@ pub unled_ends : {c : NodeContext} {p q : SourceLocation} {fs : List Fault} (a :
 unled_ends a x = record { ends = x.ends }
 
 pub unkept_ends : {c : NodeContext} {p q : SourceLocation} {fs : List Fault} (a : Emission) → RefusalEndsAs c (a ▸ keep) p q fs → RefusalEndsAs c a p q fs
-unkept_ends a x = alike_ends (λ s. sym (kept_on (run a s))) x
+unkept_ends a x = alike_ends (λ s. sym (on_done_keep (run a s))) x
 
 pub nothing_passes : {c : NodeContext} {p : SourceLocation} → Passes c keep p
 nothing_passes = record { ends = λ s h z. GoesOn s h z refl refl }
@@ -329,7 +329,7 @@ pub unless_debug_ends : {c : NodeContext} {v : Emission} {p q : SourceLocation} 
 unless_debug_ends text name x = guarded_ends (is_debug name) (error.SyntaxError text) x
 
 pub unless_debug_last : {c : NodeContext} {v : Emission} {p : SourceLocation} (text name : List ℕ) → Passes c v p → RefusalEndsAs c (unless_debug text name v) p p (debug_faults text p name)
-unless_debug_last {p = p} text name x = ends_so (append-nil (debug_faults text p name)) (unless_debug_ends text name x)
+unless_debug_last {p = p} text name x = ends_with_faults (append-nil (debug_faults text p name)) (unless_debug_ends text name x)
 
 pub comparison_passes : {c : NodeContext} {p : SourceLocation} (o : CmpOp) → Passes c (emission_of_comparison o) p
 comparison_passes comparison.Lt = emit_passes op.CompareOperation 0

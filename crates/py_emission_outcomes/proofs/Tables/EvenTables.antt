@@ -18,7 +18,7 @@ use Rattle.py_scope_proof.specs.ScopeNodes.{ScopeForest, Bare, Grown, size}
 use Rattle.py_scope_proof.specs.StmtScopeNodes.{scope_forest_of}
 use Rattle.py_scope_proof.specs.Entered.{end_in_table, ends_of, ends_of_whole}
 use Rattle.py_scope_proof.proofs.NodeScopes.ScopeForestLemmas.{after_others}
-use Rattle.py_scope_proof.proofs.NodeScopes.ScopeNodeTables.{table_has_groves}
+use Rattle.py_scope_proof.proofs.NodeScopes.ScopeNodeTableLemmas.{table_has_groves}
 use Rattle.py_emission_outcomes.proofs.Tables.Walks.{HaveEnds, WalkedTo, walk_run}
 use Rattle.py_emission_outcomes.proofs.Tables.WalkMods.{mod_walks}
 

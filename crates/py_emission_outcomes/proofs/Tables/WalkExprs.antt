@@ -22,9 +22,9 @@ use Rattle.py_scope_proof.specs.ScopeNodes.{ScopeNode, Value, ScopeForest, Bare,
 use Rattle.py_scope_proof.specs.ScopeNodes.{scope_nodes_in_all, scope_nodes_in_annotations, scope_nodes_in_args, scope_nodes_in_after}
 use Rattle.py_scope_proof.specs.ScopeNodes.{scope_nodes_in_clauses, scope_nodes_in_defaults, scope_nodes_in_each, scope_nodes_in_first}
 use Rattle.py_scope_proof.specs.ScopeNodes.{scope_nodes_in_keys, scope_nodes_in_keywords, scope_nodes_in_opt}
-use Rattle.py_scope_proof.proofs.NodeScopes.Lengths.{length_all, length_annotations}
+use Rattle.py_scope_proof.proofs.NodeScopes.ExpressionScopeCountLemmas.{length_all, length_annotations}
 use Rattle.py_scope_proof.proofs.NodeScopes.ScopeForestLemmas.{beside_assoc}
-use Rattle.py_emission_outcomes.proofs.Capacity.Scopeless.{texts_scopeless}
+use Rattle.py_emission_outcomes.proofs.Capacity.DocstringScopeLemmas.{texts_scopeless}
 use Rattle.py_emission_outcomes.proofs.Tables.Walks.{Walks, accessed_walks, at_walks, constant_walks, debug_walks, deleted_walks}
 use Rattle.py_emission_outcomes.proofs.Tables.Walks.{emit_walks, generating_walks, if_walks, in_function_walks, keep_walks, load_walks}
 use Rattle.py_emission_outcomes.proofs.Tables.Walks.{mangled_walks, refuse_walks, stored_walks, then_walks, two_parts, unless_debug_walks}

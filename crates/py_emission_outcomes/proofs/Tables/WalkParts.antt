@@ -18,7 +18,7 @@ use Rattle.py_emission_parts.specs.EmissionParts.{plain_store, slice_step, slice
 use Rattle.py_emission_parts.specs.EmissionParts.{value_or, values, values_in}
 use Rattle.py_emission_parts.specs.Refused.{few_aside, no_assignment}
 use Rattle.py_emission_parts.specs.TableParts.{any}
-use Rattle.py_scope.proofs.Chains.{equal_numbers}
+use Rattle.py_scope.proofs.ScopeChainLemmas.{equal_numbers}
 use Rattle.py_scope_proof.specs.ScopeNodes.{ScopeForest}
 use Rattle.py_emission_outcomes.proofs.Tables.Walks.{Walks, at_walks, constant_walks, count_walks, emit_walks, if_walks, keep_walks}
 use Rattle.py_emission_outcomes.proofs.Tables.Walks.{mangled_walks, refuse_walks, then_walks, told_walks, unless_debug_walks, walks_as}

@@ -32,9 +32,9 @@ use Rattle.py_scope_proof.specs.ScopeNodes.{scope_nodes_in_annotation, scope_nod
 use Rattle.py_scope_proof.specs.StmtScopeNodes.{function_with_type_params, scope_nodes_in_handlers, scope_nodes_in_items, scope_nodes_in_params}
 use Rattle.py_scope_proof.specs.StmtScopeNodes.{scope_nodes_in_raise, scope_nodes_in_stmt, scope_nodes_in_stmts, with_type_params}
 use Rattle.py_scope_proof.proofs.NodeScopes.ScopeForestLemmas.{scope_forest_joined}
-use Rattle.py_scope_proof.proofs.NodeScopes.Lengths.{length_annotation, length_in, length_opt}
-use Rattle.py_scope_proof.proofs.NodeScopes.StmtLengths.{length_stmt}
-use Rattle.py_emission_outcomes.proofs.Capacity.Scopeless.{doc_scopeless}
+use Rattle.py_scope_proof.proofs.NodeScopes.ExpressionScopeCountLemmas.{length_annotation, length_in, length_opt}
+use Rattle.py_scope_proof.proofs.NodeScopes.StatementScopeCountLemmas.{length_stmt}
+use Rattle.py_emission_outcomes.proofs.Capacity.DocstringScopeLemmas.{doc_scopeless}
 use Rattle.py_emission_outcomes.proofs.Tables.Walks.{Walks, at_walks, constant_walks, context_walks, emit_walks, if_walks}
 use Rattle.py_emission_outcomes.proofs.Tables.Walks.{in_function_walks, jump_walks, keep_walks, level_walks, load_walks, loop_walks, loops_walk}
 use Rattle.py_emission_outcomes.proofs.Tables.Walks.{mangled_walks, move_walks, name_walks, refuse_walks, scopes_walk, stored_walks, then_walks}

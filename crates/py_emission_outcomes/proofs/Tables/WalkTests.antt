@@ -16,7 +16,7 @@ use Rattle.py_emission_parts.specs.EmissionParts.{emission_of_compare, first_com
 use Rattle.py_emission_parts.specs.EmissionParts.{shorts, some_test, some_values, tested_value, testing_jump, tests, truth_of}
 use Rattle.py_emission_parts.specs.EmissionParts.{unary_emissions, unary_value, values}
 use Rattle.py_emission_parts.specs.TableParts.{deciding_truth, unary_case}
-use Rattle.py_scope.proofs.Chains.{equal_numbers}
+use Rattle.py_scope.proofs.ScopeChainLemmas.{equal_numbers}
 use Rattle.py_scope_proof.specs.ScopeNodes.{ScopeForest}
 use Rattle.py_emission_outcomes.proofs.Tables.Walks.{Walks, at_walks, comparison_walks, emit_walks, if_walks, jump_walks, keep_walks}
 use Rattle.py_emission_outcomes.proofs.Tables.Walks.{link_walks, one_walks, refuse_walks, then_walks, told_walks, two_walk, walks_as}

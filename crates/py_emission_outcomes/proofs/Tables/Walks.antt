@@ -2,7 +2,7 @@
 use Rattle.std.proofs.Common.{◌≡◌, refl, sym, ap, ◌∙◌, subst, ℕ, zero, suc, ◌+◌, ◌<◌, ◌≤◌, ◌^◌, List, [], ◌∷◌, ◌++◌, Bool, true, false, Option, Some, None, arith}
 use Rattle.std.specs.Prelude.{if◌then◌else◌, nat_lt, nat_eq, ◌||◌}
 use Rattle.std.specs.List.{list_any}
-use Rattle.py_base.proofs.Numbers.{nat_lt_true, nat_lt_false}
+use Rattle.py_base.proofs.NumberLemmas.{nat_lt_true, nat_lt_false}
 use Rattle.py_base.specs.declared.location.SourceLocation.{SourceLocation}
 use Rattle.py_base.specs.declared.operators.CmpOp.{CmpOp}
 use Rattle.py_base.specs.declared.operators.CmpOp.TheVariants as comparison
@@ -14,7 +14,7 @@ use Rattle.py_bytecode.specs.Equality.{const_eq, text_eq}
 use Rattle.py_bytecode.specs.Objects.{Const, Object}
 use Rattle.py_bytecode.specs.Values.{Usage, Load, Store, Delete, Kind, Unsaid, Fast, ByName, Global, Deref, ClassDeref}
 use Rattle.py_control.specs.Form.{Resolved}
-use Rattle.py_scope.proofs.Chains.{tells_same}
+use Rattle.py_scope.proofs.ScopeChainLemmas.{tells_same}
 use Rattle.py_scope.specs.declared.flat.ScopeEntry.{ScopeEntry}
 use Rattle.py_emission_parts.specs.Accesses.{access_by, name_access, emission_of_deleted, emission_of_name, emission_of_stored}
 use Rattle.py_emission_parts.specs.Children.{child, load_cell}

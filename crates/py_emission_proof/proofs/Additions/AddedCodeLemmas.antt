@@ -11,14 +11,14 @@ use Rattle.py_control.specs.Form.{Scope}
 use Rattle.py_control.specs.Code.{Item, Do, Label}
 use Rattle.py_control.specs.CodeRuns.{children}
 use Rattle.py_control.specs.Places.{items_over}
-use Rattle.py_control_proof.proofs.CodeOver.{over-append}
+use Rattle.py_control_proof.proofs.ChildReplacementLemmas.{over-append}
 use Rattle.py_emission_parts.specs.Emitting.{Step, Put, Begin, NodeContext, State, with_step}
 use Rattle.py_emission_parts.specs.Context.{Context}
 use Rattle.py_emission_proof.specs.Distinct.{AreDistinct}
 use Rattle.py_emission_proof.specs.Loads.{loads}
-use Rattle.py_emission_proof.proofs.Additions.SizeBound.{cells_in, cells-append}
-use Rattle.py_emission_proof.proofs.Additions.Codes.{Codes, Counted, Ground, Numbered, by_number, codes_then, counted_join, counted_none}
-use Rattle.py_emission_proof.proofs.Additions.Codes.{no_codes, none_between, numbered_back, numbered_front, loads_join, code_scopes}
+use Rattle.py_emission_proof.proofs.Additions.SizeBoundLemmas.{cells_in, cells-append}
+use Rattle.py_emission_proof.proofs.Additions.EnteredCodeLemmas.{Codes, Counted, Ground, Numbered, by_number, codes_then, counted_join, counted_none}
+use Rattle.py_emission_proof.proofs.Additions.EnteredCodeLemmas.{no_codes, none_between, numbered_back, numbered_front, loads_join, code_scopes}
 
 -- cells come first, and then free names
 abbrev pub cells_of : NodeContext → List (List ℕ)
@@ -135,8 +135,8 @@ pub record Completes (s s1 : State) (is : List (Item Scope)) (m l : ℕ) : Type 
   pub counted : Counted s.next s1.next made
   pub cells : cells_in is ≤ suc (loads (scopes_in s) (code_scopes made))
 
-pub completed : (s s1 : State) (is : List (Item Scope)) (m l : ℕ) → Adds s s1 is m l → Completes s s1 is m l
-completed s s1 is m l a = record { made = a.made; added = a.added; next_is = a.next_is; counted = a.counted; cells = let c = a.cells in omega (arith, c) }
+pub adds_completes : (s s1 : State) (is : List (Item Scope)) (m l : ℕ) → Adds s s1 is m l → Completes s s1 is m l
+adds_completes s s1 is m l a = record { made = a.made; added = a.added; next_is = a.next_is; counted = a.counted; cells = let c = a.cells in omega (arith, c) }
 
 -- tables that begin with the second begin with the first
 pub begins_before : (s s1 : State) (is : List (Item Scope)) (m : ℕ) (ps : List (Object × Scope)) (t : Tables) → Added s s1 is m ps → Begins s1 t → Begins s t

@@ -12,10 +12,10 @@ use Rattle.py_ir.specs.Chain.{Blk, blk, without_unreachable, body}
 use Rattle.py_control.specs.Code.{Item, Do, Label}
 use Rattle.py_emission_parts.specs.Emitting.{Step, Put, Begin}
 use Rattle.py_emission_parts.specs.Listed.{Begun}
-use Rattle.py_control_proof.proofs.Assembly.{occurs}
+use Rattle.py_control_proof.proofs.ScopeCodeRunLemmas.{occurs}
 use Rattle.py_emit.specs.Steps.{step_of, onwards, steps_from}
 use Rattle.py_emission_proof.proofs.Additions.AddedCodeLemmas.{AddedCodeReads, AllRead, Below, AllInside}
-use Rattle.py_emit.proofs.Chains.{ChainLeads}
+use Rattle.py_emit.proofs.ChainListLemmas.{ChainLeads}
 
 -- a number is one of these
 abbrev pub InChain : ℕ → List ℕ → Type 0
@@ -27,13 +27,13 @@ in_at b [] k l e = absurd (omega arith)
 in_at b (c ∷ cs) zero l e = inl (sym e)
 in_at b (c ∷ cs) (suc k) l e = inr (in_at b cs k (omega arith) e)
 
-pub contained : (b : ℕ) (cs : List ℕ) → Contains cs b → InChain b cs
-contained b cs h = in_at b cs h.0 h.1 h.2
+pub in_chain_of_contains : (b : ℕ) (cs : List ℕ) → Contains cs b → InChain b cs
+in_chain_of_contains b cs h = in_at b cs h.0 h.1 h.2
 
-pub contains : (b : ℕ) (cs : List ℕ) → InChain b cs → Contains cs b
-contains b [] h = absurd h
-contains b (c ∷ cs) (inl e) = (0, omega arith, sym e)
-contains b (c ∷ cs) (inr h) = let r = contains b cs h in (suc r.0, (let l = r.1 in omega (arith, l)), r.2)
+pub contains_of_in_chain : (b : ℕ) (cs : List ℕ) → InChain b cs → Contains cs b
+contains_of_in_chain b [] h = absurd h
+contains_of_in_chain b (c ∷ cs) (inl e) = (0, omega arith, sym e)
+contains_of_in_chain b (c ∷ cs) (inr h) = let r = contains_of_in_chain b cs h in (suc r.0, (let l = r.1 in omega (arith, l)), r.2)
 
 -- an instruction that reads as one of a code, in so many blocks
 abbrev pub Fine : Tables → ℕ → Step → Type 0

@@ -10,7 +10,7 @@ use Rattle.py_bytecode.specs.Table.{row_of}
 use Rattle.py_dataflow.specs.declared.info.InstructionInfo.{InstructionInfo}
 use Rattle.py_layout.specs.Written.{InRange}
 use Rattle.py_control.specs.Code.{Item, Do, Label, size}
-use Rattle.py_control_proof.proofs.Assembly.{is_label, occurs}
+use Rattle.py_control_proof.proofs.ScopeCodeRunLemmas.{is_label, occurs}
 use Rattle.py_emission_parts.specs.Emitting.{Step, Put, Begin}
 use Rattle.py_emission_parts.specs.Listed.{cut_steps, items_in, number_of, steps_at}
 use Rattle.py_emit.specs.Placed.{AllNamed, IsPlaced, begun_in}
@@ -56,9 +56,9 @@ module _ (t : Tables) where
   block_placement_named count (Begin b ∷ xs) le h = block_placement_named count xs le h.1
 
   -- the blocks of a body are placed
-  pub placing : (count : ℕ) (xs : List Step) (items : List (Item Object)) → 1 ≤ count → count ≤ 0xffff_ffff → AllRead t xs items → AllInside count xs
+  pub body_blocks_placed : (count : ℕ) (xs : List Step) (items : List (Item Object)) → 1 ≤ count → count ≤ 0xffff_ffff → AllRead t xs items → AllInside count xs
       → ((k : ℕ) → occurs k items ≤ 1) → occurs 0 items ≡ 0 → IsPlaced count xs
-  placing count xs items some few r h once never = record {
+  body_blocks_placed count xs items some few r h once never = record {
     made = All-cons (λ b. b < count) 0 (begun_in xs) (omega (arith, some)) (begun_inside count xs h);
     once = AllPairs-cons (λ b c. b ≢ c) 0 (begun_in xs) (begun_apart 0 xs items r never) (begun_once xs items r once);
     named = block_placement_named count xs few h;

@@ -13,10 +13,10 @@ use Rattle.py_emission_parts.specs.Emitting.{generator_mark, in_loop, move, noth
 use Rattle.py_emission_parts.specs.Emitting.{three_blocks, two_blocks}
 use Rattle.py_emission_parts.specs.Running.{Action, ◌▹◌, begin, begins, on_done, run}
 use Rattle.py_emission_parts.specs.Context.{Context}
-use Rattle.py_emission_proof.proofs.Additions.Settled.{Settled}
+use Rattle.py_emission_proof.proofs.Additions.ContextCellLemmas.{Settled}
 use Rattle.py_emission_proof.specs.Distinct.{AreDistinct}
 use Rattle.py_emission_proof.proofs.Additions.AddedCodeLemmas.{Added, Adds, adds_as, adds_join, adds_nothing, adds_plain, adds_step}
-use Rattle.py_emission_proof.proofs.Additions.Codes.{no_codes}
+use Rattle.py_emission_proof.proofs.Additions.EnteredCodeLemmas.{no_codes}
 
 -- the state between two emissions
 went_on : (o : Outcome) (b : Action) (r : State) → on_done o b ≡ Done r → (m : State) × (o ≡ Done m) × (b m ≡ Done r)
@@ -48,8 +48,8 @@ pub emission_sequence_yields : {c : NodeContext} {n k : ℕ} {v : Emission} {p :
     → ((s r : State) → n ≡ s.blocks → k ≡ s.next → EmissionSequenceStands c s → run v s ≡ Done r → Adds s r p m l) → Yields c n k v p m l
 emission_sequence_yields f = record { does = λ s r b g z e. (f s r b g z e, tt) }
 
-pub so : {c : NodeContext} {n k : ℕ} {v : Emission} {p : List (Item Scope)} {m l : ℕ} {P Q : Type 0} → (P → Q) → Gives c n k v p m l P → Gives c n k v p m l Q
-so f a = record { does = λ s r b g z e. let d = a.does s r b g z e in (d.0, f d.1) }
+pub gives_so : {c : NodeContext} {n k : ℕ} {v : Emission} {p : List (Item Scope)} {m l : ℕ} {P Q : Type 0} → (P → Q) → Gives c n k v p m l P → Gives c n k v p m l Q
+gives_so f a = record { does = λ s r b g z e. let d = a.does s r b g z e in (d.0, f d.1) }
 
 pub gives_as : {c : NodeContext} {n k : ℕ} {v : Emission} {p q : List (Item Scope)} {m j l h : ℕ} {P : Type 0} → p ≡ q → m ≡ j → l ≡ h → Gives c n k v p m l P → Gives c n k v q j h P
 gives_as {p = p} {q = q} {m = m} {j = j} {l = l} {h = h} e f x a = record { does = λ s r b g z y. let d = a.does s r b g z y in (adds_as s r p q m j l h e f x d.0, d.1) }
@@ -71,8 +71,8 @@ pub next_as : {c : NodeContext} {n j k : ℕ} {v : Emission} {p : List (Item Sco
 next_as e a = record { does = λ s r b g z h. a.does s r b (e ∙ g) z h }
 
 -- what adds something leaves it so
-pub still : {c : NodeContext} {s r : State} → EmissionSequenceStands c s → r.node_context ≡ s.node_context → EmissionSequenceStands c r
-still z e = record { node_context = z.node_context ∙ sym e; settled = z.settled }
+pub stands_still : {c : NodeContext} {s r : State} → EmissionSequenceStands c s → r.node_context ≡ s.node_context → EmissionSequenceStands c r
+stands_still z e = record { node_context = z.node_context ∙ sym e; settled = z.settled }
 
 -- the same of an action
 record Acts (c : NodeContext) (n k : ℕ) (v : Action) (items : List (Item Scope)) (m l : ℕ) (P : Type 0) : Type 0 where
@@ -90,7 +90,7 @@ one_after {n = n} {k = k} {v = v} {w = w} {p = p} {q = q} {m = m} {j = j} {l = l
       let x = a.acts s i.0 f g z i.1 in
       let d = x.0.added.blocks_are in
       let u = x.0.next_is in
-      let y = b.acts i.0 r (omega (arith, f, d)) (omega (arith, g, u)) (still z x.0.added.node_contexts_are) i.2 in
+      let y = b.acts i.0 r (omega (arith, f, d)) (omega (arith, g, u)) (stands_still z x.0.added.node_contexts_are) i.2 in
       (adds_join s i.0 r p q m j l h x.0 y.0, (x.1, y.1));
 }
 
@@ -101,17 +101,17 @@ then_gives a b = record { does = (one_after (act_of a) (act_of b)).acts }
 
 pub then_yields : {c : NodeContext} {n k : ℕ} {v w : Emission} {p q : List (Item Scope)} {m j l h : ℕ} {Q : Type 0} → Yields c n k v p m l
     → Gives c (n + m) (k + l) w q j h Q → Gives c n k (v ▸ w) (p ++ q) (m + j) (l + h) Q
-then_yields a b = so (λ h. h.1) (then_gives a b)
+then_yields a b = gives_so (λ h. h.1) (then_gives a b)
 
 pub and_yields : {c : NodeContext} {n k : ℕ} {v w : Emission} {p q : List (Item Scope)} {m j l h : ℕ} {P : Type 0} → Gives c n k v p m l P
     → Yields c (n + m) (k + l) w q j h → Gives c n k (v ▸ w) (p ++ q) (m + j) (l + h) P
-and_yields a b = so (λ h. h.0) (then_gives a b)
+and_yields a b = gives_so (λ h. h.0) (then_gives a b)
 
 -- and then nothing
-pub kept_on : (o : Outcome) → on_done o (run keep) ≡ o
-kept_on (Done s) = refl
-kept_on TooWide = refl
-kept_on (Refused e at) = refl
+pub on_done_keep : (o : Outcome) → on_done o (run keep) ≡ o
+on_done_keep (Done s) = refl
+on_done_keep TooWide = refl
+on_done_keep (Refused e at) = refl
 
 -- one after the first two
 pub emission_sequence_grouped : (o : Outcome) (w u : Emission) → on_done o (run (w ▸ u)) ≡ on_done (on_done o (run w)) (run u)
@@ -120,41 +120,41 @@ emission_sequence_grouped TooWide w u = refl
 emission_sequence_grouped (Refused e at) w u = refl
 
 -- what follows runs alike
-pub on_each : (o : Outcome) (v w : Emission) → ((m : State) → run v m ≡ run w m) → on_done o (run v) ≡ on_done o (run w)
-on_each (Done s) v w same = same s
-on_each TooWide v w same = refl
-on_each (Refused e at) v w same = refl
+pub on_done_alike : (o : Outcome) (v w : Emission) → ((m : State) → run v m ≡ run w m) → on_done o (run v) ≡ on_done o (run w)
+on_done_alike (Done s) v w same = same s
+on_done_alike TooWide v w same = refl
+on_done_alike (Refused e at) v w same = refl
 
 -- what runs alike adds the same
 pub alike_gives : {c : NodeContext} {n k : ℕ} {v w : Emission} {p : List (Item Scope)} {m l : ℕ} {P : Type 0} → ((s : State) → run v s ≡ run w s) → Gives c n k w p m l P → Gives c n k v p m l P
 alike_gives same a = record { does = λ s r b g z e. a.does s r b g z (sym (same s) ∙ e) }
 
 pub then_keep : {c : NodeContext} {n k : ℕ} {v : Emission} {p : List (Item Scope)} {m l : ℕ} {P : Type 0} → Gives c n k v p m l P → Gives c n k (v ▸ keep) p m l P
-then_keep {v = v} a = alike_gives (λ s. kept_on (run v s)) a
+then_keep {v = v} a = alike_gives (λ s. on_done_keep (run v s)) a
 
-pub regroup : {c : NodeContext} {n k : ℕ} {p : List (Item Scope)} {m l : ℕ} {P : Type 0} (v w u : Emission) → Gives c n k ((v ▸ w) ▸ u) p m l P → Gives c n k (v ▸ w ▸ u) p m l P
-regroup v w u a = alike_gives (λ s. emission_sequence_grouped (run v s) w u) a
+pub gives_regrouped : {c : NodeContext} {n k : ℕ} {p : List (Item Scope)} {m l : ℕ} {P : Type 0} (v w u : Emission) → Gives c n k ((v ▸ w) ▸ u) p m l P → Gives c n k (v ▸ w ▸ u) p m l P
+gives_regrouped v w u a = alike_gives (λ s. emission_sequence_grouped (run v s) w u) a
 
-pub ungroup : {c : NodeContext} {n k : ℕ} {p : List (Item Scope)} {m l : ℕ} {P : Type 0} (v w u : Emission) → Gives c n k (v ▸ w ▸ u) p m l P → Gives c n k ((v ▸ w) ▸ u) p m l P
-ungroup v w u a = alike_gives (λ s. sym (emission_sequence_grouped (run v s) w u)) a
+pub gives_ungrouped : {c : NodeContext} {n k : ℕ} {p : List (Item Scope)} {m l : ℕ} {P : Type 0} (v w u : Emission) → Gives c n k (v ▸ w ▸ u) p m l P → Gives c n k ((v ▸ w) ▸ u) p m l P
+gives_ungrouped v w u a = alike_gives (λ s. sym (emission_sequence_grouped (run v s) w u)) a
 
 pub regroup_late : {c : NodeContext} {n k : ℕ} {p : List (Item Scope)} {m l : ℕ} {P : Type 0} (v w u x : Emission) → Gives c n k ((v ▸ w ▸ u) ▸ x) p m l P → Gives c n k (v ▸ w ▸ u ▸ x) p m l P
-regroup_late v w u x a = alike_gives (λ s. on_each (run v s) (w ▸ u ▸ x) ((w ▸ u) ▸ x) (λ t. emission_sequence_grouped (run w t) u x) ∙ emission_sequence_grouped (run v s) (w ▸ u) x) a
+regroup_late v w u x a = alike_gives (λ s. on_done_alike (run v s) (w ▸ u ▸ x) ((w ▸ u) ▸ x) (λ t. emission_sequence_grouped (run w t) u x) ∙ emission_sequence_grouped (run v s) (w ▸ u) x) a
 
 -- after or before items that make no block and no scope
-pub after_these : {c : NodeContext} {n k : ℕ} {v w : Emission} {is q : List (Item Scope)} {j h : ℕ} {Q : Type 0} → Yields c n k v is 0 0 → Gives c n k w q j h Q → Gives c n k (v ▸ w) (is ++ q) j h Q
-after_these {n = n} {k = k} a b = gives_as refl (omega arith) (omega arith) (then_yields a (from_as (let e : n ≡ n + 0 = omega arith in e) (next_as (let e : k ≡ k + 0 = omega arith in e) b)))
+pub gives_after_items : {c : NodeContext} {n k : ℕ} {v w : Emission} {is q : List (Item Scope)} {j h : ℕ} {Q : Type 0} → Yields c n k v is 0 0 → Gives c n k w q j h Q → Gives c n k (v ▸ w) (is ++ q) j h Q
+gives_after_items {n = n} {k = k} a b = gives_as refl (omega arith) (omega arith) (then_yields a (from_as (let e : n ≡ n + 0 = omega arith in e) (next_as (let e : k ≡ k + 0 = omega arith in e) b)))
 
-pub then_these : {c : NodeContext} {n k : ℕ} {v w : Emission} {p is : List (Item Scope)} {m l : ℕ} {P : Type 0} → Gives c n k v p m l P
+pub gives_then_items : {c : NodeContext} {n k : ℕ} {v w : Emission} {p is : List (Item Scope)} {m l : ℕ} {P : Type 0} → Gives c n k v p m l P
     → Yields c (n + m) (k + l) w is 0 0 → Gives c n k (v ▸ w) (p ++ is) m l P
-then_these a b = gives_as refl (omega arith) (omega arith) (and_yields a b)
+gives_then_items a b = gives_as refl (omega arith) (omega arith) (and_yields a b)
 
 pub keep_yields : {c : NodeContext} {n k : ℕ} → Yields c n k keep [] 0 0
 keep_yields = emission_sequence_yields (λ s r b g z e. subst (λ t. Adds s t [] 0 0) (done_is s r e) (adds_nothing s))
 
 -- another location, or another number of the next scope
-pub elsewhere : (s r : State) → r.names ≡ s.names → r.varnames ≡ s.varnames → r.constants ≡ s.constants → r.blocks ≡ s.blocks → r.steps ≡ s.steps → r.node_context ≡ s.node_context → Added s r [] 0 []
-elsewhere s r a b c d e f = record {
+pub added_elsewhere : (s r : State) → r.names ≡ s.names → r.varnames ≡ s.varnames → r.constants ≡ s.constants → r.blocks ≡ s.blocks → r.steps ≡ s.steps → r.node_context ≡ s.node_context → Added s r [] 0 []
+added_elsewhere s r a b c d e f = record {
   names = [];
   names_are = a ∙ sym (append-nil s.names);
   varnames = [];
@@ -177,10 +177,10 @@ pub move_yields : {c : NodeContext} {n k : ℕ} (at : SourceLocation) → Yields
 unfolding move with_location
 move_yields at = emission_sequence_yields
     (λ s r b g z e. subst (λ t. Adds s t [] 0 0) (done_is (with_location at s) r e)
-    (adds_plain s (with_location at s) [] 0 0 refl (omega arith) (elsewhere s (with_location at s) refl refl refl refl refl refl)))
+    (adds_plain s (with_location at s) [] 0 0 refl (omega arith) (added_elsewhere s (with_location at s) refl refl refl refl refl refl)))
 
 pub moved_gives : {c : NodeContext} {n k : ℕ} {v : Emission} {p : List (Item Scope)} {m l : ℕ} {P : Type 0} (at : SourceLocation) → Gives c n k v p m l P → Gives c n k (move at ▸ v) p m l P
-moved_gives at a = after_these (move_yields at) a
+moved_gives at a = gives_after_items (move_yields at) a
 
 -- a refusal is not done
 pub refused_gives : {c : NodeContext} {n k : ℕ} {p : List (Item Scope)} {m l : ℕ} {P : Type 0} (e : CodegenErrorType) → Gives c n k (refuse e) p m l P
@@ -241,7 +241,7 @@ begun_at b {p = p} {m = m} {l = l} lt h = record {
       let a = adds_step (Begin b) s (Label b) (refl, refl) (λ d u w. (refl, tt)) (omega (arith, f, lt)) in
       let d = a.added.blocks_are in
       let u = a.next_is in
-      let x = h.acts (begins b s) r (omega (arith, f, d)) (omega (arith, g, u)) (still z a.added.node_contexts_are) e in
+      let x = h.acts (begins b s) r (omega (arith, f, d)) (omega (arith, g, u)) (stands_still z a.added.node_contexts_are) e in
       (adds_as s r (Label b ∷ p) (Label b ∷ p) (0 + m) m (0 + l) l refl (omega arith) (omega arith) (adds_join s (begins b s) r (Label b ∷ []) p 0 m 0 l a x.0), x.1);
 }
 
@@ -276,7 +276,7 @@ three_give {n = n} f g u v x y w z =
 -- one where nothing stands after it
 pub one_ends : {c : NodeContext} {n k : ℕ} {p : List (Item Scope)} {m l : ℕ} {P : Type 0} (f : ℕ → Emission) → Gives c (1 + n) k (f n) p m l P
     → Gives c n k (one_block f (λ a. keep)) (p ++ Label n ∷ []) (1 + m) l P
-one_ends f x = gives_as refl (omega arith) (omega arith) (so (λ h. h.0) (one_gives f (λ a. keep) x keep_yields))
+one_ends f x = gives_as refl (omega arith) (omega arith) (gives_so (λ h. h.0) (one_gives f (λ a. keep) x keep_yields))
 
 -- what the context, the level and the loops decide
 pub context_gives : {c : NodeContext} {n k : ℕ} {p : List (Item Scope)} {m l : ℕ} {P : Type 0} (a : Context → Emission) → Gives c n k (a c.context) p m l P → Gives c n k (by_context a) p m l P
@@ -413,7 +413,7 @@ pub generating_yields : {c : NodeContext} {n k : ℕ} → Yields c n k generator
 unfolding generator_mark
 generating_yields = emission_sequence_yields
     (λ s r b g z e. let t : State = record s { generator = true } in subst (λ x. Adds s x [] 0 0) (done_is t r e)
-    (adds_plain s t [] 0 0 refl (omega arith) (elsewhere s t refl refl refl refl refl refl)))
+    (adds_plain s t [] 0 0 refl (omega arith) (added_elsewhere s t refl refl refl refl refl refl)))
 
 -- where a test does not fail
 done_unless : (b : Bool) (t r : State) (at : SourceLocation) → (if b then Done t else Refused mismatch (Some at)) ≡ Done r → ◌≡◌ {A = Outcome} (Done t) (Done r)
@@ -426,4 +426,4 @@ unfolding pass_over
 pass_yields more = emission_sequence_yields
     (λ s r b g z e. let t : State = record s { next = s.next + more } in subst (λ x. Adds s x [] 0 more)
     (done_is t r (done_unless (are_whole s.node_context.context.scopes s.next more) t r s.location e))
-    (adds_plain s t [] 0 more refl refl (elsewhere s t refl refl refl refl refl refl)))
+    (adds_plain s t [] 0 more refl refl (added_elsewhere s t refl refl refl refl refl refl)))

@@ -15,7 +15,7 @@ use Rattle.py_emission_parts.specs.Emitting.{Step}
 use Rattle.py_control_proof.proofs.LaidCodeLemmas.{laid_then}
 use Rattle.py_emit.specs.Steps.{step_of, onwards, steps_from}
 use Rattle.py_emission_proof.proofs.Additions.AddedCodeLemmas.{AllRead, Below, AllInside}
-use Rattle.py_emit.proofs.Chains.{ChainLeads}
+use Rattle.py_emit.proofs.ChainListLemmas.{ChainLeads}
 
 -- items that are read from steps in two parts
 pub record LaidCodeParted (t : Tables) (xs ys : List Step) (items : List (Item Object)) : Type 0 where
@@ -125,20 +125,20 @@ module _ (t : Tables) (bs : List Blk) where
   inside_next c (Some d) go e h = let same : d ≡ c = cc in subst (λ n. AllInside (length bs) (go n)) same h.1
 
   -- a chain from one of its blocks on
-  pub lay : (n c : ℕ) (cs : List ℕ) (items : List (Item Object)) → ChainLeads bs (c ∷ cs) → length (c ∷ cs) ≤ n → AllRead t (steps_from bs n c) items
+  pub chain_lays : (n c : ℕ) (cs : List ℕ) (items : List (Item Object)) → ChainLeads bs (c ∷ cs) → length (c ∷ cs) ≤ n → AllRead t (steps_from bs n c) items
       → AllInside (length bs) (steps_from bs n c) → Lays t (coded_blocks bs) items (Of c 0)
-  lay zero c cs items leads enough r h = absurd (omega (arith, enough))
-  lay (suc n) c [] items leads enough r h =
+  chain_lays zero c cs items leads enough r h = absurd (omega (arith, enough))
+  chain_lays (suc n) c [] items leads enough r h =
       let xs : List Step = map step_of (blk bs c).items in
       let ys : List Step = onwards (blk bs c).next (steps_from bs n) in
       let p = laid_code_parted t xs ys items r in
       lay_joined items p.front p.back (Of c 0) (Of c (length (blk bs c).items)) p.are
       (lay_block c p.front p.first (inside_front (length bs) xs ys h))
       (lay_end c (blk bs c).next (steps_from bs n) p.back leads leads p.second)
-  lay (suc n) c (d ∷ cs) items leads enough r h =
+  chain_lays (suc n) c (d ∷ cs) items leads enough r h =
       let xs : List Step = map step_of (blk bs c).items in
       let ys : List Step = onwards (blk bs c).next (steps_from bs n) in
       let p = laid_code_parted t xs ys items r in
       let within = inside_next d (blk bs c).next (steps_from bs n) leads.0 (inside_back (length bs) xs ys h) in
       lay_joined items p.front p.back (Of c 0) (Of c (length (blk bs c).items)) p.are (lay_block c p.front p.first (inside_front (length bs) xs ys h))
-      (lay_next c d (blk bs c).next (steps_from bs n) p.back leads.0 leads.0 p.second (λ js g. lay n d cs js leads.1 (omega (arith, enough)) g within))
+      (lay_next c d (blk bs c).next (steps_from bs n) p.back leads.0 leads.0 p.second (λ js g. chain_lays n d cs js leads.1 (omega (arith, enough)) g within))

@@ -15,10 +15,10 @@ use Rattle.py_ir.specs.Chain.{Blk, blk, block_number, without_unreachable, body,
 use Rattle.py_control.specs.Code.{Item, Do, Label}
 use Rattle.py_control_proof.specs.Reachable.{stays, reachable_count}
 use Rattle.py_emission_parts.specs.Emitting.{Step}
-use Rattle.py_control_proof.proofs.Stays.{stays_row}
+use Rattle.py_control_proof.proofs.FallThroughLemmas.{stays_row}
 use Rattle.py_emit.specs.Steps.{step_of, onwards, steps_from}
 use Rattle.py_emission_proof.proofs.Additions.AddedCodeLemmas.{AllRead}
-use Rattle.py_emit.proofs.Chains.{ChainLeads}
+use Rattle.py_emit.proofs.ChainListLemmas.{ChainLeads}
 use Rattle.py_emission_proof.proofs.Additions.LaidCodeLemmas.{laid_code_parted}
 
 -- whether the first can be reached makes no difference where there is none, or a label stands before it

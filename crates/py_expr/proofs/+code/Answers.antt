@@ -1,10 +1,10 @@
-mod CallSteps
-mod ClauseSteps
-mod ComprehensionSteps
-mod LambdaSteps
-mod MapLoops
-mod PairLoops
-mod StoreLoops
+mod CallStepLemmas
+mod ClauseStepLemmas
+mod ComprehensionStepLemmas
+mod LambdaStepLemmas
+mod KeywordMapLoopLemmas
+mod DictEntryLoopLemmas
+mod TargetLoopLemmas
 use Rattle.std.proofs.Common.{arith, rules, Bool, false, ◌<◌, Err, List, [], refl, subst, ◌≡◌, ◌+◌, ◌∙◌, ap, drop, length, sym}
 use Rattle.std.specs.Prelude.{nat_eq}
 use Rattle.py_bytecode.specs.declared.instruction.Instruction.TheVariants as op
@@ -18,29 +18,29 @@ use Rattle.py_emission_parts.specs.Emitting.{Emission, emit, emit_count, with_lo
 use Rattle.py_emission_parts.specs.EmissionParts.{Emissions, elements, in_turn, links, shorts, some_test, some_values, tests, values}
 use Rattle.py_emission.specs.Emission.{all_emissions, emission, emission_of_return, emission_of_test, emissions, opt_emissions}
 use Rattle.py_emit.specs.States.{state}
-use Rattle.py_emit.proofs.Joined.{first_refuses, goes_as, refuses_as, same_error, went}
+use Rattle.py_emit.proofs.JoinedEmissionLemmas.{first_refuses, goes_as, refuses_as, same_error, on_done_goes}
 use Rattle.py_expr_parts.specs.Calls.{callee_value, is_method}
 use Rattle.py_expr_parts.specs.Turns.{element_after, group_count, group_rest, groups_by, run_length_after}
-use Rattle.py_expr.proofs.+code.Answers.CallSteps.{call_entered, named_goes, plain_goes, positional_plain, tuple_plain, type_taken}
-use Rattle.py_expr.proofs.+code.Answers.ClauseSteps.{clause_begins, clause_refused, clauses_go_on, condition_refused, conditions_go_on, end_is, end_waits, start_waits}
-use Rattle.py_expr.proofs.+code.Answers.ComprehensionSteps.{body_refused, clauses_closed, clauses_refused, clauses_wait}
-use Rattle.py_expr.proofs.+code.Answers.ComprehensionSteps.{comprehension_awaits, comprehension_called, comprehension_goes}
-use Rattle.py_expr.proofs.+code.Answers.ComprehensionSteps.{comprehension_inner, comprehension_left, comprehension_made}
-use Rattle.py_expr.proofs.+code.Answers.ComprehensionSteps.{comprehension_refused, dict_goes, function_refused, generator_goes}
-use Rattle.py_expr.proofs.+code.Answers.ComprehensionSteps.{iterable_refused, no_generator, turn_refused, unstarred_done, unstarred_refused}
-use Rattle.py_expr.proofs.+code.Answers.LambdaSteps.{defaults_refused, lambda_goes, lambda_inner, lambda_left, lambda_not_begun, lambda_refused, lambda_step_scope_refused}
-use Rattle.py_expr.proofs.+code.Answers.MapLoops.{keyword_refused, map_alone, map_refused, maps_begin, maps_go_on, maps_joined}
-use Rattle.py_expr.proofs.+code.Answers.StoreLoops.{attribute_stored, element_stored, store_refused, stores_go_on}
-use Rattle.py_expr.proofs.+code.Answers.PairLoops.{begin_refused, end_refused, entries_begin, entries_done, entries_go_on, value_refused}
-use Rattle.py_expr.proofs.Locations.{entering, entering_return}
-use Rattle.py_expr_parts.proofs.KeywordMaps.{values_at}
-use Rattle.py_expr_parts.proofs.Groups.{display_plain, elements_at, few_groups, groups_count, groups_rest, many_values, group_none_more}
-use Rattle.py_expr_parts.proofs.Otherwise.{function_callee, plain_element, truth_test, value_return}
-use Rattle.py_expr_scopes.proofs.OpenBlocks.{open_block_apart, begin_opens, block_opens, jump_opens, opens}
-use Rattle.py_expr_parts.proofs.InFunctions.{inside_function}
-use Rattle.py_expr_parts.proofs.Steps.{many_emissions}
-use Rattle.py_expr_parts.proofs.Turns.{a_chain, either_jump, even_dict, if_not, turn_if_so, links_at, many_keys, no_operand, one_comparison}
-use Rattle.py_expr_parts.proofs.Turns.{other_test, path_of, refused_shape, shorts_at, tests_at, uneven_dict, uneven_lists}
+use Rattle.py_expr.proofs.+code.Answers.CallStepLemmas.{call_entered, named_goes, plain_goes, positional_plain, tuple_plain, type_taken}
+use Rattle.py_expr.proofs.+code.Answers.ClauseStepLemmas.{clause_begins, clause_refused, clauses_go_on, condition_refused, conditions_go_on, end_is, end_waits, start_waits}
+use Rattle.py_expr.proofs.+code.Answers.ComprehensionStepLemmas.{body_refused, clauses_closed, clauses_refused, clauses_wait}
+use Rattle.py_expr.proofs.+code.Answers.ComprehensionStepLemmas.{comprehension_awaits, comprehension_called, comprehension_goes}
+use Rattle.py_expr.proofs.+code.Answers.ComprehensionStepLemmas.{comprehension_inner, comprehension_left, comprehension_made}
+use Rattle.py_expr.proofs.+code.Answers.ComprehensionStepLemmas.{comprehension_refused, dict_goes, function_refused, generator_goes}
+use Rattle.py_expr.proofs.+code.Answers.ComprehensionStepLemmas.{iterable_refused, no_generator, turn_refused, unstarred_done, unstarred_refused}
+use Rattle.py_expr.proofs.+code.Answers.LambdaStepLemmas.{defaults_refused, lambda_goes, lambda_inner, lambda_left, lambda_not_begun, lambda_refused, lambda_step_scope_refused}
+use Rattle.py_expr.proofs.+code.Answers.KeywordMapLoopLemmas.{keyword_refused, map_alone, map_refused, maps_begin, maps_go_on, maps_joined}
+use Rattle.py_expr.proofs.+code.Answers.TargetLoopLemmas.{attribute_stored, element_stored, store_refused, stores_go_on}
+use Rattle.py_expr.proofs.+code.Answers.DictEntryLoopLemmas.{begin_refused, end_refused, entries_begin, entries_done, entries_go_on, value_refused}
+use Rattle.py_expr.proofs.ExpressionLocationLemmas.{expression_at_location, return_at_location}
+use Rattle.py_expr_parts.proofs.KeywordMapLemmas.{values_at}
+use Rattle.py_expr_parts.proofs.ElementGroupLemmas.{display_plain, elements_at, few_groups, groups_count, groups_rest, many_values, group_none_more}
+use Rattle.py_expr_parts.proofs.OtherExpressionLemmas.{function_callee, plain_element, truth_test, value_return}
+use Rattle.py_expr_scopes.proofs.OpenBlockLemmas.{open_block_apart, begin_opens, block_opens, jump_opens, keeps_open}
+use Rattle.py_expr_parts.proofs.FunctionContextLemmas.{inside_function}
+use Rattle.py_expr_parts.proofs.EmissionStepLemmas.{many_emissions}
+use Rattle.py_expr_parts.proofs.ValueListLemmas.{a_chain, either_jump, even_dict, if_not, turn_if_so, links_at, many_keys, no_operand, one_comparison}
+use Rattle.py_expr_parts.proofs.ValueListLemmas.{other_test, path_of, refused_shape, shorts_at, tests_at, uneven_dict, uneven_lists}
 use Rattle.py_expr.proofs.+code.Goals as goal
 
 pub expressions::compile_expression-returns : goal.expressions::compile_expression-returns
@@ -48,7 +48,7 @@ expressions::compile_expression-returns t c = record {
   goes =
       let e = expr_tree c.args.expr.now in
       let s = state c.args.em.now in
-      goes_as _ _ _ _ (entering e s ∙ ap (λ at. run (emission e) (with_location at s)) (sym c.location.ensures)
+      goes_as _ _ _ _ (expression_at_location e s ∙ ap (λ at. run (emission e) (with_location at s)) (sym c.location.ensures)
       ∙ ap (run (emission e)) (sym c.set_location.ensures.state)) c.compile_entered.ensures.goes;
   same = search rules;
 }
@@ -58,7 +58,7 @@ returns::compile_return-returns t c = record {
   goes =
       let e = expr_tree c.args.expr.now in
       let s = state c.args.em.now in
-      goes_as _ _ _ _ (entering_return e s ∙ ap (λ at. run (emission_of_return e) (with_location at s)) (sym c.location.ensures)
+      goes_as _ _ _ _ (return_at_location e s ∙ ap (λ at. run (emission_of_return e) (with_location at s)) (sym c.location.ensures)
       ∙ ap (run (emission_of_return e)) (sym c.set_location.ensures.state)) c.return_entered.ensures.goes;
   same = search rules;
 }
@@ -113,7 +113,7 @@ conditions::compile_bool_test-returns t c =
 pub conditions::compile_some_values-switch_to_block-requires : goal.conditions::compile_some_values-switch_to_block-requires
 conditions::compile_some_values-switch_to_block-requires t c =
     record {
-      made = opens (shorts c.args.op c.in_ok-end.end.0 (all_emissions (exprs expr_tree c.args.values.now)))
+      made = keeps_open (shorts c.args.op c.in_ok-end.end.0 (all_emissions (exprs expr_tree c.args.values.now)))
           _ _ _ c.in_ok-compile_shorts.ensures.goes c.in_ok-end.ensures.made;
       below = c.in_ok-end.ensures.below;
     }
@@ -121,7 +121,7 @@ conditions::compile_some_values-switch_to_block-requires t c =
 pub conditions::compile_past_tests-switch_to_block-requires : goal.conditions::compile_past_tests-switch_to_block-requires
 conditions::compile_past_tests-switch_to_block-requires t c =
     record {
-      made = opens (tests c.args.deciding c.in_ok-end.end.0 c.args.jump.now.truth c.args.jump.now.block.0
+      made = keeps_open (tests c.args.deciding c.in_ok-end.end.0 c.args.jump.now.truth c.args.jump.now.block.0
           (all_emissions (exprs expr_tree c.args.values.now))) _ _ _ c.in_ok-compile_tests.ensures.goes c.in_ok-end.ensures.made;
       below =
           c.in_ok-end.ensures.below;
@@ -140,36 +140,36 @@ conditions::compile_some_test-returns t c =
 pub comparisons::compile_chain-switch_to_block-requires : goal.comparisons::compile_chain-switch_to_block-requires
 comparisons::compile_chain-switch_to_block-requires t c =
     let a = block_opens _ _ _ c.in_ok-end.ensures.ok c.in_ok-out.ensures.made in
-    let e = opens (emission (expr_tree c.deref.result.now)) _ _ _ c.in_ok-compile_expression.ensures.goes a in
-    let m = opens (links c.in_ok-out.out.0 c.as_slice.result.now (all_emissions (exprs expr_tree c.as_slice-2.result.now))) _ _ _ c.in_ok-compile_links.ensures.goes e in
+    let e = keeps_open (emission (expr_tree c.deref.result.now)) _ _ _ c.in_ok-compile_expression.ensures.goes a in
+    let m = keeps_open (links c.in_ok-out.out.0 c.as_slice.result.now (all_emissions (exprs expr_tree c.as_slice-2.result.now))) _ _ _ c.in_ok-compile_links.ensures.goes e in
     record { made = jump_opens op.Jump c.in_ok-end.end.0 _ _ _ c.in_Continue-emit-emit.ensures.goes m; below = c.in_ok-out.ensures.below }
 
 pub comparisons::compile_chain-switch_to_block-requires-2 : goal.comparisons::compile_chain-switch_to_block-requires-2
 comparisons::compile_chain-switch_to_block-requires-2 t c =
     let other = open_block_apart _ _ _ c.in_ok-out.ensures.made c.in_ok-end.ensures.number in
-    let e = opens (emission (expr_tree c.deref.result.now)) _ _ _ c.in_ok-compile_expression.ensures.goes c.in_ok-end.ensures.made in
-    let m = opens (links c.in_ok-out.out.0 c.as_slice.result.now (all_emissions (exprs expr_tree c.as_slice-2.result.now))) _ _ _ c.in_ok-compile_links.ensures.goes e in
+    let e = keeps_open (emission (expr_tree c.deref.result.now)) _ _ _ c.in_ok-compile_expression.ensures.goes c.in_ok-end.ensures.made in
+    let m = keeps_open (links c.in_ok-out.out.0 c.as_slice.result.now (all_emissions (exprs expr_tree c.as_slice-2.result.now))) _ _ _ c.in_ok-compile_links.ensures.goes e in
     let j = jump_opens op.Jump c.in_ok-end.end.0 _ _ _ c.in_Continue-emit-emit.ensures.goes m in
     let g = begin_opens _ _ _ c.in_ok-out.out.0 (λ e. other (sym e)) c.switch_to_block.ensures.state j in
-    let r = opens (emit op.Rotate2 0) _ _ _ c.in_Continue-emit-emit-2.ensures.goes g in
-    record { made = opens (emit op.Pop 0) _ _ _ c.in_Continue-emit-emit-3.ensures.goes r; below = c.in_ok-end.ensures.below }
+    let r = keeps_open (emit op.Rotate2 0) _ _ _ c.in_Continue-emit-emit-2.ensures.goes g in
+    record { made = keeps_open (emit op.Pop 0) _ _ _ c.in_Continue-emit-emit-3.ensures.goes r; below = c.in_ok-end.ensures.below }
 
 pub expressions::compile_if_exp-switch_to_block-requires : goal.expressions::compile_if_exp-switch_to_block-requires
 expressions::compile_if_exp-switch_to_block-requires t c =
     let a = block_opens _ _ _ c.in_ok-end.ensures.ok c.in_ok-other.ensures.made in
-    let e = opens (emission_of_test (expr_tree c.deref.result.now) false c.in_ok-other.other.0) _ _ _ c.in_ok-compile_test.ensures.goes a in
-    let m = opens (emission (expr_tree c.deref-2.result.now)) _ _ _ c.in_ok-compile_expression.ensures.goes e in
+    let e = keeps_open (emission_of_test (expr_tree c.deref.result.now) false c.in_ok-other.other.0) _ _ _ c.in_ok-compile_test.ensures.goes a in
+    let m = keeps_open (emission (expr_tree c.deref-2.result.now)) _ _ _ c.in_ok-compile_expression.ensures.goes e in
     record { made = jump_opens op.Jump c.in_ok-end.end.0 _ _ _ c.in_Continue-emit-emit.ensures.goes m; below = c.in_ok-other.ensures.below }
 
 pub expressions::compile_if_exp-switch_to_block-requires-2 : goal.expressions::compile_if_exp-switch_to_block-requires-2
 expressions::compile_if_exp-switch_to_block-requires-2 t c =
     let out = c.in_ok-other.other.0 in
     let other = open_block_apart _ _ _ c.in_ok-other.ensures.made c.in_ok-end.ensures.number in
-    let e = opens (emission_of_test (expr_tree c.deref.result.now) false out) _ _ _ c.in_ok-compile_test.ensures.goes c.in_ok-end.ensures.made in
-    let m = opens (emission (expr_tree c.deref-2.result.now)) _ _ _ c.in_ok-compile_expression.ensures.goes e in
+    let e = keeps_open (emission_of_test (expr_tree c.deref.result.now) false out) _ _ _ c.in_ok-compile_test.ensures.goes c.in_ok-end.ensures.made in
+    let m = keeps_open (emission (expr_tree c.deref-2.result.now)) _ _ _ c.in_ok-compile_expression.ensures.goes e in
     let j = jump_opens op.Jump c.in_ok-end.end.0 _ _ _ c.in_Continue-emit-emit.ensures.goes m in
     let g = begin_opens _ _ _ out (λ e. other (sym e)) c.switch_to_block.ensures.state j in
-    record { made = opens (emission (expr_tree c.deref-3.result.now)) _ _ _ c.in_ok-compile_expression-2.ensures.goes g; below = c.in_ok-end.ensures.below }
+    record { made = keeps_open (emission (expr_tree c.deref-3.result.now)) _ _ _ c.in_ok-compile_expression-2.ensures.goes g; below = c.in_ok-end.ensures.below }
 
 pub comparisons::compile_compare-returns : goal.comparisons::compile_compare-returns
 comparisons::compile_compare-returns t c =
@@ -228,7 +228,7 @@ comparisons::compile_links-loop-i-preserved t c = (
   c.in_ok-compile_linked.ensures.same ∙ c.loop-i.invariant.0,
   c.loop-i.invariant.1 ∙ ap (λ (f : Action). f (state c.loop-i.em))
       (links_at c.args.out.0 c.args.ops.now comparison.Eq c.args.values.now c.loop-i.i _ c.index-values-i.result c.index-values-i.is
-      c.requires.even c.loop-i-test.true) ∙ went _ _ _ c.in_ok-compile_linked.ensures.goes,
+      c.requires.even c.loop-i-test.true) ∙ on_done_goes _ _ _ c.in_ok-compile_linked.ensures.goes,
 )
 
 pub comparisons::compile_links-returns-in_err-compile_linked : goal.comparisons::compile_links-returns-in_err-compile_linked
@@ -247,7 +247,7 @@ conditions::compile_shorts-loop-i-preserved t c = (
   c.in_ok-compile_short.ensures.same ∙ c.loop-i.invariant.0,
   c.loop-i.invariant.1 ∙ ap (λ (f : Action). f (state c.loop-i.em))
       (shorts_at c.args.op c.args.end.0 c.args.values.now c.loop-i.i _ c.index-values-i.result c.index-values-i.is c.loop-i-test.true)
-      ∙ went _ _ _ c.in_ok-compile_short.ensures.goes,
+      ∙ on_done_goes _ _ _ c.in_ok-compile_short.ensures.goes,
 )
 
 pub conditions::compile_shorts-returns-in_err-compile_short : goal.conditions::compile_shorts-returns-in_err-compile_short
@@ -268,7 +268,7 @@ conditions::compile_tests-loop-i-preserved t c = (
       ∙ ap (λ (f : Action). f (state c.loop-i.em))
       (tests_at c.args.stop.now.truth c.args.stop.now.block.0 c.args.last.now.truth c.args.last.now.block.0 c.args.values.now c.loop-i.i
       _ c.index-values-i.result c.index-values-i.is c.loop-i-test.true)
-      ∙ went _ _ _ (ap (λ (f : Emission). run f (state c.loop-i.em))
+      ∙ on_done_goes _ _ _ (ap (λ (f : Emission). run f (state c.loop-i.em))
       (either_jump (expr_tree c.index-values-i.result) _ c.either-jump.result.now c.args.stop.now c.args.last.now c.either-jump.ensures)
       ∙ c.in_ok-compile_test.ensures.goes),
 )
@@ -346,7 +346,7 @@ displays::compile_display-returns t c = record {
   goes =
       goes_as _ _ _ _
       (ap (λ (f : Emission). run f (state c.args.em.now)) (display_plain c.args.elts.now c.args.build c.args.unpack (sym c.has_star.ensures ∙ c.if-has_star.false))
-      ∙ went _ _ _ c.in_ok-compile_expressions.ensures.goes)
+      ∙ on_done_goes _ _ _ c.in_ok-compile_expressions.ensures.goes)
       c.emit_count.ensures.goes;
   same = search rules;
 }
@@ -365,7 +365,7 @@ pub texts::compile_parts-returns : goal.texts::compile_parts-returns
 texts::compile_parts-returns t c = record {
   goes =
       goes_as _ _ _ _
-      (went _ _ _ c.in_ok-compile_expressions.ensures.goes
+      (on_done_goes _ _ _ c.in_ok-compile_expressions.ensures.goes
       ∙ ap (λ n. run (emit_count op.BuildString n) (state c.compile_expressions.new.em)) (many_values c.args.parts.now))
       c.emit_count.ensures.goes;
   same = search rules;
@@ -391,7 +391,7 @@ elements::compile_groups-loop-elt-preserved t c =
       c.in_ok-groups.ensures.emits.same ∙ c.loop-elt.invariant.0,
       c.loop-elt.invariant.1
           ∙ ap (λ (es : List (Element Emission Emission)). run (group_rest c.loop-elt.run es) (state c.loop-elt.em)) here
-          ∙ went _ _ _ c.in_ok-groups.ensures.emits.goes
+          ∙ on_done_goes _ _ _ c.in_ok-groups.ensures.emits.goes
           ∙ ap (λ n. run (group_rest n left) (state c.compile_element.new.em)) (sym after),
       omega (arith, all, next, many, last),
       omega (arith, most, few, many, after),
@@ -542,7 +542,7 @@ functions::compile_lambda-returns-in_err-code = lambda_step_scope_refused
 
 pub yields::yield_within-returns : goal.yields::yield_within-returns
 yields::yield_within-returns t c = record {
-  goes = goes_as _ _ _ _ (inside_function error.InvalidYield _ (state c.args.em.now) ∙ went _ _ _ c.in_ok-check_in_function.ensures.goes) c.yield_value.ensures.goes;
+  goes = goes_as _ _ _ _ (inside_function error.InvalidYield _ (state c.args.em.now) ∙ on_done_goes _ _ _ c.in_ok-check_in_function.ensures.goes) c.yield_value.ensures.goes;
   same = search rules;
 }
 
@@ -556,7 +556,7 @@ yields::yield_within-returns-in_err-check_in_function t c = record {
 
 pub yields::yield_all_within-returns : goal.yields::yield_all_within-returns
 yields::yield_all_within-returns t c = record {
-  goes = goes_as _ _ _ _ (inside_function error.InvalidYieldFrom _ (state c.args.em.now) ∙ went _ _ _ c.in_ok-check_in_function.ensures.goes) c.yield_all.ensures.goes;
+  goes = goes_as _ _ _ _ (inside_function error.InvalidYieldFrom _ (state c.args.em.now) ∙ on_done_goes _ _ _ c.in_ok-check_in_function.ensures.goes) c.yield_all.ensures.goes;
   same = search rules;
 }
 

@@ -17,7 +17,7 @@ use Rattle.py_expr_scopes.specs.Functions.{default_values}
 use Rattle.py_expr_parts.specs.Turns.{group_count, group_rest, pairs_of}
 use Rattle.py_expr_scopes.specs.declared.comprehensions.ComprehensionElement.{ComprehensionElement}
 use Rattle.py_expr_scopes.specs.declared.comprehensions.ComprehensionElement.TheVariants as element
-use Rattle.py_expr_scopes.proofs.OpenClauses.{none_open}
+use Rattle.py_expr_scopes.proofs.OpenClauseLemmas.{none_open}
 use Rattle.py_expr.proofs.+code.Given as goal
 
 abbrev pub invariant-expressions::compile_expressions-loop-item : goal.invariant-expressions::compile_expressions-loop-item

@@ -1,25 +1,25 @@
-mod ChainLoops
-mod Choices
-mod Defaults
-mod DictLoop
-mod ElementLoops
-mod KeywordLoops
-mod LinkLoop
-mod MapLoops
-mod Otherwise
-mod Unpacking
-use Rattle.py_interp_exprs.proofs.+interpreter.Answers.ChainLoops.{shorts_decided, shorts_ended, shorts_go_on, tests_decided, tests_ended, tests_go_on}
-use Rattle.py_interp_exprs.proofs.+interpreter.Answers.Choices.{call_packs, call_places, display_ended, display_grouped}
-use Rattle.py_interp_exprs.proofs.+interpreter.Answers.Choices.{display_grouped_ended, display_plain, links_some, parts_ended, parts_joined}
-use Rattle.py_interp_exprs.proofs.+interpreter.Answers.Choices.{text_alone}
-use Rattle.py_interp_exprs.proofs.+interpreter.Answers.Defaults.{lambda_made, positionals_end, positionals_ended}
-use Rattle.py_interp_exprs.proofs.+interpreter.Answers.DictLoop.{entries_end, entries_go_on}
-use Rattle.py_interp_exprs.proofs.+interpreter.Answers.ElementLoops.{group_plain, groups_go_on}
-use Rattle.py_interp_exprs.proofs.+interpreter.Answers.KeywordLoops.{values_go_on}
-use Rattle.py_interp_exprs.proofs.+interpreter.Answers.LinkLoop.{last_ended, link_ended, links_decided, links_go_on, right_ended}
-use Rattle.py_interp_exprs.proofs.+interpreter.Answers.MapLoops.{keyword_only_ended, keyword_only_goes_on, maps_go_on, positional_ended, positional_go_on}
-use Rattle.py_interp_exprs.proofs.+interpreter.Answers.Otherwise.{callee_ended, other_callee}
-use Rattle.py_interp_exprs.proofs.+interpreter.Answers.Unpacking.{unpack_ended, unpacking_unpacks}
+mod ShortCircuitLoopLemmas
+mod ExpressionChoiceLemmas
+mod LambdaDefaultLemmas
+mod DictLoopLemmas
+mod ElementLoopLemmas
+mod KeywordLoopLemmas
+mod ComparisonLoopLemmas
+mod MapLoopLemmas
+mod OtherCalleeLemmas
+mod TargetUnpackLemmas
+use Rattle.py_interp_exprs.proofs.+interpreter.Answers.ShortCircuitLoopLemmas.{shorts_decided, shorts_ended, shorts_go_on, tests_decided, tests_ended, tests_go_on}
+use Rattle.py_interp_exprs.proofs.+interpreter.Answers.ExpressionChoiceLemmas.{call_packs, call_places, display_ended, display_grouped}
+use Rattle.py_interp_exprs.proofs.+interpreter.Answers.ExpressionChoiceLemmas.{display_grouped_ended, display_plain, links_some, parts_ended, parts_joined}
+use Rattle.py_interp_exprs.proofs.+interpreter.Answers.ExpressionChoiceLemmas.{text_alone}
+use Rattle.py_interp_exprs.proofs.+interpreter.Answers.LambdaDefaultLemmas.{lambda_made, positionals_end, positionals_ended}
+use Rattle.py_interp_exprs.proofs.+interpreter.Answers.DictLoopLemmas.{entries_end, entries_go_on}
+use Rattle.py_interp_exprs.proofs.+interpreter.Answers.ElementLoopLemmas.{group_plain, groups_go_on}
+use Rattle.py_interp_exprs.proofs.+interpreter.Answers.KeywordLoopLemmas.{values_go_on}
+use Rattle.py_interp_exprs.proofs.+interpreter.Answers.ComparisonLoopLemmas.{last_ended, link_ended, links_decided, links_go_on, right_ended}
+use Rattle.py_interp_exprs.proofs.+interpreter.Answers.MapLoopLemmas.{keyword_only_ended, keyword_only_goes_on, maps_go_on, positional_ended, positional_go_on}
+use Rattle.py_interp_exprs.proofs.+interpreter.Answers.OtherCalleeLemmas.{callee_ended, other_callee}
+use Rattle.py_interp_exprs.proofs.+interpreter.Answers.TargetUnpackLemmas.{unpack_ended, unpacking_unpacks}
 use Rattle.py_interp_exprs.proofs.+interpreter.Goals as goal
 
 pub conditions::interpret_shorts-loop-i-preserved : goal.conditions::interpret_shorts-loop-i-preserved

@@ -9,7 +9,7 @@ use Rattle.py_answers.specs.Told.{value_of, values_of}
 use Rattle.py_interp.specs.Doing.{get_all, get_entries, get_groups, get_maps, links, put_each, shorts, tests, values_in, values_of_all}
 use Rattle.py_interp.specs.Interpreters.{all_targets, all_interpreters, keyword_only_interpreters, keyword_interpreters, positional_interpreters}
 use Rattle.py_interp_exprs.specs.Options.{told_option}
-use Rattle.py_interp_exprs.proofs.Places.{entries}
+use Rattle.py_interp_exprs.proofs.NodePlaceLemmas.{dict_entries}
 use Rattle.py_interp_exprs.proofs.+interpreter.Given as goal
 
 abbrev pub invariant-elements::interpret_all-loop-item : goal.invariant-elements::interpret_all-loop-item
@@ -24,8 +24,8 @@ invariant-elements::interpret_groups-loop-elt l =
 
 abbrev pub invariant-dicts::interpret_entries-loop-i : goal.invariant-dicts::interpret_entries-loop-i
 invariant-dicts::interpret_entries-loop-i l =
-    (get_entries (told_option l.initial.map) 0 [] (entries l.node_context l.keys l.values) (world_of l.initial.log)
-    ≡ get_entries (told_option l.map) l.count (values_of l.run.items) (entries l.node_context (drop l.i l.keys) (drop l.i l.values)) (world_of l.log))
+    (get_entries (told_option l.initial.map) 0 [] (dict_entries l.node_context l.keys l.values) (world_of l.initial.log)
+    ≡ get_entries (told_option l.map) l.count (values_of l.run.items) (dict_entries l.node_context (drop l.i l.keys) (drop l.i l.values)) (world_of l.log))
     × (l.count ≤ l.i)
 
 abbrev pub invariant-keywords::interpret_keyword_values-loop-keyword : goal.invariant-keywords::interpret_keyword_values-loop-keyword

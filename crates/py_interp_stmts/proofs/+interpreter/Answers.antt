@@ -10,9 +10,9 @@ use Rattle.py_interp.specs.Statements.{stmts_interpreter}
 use Rattle.py_interp.specs.Interpreters.{interpret_target, interpret_test}
 use Rattle.py_interp_exprs.proofs.ContinuationLemmas.{ContinuationEnds as Stopping}
 use Rattle.py_interp_simple.specs.Ends.{Ends, flow_of, slot_of}
-use Rattle.py_interp_simple.proofs.Endings.{Halted, do_halted, followed, got_halted, halted_as, left, ending_same}
+use Rattle.py_interp_simple.proofs.RunPartEndLemmas.{Halted, do_halted, flow_goes_on, got_halted, halted_as, flow_leaves, ending_same}
 use Rattle.py_interp_stmts.proofs.FollowingLemmas.{finally_halts, finally_leaves, finally_normal, after_over_stays}
-use Rattle.py_interp_stmts.proofs.Places.{handlers_at, no_final, place_passed, some_final, stmts_at, place_taken}
+use Rattle.py_interp_stmts.proofs.StatementPlaceLemmas.{handlers_at, no_final, place_passed, some_final, stmts_at, place_taken}
 use Rattle.py_interp_stmts.proofs.LoopTurnLemmas.{left_loop, no_round, no_turn, loop_turn_none_of, one_round, one_turn, one_turn_more}
 use Rattle.py_interp_stmts.proofs.LoopTurnLemmas.{round_none, round_some, turn_false, turn_halted, turn_true, went_on}
 use Rattle.py_interp_stmts.proofs.+interpreter.Goals as goal
@@ -24,14 +24,14 @@ statements::interpret_statements-loop-statement-preserved t c =
     c.loop-statement.invariant
     ∙ stmts_at c.args.node_context c.args.body.now c.loop-statement.statement-index _ c.statement-item.result (slot_of c.args.slot)
     (world_of c.loop-statement.log) c.statement-item.is c.loop-statement-test.true
-    ∙ followed c.in_ok-flow.flow _ _ _ c.in_ok-flow.ensures (sym c.is_normal.ensures ∙ c.if-not-is_normal.false)
+    ∙ flow_goes_on c.in_ok-flow.flow _ _ _ c.in_ok-flow.ensures (sym c.is_normal.ensures ∙ c.if-not-is_normal.false)
 
 pub statements::interpret_statements-returns-then-not-is_normal : goal.statements::interpret_statements-returns-then-not-is_normal
 statements::interpret_statements-returns-then-not-is_normal t c =
     c.loop-statement.invariant
     ∙ stmts_at c.args.node_context c.args.body.now c.loop-statement.statement-index _ c.statement-item.result (slot_of c.args.slot)
     (world_of c.loop-statement.log) c.statement-item.is c.loop-statement-test.true
-    ∙ left c.in_ok-flow.flow _ _ _ c.in_ok-flow.ensures (sym c.is_normal.ensures ∙ c.if-not-is_normal.true)
+    ∙ flow_leaves c.in_ok-flow.flow _ _ _ c.in_ok-flow.ensures (sym c.is_normal.ensures ∙ c.if-not-is_normal.true)
 
 pub statements::interpret_statements-returns-in_err-flow : goal.statements::interpret_statements-returns-in_err-flow
 statements::interpret_statements-returns-in_err-flow t c =

@@ -15,7 +15,7 @@ use Rattle.py_meaning.specs.ExprFaults.{expr_faults, fault_at}
 use Rattle.py_meaning.specs.Faults.{stmt_faults}
 use Rattle.py_node_laws.specs.CallPartFaults.{argument_faults, entry_faults}
 use Rattle.py_node_laws.specs.NodeFaults.{EndsBy, in_function, in_loop, setting_in}
-use Rattle.py_node_laws.proofs.Faults.Nodes.{statements_end}
+use Rattle.py_node_laws.proofs.Faults.NodeFaultLemmas.{statements_end}
 
 abbrev sample_there : SourceLocation
 sample_there = record { row = 2; column = 5 }

@@ -1,6 +1,6 @@
 use Rattle.std.proofs.Common.{arith}
 use Rattle.serde_json.specs.View.{view}
-use Rattle.py_rows_fields.proofs.FewRows.{few_rows}
+use Rattle.py_rows_fields.proofs.RowCountLemmas.{few_rows}
 use Rattle.py_rows.proofs.read_whole.Goals as goal
 
 pub read_all-requires : goal.read_all-requires

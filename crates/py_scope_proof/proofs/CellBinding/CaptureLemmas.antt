@@ -7,7 +7,7 @@ use Rattle.py_bytecode.specs.Objects.{Object, head}
 use Rattle.py_scope.specs.declared.flat.ScopeEntry.{ScopeEntry}
 use Rattle.py_scope.specs.declared.rows.Row.{Row}
 use Rattle.py_scope.specs.Names.{Name}
-use Rattle.py_scope.proofs.Chains.{tells_apart, tells_same}
+use Rattle.py_scope.proofs.ScopeChainLemmas.{tells_apart, tells_same}
 use Rattle.py_name_uses.specs.Steps.{State}
 use Rattle.py_control.specs.Agree.{AllOf, form_of, head_of, kids}
 use Rattle.py_control.specs.Form.{Scope}
@@ -19,14 +19,14 @@ use Rattle.py_scope_proof.specs.Entered.{ScansTo}
 use Rattle.py_scope_proof.specs.Own.{OwnUpTo, number_of}
 use Rattle.py_scope_proof.specs.ScopeNodes.{Placed}
 use Rattle.py_scope_proof.specs.StmtScopeNodes.{scope_nodes_of}
-use Rattle.py_scope_proof.proofs.NodeScopes.EachOwn.{each_is_its_own}
-use Rattle.py_scope_proof.proofs.NodeScopes.Facts.{Facts, facts}
-use Rattle.py_scope_proof.proofs.NodeScopes.Heads.{own_head, whole_head}
-use Rattle.py_scope_proof.proofs.NodeScopes.NodeScopeLemmas.{Standing, own_standing, whole_there}
-use Rattle.py_emission_proof.proofs.Additions.CodeNameLemmas.{IsMadeSo, Named}
+use Rattle.py_scope_proof.proofs.NodeScopes.TreeOwnScopeLemmas.{each_is_its_own}
+use Rattle.py_scope_proof.proofs.NodeScopes.ScanScopeLemmas.{Facts, scan_facts}
+use Rattle.py_scope_proof.proofs.NodeScopes.ScopeHeadLemmas.{own_head, whole_head}
+use Rattle.py_scope_proof.proofs.NodeScopes.NodeScopeLemmas.{Standing, own_standing, whole_scope_entered}
+use Rattle.py_emission_proof.proofs.Additions.CodeNameDefinitions.{IsMadeSo, Named}
 use Rattle.py_scope_proof.specs.Chains.{IsChain, IsMadeIn, Link, Uses, cell_of, outermost}
 use Rattle.py_scope_proof.specs.Captures.{Captures, CapturesCells, EndsAtBinder, binder_of, is_number, outward_to}
-use Rattle.py_scope_proof.proofs.CellBinding.Events.{inner_made, event_some_is, use_told}
+use Rattle.py_scope_proof.proofs.CellBinding.RunEventLemmas.{inner_made, event_some_is, use_told}
 use Rattle.py_scope_proof.proofs.CellBinding.CellPathLemmas.{AllLinked, UseComes, place_in, use_comes}
 
 -- links from this one outward
@@ -60,7 +60,7 @@ module _ (t : tree.Mod) (m : Mode) (level : ℕ) (clean : faults t m level ≡ [
   capture_whole = body capture_scopes t m level
 
   f : Facts capture_rows capture_scopes
-  f = facts t m level s clean scanned
+  f = scan_facts t m level s clean scanned
 
   -- what is known of a chain
   record CaptureStands (l : Link) (ls : List Link) : Type 0 where
@@ -71,7 +71,7 @@ module _ (t : tree.Mod) (m : Mode) (level : ℕ) (clean : faults t m level ≡ [
   capture_one : (l : Link) → l ≡ outermost o capture_whole → CaptureStands l []
   unfolding inside
   capture_one l e = subst (λ k. CaptureStands k []) (sym e) (record {
-    linked = (record { named = (made 1).0; head = whole_head capture_scopes t m level; there = whole_there t m level s clean scanned }, refl);
+    linked = (record { named = (made 1).0; head = whole_head capture_scopes t m level; there = whole_scope_entered t m level s clean scanned }, refl);
     made_so = made;
     own = λ n. each_is_its_own capture_scopes t m level n;
   })
@@ -141,8 +141,8 @@ module _ (t : tree.Mod) (m : Mode) (level : ℕ) (clean : faults t m level ≡ [
           let cells : x.cell ≡ y.cell = x.placed ∙ (λ j. spot_in (links j) (h.1 j)) ∙ sym y.placed in
           x.ends ∙ (λ j. Some (links j, cells j)) ∙ sym y.ends
 
-  pub captures : Captures capture_rows o capture_whole
-  captures = record {
+  pub tree_captures : Captures capture_rows o capture_whole
+  tree_captures = record {
     binders = λ l ls h name place u. comes_to l ls name place (capture_used l ls h name place u);
     shared = λ l ls h name place u k ks g other spot v.
         one_cell l ls name place (capture_ended l ls name place (capture_used l ls h name place u)) k ks other spot
@@ -152,4 +152,4 @@ module _ (t : tree.Mod) (m : Mode) (level : ℕ) (clean : faults t m level ≡ [
 -- what is made from what a tree without faults means captures so
 pub captures_cells : (t : tree.Mod) (m : Mode) (level : ℕ) → faults t m level ≡ [] → (o : Object)
     → ((n : ℕ) → IsMadeSo (Named (scopes_of t)) n o (body (scopes_of t) t m level)) → CapturesCells t m level o
-captures_cells t m level clean o made s scanned = captures t m level clean o made s scanned
+captures_cells t m level clean o made s scanned = tree_captures t m level clean o made s scanned

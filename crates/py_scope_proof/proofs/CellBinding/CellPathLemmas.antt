@@ -7,7 +7,7 @@ use Rattle.std.proofs.lemmas.Grind.{common_steps}
 use Rattle.std.proofs.lemmas.Option.{slice_get-map}
 use Rattle.py_bytecode.specs.Equality.{text_eq}
 use Rattle.py_bytecode.specs.Objects.{head}
-use Rattle.py_bytecode.proofs.Entered.{entered_stands}
+use Rattle.py_bytecode.proofs.EnteredConstantLemmas.{entered_stands}
 use Rattle.py_bytecode.specs.Values.{Usage, Kind, Unsaid, Fast, ByName, Global, Deref, ClassDeref}
 use Rattle.py_scope.specs.declared.flat.ScopeEntry.{ScopeEntry}
 use Rattle.py_scope.specs.declared.kinds.SymbolScope.{SymbolScope}
@@ -20,22 +20,22 @@ use Rattle.py_scope.specs.Laws.{LeadsTo, SymbolsFollow}
 use Rattle.py_scope.specs.Names.{Name, same_name}
 use Rattle.py_scope.specs.Outward.{parents}
 use Rattle.py_scope.specs.Resolve.{outward_scopes, binder_in, cell_scope, is_free_kind, needs, resolve}
-use Rattle.py_scope.proofs.Chains.{outward}
+use Rattle.py_scope.proofs.ScopeChainLemmas.{enclosing_scopes_step}
 use Rattle.py_scope.proofs.NameLemmas.{equal_names, names_same}
-use Rattle.py_scope.proofs.Truth.{left_or, never_both, truth_right_or}
+use Rattle.py_scope.proofs.TruthValueLemmas.{left_or, never_both, truth_right_or}
 use Rattle.py_control.specs.Agree as told
 use Rattle.py_control.specs.Agree.{AllOf}
 use Rattle.py_control.specs.Form.{Fixed, Resolved, FixedByName, FixedGlobal, FixedFast, Head}
 use Rattle.py_emission_parts.specs.Context.{Context, access_kind, cell_place, is_function, kind_by, place_by, scope_of, symbols_in}
 use Rattle.py_scope_proof.specs.Cells.{is_one_of}
 use Rattle.py_scope_proof.specs.Own.{number_of}
-use Rattle.py_scope_proof.proofs.NodeScopes.Facts.{Facts}
-use Rattle.py_scope_proof.proofs.NodeScopes.Heads.{HeadOf}
-use Rattle.py_scope_proof.proofs.NodeScopes.Wanted.{cell_listed, listed_cell, needed_wanted, wanted_needed}
-use Rattle.py_emission_proof.proofs.Additions.CodeNameLemmas.{Named}
+use Rattle.py_scope_proof.proofs.NodeScopes.ScanScopeLemmas.{Facts}
+use Rattle.py_scope_proof.proofs.NodeScopes.ScopeHeadLemmas.{HeadOf}
+use Rattle.py_scope_proof.proofs.NodeScopes.AvailableFreeVariableLemmas.{cell_listed, listed_cell, needed_wanted, wanted_needed}
+use Rattle.py_emission_proof.proofs.Additions.CodeNameDefinitions.{Named}
 use Rattle.py_scope_proof.specs.Chains.{Link, cell_of}
 use Rattle.py_scope_proof.specs.Captures.{EndsAt, binder_of}
-use Rattle.py_scope_proof.proofs.CellBinding.Events.{OfCell, Using, event_some_is}
+use Rattle.py_scope_proof.proofs.CellBinding.RunEventLemmas.{OfCell, Using, event_some_is}
 
 -- a kind of symbol whose names are cells
 abbrev pub OfOuter : SymbolScope → Type 0
@@ -302,7 +302,7 @@ module _ (rows : List Row) (scopes : List ScopeEntry) (f : Facts rows scopes) wh
         go (inr x) (inl y) rest = absurd (never l y.0 (frees_there l a.0 (one_there n (head l.code).freevars x.0 x.2)))
         go (inr x) (inr y) rest =
             cell_path_goes_on l m ls a.1 b x.0 x.1 (entry_of l m a.0 (first_linked m ls a.2) a.1 x.0 x.2)
-            (rest (subst (λ es. LeadsTo rows n es b) (outward (parents rows) (link_number l) (link_number m) a.1.parent a.1.below) y.1))
+            (rest (subst (λ es. LeadsTo rows n es b) (enclosing_scopes_step (parents rows) (link_number l) (link_number m) a.1.parent a.1.below) y.1))
 
     -- a use of the name in the innermost code reaches the binder
     pub record UseComes (l : Link) (ls : List Link) (p : ℕ) : Type 0 where

@@ -26,7 +26,7 @@ use Rattle.py_emission_parts.specs.Context.{inside, with_path, nested_in_class}
 use Rattle.py_meaning.specs.Meaning.{body}
 use Rattle.py_scope_proof.specs.Chains.{IsChain, Link, Uses, cell_of, event_at, made_in, outermost}
 use Rattle.py_scope_proof.specs.Captures.{Captures, binder_of}
-use Rattle.py_scope_proof.proofs.CellBinding.Events.{event_some_is}
+use Rattle.py_scope_proof.proofs.CellBinding.RunEventLemmas.{event_some_is}
 
 abbrev chain_sample_at : SourceLocation
 chain_sample_at = record { row = 1; column = 1 }

@@ -15,18 +15,18 @@ use Rattle.py_meaning.specs.Scanned.{scopes_of}
 use Rattle.py_scope_proof.specs.Entered.{ScansTo}
 use Rattle.py_scope_proof.specs.Own.{OwnUpTo, number_of}
 use Rattle.py_scope_proof.specs.StmtScopeNodes.{scope_nodes_of}
-use Rattle.py_scope_proof.proofs.NodeScopes.EachOwn.{each_is_its_own}
-use Rattle.py_scope_proof.proofs.NodeScopes.Facts.{Facts, facts}
+use Rattle.py_scope_proof.proofs.NodeScopes.TreeOwnScopeLemmas.{each_is_its_own}
+use Rattle.py_scope_proof.proofs.NodeScopes.ScanScopeLemmas.{Facts, scan_facts}
 use Rattle.py_scope_proof.proofs.NodeScopes.NodeScopeLemmas.{Standing, own_standing}
-use Rattle.py_scope_proof.proofs.NodeScopes.ScopeNodeTables.{scan_done}
-use Rattle.py_scope_proof.proofs.NodeScopes.Wanted.{wanted_needed}
+use Rattle.py_scope_proof.proofs.NodeScopes.ScopeNodeTableLemmas.{scan_done}
+use Rattle.py_scope_proof.proofs.NodeScopes.AvailableFreeVariableLemmas.{wanted_needed}
 use Rattle.py_emission_proof.specs.Loads.{AreNumbered, LoadsUpTo, loads}
-use Rattle.py_emission_proof.proofs.Additions.Codes.{LoadsFew}
-use Rattle.py_emission_proof.proofs.Additions.WellMade.{all_so}
+use Rattle.py_emission_proof.proofs.Additions.EnteredCodeLemmas.{LoadsFew}
+use Rattle.py_emission_proof.proofs.Additions.WellMadeCodeLemmas.{all_of_implied}
 use Rattle.py_scope_proof.specs.CellLoads.{CodesLoadFew, use_count}
-use Rattle.py_scope_proof.proofs.CellLoads.Distinct.{those_distinct}
-use Rattle.py_scope_proof.proofs.CellLoads.SharedUseLemmas.{names_for, needed_within, shared, top, total}
-use Rattle.py_scope_proof.proofs.CellLoads.Whole.{uses_are_few}
+use Rattle.py_scope_proof.proofs.CellLoads.DistinctSymbolLemmas.{those_distinct}
+use Rattle.py_scope_proof.proofs.CellLoads.SharedUseLemmas.{names_for, needed_within, names_within_uses, top, total}
+use Rattle.py_scope_proof.proofs.CellLoads.TreeUseLemmas.{uses_are_few}
 
 module _ (rows : List Row) (scopes : List ScopeEntry) (f : Facts rows scopes) (outer : ℕ) where
   -- each of these stands directly in this scope
@@ -50,7 +50,7 @@ module _ (rows : List Row) (scopes : List ScopeEntry) (f : Facts rows scopes) (o
   few_together : (ss : List Scope) → CellLoadAllStand ss → AreNumbered ss → loads scopes ss ≤ use_count rows
   few_together ss h apart =
       let a = within_total ss h in
-      let b = shared (top rows f.stands.numbered outer) 0 rows ss apart in
+      let b = names_within_uses (top rows f.stands.numbered outer) 0 rows ss apart in
       omega (arith, a, b)
 
 module _ (t : tree.Mod) (m : Mode) (level : ℕ) (h : faults t m level ≡ []) (s : State) (e : ScansTo t s) where
@@ -62,11 +62,11 @@ module _ (t : tree.Mod) (m : Mode) (level : ℕ) (h : faults t m level ≡ []) (
   cell_load_down zero here x own = tt
   cell_load_down (suc n) here x own = (
     λ apart.
-        let standing = all_so (OwnIn here (suc n)) (λ y. Standing s.scopes.rows here (head_of y).number) (λ y o. own_standing t m level s h e here y o.0) (kids (form_of x)) own in
-        let a = few_together s.scopes.rows (scopes_of t) (facts t m level s h e) here (kids (form_of x)) standing apart in
+        let standing = all_of_implied (OwnIn here (suc n)) (λ y. Standing s.scopes.rows here (head_of y).number) (λ y o. own_standing t m level s h e here y o.0) (kids (form_of x)) own in
+        let a = few_together s.scopes.rows (scopes_of t) (scan_facts t m level s h e) here (kids (form_of x)) standing apart in
         let b = uses_are_few t s e in
         omega (arith, a, b),
-    all_so (OwnIn here (suc n)) (LoadsUpTo (scopes_of t) (3 * size_of t) n) (λ y o. cell_load_down n (number_of y) y o.1) (kids (form_of x)) own,
+    all_of_implied (OwnIn here (suc n)) (LoadsUpTo (scopes_of t) (3 * size_of t) n) (λ y o. cell_load_down n (number_of y) y o.1) (kids (form_of x)) own,
   )
 
 pub codes_load_few : CodesLoadFew
@@ -79,7 +79,7 @@ loads_more : (entries : List ScopeEntry) (a b n : ℕ) → a ≤ b → (s : Scop
 loads_more entries a b zero le s h = tt
 loads_more entries a b (suc n) le s h = (
   (λ apart. let x = h.0 apart in omega (arith, x, le)),
-  all_so (LoadsUpTo entries a n) (LoadsUpTo entries b n) (λ y k. loads_more entries a b n le y k) (kids (form_of s)) h.1,
+  all_of_implied (LoadsUpTo entries a n) (LoadsUpTo entries b n) (λ y k. loads_more entries a b n le y k) (kids (form_of s)) h.1,
 )
 
 -- in a tree of such a size

@@ -12,16 +12,16 @@ use Rattle.py_scope.specs.Names.{Name, lookup, same_name}
 use Rattle.py_scope.specs.Entries.{entry_of}
 use Rattle.py_scope.specs.Outward.{IsNumbered, parents}
 use Rattle.py_scope.specs.Resolve.{among, outward_scopes, needs, stands_in}
-use Rattle.py_scope.proofs.Chains.{equal_numbers, outward, tells_apart, tells_same}
+use Rattle.py_scope.proofs.ScopeChainLemmas.{equal_numbers, enclosing_scopes_step, tells_apart, tells_same}
 use Rattle.py_scope.proofs.NameLemmas.{equal_names, names_same}
-use Rattle.py_scope.proofs.Outside.{chain_below}
-use Rattle.py_scope.proofs.Truth.{and_both, truth_and_false, truth_either, left_or, truth_right_or}
+use Rattle.py_scope.proofs.LookEndLemmas.{chain_below}
+use Rattle.py_scope.proofs.TruthValueLemmas.{and_both, truth_and_false, truth_either, left_or, truth_right_or}
 use Rattle.py_control.specs.Agree.{AllOf, head_of}
 use Rattle.py_control.specs.Form.{Scope}
 use Rattle.py_emission_proof.specs.Distinct.{AreDistinct}
 use Rattle.py_emission_proof.specs.Loads.{AreNumbered}
 use Rattle.py_scope_proof.specs.CellLoads.{use_count}
-use Rattle.py_scope_proof.proofs.CellLoads.Needed.{UsedWithin, needed_there, parents_below}
+use Rattle.py_scope_proof.proofs.CellLoads.FreeNameUseLemmas.{UsedWithin, needed_there, parents_below}
 
 -- a name is among these
 abbrev pub SharedUseHas : Name → List Name → Type 0
@@ -54,11 +54,11 @@ shared_use_stays x z (y ∷ ys) d h = by (same_name x y) refl (truth_either (sam
     by false e (inr g) ih = truth_right_or (same_name z y) _ (ih g)
 
 -- names that stand once, and each among others, are no more than those
-pub no_more : (xs ys : List Name) → AreDistinct xs → ((z : Name) → SharedUseHas z xs → SharedUseHas z ys) → length xs ≤ length ys
-no_more [] ys once each = omega arith
-no_more (x ∷ xs) ys once each =
+pub distinct_names_within : (xs ys : List Name) → AreDistinct xs → ((z : Name) → SharedUseHas z xs → SharedUseHas z ys) → length xs ≤ length ys
+distinct_names_within [] ys once each = omega arith
+distinct_names_within (x ∷ xs) ys once each =
     let here : SharedUseHas x ys = each x (left_or (same_name x x) (list_any (same_name x) xs) (names_same x)) in
-    let rest = no_more xs (without x ys) once.1 (λ z h. shared_use_stays x z ys (apart z h (same_name x z) refl) (each z (truth_right_or (same_name z x) (list_any (same_name z) xs) h))) in
+    let rest = distinct_names_within xs (without x ys) once.1 (λ z h. shared_use_stays x z ys (apart z h (same_name x z) refl) (each z (truth_right_or (same_name z x) (list_any (same_name z) xs) h))) in
     let e = shared_use_one_less x ys here in
     omega (arith, rest, e)
   where
@@ -151,16 +151,16 @@ module _ (top : ℕ → Option ℕ) where
       omega (arith, e, f, g)
 
   -- all of them together are no more than are used
-  pub shared : (j : ℕ) (rows : List Row) (ss : List Scope) → AreNumbered ss → total (λ k. length (names_for top k j rows)) ss ≤ use_count rows
-  shared j [] ss h = no_names ss
+  pub names_within_uses : (j : ℕ) (rows : List Row) (ss : List Scope) → AreNumbered ss → total (λ k. length (names_for top k j rows)) ss ≤ use_count rows
+  names_within_uses j [] ss h = no_names ss
     where
       no_names : (ss : List Scope) → total (λ k. 0) ss ≤ 0
       no_names [] = omega arith
       no_names (s ∷ ss) = let e = no_names ss in omega (arith, e)
-  shared j (r ∷ rows) ss h =
+  names_within_uses j (r ∷ rows) ss h =
       let e = shared_use_split j r rows ss in
       let f = once_at_most (top j) (length r.entries) ss h in
-      let g = shared (suc j) rows ss h in
+      let g = names_within_uses (suc j) rows ss h in
       omega (arith, e, f, g)
 
 -- a name with an entry is among the names of the scope
@@ -205,7 +205,7 @@ module _ (rows : List Row) (numbered : IsNumbered rows) (outer : ℕ) where
   only_one (suc m) (suc q) k l h above is =
       let below : parents rows (suc q) < suc q = parents_below rows numbered (suc q) (omega arith) in
       let before : parents rows k < k = parents_below rows numbered k above in
-      let goes_out : outward_scopes rows (suc q) ≡ outward_from rows (parents rows (suc q)) = outward (parents rows) (suc q) (parents rows (suc q)) refl below in
+      let goes_out : outward_scopes rows (suc q) ≡ outward_from rows (parents rows (suc q)) = enclosing_scopes_step (parents rows) (suc q) (parents rows (suc q)) refl below in
       by (truth_either (nat_eq k (suc q)) _ h) (λ g.
       let there : among k (outward_from rows (parents rows (suc q))) ≡ true = ap (among k) (sym goes_out) ∙ g in
       let reaches = no_greater (parents rows (suc q)) k there in
@@ -220,7 +220,7 @@ module _ (rows : List Row) (numbered : IsNumbered rows) (outer : ℕ) where
   -- names that a scope needs, which stands directly in this one, are used within it
   pub needed_within : (k : ℕ) → 0 < k → parents rows k ≡ outer → (names : List Name) → AreDistinct names
       → ((n : Name) → SharedUseHas n names → needs rows k n ≡ true) → length names ≤ length (names_for top k 0 rows)
-  needed_within k above is names once need = no_more names (names_for top k 0 rows) once (λ n h. each n (need n h))
+  needed_within k above is names once need = distinct_names_within names (names_for top k 0 rows) once (λ n h. each n (need n h))
     where
       each : (n : Name) → needs rows k n ≡ true → SharedUseHas n (names_for top k 0 rows)
       each n h = by (needed_there rows numbered k n h)

@@ -18,7 +18,7 @@ use Rattle.py_meaning.specs.Faults.{faults}
 use Rattle.py_meaning.specs.Scanned.{scopes_of}
 use Rattle.py_scope_proof.specs.StmtScopeNodes.{scope_nodes_in_stmts}
 use Rattle.py_scope_proof.specs.Cells.{at_hand, wanted_at}
-use Rattle.py_scope_proof.proofs.NodeScopes.ListedTables.{listed_table_numbered, symbols_there}
+use Rattle.py_scope_proof.proofs.NodeScopes.ListedTableLemmas.{listed_table_numbered, symbols_there}
 
 -- the scope around each scope that the scan enters
 abbrev parents_of : Outcome → List ℕ

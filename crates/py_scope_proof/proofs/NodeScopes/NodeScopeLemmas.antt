@@ -15,9 +15,9 @@ use Rattle.py_scope_proof.specs.Entered.{ScansTo, report_of_node, report_of_row}
 use Rattle.py_scope_proof.specs.Own.{IsOwn, IsScopeOf, number_of}
 use Rattle.py_scope_proof.specs.ScopeNodes.{ScopeNode, Whole, Placed}
 use Rattle.py_scope_proof.specs.StmtScopeNodes.{scope_nodes_of}
-use Rattle.py_scope_proof.proofs.NodeScopes.EnteringPrograms.{scan_enters_scope_nodes}
-use Rattle.py_scope_proof.proofs.NodeScopes.Facts.{some_scope_node}
-use Rattle.py_scope_proof.proofs.NodeScopes.ScopeForests.{parent_reported}
+use Rattle.py_scope_proof.proofs.NodeScopes.ProgramScanEntryLemmas.{scan_enters_scope_nodes}
+use Rattle.py_scope_proof.proofs.NodeScopes.ScanScopeLemmas.{some_scope_node}
+use Rattle.py_scope_proof.proofs.NodeScopes.EnclosingNumberLemmas.{parent_reported}
 
 -- at place 0 stands the whole tree
 abbrev scope_node_there : Option Placed → ScopeNode
@@ -36,8 +36,8 @@ after_whole t m c s p zero e i = absurd (subst (λ o. IsScopeOf c o s) (ap scope
 after_whole t m c s p (suc k) e i = omega arith
 
 -- the scan has entered the scope of the whole tree
-pub whole_there : (t : tree.Mod) (m : Mode) (level : ℕ) (s : State) → faults t m level ≡ [] → ScansTo t s → 0 < length s.scopes.rows
-whole_there t m level s h e =
+pub whole_scope_entered : (t : tree.Mod) (m : Mode) (level : ℕ) (s : State) → faults t m level ≡ [] → ScansTo t s → 0 < length s.scopes.rows
+whole_scope_entered t m level s h e =
     let a = ap length (scan_enters_scope_nodes t m level s h e) in
     let b = length-map s.scopes.rows report_of_row in
     let c = length-map (scope_nodes_of t m) report_of_node in

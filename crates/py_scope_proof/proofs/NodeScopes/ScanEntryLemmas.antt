@@ -14,7 +14,7 @@ use Rattle.py_name_uses.specs.Steps.{State, Outcome, Done, Refused, Step, ◌▸
 use Rattle.py_name_uses.specs.Steps.{refuse_if, set_class, unless_postponed, unless_refused, use_name, when, with_scopes, written_name}
 use Rattle.py_scope_proof.specs.ScopeNodes.{ScopeNode, ScopeForest, Bare, Grown, ◌&◌, placed_scope_nodes, size}
 use Rattle.py_scope_proof.specs.Entered.{ScopeReport, report_of_node, report_of_scope_node, report_of_row}
-use Rattle.py_scope_proof.proofs.NodeScopes.ScopeForests.{parent_reported}
+use Rattle.py_scope_proof.proofs.NodeScopes.EnclosingNumberLemmas.{parent_reported}
 use Rattle.py_scope_proof.proofs.NodeScopes.ScopeForestLemmas.{after_others, beside_bare, length_placed, placed_beside}
 
 -- what the scopes of a state tell

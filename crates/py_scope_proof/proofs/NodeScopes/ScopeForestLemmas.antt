@@ -51,8 +51,8 @@ module _ {m k : ℕ} {g h : ScopeForest} where
   pub scope_forest_grown : {o : ScopeNode} → Long m g → Long k h → Long (suc (m + k)) (Grown o g h)
   scope_forest_grown p q = record { same = (let a = p.same in let b = q.same in omega (arith, a, b)) }
 
-pub empty : Long 0 Bare
-empty = record { same = refl }
+pub bare_is_long : Long 0 Bare
+bare_is_long = record { same = refl }
 
 -- the same size in other words
 pub long_as : {m k : ℕ} {g : ScopeForest} → m ≡ k → Long m g → Long k g
@@ -89,8 +89,8 @@ lies_as {all} {c} {n} {m} {g} {h} e i l = subst (λ k. Lies all c k h) e (subst 
 
 module _ {all : List Placed} {c n : ℕ} where
   -- the first of two scope forests
-  pub front : {g : ScopeForest} (h : ScopeForest) → Lies all c n (g & h) → Lies all c n g
-  front {g} h l = record { holds = scope_forest_first (placed_scope_nodes c n g) (placed_scope_nodes c (n + size g) h) (subst (ScopeForestHolds all n) (placed_beside c n g h) l.holds) }
+  pub lies_in_front : {g : ScopeForest} (h : ScopeForest) → Lies all c n (g & h) → Lies all c n g
+  lies_in_front {g} h l = record { holds = scope_forest_first (placed_scope_nodes c n g) (placed_scope_nodes c (n + size g) h) (subst (ScopeForestHolds all n) (placed_beside c n g h) l.holds) }
 
   -- the second, where the first has this size
   pub scope_forest_back : {k : ℕ} {g h : ScopeForest} → Long k g → Lies all c n (g & h) → Lies all c (n + k) h
@@ -129,7 +129,7 @@ module _ {all : List Placed} {c n : ℕ} where
 
   -- the first two of three scope forests
   pub front_two : (f g h : ScopeForest) → Lies all c n (f & (g & h)) → Lies all c n (f & g)
-  front_two f g h l = front h (lies_as refl (sym (beside_assoc f g h)) l)
+  front_two f g h l = lies_in_front h (lies_as refl (sym (beside_assoc f g h)) l)
 
 -- what stands after three scope forests
 pub past_three : {all : List Placed} {c n k l m : ℕ} {f g h rest : ScopeForest} → Long k f → Long l g → Long m h → Lies all c n ((f & (g & h)) & rest) → Lies all c (n + k + l + m) rest

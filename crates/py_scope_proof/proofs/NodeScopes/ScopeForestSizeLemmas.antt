@@ -2,7 +2,7 @@
 use Rattle.std.proofs.Common.{◌≡◌, ◌≢◌, refl, sym, ap, ◌∙◌, ℕ, suc, ◌+◌, ◌<◌, ◌≤◌, List, [], ◌∷◌, ◌++◌, Bool, true, false, length, map}
 use Rattle.std.proofs.Common.{nat_eq, if◌then◌else◌, slice_get, subst, append-nil, append_assoc, arith}
 use Rattle.std.proofs.lemmas.List.{length-append, length-map, map-append}
-use Rattle.py_scope.proofs.Chains.{tells_apart, tells_same}
+use Rattle.py_scope.proofs.ScopeChainLemmas.{tells_apart, tells_same}
 use Rattle.py_scope.specs.declared.flat.ScopeEntry.{ScopeEntry}
 use Rattle.py_scope.specs.declared.rows.Row.{Row}
 use Rattle.py_scope.specs.declared.symbols.Symbol.{Symbol}
@@ -14,8 +14,8 @@ use Rattle.py_meaning.specs.Scanned.{entries_of}
 use Rattle.py_scope_proof.specs.ScopeNodes.{ScopeNode, ScopeForest, Bare, Grown, size}
 use Rattle.py_scope_proof.specs.StmtScopeNodes.{in_whole}
 use Rattle.py_scope_proof.specs.Entered.{end_in_table, ends_of, report_of_node, report_of_row}
-use Rattle.py_scope_proof.proofs.NodeScopes.ScopeForests.{enclosing_numbers, parent_in, parents_grown}
-use Rattle.py_scope_proof.proofs.NodeScopes.ListedTables.{ListedTableFlat, flat_of}
+use Rattle.py_scope_proof.proofs.NodeScopes.EnclosingNumberLemmas.{enclosing_numbers, parent_in, parents_grown}
+use Rattle.py_scope_proof.proofs.NodeScopes.ListedTableLemmas.{ListedTableFlat, flat_of}
 use Rattle.py_scope_proof.proofs.NodeScopes.ScopeListLemmas.{gathered_lists}
 
 -- how many scopes each node has with those nested in it, in order

@@ -1,8 +1,8 @@
 -- Scope forests list their scopes by number: what is kept of the scopes that stand in one another comes out in the order of their numbers.
 use Rattle.std.proofs.Common.{◌≡◌, ◌≢◌, refl, sym, ap, ◌∙◌, ℕ, zero, suc, ◌+◌, ◌<◌, ◌≤◌, List, [], ◌∷◌, ◌++◌, nat_eq, if◌then◌else◌, append-nil, append_assoc, arith}
-use Rattle.py_scope.proofs.Chains.{tells_apart, tells_same}
+use Rattle.py_scope.proofs.ScopeChainLemmas.{tells_apart, tells_same}
 use Rattle.py_scope_proof.specs.ScopeNodes.{ScopeNode, ScopeForest, Bare, Grown, size}
-use Rattle.py_scope_proof.proofs.NodeScopes.ScopeForests.{enclosing_numbers}
+use Rattle.py_scope_proof.proofs.NodeScopes.EnclosingNumberLemmas.{enclosing_numbers}
 
 -- what is kept of m scopes, numbered from n on
 abbrev pub labels : {A : Type 0} → (ℕ → A) → (n m : ℕ) → List A

@@ -1,10 +1,10 @@
-mod EnclosingLoops
-mod Classes
-mod Defining
-mod TypeParamScope
-mod Iterating
-mod Managing
-mod Trying
+mod EnclosingLoopLemmas
+mod ClassScopeLemmas
+mod FunctionScopeLemmas
+mod TypeParameterScopeLemmas
+mod ForLoopLemmas
+mod WithStatementLemmas
+mod TryStatementLemmas
 use Rattle.std.proofs.Common.{rules, Option, ap, false, sym, ◌∙◌}
 use Rattle.std.specs.Prelude.{if◌then◌else◌}
 use Rattle.py_bytecode.specs.declared.instruction.Instruction.TheVariants as op
@@ -17,60 +17,60 @@ use Rattle.py_emission.specs.EmissionStmts.{emission_of_stmt, emission_of_stmts}
 use Rattle.py_emission.specs.Predicates.{none}
 use Rattle.py_emit.specs.States.{loop_blocks, rest, state}
 use Rattle.py_dataflow.specs.declared.info.BlockIdx.{BlockIdx}
-use Rattle.py_emit.proofs.Joined.{goes_as, went}
-use Rattle.py_expr_parts.proofs.Turns.{if_not}
-use Rattle.py_stmt.proofs.LocationLemmas.{entering}
-use Rattle.py_stmt_parts.proofs.Steps.{step_none_is}
-use Rattle.py_expr_parts.proofs.Steps.{step_stays}
-use Rattle.py_expr_scopes.proofs.OpenBlocks.{open_block_apart, begin_opens, block_opens, jump_opens, opens}
-use Rattle.py_stmt.proofs.+code.Answers.EnclosingLoops.{each_enclosing_loop, last_enclosing_loop, unguarded_enclosing_loop, while_enclosing_loop}
-use Rattle.py_stmt.proofs.+code.Answers.Classes as class
-use Rattle.py_stmt.proofs.+code.Answers.Defining.{decorated_refused, defaults_refused, inner_goes, inner_refused, made_goes, made_refused}
-use Rattle.py_stmt.proofs.+code.Answers.Defining.{plain_goes, rest_done, rest_goes_on, rest_refused, defining_scope_inner}
-use Rattle.py_stmt.proofs.+code.Answers.Defining.{defining_scope_left, defining_scope_refused, scope_unlooped, some_goes, value_refused}
-use Rattle.py_stmt.proofs.+code.Answers.TypeParamScope as in_type_param_scope
-use Rattle.py_stmt.proofs.+code.Answers.Iterating.{end_begins, end_refused, for_goes, other_begins, turn_begins, turn_refused}
-use Rattle.py_stmt.proofs.+code.Answers.Managing.{left_open, no_body, no_items, some_body, some_items}
-use Rattle.py_stmt.proofs.+code.Answers.Trying.{catch_begins, else_begins, forgetting_begins, handler_refused, handlers_go_on, last_begins, last_goes, last_refused, next_begins, try_goes}
+use Rattle.py_emit.proofs.JoinedEmissionLemmas.{goes_as, on_done_goes}
+use Rattle.py_expr_parts.proofs.ValueListLemmas.{if_not}
+use Rattle.py_stmt.proofs.LocationLemmas.{statement_at_location}
+use Rattle.py_stmt_parts.proofs.StatementStepLemmas.{step_none_is}
+use Rattle.py_expr_parts.proofs.EmissionStepLemmas.{step_stays}
+use Rattle.py_expr_scopes.proofs.OpenBlockLemmas.{open_block_apart, begin_opens, block_opens, jump_opens, keeps_open}
+use Rattle.py_stmt.proofs.+code.Answers.EnclosingLoopLemmas.{each_enclosing_loop, last_enclosing_loop, unguarded_enclosing_loop, while_enclosing_loop}
+use Rattle.py_stmt.proofs.+code.Answers.ClassScopeLemmas as class
+use Rattle.py_stmt.proofs.+code.Answers.FunctionScopeLemmas.{decorated_refused, defaults_refused, inner_goes, inner_refused, made_goes, made_refused}
+use Rattle.py_stmt.proofs.+code.Answers.FunctionScopeLemmas.{plain_goes, rest_done, rest_goes_on, rest_refused, defining_scope_inner}
+use Rattle.py_stmt.proofs.+code.Answers.FunctionScopeLemmas.{defining_scope_left, defining_scope_refused, scope_unlooped, generic_function_goes, value_refused}
+use Rattle.py_stmt.proofs.+code.Answers.TypeParameterScopeLemmas as in_type_param_scope
+use Rattle.py_stmt.proofs.+code.Answers.ForLoopLemmas.{end_begins, end_refused, for_goes, other_begins, turn_begins, turn_refused}
+use Rattle.py_stmt.proofs.+code.Answers.WithStatementLemmas.{left_open, no_body, no_items, some_body, some_items}
+use Rattle.py_stmt.proofs.+code.Answers.TryStatementLemmas.{catch_begins, else_begins, forgetting_begins, handler_refused, handlers_go_on, last_begins, last_goes, last_refused, next_begins, try_goes}
 use Rattle.py_stmt.proofs.+code.Goals as goal
 
 pub statements::compile_only-switch_to_block-requires : goal.statements::compile_only-switch_to_block-requires
 statements::compile_only-switch_to_block-requires t c =
-    let e = opens (emission_of_test (expr_tree c.deref.result.now) false c.in_ok-end.end.0) _ _ _ c.in_ok-compile_jump_if.ensures.goes c.in_ok-end.ensures.made in
-    record { made = opens (emission_of_stmts (stmts stmt_tree c.as_slice.result.now)) _ _ _ c.in_ok-compile_statements.ensures.goes e; below = c.in_ok-end.ensures.below }
+    let e = keeps_open (emission_of_test (expr_tree c.deref.result.now) false c.in_ok-end.end.0) _ _ _ c.in_ok-compile_jump_if.ensures.goes c.in_ok-end.ensures.made in
+    record { made = keeps_open (emission_of_stmts (stmts stmt_tree c.as_slice.result.now)) _ _ _ c.in_ok-compile_statements.ensures.goes e; below = c.in_ok-end.ensures.below }
 
 pub statements::compile_choice-switch_to_block-requires : goal.statements::compile_choice-switch_to_block-requires
 statements::compile_choice-switch_to_block-requires t c =
     let a = block_opens _ _ _ c.in_ok-end.ensures.ok c.in_ok-other.ensures.made in
-    let e = opens (emission_of_test (expr_tree c.deref.result.now) false c.in_ok-other.other.0) _ _ _ c.in_ok-compile_jump_if.ensures.goes a in
-    let m = opens (emission_of_stmts (stmts stmt_tree c.as_slice.result.now)) _ _ _ c.in_ok-compile_statements.ensures.goes e in
+    let e = keeps_open (emission_of_test (expr_tree c.deref.result.now) false c.in_ok-other.other.0) _ _ _ c.in_ok-compile_jump_if.ensures.goes a in
+    let m = keeps_open (emission_of_stmts (stmts stmt_tree c.as_slice.result.now)) _ _ _ c.in_ok-compile_statements.ensures.goes e in
     record { made = jump_opens op.Jump c.in_ok-end.end.0 _ _ _ c.in_Continue-emit-emit.ensures.goes m; below = c.in_ok-other.ensures.below }
 
 pub statements::compile_choice-switch_to_block-requires-2 : goal.statements::compile_choice-switch_to_block-requires-2
 statements::compile_choice-switch_to_block-requires-2 t c =
     let out = c.in_ok-other.other.0 in
     let other = open_block_apart _ _ _ c.in_ok-other.ensures.made c.in_ok-end.ensures.number in
-    let e = opens (emission_of_test (expr_tree c.deref.result.now) false out) _ _ _ c.in_ok-compile_jump_if.ensures.goes c.in_ok-end.ensures.made in
-    let m = opens (emission_of_stmts (stmts stmt_tree c.as_slice.result.now)) _ _ _ c.in_ok-compile_statements.ensures.goes e in
+    let e = keeps_open (emission_of_test (expr_tree c.deref.result.now) false out) _ _ _ c.in_ok-compile_jump_if.ensures.goes c.in_ok-end.ensures.made in
+    let m = keeps_open (emission_of_stmts (stmts stmt_tree c.as_slice.result.now)) _ _ _ c.in_ok-compile_statements.ensures.goes e in
     let j = jump_opens op.Jump c.in_ok-end.end.0 _ _ _ c.in_Continue-emit-emit.ensures.goes m in
     let g = begin_opens _ _ _ out (λ e. other (sym e)) c.switch_to_block.ensures.state j in
-    record { made = opens (emission_of_stmts (stmts stmt_tree c.as_slice-2.result.now)) _ _ _ c.in_ok-compile_statements-2.ensures.goes g; below = c.in_ok-end.ensures.below }
+    record { made = keeps_open (emission_of_stmts (stmts stmt_tree c.as_slice-2.result.now)) _ _ _ c.in_ok-compile_statements-2.ensures.goes g; below = c.in_ok-end.ensures.below }
 
 pub loops::compile_while-switch_to_block-requires : goal.loops::compile_while-switch_to_block-requires
 loops::compile_while-switch_to_block-requires t c =
     let a = block_opens _ _ _ c.in_ok-other.ensures.ok c.in_ok-start.ensures.made in
     let e = block_opens _ _ _ c.in_ok-end.ensures.ok a in
-    record { made = opens (emit op.SetupLoop 0) _ _ _ c.in_Continue-emit-emit.ensures.goes e; below = c.in_ok-start.ensures.below }
+    record { made = keeps_open (emit op.SetupLoop 0) _ _ _ c.in_Continue-emit-emit.ensures.goes e; below = c.in_ok-start.ensures.below }
 
 pub loops::compile_while-switch_to_block-requires-2 : goal.loops::compile_while-switch_to_block-requires-2
 loops::compile_while-switch_to_block-requires-2 t c =
     let start = c.in_ok-start.start.0 in
     let first = open_block_apart _ _ _ c.in_ok-start.ensures.made c.in_ok-other.ensures.number in
     let a = block_opens _ _ _ c.in_ok-end.ensures.ok c.in_ok-other.ensures.made in
-    let e = opens (emit op.SetupLoop 0) _ _ _ c.in_Continue-emit-emit.ensures.goes a in
+    let e = keeps_open (emit op.SetupLoop 0) _ _ _ c.in_Continue-emit-emit.ensures.goes a in
     let g = begin_opens _ _ _ start (λ e. first (sym e)) c.switch_to_block.ensures.state e in
-    let j = opens (emission_of_test (expr_tree c.deref.result.now) false c.in_ok-other.other.0) _ _ _ c.in_ok-compile_jump_if.ensures.goes g in
-    let m = opens (in_loop (record { on_break = c.in_ok-end.end.0; on_continue = start }) (emission_of_stmts (stmts stmt_tree c.as_slice.result.now))) _ _ _ c.in_ok-compile_loop_body.ensures.goes j in
+    let j = keeps_open (emission_of_test (expr_tree c.deref.result.now) false c.in_ok-other.other.0) _ _ _ c.in_ok-compile_jump_if.ensures.goes g in
+    let m = keeps_open (in_loop (record { on_break = c.in_ok-end.end.0; on_continue = start }) (emission_of_stmts (stmts stmt_tree c.as_slice.result.now))) _ _ _ c.in_ok-compile_loop_body.ensures.goes j in
     record { made = jump_opens op.Jump start _ _ _ c.in_Continue-emit-emit-2.ensures.goes m; below = c.in_ok-other.ensures.below }
 
 pub loops::compile_while-switch_to_block-requires-3 : goal.loops::compile_while-switch_to_block-requires-3
@@ -80,14 +80,14 @@ loops::compile_while-switch_to_block-requires-3 t c =
     let a = block_opens _ _ _ c.in_ok-other.ensures.ok c.in_ok-start.ensures.made in
     let first = open_block_apart _ _ _ a c.in_ok-end.ensures.number in
     let second = open_block_apart _ _ _ c.in_ok-other.ensures.made c.in_ok-end.ensures.number in
-    let e = opens (emit op.SetupLoop 0) _ _ _ c.in_Continue-emit-emit.ensures.goes c.in_ok-end.ensures.made in
+    let e = keeps_open (emit op.SetupLoop 0) _ _ _ c.in_Continue-emit-emit.ensures.goes c.in_ok-end.ensures.made in
     let g = begin_opens _ _ _ start (λ e. first (sym e)) c.switch_to_block.ensures.state e in
-    let j = opens (emission_of_test (expr_tree c.deref.result.now) false out) _ _ _ c.in_ok-compile_jump_if.ensures.goes g in
-    let m = opens (in_loop (record { on_break = c.in_ok-end.end.0; on_continue = start }) (emission_of_stmts (stmts stmt_tree c.as_slice.result.now))) _ _ _ c.in_ok-compile_loop_body.ensures.goes j in
+    let j = keeps_open (emission_of_test (expr_tree c.deref.result.now) false out) _ _ _ c.in_ok-compile_jump_if.ensures.goes g in
+    let m = keeps_open (in_loop (record { on_break = c.in_ok-end.end.0; on_continue = start }) (emission_of_stmts (stmts stmt_tree c.as_slice.result.now))) _ _ _ c.in_ok-compile_loop_body.ensures.goes j in
     let n = jump_opens op.Jump start _ _ _ c.in_Continue-emit-emit-2.ensures.goes m in
     let p = begin_opens _ _ _ out (λ e. second (sym e)) c.switch_to_block-2.ensures.state n in
-    let q = opens (emit op.PopBlock 0) _ _ _ c.in_Continue-emit-emit-3.ensures.goes p in
-    record { made = opens (emission_of_stmts (stmts stmt_tree c.as_slice-2.result.now)) _ _ _ c.in_ok-compile_statements.ensures.goes q; below = c.in_ok-end.ensures.below }
+    let q = keeps_open (emit op.PopBlock 0) _ _ _ c.in_Continue-emit-emit-3.ensures.goes p in
+    record { made = keeps_open (emission_of_stmts (stmts stmt_tree c.as_slice-2.result.now)) _ _ _ c.in_ok-compile_statements.ensures.goes q; below = c.in_ok-end.ensures.below }
 
 pub statements::compile_if-returns : goal.statements::compile_if-returns
 statements::compile_if-returns t c = record {
@@ -97,7 +97,7 @@ statements::compile_if-returns t c = record {
       let orelse = emission_of_stmts (stmts stmt_tree c.args.s.now.orelse) in
       let some = step_none_is c.args.s.now.orelse c.is_empty.result c.is_empty.ensures.0 c.is_empty.ensures.1 ∙ c.if-is_empty.false in
       goes_as _ _ _ _
-      (went _ (run (if none (stmts stmt_tree c.args.s.now.orelse) then only test body else choice test body orelse)) _ (step_stays c.args.s.now.location (state c.args.em.now) c.requires.at)
+      (on_done_goes _ (run (if none (stmts stmt_tree c.args.s.now.orelse) then only test body else choice test body orelse)) _ (step_stays c.args.s.now.location (state c.args.em.now) c.requires.at)
       ∙ ap (λ (v : Emission). run v (state c.args.em.now)) (if_not _ (only test body) (choice test body orelse) some))
       c.compile_choice.ensures.goes;
   same = search rules;
@@ -110,7 +110,7 @@ loops::compile_loop_body-returns t c = record {
   goes =
       let after : Action = λ r. Done (with_loops (state c.args.em.now).node_context.loops r) in
       ap (λ (s : State). on_done (run (emission_of_stmts (stmts stmt_tree c.args.body.now)) s) after) (sym c.set_loops-enclosing.ensures.state)
-      ∙ went _ after _ c.in_ok-compile_statements.ensures.goes
+      ∙ on_done_goes _ after _ c.in_ok-compile_statements.ensures.goes
       ∙ ap (λ (x : Option (BlockIdx × BlockIdx)). Done (with_loops (loop_blocks x) (state c.compile_statements.new.em))) (sym c.set_loops-enclosing.ensures.old)
       ∙ ap Done (sym c.set_loops.ensures.state);
   same = search rules;
@@ -121,7 +121,7 @@ statements::compile_statement-returns t c = record {
   goes =
       let x = stmt_tree c.args.statement.now in
       let s = state c.args.em.now in
-      goes_as _ _ _ _ (entering x s ∙ ap (λ at. run (emission_of_stmt x) (with_location at s)) (sym c.location.ensures)
+      goes_as _ _ _ _ (statement_at_location x s ∙ ap (λ at. run (emission_of_stmt x) (with_location at s)) (sym c.location.ensures)
       ∙ ap (run (emission_of_stmt x)) (sym c.set_location.ensures.state)) c.compile_entered.ensures.goes;
   same = search rules;
 }
@@ -235,7 +235,7 @@ pub functions::compile_value-returns-in_err-compile_made : goal.functions::compi
 functions::compile_value-returns-in_err-compile_made = value_refused
 
 pub functions::compile_function-returns-in-len1-up : goal.functions::compile_function-returns-in-len1-up
-functions::compile_function-returns-in-len1-up = some_goes
+functions::compile_function-returns-in-len1-up = generic_function_goes
 
 pub functions::compile_function_def-returns-in_err-compile_decorated : goal.functions::compile_function_def-returns-in_err-compile_decorated
 functions::compile_function_def-returns-in_err-compile_decorated = decorated_refused
@@ -295,7 +295,7 @@ pub classes::compile_class-returns : goal.classes::compile_class-returns
 classes::compile_class-returns = class.class_goes
 
 pub classes::compile_placed-returns-in-len1-up : goal.classes::compile_placed-returns-in-len1-up
-classes::compile_placed-returns-in-len1-up = class.some_goes
+classes::compile_placed-returns-in-len1-up = class.generic_class_goes
 
 pub classes::compile_class_def-returns-in_err-compile_decorated : goal.classes::compile_class_def-returns-in_err-compile_decorated
 classes::compile_class_def-returns-in_err-compile_decorated = class.decorated_refused

@@ -6,7 +6,7 @@ use Rattle.py_bytecode.specs.declared.instruction.Instruction.TheVariants as op
 use Rattle.py_bytecode.specs.Table.{row_of}
 use Rattle.py_emission_parts.specs.Emitting.{Step, Put, Begin}
 use Rattle.py_emission_parts.specs.Listed.{cut_steps, steps_at}
-use Rattle.py_verifier_law.proofs.Forms.StepGroups.{Group, Alone, Makes, GroupsFit, Room, closure_steps, load_steps, making_steps, steps_of}
+use Rattle.py_verifier_law.proofs.Forms.StepGroupLemmas.{Group, Alone, Makes, GroupsFit, Room, closure_steps, load_steps, making_steps, steps_of}
 
 pub record CutGroups (room : Room) (xs : List Step) : Type 0 where
   pub groups : List Group

@@ -27,10 +27,10 @@ use Rattle.py_well_formed.specs.Conditions.{line_fault}
 use Rattle.py_well_formed.specs.Lines.{lines_of}
 use Rattle.py_well_formed.specs.Tables.{are_entries, has_entries, has_flag, is_entry}
 use Rattle.py_verifier_law.proofs.Forms.CutGroupLemmas.{groups_at}
-use Rattle.py_verifier_law.proofs.Forms.FormedStates.{ConstMeets, Formed, MeetsConditions, room_of}
-use Rattle.py_verifier_law.proofs.Forms.GroupLineLemmas.{items_in-append, le_is, walk}
-use Rattle.py_verifier_law.proofs.Forms.ShownLineLemmas.{AllWhole, ShowAll, shown, shows_assembled}
-use Rattle.py_verifier_law.proofs.Forms.StepGroups.{Group, Alone, Makes, GroupsFit, Room, closure_steps, load_steps, making_steps, steps_of}
+use Rattle.py_verifier_law.proofs.Forms.StateRoomLemmas.{ConstMeets, Formed, MeetsConditions, room_of}
+use Rattle.py_verifier_law.proofs.Forms.GroupLineLemmas.{items_in-append, le_is, groups_have_no_fault}
+use Rattle.py_verifier_law.proofs.Forms.ShownLineLemmas.{AllWhole, ShowAll, shown_instruction, shows_assembled}
+use Rattle.py_verifier_law.proofs.Forms.StepGroupLemmas.{Group, Alone, Makes, GroupsFit, Room, closure_steps, load_steps, making_steps, steps_of}
 
 -- ---- cells that are parameters
 
@@ -98,7 +98,7 @@ lines_none h cs room starts xs gs is fit quick yields cells_are constants_are =
     let ls = lines_of (written_units (operand_in starts ws) (items_in xs) ws) in
     let whole : AllWhole (items_in xs) = subst (λ (ys : List Step). AllWhole (items_in ys)) (sym is) (groups_whole room gs fit) in
     let s = shows_assembled starts (items_in xs) (record { high = 0; start = 0; place = 0 }) refl whole in
-    walk h cs room quick yields cells_are constants_are ls [] ls gs refl (subst (λ (ys : List Step). ShowAll (map shown ls) (items_in ys)) is s) fit
+    groups_have_no_fault h cs room quick yields cells_are constants_are ls [] ls gs refl (subst (λ (ys : List Step). ShowAll (map shown_instruction ls) (items_in ys)) is s) fit
 
 -- ---- the code of a scope
 

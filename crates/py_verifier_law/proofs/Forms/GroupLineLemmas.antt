@@ -10,7 +10,7 @@ use Rattle.py_bytecode.specs.declared.instruction.Instruction.{Instruction}
 use Rattle.py_bytecode.specs.declared.instruction.Instruction.TheVariants as op
 use Rattle.py_bytecode.specs.Objects as const
 use Rattle.py_bytecode.specs.Objects.{Const, Head, Object}
-use Rattle.py_bytecode.proofs.Tables.{get_left, get_right}
+use Rattle.py_bytecode.proofs.JoinedTableLemmas.{get_left, get_right}
 use Rattle.py_dataflow.specs.declared.info.InstructionInfo.{InstructionInfo}
 use Rattle.py_emission_parts.specs.Children.{free_names}
 use Rattle.py_emission_parts.specs.Emitting.{Step, Put, Begin}
@@ -23,8 +23,8 @@ use Rattle.py_well_formed.specs.Conditions.{function_conditions, has_closure, is
 use Rattle.py_well_formed.specs.Conditions.{loaded_const, loads_cell, loads_cells, makes_function}
 use Rattle.py_well_formed.specs.Lines.{before}
 use Rattle.py_well_formed.specs.Tables.{has_flag}
-use Rattle.py_verifier_law.proofs.Forms.ShownLineLemmas.{ShowAll, shown}
-use Rattle.py_verifier_law.proofs.Forms.StepGroups.{AllBelow, Group, Alone, Makes, FunctionFits, GroupsFit, Room, StepFits, closure_steps, load_steps, making_steps, steps_of}
+use Rattle.py_verifier_law.proofs.Forms.ShownLineLemmas.{ShowAll, shown_instruction}
+use Rattle.py_verifier_law.proofs.Forms.StepGroupLemmas.{AllBelow, Group, Alone, Makes, FunctionFits, GroupsFit, Room, StepFits, closure_steps, load_steps, making_steps, steps_of}
 
 pub items_in-append : (xs ys : List Step) → items_in (xs ++ ys) ≡ items_in xs ++ items_in ys
 items_in-append [] ys = refl
@@ -36,16 +36,16 @@ items_in-append (Begin b ∷ xs) ys = items_in-append xs ys
 
 -- lines that show these instructions
 abbrev LinesShow : List Line → List Step → Type 0
-LinesShow ls xs = ShowAll (map shown ls) (items_in xs)
+LinesShow ls xs = ShowAll (map shown_instruction ls) (items_in xs)
 
 record LinesSplit (ls : List Line) (xs ys : List InstructionInfo) : Type 0 where
   front : List Line
   back : List Line
   is : ls ≡ front ++ back
-  front_shows : ShowAll (map shown front) xs
-  back_shows : ShowAll (map shown back) ys
+  front_shows : ShowAll (map shown_instruction front) xs
+  back_shows : ShowAll (map shown_instruction back) ys
 
-split_items : (ls : List Line) (xs ys : List InstructionInfo) → ShowAll (map shown ls) (xs ++ ys) → LinesSplit ls xs ys
+split_items : (ls : List Line) (xs ys : List InstructionInfo) → ShowAll (map shown_instruction ls) (xs ++ ys) → LinesSplit ls xs ys
 split_items ls [] ys h = record { front = []; back = ls; is = refl; front_shows = tt; back_shows = h }
 split_items [] (x ∷ xs) ys h = absurd h
 split_items (l ∷ ls) (x ∷ xs) ys h =
@@ -53,7 +53,7 @@ split_items (l ∷ ls) (x ∷ xs) ys h =
     record { front = l ∷ r.front; back = r.back; is = ap (λ (ms : List Line). l ∷ ms) r.is; front_shows = (h.0, r.front_shows); back_shows = r.back_shows }
 
 split_lines : (ls : List Line) (xs ys : List Step) → LinesShow ls (xs ++ ys) → LinesSplit ls (items_in xs) (items_in ys)
-split_lines ls xs ys h = split_items ls (items_in xs) (items_in ys) (subst (ShowAll (map shown ls)) (items_in-append xs ys) h)
+split_lines ls xs ys h = split_items ls (items_in xs) (items_in ys) (subst (ShowAll (map shown_instruction ls)) (items_in-append xs ys) h)
 
 -- ---- what stands before a line
 
@@ -317,21 +317,21 @@ module _ (h : Head) (cs : List Const) where
                   (or_second (flags % 2 == 0) (has_closure h all (length pre + length loads + 2) (length (free_names f.object))) closed_at)
 
       -- lines that show groups which have room
-      pub walk : (all pre rest : List Line) (gs : List Group) → all ≡ pre ++ rest → LinesShow rest (steps_of gs) → GroupsFit room gs → line_fault h cs all (length pre) rest ≡ None
-      walk all pre [] [] e s f = refl
-      walk all pre (l ∷ ls) [] e s f = absurd s
-      walk all pre rest (Alone (Begin b) ∷ gs) e s f = walk all pre rest gs e s f.1
-      walk all pre [] (Alone (Put i n to at) ∷ gs) e s f = absurd s
-      walk all pre (l ∷ ls) (Alone (Put i n to at) ∷ gs) e s f =
+      pub groups_have_no_fault : (all pre rest : List Line) (gs : List Group) → all ≡ pre ++ rest → LinesShow rest (steps_of gs) → GroupsFit room gs → line_fault h cs all (length pre) rest ≡ None
+      groups_have_no_fault all pre [] [] e s f = refl
+      groups_have_no_fault all pre (l ∷ ls) [] e s f = absurd s
+      groups_have_no_fault all pre rest (Alone (Begin b) ∷ gs) e s f = groups_have_no_fault all pre rest gs e s f.1
+      groups_have_no_fault all pre [] (Alone (Put i n to at) ∷ gs) e s f = absurd s
+      groups_have_no_fault all pre (l ∷ ls) (Alone (Put i n to at) ∷ gs) e s f =
           none_first all (length pre) l ls (plain_meets all (length pre) l i s.0.op f.0)
           ∙ ap (λ (k : ℕ). line_fault h cs all k ls) (let a = length-append pre (l ∷ []) in let q : suc (length pre) ≡ length (pre ++ l ∷ []) = omega (arith, a) in q)
-          ∙ walk all (pre ++ l ∷ []) ls gs (e ∙ sym (append_assoc pre (l ∷ []) ls)) s.1 f.1
-      walk all pre rest (Makes cells code name flags at ∷ gs) e s f =
+          ∙ groups_have_no_fault all (pre ++ l ∷ []) ls gs (e ∙ sym (append_assoc pre (l ∷ []) ls)) s.1 f.1
+      groups_have_no_fault all pre rest (Makes cells code name flags at ∷ gs) e s f =
           let a = split_lines rest (closure_steps cells at ++ making_steps code name flags at) (steps_of gs) s in
           let b = split_items a.front (items_in (closure_steps cells at)) (items_in (making_steps code name flags at))
-          (subst (ShowAll (map shown a.front)) (items_in-append (closure_steps cells at) (making_steps code name flags at)) a.front_shows) in
+          (subst (ShowAll (map shown_instruction a.front)) (items_in-append (closure_steps cells at) (making_steps code name flags at)) a.front_shows) in
           let is : rest ≡ b.front ++ (b.back ++ a.back) = a.is ∙ ap (λ (ls : List Line). ls ++ a.back) b.is ∙ append_assoc b.front b.back a.back in
           let p = past_function all pre cells code name flags at (steps_of gs) b.front b.back a.back (e ∙ ap (λ (ls : List Line). pre ++ ls) is) b.front_shows b.back_shows a.back_shows f.0 in
           ap (line_fault h cs all (length pre)) is
           ∙ p.goes
-          ∙ walk all (pre ++ p.front) p.back gs (e ∙ ap (λ (ls : List Line). pre ++ ls) (is ∙ p.is) ∙ sym (append_assoc pre p.front p.back)) p.back_shows f.1
+          ∙ groups_have_no_fault all (pre ++ p.front) p.back gs (e ∙ ap (λ (ls : List Line). pre ++ ls) (is ∙ p.is) ∙ sym (append_assoc pre p.front p.back)) p.back_shows f.1

@@ -12,7 +12,7 @@ use Rattle.py_bytecode.specs.declared.instruction.Instruction.TheVariants as op
 use Rattle.py_bytecode.specs.Cells.{parameter_count}
 use Rattle.py_bytecode.specs.Equality.{insert_if_new, text_eq}
 use Rattle.py_bytecode.specs.Objects as const
-use Rattle.py_bytecode.proofs.Heads.{text_full, text_sound}
+use Rattle.py_bytecode.proofs.HeadEqualityLemmas.{text_full, text_sound}
 use Rattle.py_shapes.specs.Parameters as shapes
 use Rattle.py_shapes.specs.Parameters.{args_names, end_names, has_repeat, parameter_names}
 use Rattle.py_emission.specs.Parameters.{arg_names, function_shape, names_with_default, names_without_default, opt_arg_names, parameters}
@@ -26,10 +26,10 @@ use Rattle.py_emission_parts.specs.TableParts.{is_debug}
 use Rattle.py_emission_parts.specs.TypeParameters.{load_handed}
 use Rattle.py_emission_parts.specs.NestedScopes.{some_flag}
 use Rattle.py_emission_parts.proofs.EmissionLawLemmas.{EmissionLawHolds}
-use Rattle.py_emission_parts.proofs.GrowthLemmas.{of_done}
+use Rattle.py_emission_parts.proofs.GrowthLemmas.{law_of_done}
 use Rattle.py_emission_parts.specs.Growth.{Extends}
 use Rattle.py_emission_parts.proofs.TableGrowthLemmas.{all_lengthen}
-use Rattle.py_verifier_law.proofs.Forms.ScopeForms.{Takes}
+use Rattle.py_verifier_law.proofs.Forms.NestedScopeRoomLemmas.{Takes}
 
 -- ---- names that stand in a table
 
@@ -138,10 +138,10 @@ differing_few (y ∷ ys) zs d h =
 
 -- ---- what is entered
 
-pub both_done : (o : Outcome) (b : Action) (t : State) → on_done o b ≡ Done t → (m : State) × (o ≡ Done m) × (b m ≡ Done t)
-both_done (Done m) b t e = (m, refl, e)
-both_done TooWide b t e = absurd cc
-both_done (Refused x at) b t e = absurd cc
+pub on_done_both : (o : Outcome) (b : Action) (t : State) → on_done o b ≡ Done t → (m : State) × (o ≡ Done m) × (b m ≡ Done t)
+on_done_both (Done m) b t e = (m, refl, e)
+on_done_both TooWide b t e = absurd cc
+on_done_both (Refused x at) b t e = absurd cc
 
 mangled_names : Option (List ℕ) → List (List ℕ) → List (List ℕ)
 mangled_names class [] = []
@@ -159,14 +159,14 @@ one_entered class x s m c e = by (is_debug x) e
 
     by : (b : Bool) → run (if b then refuse (error.SyntaxError no_assignment) else add_varname x) s ≡ Done m → Stands m.varnames (mangled_in class x) × (m.node_context.context.class ≡ class)
     by true f = absurd cc
-    by false f = of_done (λ t. Stands t.varnames (mangled_in class x) × (t.node_context.context.class ≡ class)) (Done (with_varname (mangled_in s.node_context.context.class x) s)) m f
+    by false f = law_of_done (λ t. Stands t.varnames (mangled_in class x) × (t.node_context.context.class ≡ class)) (Done (with_varname (mangled_in s.node_context.context.class x) s)) m f
         (entered (with_varname (mangled_in s.node_context.context.class x) s) refl)
 
 all_entered : (class : Option (List ℕ)) (xs : List (List ℕ)) (s t : State) → s.node_context.context.class ≡ class → run (enter_parameters xs) s ≡ Done t → AllStand t.varnames (mangled_names class xs)
 unfolding mangled_names
 all_entered class [] s t c e = tt
 all_entered class (x ∷ xs) s t c e =
-    let p = both_done (run (unless_debug no_assignment x (add_varname x)) s) (run (enter_parameters xs)) t e in
+    let p = on_done_both (run (unless_debug no_assignment x (add_varname x)) s) (run (enter_parameters xs)) t e in
     let q = one_entered class x s p.0 c p.1 in
     (stands_more p.0.varnames t.varnames (mangled_in class x) (all_lengthen (enter_parameters xs) p.0 t p.2).varnames q.0, all_entered class xs p.0 t q.1 p.2)
 
@@ -248,7 +248,7 @@ counted_names g class (tree.arguments posonly args vararg kwonly kwarg) name =
 pub function_takes : (class : Option (List ℕ)) (params : tree.Arguments) (name : List ℕ) (body : Emission) → has_repeat (parameter_names class params) ≡ false
     → Takes class (function_shape params name) (function_scope (parameters params) body)
 function_takes class params name body differ s t c e =
-    let p = both_done (run (enter_parameters (parameters params)) s) (run (add_constant const.none ▸ body)) t e in
+    let p = on_done_both (run (enter_parameters (parameters params)) s) (run (add_constant const.none ▸ body)) t e in
     let all = all_entered class (parameters params) s p.0 c p.1 in
     let later = all_stand_more p.0.varnames t.varnames (mangled_names class (parameters params)) (all_lengthen (add_constant const.none ▸ body) p.0 t p.2).varnames all in
     subst (λ n. n ≤ length t.varnames) (sym (counted_names t.generator class params name))
@@ -260,7 +260,7 @@ varname_loaded : (i : Instruction) (x : List ℕ) (s t : State) → run (emit_va
 unfolding emit_varname put_instruction with_varname with_step
 varname_loaded i x s t e =
     let n = place_in text_eq s.varnames x in
-    of_done (λ u. Stands u.varnames x) (put_instruction i n (with_varname x s)) t e (by n (nat_lt n (2 ^ 32)))
+    law_of_done (λ u. Stands u.varnames x) (put_instruction i n (with_varname x s)) t e (by n (nat_lt n (2 ^ 32)))
   where
     by : (n : ℕ) (b : Bool) → EmissionLawHolds (λ v. Stands v.varnames x) (if b then Done (with_step (Put i n None s.location) (with_varname x s)) else TooWide)
     by n true = entered_name_stands s.varnames x
@@ -269,14 +269,14 @@ varname_loaded i x s t e =
 all_loaded_names : (xs : List (List ℕ)) (s t : State) → run (load_handed xs) s ≡ Done t → AllStand t.varnames xs
 all_loaded_names [] s t e = tt
 all_loaded_names (x ∷ xs) s t e =
-    let p = both_done (run (emit_varname op.LoadFast x) s) (run (load_handed xs)) t e in
+    let p = on_done_both (run (emit_varname op.LoadFast x) s) (run (load_handed xs)) t e in
     (stands_more p.0.varnames t.varnames x (all_lengthen (load_handed xs) p.0 t p.2).varnames (varname_loaded op.LoadFast x s p.0 p.1), all_loaded_names xs p.0 t p.2)
 
 -- what a type-parameter scope is handed is loaded first
 pub handed_few : (xs : List (List ℕ)) (rest : Emission) (s t : State) → has_repeat xs ≡ false → run ((load_handed xs ▸ rest) ▸ emit op.ReturnValue 0) s ≡ Done t → length xs ≤ length t.varnames
 handed_few xs rest s t differ e =
-    let p = both_done (run (load_handed xs ▸ rest) s) (run (emit op.ReturnValue 0)) t e in
-    let q = both_done (run (load_handed xs) s) (run rest) p.0 p.1 in
+    let p = on_done_both (run (load_handed xs ▸ rest) s) (run (emit op.ReturnValue 0)) t e in
+    let q = on_done_both (run (load_handed xs) s) (run rest) p.0 p.1 in
     let all = all_stand_more q.0.varnames p.0.varnames xs (all_lengthen rest q.0 p.0 q.2).varnames (all_loaded_names xs s q.0 q.1) in
     differing_few xs t.varnames differ (all_stand_more p.0.varnames t.varnames xs (all_lengthen (emit op.ReturnValue 0) p.0 t p.2).varnames all)
 
@@ -302,7 +302,7 @@ pub varname_enters_name : (i : Instruction) (x : List ℕ) → EntersName (emit_
 varname_enters_name i x s t e = some_name_few t.varnames x (varname_loaded i x s t e)
 
 pub first_enters_name : (a b : Emission) → EntersName a → EntersName (a ▸ b)
-first_enters_name a b h s t e = let p = both_done (run a s) (run b) t e in longer_names b p.0 t p.2 (h s p.0 p.1)
+first_enters_name a b h s t e = let p = on_done_both (run a s) (run b) t e in longer_names b p.0 t p.2 (h s p.0 p.1)
 
 pub second_enters_name : (a b : Emission) → EntersName b → EntersName (a ▸ b)
-second_enters_name a b h s t e = let p = both_done (run a s) (run b) t e in h p.0 t p.2
+second_enters_name a b h s t e = let p = on_done_both (run a s) (run b) t e in h p.0 t p.2

@@ -32,11 +32,11 @@ parameters_differ class (tree.arguments posonly args vararg kwonly kwarg) h =
 
 -- ---- each of some parts
 
-pub two_none : {A : Type 0} (a b : List A) → a ++ b ≡ [] → (a ≡ []) × (b ≡ [])
-two_none a b h = (none_l a b h, none_r a b h)
+pub append_none : {A : Type 0} (a b : List A) → a ++ b ≡ [] → (a ≡ []) × (b ≡ [])
+append_none a b h = (none_l a b h, none_r a b h)
 
 pub three_none : {A : Type 0} (a b c : List A) → a ++ b ++ c ≡ [] → (a ≡ []) × (b ≡ []) × (c ≡ [])
-three_none a b c h = let q = two_none a b (none_l (a ++ b) c h) in (q.0, q.1, none_r (a ++ b) c h)
+three_none a b c h = let q = append_none a b (none_l (a ++ b) c h) in (q.0, q.1, none_r (a ++ b) c h)
 
 pub four_none : {A : Type 0} (a b c d : List A) → a ++ b ++ c ++ d ≡ [] → (a ≡ []) × (b ≡ []) × (c ≡ []) × (d ≡ [])
 four_none a b c d h = let q = three_none a b c (none_l (a ++ b ++ c) d h) in (q.0, q.1, q.2, none_r (a ++ b ++ c) d h)

@@ -15,24 +15,24 @@ use Rattle.py_layout.specs.declared.widths.Need.TheVariants.{Fixed, Jump}
 use Rattle.py_layout.specs.Widened.{least_widths, raised_widths, round, wanted_width}
 use Rattle.py_layout.specs.Widths.{narrowest, offset}
 use Rattle.py_layout.specs.Written.{Decoded, decode, need_of, needs_of, operand_in, units_of, written_units}
-use Rattle.py_layout.proofs.Offsets.{size-pos}
+use Rattle.py_layout.proofs.OffsetLemmas.{size-pos}
 use Rattle.py_layout.proofs.ReadBackLemmas.{decode_units}
 use Rattle.py_well_formed.specs.declared.lines.Line.{Line}
 use Rattle.py_well_formed.specs.Lines.{Ahead, lines_from, operand_with}
 
 -- an instruction as a line shows it
-abbrev pub shown : Line → Decoded
-shown l = record { op = l.op; operand = l.operand }
+abbrev pub shown_instruction : Line → Decoded
+shown_instruction l = record { op = l.op; operand = l.operand }
 
 -- the lines are what the units decode to
-pub lines_decode : (a : Ahead) (us : List CodeUnit) → map shown (lines_from a us) ≡ decode a.high us
+pub lines_decode : (a : Ahead) (us : List CodeUnit) → map shown_instruction (lines_from a us) ≡ decode a.high us
 lines_decode a [] = refl
 lines_decode a (u ∷ us) = by (is_prefix u.op) (lines_decode (record { high = operand_with a u; start = a.start; place = a.place + 1 }) us)
     (lines_decode (record { high = 0; start = a.place + 1; place = a.place + 1 }) us)
   where
-    by : (b : Bool) → map shown (lines_from (record { high = operand_with a u; start = a.start; place = a.place + 1 }) us) ≡ decode (operand_with a u) us
-        → map shown (lines_from (record { high = 0; start = a.place + 1; place = a.place + 1 }) us) ≡ decode 0 us
-        → map shown (let rest = lines_from
+    by : (b : Bool) → map shown_instruction (lines_from (record { high = operand_with a u; start = a.start; place = a.place + 1 }) us) ≡ decode (operand_with a u) us
+        → map shown_instruction (lines_from (record { high = 0; start = a.place + 1; place = a.place + 1 }) us) ≡ decode 0 us
+        → map shown_instruction (let rest = lines_from
         (if b then record { high = operand_with a u; start = a.start; place = a.place + 1 } else record { high = 0; start = a.place + 1; place = a.place + 1 }) us in if b then rest else
         record { op = u.op; operand = operand_with a u; unit = a.start } ∷ rest)
         ≡ (if b then decode (operand_with a u) us else record { op = u.op; operand = operand_with a u } ∷ decode 0 us)
@@ -152,7 +152,7 @@ shows_written starts vs (x ∷ xs) (w ∷ ws) h k =
 
 -- the lines of the units of a list of instructions show these
 pub shows_assembled : (starts : List ℕ) (xs : List InstructionInfo) (a : Ahead) → a.high ≡ 0 → AllWhole xs
-    → ShowAll (map shown (lines_from a (written_units (operand_in starts (least_widths (needs_of starts xs))) xs (least_widths (needs_of starts xs))))) xs
+    → ShowAll (map shown_instruction (lines_from a (written_units (operand_in starts (least_widths (needs_of starts xs))) xs (least_widths (needs_of starts xs))))) xs
 shows_assembled starts xs a e h =
     let ws = least_widths (needs_of starts xs) in
     let us = written_units (operand_in starts ws) xs ws in

@@ -1,7 +1,7 @@
 use Rattle.std.proofs.Common.{subst}
 use Rattle.pyc_c.specs.Runs.{IsRun}
 use Rattle.pyc_c.specs.Handed.{words_of}
-use Rattle.pyc_c.proofs.Ended.{no_memory}
+use Rattle.pyc_c.proofs.RunEndLemmas.{no_memory}
 use Rattle.pyc_c.proofs.RunWordLemmas.{asks_as}
 use Rattle.pyc_c.proofs.status_of.Goals as goal
 

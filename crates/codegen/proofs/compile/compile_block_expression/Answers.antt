@@ -1,5 +1,5 @@
 use Rattle.py_tree.specs.View.{stmt_tree, stmts}
-use Rattle.codegen.proofs.Wholes.{block_checked}
+use Rattle.codegen.proofs.WholeTreeFaultLemmas.{block_checked}
 use Rattle.codegen.proofs.compile.compile_block_expression.Goals as goal
 
 pub compile_checked-requires : goal.compile_checked-requires

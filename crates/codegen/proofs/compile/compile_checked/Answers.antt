@@ -1,6 +1,6 @@
 use Rattle.std.proofs.Common.{◌≡◌, subst}
 use Rattle.codegen.specs.Calls.{IsChecked, tree_of}
-use Rattle.codegen.proofs.Answered.{refused_whole}
+use Rattle.codegen.proofs.CompileAnswerLemmas.{refused_whole}
 use Rattle.codegen.proofs.compile.compile_checked.Goals as goal
 
 pub returns-in-Some : goal.returns-in-Some

@@ -1,5 +1,5 @@
 use Rattle.codegen.specs.Calls.{tree_of}
-use Rattle.codegen.proofs.Firsts.{refused_is_faulty, refused_over}
+use Rattle.codegen.proofs.FirstFaultLemmas.{refused_is_faulty, refused_over}
 use Rattle.codegen.proofs.compile.compile_mod.Goals as goal
 
 pub first_fault-requires-clause-faulty : goal.first_fault-requires-clause-faulty

@@ -7,14 +7,14 @@ use Rattle.py_emission_parts.specs.Context.{outermost}
 use Rattle.py_emission_parts.specs.Emitting.{Done}
 use Rattle.py_emission.specs.EmissionMods.{emission_outcome}
 use Rattle.py_meaning.specs.Meaning.{body}
-use Rattle.py_emission_proof.proofs.Additions.Codes.{LoadsFew}
+use Rattle.py_emission_proof.proofs.Additions.EnteredCodeLemmas.{LoadsFew}
 use Rattle.py_scope_proof.proofs.CellLoads.CellLoadLemmas.{tree_loads_few}
 use Rattle.py_base.specs.declared.errors.CodegenErrorType.{CodegenErrorType}
 use Rattle.py_emit.specs.Emitted.{IsEmitted}
 use Rattle.py_emit.specs.States.{IsReported, Rest, info, rest, state}
 use Rattle.codegen.specs.Compiled.{IsRefused}
-use Rattle.codegen.proofs.Firsts.{done_clean}
-use Rattle.codegen.proofs.Made.{goes_first, made_mod, unrefused_mod}
+use Rattle.codegen.proofs.FirstFaultLemmas.{done_clean}
+use Rattle.codegen.proofs.TreeEmitterLemmas.{goes_first, made_mod, unrefused_mod}
 use Rattle.codegen.proofs.compile.compile_over.Goals as goal
 
 errs : {T E : Type 0} (r : Result T E) (e : E) → IsErrAnd r (λ y. y ≡ e) → r ≡ Err e

@@ -1,5 +1,5 @@
 use Rattle.py_tree.specs.View.{stmt_tree, stmts}
-use Rattle.codegen.proofs.Wholes.{prompt_checked}
+use Rattle.codegen.proofs.WholeTreeFaultLemmas.{prompt_checked}
 use Rattle.codegen.proofs.compile.compile_program_single.Goals as goal
 
 pub compile_checked-requires : goal.compile_checked-requires

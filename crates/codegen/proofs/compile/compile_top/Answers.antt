@@ -8,7 +8,7 @@ use Rattle.py_tree.specs.declared.modules.Mode.{Mode}
 use Rattle.py_tree.specs.declared.modules.ModFunctionType.{ModFunctionType}
 use Rattle.py_base.specs.declared.errors.CodegenErrorType.{CodegenErrorType}
 use Rattle.codegen.specs.Calls.{IsChecked, IsWhole}
-use Rattle.codegen.proofs.Answered.{refused_whole}
+use Rattle.codegen.proofs.CompileAnswerLemmas.{refused_whole}
 use Rattle.codegen.proofs.compile.compile_top.Goals as goal
 
 pub returns-in-Some : goal.returns-in-Some

@@ -1,8 +1,8 @@
 use Rattle.std.proofs.Common.{ap}
 use Rattle.codegen.specs.Calls.{tree_of}
 use Rattle.py_emit.specs.States.{Rest, rest, state}
-use Rattle.codegen.proofs.Firsts.{first_without, ok_without, told_same}
-use Rattle.codegen.proofs.Made.{goes_without}
+use Rattle.codegen.proofs.FirstFaultLemmas.{first_without, ok_without, error_names_path}
+use Rattle.codegen.proofs.TreeEmitterLemmas.{goes_without}
 use Rattle.codegen.proofs.compile.emit_without_scopes.Goals as goal
 
 pub returns-clause-ok : goal.returns-clause-ok
@@ -22,4 +22,4 @@ returns-clause-first c =
     first_without t c.args.mode c.args.opts.optimize c.args.source_path c.requires after c.emit_mod.result goes
 
 pub returns-clause-told : goal.returns-clause-told
-returns-clause-told c = told_same c.emit_mod.result (rest c.emit_mod.new.em) (rest c.in_ok-em.em) c.args.source_path (ap (λ (q : Rest). q.path) c.in_ok-em.ensures.rest) c.emit_mod.ensures.same
+returns-clause-told c = error_names_path c.emit_mod.result (rest c.emit_mod.new.em) (rest c.in_ok-em.em) c.args.source_path (ap (λ (q : Rest). q.path) c.in_ok-em.ensures.rest) c.emit_mod.ensures.same

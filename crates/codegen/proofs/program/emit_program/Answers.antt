@@ -1,8 +1,8 @@
 use Rattle.std.proofs.Common.{rules, ◌≡◌, Err, ap, drop, sym, ◌∙◌, arith}
 use Rattle.py_tree.specs.View.{stmt_tree, stmts}
 use Rattle.py_emit.specs.States.{state}
-use Rattle.py_emit.proofs.Joined.{first_refuses, goes_as, went}
-use Rattle.codegen.proofs.Files.{statements_after_doc, statements_returning}
+use Rattle.py_emit.proofs.JoinedEmissionLemmas.{first_refuses, goes_as, on_done_goes}
+use Rattle.codegen.proofs.FileEmissionLemmas.{statements_after_doc, statements_returning}
 use Rattle.py_emission_parts.specs.Running.{run}
 use Rattle.codegen.proofs.program.emit_program.Goals as goal
 
@@ -12,7 +12,7 @@ returns c = record {
       let after = stmts stmt_tree (drop c.in_ok-from.from c.args.body.now) in
       goes_as _ _ _ _
       (statements_after_doc (stmts stmt_tree c.args.body.now) after c.find_ann.result _ _ c.in_ok-from.ensures.emits.goes c.in_ok-from.ensures.from c.find_ann.ensures
-      ∙ went _ (run (statements_returning after)) _ c.in_ok-emit_setup.ensures.goes
+      ∙ on_done_goes _ (run (statements_returning after)) _ c.in_ok-emit_setup.ensures.goes
       ∙ ap (λ xs. run (statements_returning (stmts stmt_tree xs)) (state c.emit_setup.new.em)) (sym c.statements_from-statements.ensures))
       c.emit_rest.ensures.goes;
   same = search rules;

@@ -2,8 +2,8 @@ use Rattle.std.proofs.Common.{sym, ◌∙◌}
 use Rattle.py_tree.specs.View.{mod_tree}
 use Rattle.py_limits.specs.Nesting.{nesting}
 use Rattle.py_limits.specs.Size.{size_of}
-use Rattle.py_symbol_tables.proofs.Firsts.{at_least, first_below}
-use Rattle.codegen.proofs.Wholes.{malformed_checked, too_deep_checked, too_large_checked, whole_checked}
+use Rattle.py_symbol_tables.proofs.TreeFaultOrderLemmas.{at_least, first_below}
+use Rattle.codegen.proofs.WholeTreeFaultLemmas.{malformed_checked, too_deep_checked, too_large_checked, whole_checked}
 use Rattle.codegen.proofs.whole.tree_fault.Goals as goal
 
 pub returns-then-is_none : goal.returns-then-is_none

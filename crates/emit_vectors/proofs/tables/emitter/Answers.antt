@@ -2,7 +2,7 @@ use Rattle.std.proofs.Common.{◌≡◌, ◌∙◌, List, [], ◌∷◌, ◌++�
 use Rattle.py_scope.specs.declared.table.SymbolTable.{SymbolTable, out-SymbolTable}
 use Rattle.py_emission_parts.specs.Emitting.{State}
 use Rattle.py_emit.specs.Tables.{AreLeft}
-use Rattle.emit_vectors.proofs.Left.{left_one_left}
+use Rattle.emit_vectors.proofs.RemainingTableLemmas.{left_one_left}
 use Rattle.emit_vectors.proofs.tables.emitter.Goals as goal
 
 pub returns : goal.returns

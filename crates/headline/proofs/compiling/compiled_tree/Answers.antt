@@ -1,7 +1,7 @@
 use Rattle.std.proofs.Common.{Ok, subst}
 use Rattle.py_tree.specs.View.{mod_tree}
 use Rattle.codegen.specs.Calls.{IsCompiled}
-use Rattle.headline.proofs.OwedLemmas.{listed_gets}
+use Rattle.headline.proofs.DueOutputLemmas.{listed_gets}
 use Rattle.headline.proofs.compiling.compiled_tree.Goals as goal
 
 pub returns-in-Ok-compile_top : goal.returns-in-Ok-compile_top

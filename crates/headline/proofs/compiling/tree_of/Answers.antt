@@ -1,4 +1,4 @@
-use Rattle.headline.proofs.OwedLemmas.{told_long}
+use Rattle.headline.proofs.DueOutputLemmas.{told_long}
 use Rattle.headline.proofs.compiling.tree_of.Goals as goal
 
 pub returns-then-rows-ge-LIMIT : goal.returns-then-rows-ge-LIMIT

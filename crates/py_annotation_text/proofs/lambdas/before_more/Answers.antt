@@ -1,5 +1,5 @@
 use Rattle.std.proofs.Common.{sym}
-use Rattle.py_annotation_text.proofs.Lengths.{before_some_args}
+use Rattle.py_annotation_text.proofs.ElementCountLemmas.{before_some_args}
 use Rattle.py_annotation_text.proofs.lambdas.before_more.Goals as goal
 
 pub returns-in-len1-up : goal.returns-in-len1-up

@@ -1,5 +1,5 @@
 use Rattle.std.proofs.Common.{sym, ◌∙◌}
-use Rattle.py_annotation_text.proofs.Lengths.{one_star}
+use Rattle.py_annotation_text.proofs.ElementCountLemmas.{one_star}
 use Rattle.py_annotation_text.proofs.lambdas.push_lone_star.Goals as goal
 
 pub returns-else-is_empty : goal.returns-else-is_empty

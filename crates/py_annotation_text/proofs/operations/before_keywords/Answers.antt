@@ -1,5 +1,5 @@
 use Rattle.std.proofs.Common.{sym, ◌∙◌}
-use Rattle.py_annotation_text.proofs.Lengths.{before_some}
+use Rattle.py_annotation_text.proofs.ElementCountLemmas.{before_some}
 use Rattle.py_annotation_text.proofs.operations.before_keywords.Goals as goal
 
 pub returns-else-is_empty : goal.returns-else-is_empty

@@ -1,7 +1,7 @@
 use Rattle.std.proofs.Common.{length}
 use denote.Text.{Utf8}
 use denote.Shadow.{shadow}
-use Rattle.py_answers.proofs.Found.{FoundReads}
+use Rattle.py_answers.proofs.AnswerTextLemmas.{FoundReads}
 use Rattle.py_answers.proofs.answers.are_answers.Given as goal
 
 abbrev pub invariant-loop-piece : goal.invariant-loop-piece

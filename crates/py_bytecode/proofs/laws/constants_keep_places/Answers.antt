@@ -1,4 +1,4 @@
-use Rattle.py_bytecode.proofs.ConstantLaws.{constants_keep_places}
+use Rattle.py_bytecode.proofs.ConstantLemmas.{constants_keep_places}
 use Rattle.py_bytecode.proofs.laws.constants_keep_places.Goals as goal
 
 pub returns : goal.returns

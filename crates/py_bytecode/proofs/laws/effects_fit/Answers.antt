@@ -1,4 +1,4 @@
-use Rattle.py_bytecode.proofs.Effects.{effect_fits}
+use Rattle.py_bytecode.proofs.StackEffectLemmas.{effect_fits}
 use Rattle.py_bytecode.proofs.laws.effects_fit.Goals as goal
 
 pub returns : goal.returns

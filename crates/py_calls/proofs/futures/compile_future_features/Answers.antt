@@ -7,8 +7,8 @@ use Rattle.py_emission_parts.specs.Running.{run}
 use Rattle.py_emission.specs.EmissionFutures.{check_features}
 use Rattle.py_emit.specs.States.{postponed_rest, rest, state}
 use Rattle.py_emit.specs.declared.context.EmitContext.{EmitContext}
-use Rattle.py_emit.proofs.Joined.{refuses_as}
-use Rattle.py_expr_parts.proofs.Turns.{refused_by}
+use Rattle.py_emit.proofs.JoinedEmissionLemmas.{refuses_as}
+use Rattle.py_expr_parts.proofs.ValueListLemmas.{refused_by}
 use Rattle.py_stmt_parts.specs.Futures.{emission_of_features, postponed_after}
 use Rattle.py_stmt.proofs.PlacedStatementLemmas.{refused_after}
 use Rattle.py_calls.proofs.futures.compile_future_features.Goals as goal

@@ -3,8 +3,8 @@ use Rattle.std.proofs.lemmas.Result.{err_from_is_err_and}
 use Rattle.std.proofs.lemmas.List.{map_push}
 use Rattle.py_bytecode.specs.View.{constant}
 use Rattle.py_codefile.specs.Reading.{constant_at, many}
-use Rattle.py_codefile.proofs.Loop.{loop_ends, loop_goes_on, is_done}
-use Rattle.py_codefile.proofs.Room.{after_its_tag, without_tag}
+use Rattle.py_codefile.proofs.ReadLoopLemmas.{loop_ends, loop_goes_on, read_loop_done}
+use Rattle.py_codefile.proofs.ConstantRoomLemmas.{after_its_tag, without_tag}
 use Rattle.py_codefile.proofs.reading.+code.Goals as goal
 
 pub constants-returns-in_err-read_constant : goal.constants-returns-in_err-read_constant
@@ -24,7 +24,7 @@ constants-loop-preserved t c =
 
 pub constants-returns : goal.constants-returns
 constants-returns t c =
-    let done = is_done (constant_at c.args.room) (map constant c.loop.items.items) c.args.count c.loop.counter c.loop.reader
+    let done = read_loop_done (constant_at c.args.room) (map constant c.loop.items.items) c.args.count c.loop.counter c.loop.reader
     (many (constant_at c.args.room) c.args.count c.args.reader.now) c.loop-test.false c.loop.invariant in
     rw c.from_vec.ensures done
 

@@ -2,7 +2,7 @@ use Rattle.std.proofs.Common.{◌+◌, ap, sym, ◌∙◌}
 use Rattle.std.proofs.lemmas.List.{take_rest}
 use Rattle.py_dataflow.specs.Walks.{rest_of}
 use Rattle.py_dataflow.specs.Known.{branch_base}
-use Rattle.py_dataflow.proofs.Marks.{rest_drop}
+use Rattle.py_dataflow.proofs.BlockMarkLemmas.{rest_drop}
 use Rattle.py_dataflow.proofs.known.branch_blocks.Goals as goal
 
 pub returns-then-i-shape : goal.returns-then-i-shape

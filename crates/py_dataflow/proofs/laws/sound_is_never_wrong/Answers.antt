@@ -1,5 +1,5 @@
-use Rattle.py_dataflow.proofs.Codes.{right}
+use Rattle.py_dataflow.proofs.SoundCodeLemmas.{sound_never_wrong}
 use Rattle.py_dataflow.proofs.laws.sound_is_never_wrong.Goals as goal
 
 pub returns : goal.returns
-returns c = right
+returns c = sound_never_wrong

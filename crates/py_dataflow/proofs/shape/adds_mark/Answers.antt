@@ -1,4 +1,4 @@
-use Rattle.py_dataflow.proofs.Marks.{same_on, fewer_on, fewer_here}
+use Rattle.py_dataflow.proofs.BlockMarkLemmas.{same_on, fewer_on, fewer_here}
 use Rattle.py_dataflow.proofs.shape.adds_mark.Goals as goal
 
 pub loop-i-preserved : goal.loop-i-preserved

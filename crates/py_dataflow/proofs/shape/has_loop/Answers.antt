@@ -1,6 +1,6 @@
 use Rattle.std.proofs.Common.{true, ap, ◌∙◌}
 use Rattle.py_dataflow.specs.Walks.{tops}
-use Rattle.py_dataflow.proofs.Marks.{tops_drop}
+use Rattle.py_dataflow.proofs.BlockMarkLemmas.{tops_drop}
 use Rattle.py_dataflow.proofs.shape.has_loop.Goals as goal
 
 pub returns : goal.returns

@@ -5,7 +5,7 @@ use Rattle.py_dataflow.specs.Known.{state_of, state_at}
 use Rattle.py_dataflow.specs.Shown.{Covered, Closed}
 use Rattle.py_dataflow.proofs.PlaceSuccessorLemmas.{place_successor_closed, first_shown}
 use Rattle.py_dataflow.proofs.DepthLemmas.{depth_sound}
-use Rattle.py_dataflow.proofs.Tallest.{is_depth}
+use Rattle.py_dataflow.proofs.KnownDepthLemmas.{is_depth}
 use Rattle.py_dataflow.proofs.walk.walk_all.Goals as goal
 
 pub reach-requires-clause-arriving : goal.reach-requires-clause-arriving

@@ -2,7 +2,7 @@ use Rattle.std.proofs.Common.{◌≡◌, ◌-◌, length, sym, ◌∙◌, ap, ar
 use Rattle.std.proofs.lemmas.List.{length-replicate, length-set}
 use Rattle.py_bytecode.specs.declared.instruction.Instruction.{Instruction}
 use Rattle.py_bytecode.specs.declared.operand.CodeUnit.{CodeUnit}
-use Rattle.py_decode.proofs.Prefixes.{nothing_past, nothing_yet, now_is, read_on}
+use Rattle.py_decode.proofs.OperandPrefixLemmas.{nothing_past, nothing_yet, now_is, read_on}
 use Rattle.py_decode.proofs.reading.read_units.Goals as goal
 
 pub loop-at-init : goal.loop-at-init

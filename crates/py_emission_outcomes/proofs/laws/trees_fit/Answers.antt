@@ -1,4 +1,4 @@
-use Rattle.py_emission_outcomes.proofs.Capacity.Whole.{trees_fit}
+use Rattle.py_emission_outcomes.proofs.Capacity.TreeCapacityLemmas.{trees_fit}
 use Rattle.py_emission_outcomes.proofs.laws.trees_fit.Goals as goal
 
 pub returns : goal.returns

@@ -1,8 +1,8 @@
 use Rattle.std.proofs.Common.{◌<◌, sym, ap, ◌∙◌, subst}
 use Rattle.py_bytecode.specs.Equality.{insert_if_new, text_eq}
-use Rattle.py_scope.proofs.SymbolLists.{none_past}
+use Rattle.py_scope.proofs.SymbolListLemmas.{none_past}
 use Rattle.py_emission_parts.specs.Context.{frees_here}
-use Rattle.py_emit.proofs.Cells.{names_kept, cell_names_next}
+use Rattle.py_emit.proofs.SymbolNameLemmas.{names_kept, cell_names_next}
 use Rattle.py_emit.proofs.scopes.frees_among.Goals.{in-Some+then-is_free+in_ok-enter, in-Some+else-is_free, in_default}
 use Rattle.py_emit.proofs.scopes.frees_among.Goals as goal
 

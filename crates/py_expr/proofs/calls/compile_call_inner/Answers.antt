@@ -5,7 +5,7 @@ use Rattle.py_emission_parts.specs.EmissionParts.{elements}
 use Rattle.py_emission.specs.Emission.{all_emissions, keyword_emissions}
 use Rattle.py_expr_parts.specs.Calls.{taken_type}
 use Rattle.py_expr_parts.specs.declared.calls.CallType.{CallType}
-use Rattle.py_expr_parts.proofs.CallOperands.{type_is}
+use Rattle.py_expr_parts.proofs.CallOperandLemmas.{type_is}
 use Rattle.py_expr.proofs.calls.compile_call_inner.Goals as goal
 
 pub returns-clause-call : goal.returns-clause-call

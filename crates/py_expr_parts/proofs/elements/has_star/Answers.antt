@@ -1,6 +1,6 @@
 use Rattle.std.proofs.Common.{◌∙◌, sym}
-use Rattle.py_expr_parts.proofs.Groups.{starred_at}
-use Rattle.py_expr_parts.proofs.Turns.{if_not, turn_if_so}
+use Rattle.py_expr_parts.proofs.ElementGroupLemmas.{starred_at}
+use Rattle.py_expr_parts.proofs.ValueListLemmas.{if_not, turn_if_so}
 use Rattle.py_expr_parts.proofs.elements.has_star.Goals as goal
 
 pub loop-elt-preserved : goal.loop-elt-preserved

@@ -1,7 +1,7 @@
 use Rattle.std.proofs.Common.{ap, sym}
 use Rattle.py_expr_parts.specs.Turns.{is_spread}
-use Rattle.py_expr_parts.proofs.Otherwise.{plain_element}
-use Rattle.py_expr_parts.proofs.Stores.{plain_target}
+use Rattle.py_expr_parts.proofs.OtherExpressionLemmas.{plain_element}
+use Rattle.py_expr_parts.proofs.TargetStoreLemmas.{plain_target}
 use Rattle.py_expr_parts.proofs.elements.is_star.Goals as goal
 
 pub returns-in_default : goal.returns-in_default

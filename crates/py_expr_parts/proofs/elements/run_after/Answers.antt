@@ -1,5 +1,5 @@
 use Rattle.std.proofs.Common.{sym, ◌∙◌}
-use Rattle.py_expr_parts.proofs.Groups.{plain_after}
+use Rattle.py_expr_parts.proofs.ElementGroupLemmas.{plain_after}
 use Rattle.py_expr_parts.proofs.elements.run_after.Goals as goal
 
 pub returns-else-is_star : goal.returns-else-is_star

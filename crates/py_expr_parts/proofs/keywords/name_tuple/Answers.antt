@@ -1,8 +1,8 @@
 use Rattle.std.proofs.Common.{ap, ◌∙◌, map}
 use Rattle.py_bytecode.specs.Objects.{consts_of, tuple}
 use Rattle.py_bytecode.specs.View.{constant}
-use Rattle.py_bytecode.proofs.View.{constant_Tuple}
-use Rattle.py_expr_parts.proofs.KeywordMaps.{keyword_map_names_end}
+use Rattle.py_bytecode.proofs.ConstantViewLemmas.{constant_Tuple}
+use Rattle.py_expr_parts.proofs.KeywordMapLemmas.{keyword_map_names_end}
 use Rattle.py_expr_parts.proofs.keywords.name_tuple.Goals as goal
 
 pub returns : goal.returns

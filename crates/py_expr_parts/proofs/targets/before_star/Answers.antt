@@ -1,5 +1,5 @@
 use Rattle.std.proofs.Common.{◌∙◌, sym, arith}
-use Rattle.py_expr_parts.proofs.Stores.{before_at}
+use Rattle.py_expr_parts.proofs.TargetStoreLemmas.{before_at}
 use Rattle.py_expr_parts.proofs.targets.before_star.Goals as goal
 
 pub loop-elt-preserved : goal.loop-elt-preserved

@@ -7,10 +7,10 @@ use Rattle.py_emission.specs.Emission.{all_stores}
 use Rattle.py_base.specs.declared.errors.CodegenErrorType.TheVariants as error
 use Rattle.py_bytecode.specs.declared.instruction.Instruction.TheVariants as op
 use Rattle.py_emit.specs.States.{state}
-use Rattle.py_expr_parts.proofs.Steps.{move_goes}
-use Rattle.py_expr_parts.proofs.Stores.{store_beside, many_after, many_before, one_star, two_stars}
-use Rattle.py_emit.proofs.Joined.{goes_as, went}
-use Rattle.py_expr_parts.proofs.Turns.{refused_by}
+use Rattle.py_expr_parts.proofs.EmissionStepLemmas.{move_goes}
+use Rattle.py_expr_parts.proofs.TargetStoreLemmas.{store_beside, many_after, many_before, one_star, two_stars}
+use Rattle.py_emit.proofs.JoinedEmissionLemmas.{goes_as, on_done_goes}
+use Rattle.py_expr_parts.proofs.ValueListLemmas.{refused_by}
 use Rattle.py_expr_parts.proofs.targets.emit_starred_unpack.Goals as goal
 use Rattle.py_expr_parts.proofs.targets.emit_starred_unpack.Goals.{then-before-gt-MOST_ASIDE-via-then-before-gt-MOST_ASIDE}
 use Rattle.py_expr_parts.proofs.targets.emit_starred_unpack.Goals.{then-before-gt-MOST_ASIDE-via-else-before-gt-MOST_ASIDE+then-after-gt-MOST_ASIDE}
@@ -32,7 +32,7 @@ returns-then-before-gt-MOST_ASIDE c = record {
         | then-before-gt-MOST_ASIDE-via-then-before-gt-MOST_ASIDE w ↦ many_before c.args.location es (let h = w.if-before-gt-MOST_ASIDE.true in omega (arith, h, b))
         | then-before-gt-MOST_ASIDE-via-else-before-gt-MOST_ASIDE+then-after-gt-MOST_ASIDE w ↦ many_after c.args.location es (let h = w.if-after-gt-MOST_ASIDE.true in omega (arith, h, e))
       ] in
-      ap (λ (f : Emission). run f (state c.args.em.now)) many ∙ went _ _ _ (move_goes c.args.location (state c.args.em.now))
+      ap (λ (f : Emission). run f (state c.args.em.now)) many ∙ on_done_goes _ _ _ (move_goes c.args.location (state c.args.em.now))
       ∙ ap (run (refuse error.TooManyStarUnpack)) (sym c.set_location.ensures.state)
       ∙ refused_by error.TooManyStarUnpack (state c.set_location.new.self) _ c.refuse-error.result c.refuse-error.ensures.told;
   same = search rules;

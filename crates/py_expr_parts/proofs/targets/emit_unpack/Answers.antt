@@ -5,8 +5,8 @@ use Rattle.py_emission_parts.specs.Running.{run}
 use Rattle.py_emission.specs.Emission.{all_stores}
 use Rattle.py_bytecode.specs.declared.instruction.Instruction.TheVariants as op
 use Rattle.py_emit.specs.States.{state}
-use Rattle.py_emit.proofs.Joined.{goes_as}
-use Rattle.py_expr_parts.proofs.Stores.{many_targets, no_star, some_star}
+use Rattle.py_emit.proofs.JoinedEmissionLemmas.{goes_as}
+use Rattle.py_expr_parts.proofs.TargetStoreLemmas.{many_targets, no_star, some_star}
 use Rattle.py_expr_parts.proofs.targets.emit_unpack.Goals as goal
 
 pub returns : goal.returns

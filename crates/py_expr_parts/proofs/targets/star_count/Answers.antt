@@ -1,5 +1,5 @@
 use Rattle.std.proofs.Common.{◌∙◌, sym, arith}
-use Rattle.py_expr_parts.proofs.Stores.{stars_at}
+use Rattle.py_expr_parts.proofs.TargetStoreLemmas.{stars_at}
 use Rattle.py_expr_parts.proofs.targets.star_count.Goals as goal
 use Rattle.py_expr_parts.proofs.targets.star_count.Goals.{then-is_star, else-is_star}
 

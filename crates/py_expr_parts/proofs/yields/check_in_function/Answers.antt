@@ -2,8 +2,8 @@ use Rattle.std.proofs.Common.{rules, ap, sym, ◌∙◌}
 use Rattle.py_emission_parts.specs.Context.{is_function}
 use Rattle.py_emission_parts.specs.Emitting.{keep}
 use Rattle.py_emit.specs.States.{rest, state}
-use Rattle.py_expr_parts.proofs.InFunctions.{outside_function, within_function}
-use Rattle.py_expr_parts.proofs.Turns.{placed_path, refused_so}
+use Rattle.py_expr_parts.proofs.FunctionContextLemmas.{outside_function, within_function}
+use Rattle.py_expr_parts.proofs.ValueListLemmas.{placed_path, refused_so}
 use Rattle.py_expr_parts.proofs.yields.check_in_function.Goals as goal
 
 pub returns-then-is_function : goal.returns-then-is_function

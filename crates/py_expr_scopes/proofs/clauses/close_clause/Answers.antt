@@ -1,5 +1,5 @@
 use Rattle.py_bytecode.specs.declared.instruction.Instruction.TheVariants as op
-use Rattle.py_expr_scopes.proofs.OpenBlocks.{jump_opens}
+use Rattle.py_expr_scopes.proofs.OpenBlockLemmas.{jump_opens}
 use Rattle.py_expr_scopes.proofs.clauses.close_clause.Goals as goal
 
 pub switch_to_block-requires-clause-made : goal.switch_to_block-requires-clause-made

@@ -1,9 +1,9 @@
 use Rattle.std.proofs.Common.{rules, ◌≡◌, ◌∙◌, Err, ap, subst, arith}
 use Rattle.py_emit.specs.States.{state}
 use Rattle.py_emission_parts.specs.Running.{on_done}
-use Rattle.py_emit.proofs.Joined.{refuses_as}
+use Rattle.py_emit.proofs.JoinedEmissionLemmas.{refuses_as}
 use Rattle.py_expr_scopes.specs.Clauses.{AllOpen, closed_clauses}
-use Rattle.py_expr_scopes.proofs.OpenClauses.{closed_push, last_open, others_open}
+use Rattle.py_expr_scopes.proofs.OpenClauseLemmas.{closed_push, last_open, others_open}
 use Rattle.py_expr_scopes.proofs.clauses.close_clauses.Goals as goal
 
 pub close_clause-requires : goal.close_clause-requires

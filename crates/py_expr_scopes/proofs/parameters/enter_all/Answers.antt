@@ -2,8 +2,8 @@ use Rattle.py_emission_parts.specs.Running.{run}
 use Rattle.std.proofs.Common.{rules, ◌≡◌, Err, ap, ◌∙◌, arith}
 use Rattle.py_emission_parts.specs.Emitting.{Emission}
 use Rattle.py_emit.specs.States.{state}
-use Rattle.py_emit.proofs.Joined.{first_refuses, went}
-use Rattle.py_expr_scopes.proofs.Signatures.{parameter_at}
+use Rattle.py_emit.proofs.JoinedEmissionLemmas.{first_refuses, on_done_goes}
+use Rattle.py_expr_scopes.proofs.FunctionSignatureLemmas.{parameter_at}
 use Rattle.py_expr_scopes.proofs.parameters.enter_all.Goals as goal
 
 pub returns-in_err-enter_one : goal.returns-in_err-enter_one
@@ -22,5 +22,5 @@ loop-item-preserved c = (
   c.in_ok-enter_one.ensures.same ∙ c.loop-item.invariant.0,
   c.loop-item.invariant.1 ∙ ap (λ (f : Emission). run f (state c.loop-item.em))
       (parameter_at c.args.items.now c.loop-item.item-index c.item-item.result c.item-item.result c.item-item.is c.loop-item-test.true)
-      ∙ went _ _ _ c.in_ok-enter_one.ensures.goes,
+      ∙ on_done_goes _ _ _ c.in_ok-enter_one.ensures.goes,
 )

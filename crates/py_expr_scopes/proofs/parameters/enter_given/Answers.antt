@@ -1,8 +1,8 @@
 use Rattle.py_emission_parts.specs.Running.{Action}
 use Rattle.std.proofs.Common.{rules, ◌≡◌, Err, ap, ◌∙◌, arith}
 use Rattle.py_emit.specs.States.{state}
-use Rattle.py_emit.proofs.Joined.{first_refuses, went}
-use Rattle.py_expr_scopes.proofs.Signatures.{given_at}
+use Rattle.py_emit.proofs.JoinedEmissionLemmas.{first_refuses, on_done_goes}
+use Rattle.py_expr_scopes.proofs.FunctionSignatureLemmas.{given_at}
 use Rattle.py_expr_scopes.proofs.parameters.enter_given.Goals as goal
 
 pub returns-in_err-enter_if_given : goal.returns-in_err-enter_if_given
@@ -21,5 +21,5 @@ loop-item-preserved c = (
   c.in_ok-enter_if_given.ensures.same ∙ c.loop-item.invariant.0,
   c.loop-item.invariant.1 ∙ ap (λ (f : Action). f (state c.loop-item.em))
       (given_at c.args.given c.args.items.now c.loop-item.item-index c.item-item.result c.item-item.result c.item-item.is
-      c.loop-item-test.true) ∙ went _ _ _ c.in_ok-enter_if_given.ensures.goes,
+      c.loop-item-test.true) ∙ on_done_goes _ _ _ c.in_ok-enter_if_given.ensures.goes,
 )

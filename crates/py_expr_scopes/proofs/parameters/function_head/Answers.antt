@@ -1,7 +1,7 @@
 use Rattle.std.proofs.Common.{◌≡◌, ◌+◌, length, arith}
 use Rattle.std.specs.Option.{is_some}
 use Rattle.py_expr_scopes.specs.Functions.{flag_if}
-use Rattle.py_expr_scopes.proofs.Signatures.{shape_is}
+use Rattle.py_expr_scopes.proofs.FunctionSignatureLemmas.{shape_is}
 use Rattle.py_expr_scopes.proofs.parameters.function_head.Goals as goal
 
 pub returns-clause-shape : goal.returns-clause-shape

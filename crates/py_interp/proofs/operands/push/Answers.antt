@@ -1,6 +1,6 @@
 use Rattle.std.proofs.Common.{[], ◌∷◌, ap, ◌∙◌}
 use Rattle.py_answers.specs.Told.{values_of}
-use Rattle.py_interp.proofs.Lengths.{length_after}
+use Rattle.py_interp.proofs.ValueCountLemmas.{length_after}
 use Rattle.py_interp.proofs.operands.push.Goals as goal
 use Rattle.py_interp.proofs.operands.push.Goals.{in-Ok, in-Err}
 

@@ -6,7 +6,7 @@ use Rattle.py_tree.specs.View.{expr_tree}
 use Rattle.py_tree.specs.View.{keywords as keyword_trees}
 use Rattle.py_interp.specs.Doing.{does, name_tuple, placed_call}
 use Rattle.py_interp.specs.Interpreters.{keyword_interpreters}
-use Rattle.py_interp.proofs.Lengths.{lengths}
+use Rattle.py_interp.proofs.ValueCountLemmas.{length-step_values}
 use Rattle.py_interp_exprs.proofs.ContinuationLemmas.{continuation_same}
 use Rattle.py_interp_exprs.proofs.calls.call_placed.Goals as goal
 
@@ -18,7 +18,7 @@ returns c =
     let us = values_of c.args.values.items in
     let w = world_of c.args.log.now in
     let long = c.len.ensures in
-    let told = lengths c.args.values.items in
+    let told = length-step_values c.args.values.items in
     let n : c.len.result ≡ length us = omega (arith, long, told, c.args.values.ok.0) in
     let o = c.in_ok-operation.ensures.ok ∙ ap (λ i. counted_operation i c.len.result) (c.placed_call.ensures a) ∙ ap (counted_operation (placed_call c.args.method ks)) n in
     let v = c.in_ok-append-2.ensures.ok ∙ ap (λ l. l ++ values_of c.in_ok-names.names.items) c.in_ok-append.ensures.ok

@@ -1,5 +1,5 @@
 use Rattle.std.proofs.Common.{◌∙◌, sym}
-use Rattle.py_interp_exprs.proofs.Callings.{any_none, any_some}
+use Rattle.py_interp_exprs.proofs.CallKindLemmas.{any_none, any_some}
 use Rattle.py_interp_exprs.proofs.calls.map_count.Goals as goal
 
 pub returns-then-is_empty : goal.returns-then-is_empty

@@ -3,7 +3,7 @@ use Rattle.py_tree.specs.View.{expr_tree}
 use Rattle.py_tree.specs.View.{keywords as keyword_trees}
 use Rattle.py_interp.specs.Doing.{placed_call}
 use Rattle.py_interp.specs.Interpreters.{keyword_interpreters}
-use Rattle.py_interp_exprs.proofs.Callings.{placed_function, placed_method}
+use Rattle.py_interp_exprs.proofs.CallKindLemmas.{placed_function, placed_method}
 use Rattle.py_interp_exprs.proofs.calls.placed_call.Goals as goal
 
 pub returns-in-true-false : goal.returns-in-true-false

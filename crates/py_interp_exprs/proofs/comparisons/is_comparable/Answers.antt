@@ -1,6 +1,6 @@
 use Rattle.std.proofs.Common.{ap, ◌∙◌, arith}
 use Rattle.std.specs.Prelude.{not}
-use Rattle.py_interp_exprs.proofs.Chains.{comparable_one, comparable_some}
+use Rattle.py_interp_exprs.proofs.ShortCircuitLemmas.{comparable_one, comparable_some}
 use Rattle.py_interp_exprs.proofs.comparisons.is_comparable.Goals as goal
 
 pub returns-in-1 : goal.returns-in-1

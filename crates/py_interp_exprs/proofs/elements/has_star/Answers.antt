@@ -1,5 +1,5 @@
 use Rattle.std.proofs.Common.{◌∙◌, sym}
-use Rattle.py_interp_exprs.proofs.Stars.{any_here, any_later}
+use Rattle.py_interp_exprs.proofs.StarredElementLemmas.{any_here, any_later}
 use Rattle.py_interp_exprs.proofs.elements.has_star.Goals as goal
 
 pub loop-elt-preserved : goal.loop-elt-preserved

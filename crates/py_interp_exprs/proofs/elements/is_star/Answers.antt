@@ -1,5 +1,5 @@
 use Rattle.std.proofs.Common.{sym}
-use Rattle.py_interp_exprs.proofs.Otherwise.{not_starred}
+use Rattle.py_interp_exprs.proofs.OtherKindLemmas.{not_starred}
 use Rattle.py_interp_exprs.proofs.elements.is_star.Goals as goal
 
 pub returns-in_default : goal.returns-in_default

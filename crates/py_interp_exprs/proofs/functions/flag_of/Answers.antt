@@ -1,5 +1,5 @@
 use Rattle.std.proofs.Common.{◌∙◌, sym}
-use Rattle.py_interp_exprs.proofs.Closings.{flag_none, flag_some}
+use Rattle.py_interp_exprs.proofs.ClosedRunLemmas.{flag_none, flag_some}
 use Rattle.py_interp_exprs.proofs.functions.flag_of.Goals as goal
 
 pub returns-then-is_empty : goal.returns-then-is_empty

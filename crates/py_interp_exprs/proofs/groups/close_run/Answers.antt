@@ -2,19 +2,19 @@ use Rattle.std.proofs.Common.{◌≡◌, ◌∙◌, ap, sym, true, false, Err, l
 use Rattle.py_bytecode.specs.Values.{Fine}
 use Rattle.py_answers.specs.Log.{world_of}
 use Rattle.py_answers.specs.Told.{values_of}
-use Rattle.py_interp_exprs.proofs.Closings.{counts, run_none, run_some}
+use Rattle.py_interp_exprs.proofs.ClosedRunLemmas.{run_count_is_zero, run_none, run_some}
 use Rattle.py_interp_exprs.proofs.ContinuationLemmas.{continuation_after, continuation_ended}
 use Rattle.py_interp_exprs.proofs.groups.close_run.Goals as goal
 
 pub returns-then-is_empty : goal.returns-then-is_empty
 returns-then-is_empty c =
     let n : c.args.run.len ≡ length c.args.run.items = omega (arith, c.args.run.ok.0) in
-    run_none (world_of c.args.log.now) (values_of c.args.groups.items) c.args.run.items (counts c.args.run.len c.args.run.items true n (sym c.is_empty.ensures ∙ c.if-is_empty.true))
+    run_none (world_of c.args.log.now) (values_of c.args.groups.items) c.args.run.items (run_count_is_zero c.args.run.len c.args.run.items true n (sym c.is_empty.ensures ∙ c.if-is_empty.true))
 
 pub returns : goal.returns
 returns c =
     let n : c.args.run.len ≡ length c.args.run.items = omega (arith, c.args.run.ok.0) in
-    run_some (world_of c.args.log.now) (values_of c.args.groups.items) c.args.run.items (counts c.args.run.len c.args.run.items false n (sym c.is_empty.ensures ∙ c.if-is_empty.false))
+    run_some (world_of c.args.log.now) (values_of c.args.groups.items) c.args.run.items (run_count_is_zero c.args.run.len c.args.run.items false n (sym c.is_empty.ensures ∙ c.if-is_empty.false))
     ∙ continuation_after _ _ _ _ c.in_ok-tuple.ensures
     ∙ ap (λ vs. Fine vs (world_of c.build.new.log)) (sym c.in_ok-push.ensures.ok)
 
@@ -24,4 +24,4 @@ returns-in_err-tuple c =
     let r : c.from_residual.result ≡ Err c.in_err-tuple.field-0.0 = grind arith in
     continuation_ended _ _ _ _ _ _ _ r
     (run_some (world_of c.args.log.now) (values_of c.args.groups.items) c.args.run.items
-    (counts c.args.run.len c.args.run.items false n (sym c.is_empty.ensures ∙ c.if-is_empty.false))) c.in_err-tuple.ensures
+    (run_count_is_zero c.args.run.len c.args.run.items false n (sym c.is_empty.ensures ∙ c.if-is_empty.false))) c.in_err-tuple.ensures

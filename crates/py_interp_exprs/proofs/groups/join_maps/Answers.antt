@@ -1,7 +1,7 @@
 use Rattle.std.proofs.Common.{◌≡◌, ◌≤◌, ◌∙◌, Err, length, arith}
 use Rattle.py_answers.specs.Log.{world_of}
-use Rattle.py_interp_exprs.proofs.Closings.{few_maps, many_maps}
-use Rattle.py_interp_exprs.proofs.ContinuationLemmas.{continuation_after, continuation_ended, gives}
+use Rattle.py_interp_exprs.proofs.ClosedRunLemmas.{few_maps, many_maps}
+use Rattle.py_interp_exprs.proofs.ContinuationLemmas.{continuation_after, continuation_ended, gets_given_value}
 use Rattle.py_interp_exprs.proofs.groups.join_maps.Goals as goal
 
 pub returns-then-len-lt2 : goal.returns-then-len-lt2
@@ -12,7 +12,7 @@ returns c =
     let n = c.len.ensures in
     let h = c.if-len-lt2.false in
     let many : 2 ≤ length c.args.maps.items = omega (arith, c.args.maps.ok.0, n, h) in
-    gives _ c.one.result _ _ _ c.one.ensures.ok c.one.ensures.err (many_maps (world_of c.args.log.now) c.args.maps.items many ∙ continuation_after _ _ _ _ c.in_ok-joined.ensures)
+    gets_given_value _ c.one.result _ _ _ c.one.ensures.ok c.one.ensures.err (many_maps (world_of c.args.log.now) c.args.maps.items many ∙ continuation_after _ _ _ _ c.in_ok-joined.ensures)
 
 pub returns-in_err-joined : goal.returns-in_err-joined
 returns-in_err-joined c =

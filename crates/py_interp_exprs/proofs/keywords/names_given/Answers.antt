@@ -1,7 +1,7 @@
 use Rattle.std.proofs.Common.{[], ◌∷◌, ◌∙◌, ap, sym}
 use Rattle.std.proofs.lemmas.Result.{IfOk-weaker}
 use Rattle.py_bytecode.specs.Values.{Constant}
-use Rattle.py_interp_exprs.proofs.Callings.{tuple_some}
+use Rattle.py_interp_exprs.proofs.CallKindLemmas.{tuple_some}
 use Rattle.py_interp_exprs.proofs.keywords.names_given.Goals as goal
 
 pub returns-in-Ok-clause-ok : goal.returns-in-Ok-clause-ok

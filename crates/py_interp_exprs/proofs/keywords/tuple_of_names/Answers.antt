@@ -1,8 +1,8 @@
 use Rattle.std.proofs.Common.{ap, ◌∙◌, map}
 use Rattle.py_bytecode.specs.Objects.{consts_of, tuple}
 use Rattle.py_bytecode.specs.View.{constant}
-use Rattle.py_bytecode.proofs.View.{constant_Tuple}
-use Rattle.py_interp_exprs.proofs.Callings.{calling_names_end}
+use Rattle.py_bytecode.proofs.ConstantViewLemmas.{constant_Tuple}
+use Rattle.py_interp_exprs.proofs.CallKindLemmas.{calling_names_end}
 use Rattle.py_interp_exprs.proofs.keywords.tuple_of_names.Goals as goal
 
 pub returns : goal.returns

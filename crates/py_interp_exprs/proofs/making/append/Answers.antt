@@ -1,6 +1,6 @@
 use Rattle.std.proofs.Common.{ap, ◌∙◌}
 use Rattle.py_answers.specs.Told.{values_of}
-use Rattle.py_interp.proofs.Lengths.{length_after}
+use Rattle.py_interp.proofs.ValueCountLemmas.{length_after}
 use Rattle.py_interp_exprs.proofs.making.append.Goals as goal
 
 pub returns-in-Ok-clause-ok : goal.returns-in-Ok-clause-ok

@@ -1,5 +1,5 @@
 use Rattle.std.proofs.Common.{arith}
-use Rattle.py_interp_exprs.proofs.Stars.{star_beside_star}
+use Rattle.py_interp_exprs.proofs.StarredElementLemmas.{star_beside_star}
 use Rattle.py_interp_exprs.proofs.targets.after_star.Goals as goal
 
 pub overflow_sub-result : goal.overflow_sub-result

@@ -1,5 +1,5 @@
 use Rattle.std.proofs.Common.{◌∙◌, sym, arith}
-use Rattle.py_interp_exprs.proofs.Stars.{plain_at, star_at}
+use Rattle.py_interp_exprs.proofs.StarredElementLemmas.{plain_at, star_at}
 use Rattle.py_interp_exprs.proofs.targets.before_star.Goals as goal
 
 pub loop-elt-preserved : goal.loop-elt-preserved

@@ -7,7 +7,7 @@ use Rattle.py_answers.specs.Log.{operation_of}
 use Rattle.py_emission_parts.specs.Elements.{after_star, before_star}
 use Rattle.py_emission_parts.specs.TableParts.{counted_operation}
 use Rattle.py_tree.specs.View.{expr_tree, exprs}
-use Rattle.py_interp_exprs.proofs.Stars.{many_starring, unpacking_plain, unpacking_starred}
+use Rattle.py_interp_exprs.proofs.StarredElementLemmas.{many_starring, unpacking_plain, unpacking_starred}
 use Rattle.py_interp_exprs.proofs.targets.unpacking.Goals as goal
 
 pub after_star-requires : goal.after_star-requires

@@ -5,9 +5,9 @@ use Rattle.py_answers.specs.Told.{values_of}
 use Rattle.py_interp.specs.Doing.{get_groups}
 use Rattle.py_interp.specs.Interpreters.{all_interpreters, interpreters}
 use Rattle.py_interp_exprs.proofs.ContinuationLemmas.{continuation_after, continuation_ended}
-use Rattle.py_interp_exprs.proofs.Places.{interpreters_at}
-use Rattle.py_interp_exprs.proofs.Stars.{star_interpreter}
-use Rattle.py_interp_exprs.proofs.Turns.{plain_step, star_step}
+use Rattle.py_interp_exprs.proofs.NodePlaceLemmas.{interpreters_at}
+use Rattle.py_interp_exprs.proofs.StarredElementLemmas.{star_interpreter}
+use Rattle.py_interp_exprs.proofs.NodeLoopTurnLemmas.{plain_step, star_step}
 use Rattle.py_interp_simple.proofs.classes.group_bases.Goals as goal
 use Rattle.py_interp_simple.proofs.classes.group_bases.Goals.{then-is_star+in_ok-closed+in_ok-groups, else-is_star+in_ok-run}
 

@@ -3,7 +3,7 @@ use Rattle.py_tree.specs.View.{expr_tree, exprs}
 use Rattle.py_answers.specs.Log.{world_of}
 use Rattle.py_answers.specs.Told.{value_of}
 use Rattle.py_interp_exprs.proofs.ContinuationLemmas.{continuation_ended, continuation_goes, continuation_same}
-use Rattle.py_interp_simple.proofs.ClassCalls.{plain_tuple}
+use Rattle.py_interp_simple.proofs.ClassBaseLemmas.{plain_tuple}
 use Rattle.py_interp_simple.proofs.classes.interpret_args.Goals as goal
 
 pub returns : goal.returns

@@ -2,7 +2,7 @@ use Rattle.std.proofs.Common.{◌≡◌, ◌∙◌, refl, ap, Err, length, arith
 use Rattle.py_bytecode.specs.Values.{effect, then_get}
 use Rattle.py_answers.specs.Log.{world_of}
 use Rattle.py_interp.specs.Doing.{drop_it}
-use Rattle.py_interp_exprs.proofs.Chains.{meets_not, meets_so, shorts_step}
+use Rattle.py_interp_exprs.proofs.ShortCircuitLemmas.{meets_not, meets_so, shorts_step}
 use Rattle.py_interp_exprs.proofs.ContinuationLemmas.{continuation_after}
 use Rattle.py_interp_simple.proofs.DropLemmas.{drop_halted}
 use Rattle.py_interp_simple.proofs.dropped.+dropped.Goals as goal

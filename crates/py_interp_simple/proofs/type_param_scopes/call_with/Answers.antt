@@ -4,7 +4,7 @@ use Rattle.py_answers.specs.Log.{operation_of, world_of}
 use Rattle.py_answers.specs.Told.{value_of, values_of}
 use Rattle.py_emission_parts.specs.TableParts.{counted_operation}
 use Rattle.py_interp.specs.Doing.{does}
-use Rattle.py_interp.proofs.Lengths.{lengths}
+use Rattle.py_interp.proofs.ValueCountLemmas.{length-step_values}
 use Rattle.py_interp_exprs.proofs.ContinuationLemmas.{continuation_same}
 use Rattle.py_interp_simple.proofs.type_param_scopes.call_with.Goals as goal
 
@@ -16,7 +16,7 @@ returns c =
     let w = world_of c.args.log.now in
     let joined = c.in_ok-append.ensures.ok in
     let long = c.len.ensures in
-    let told = lengths c.append.new.values.items in
+    let told = length-step_values c.append.new.values.items in
     let both = ap length joined ∙ length-append p q in
     let n : c.len.result ≡ length p + length q = omega (arith, long, told, both, c.append.new.values.ok.0) in
     let o = c.in_ok-operation.ensures.ok ∙ ap (counted_operation op.CallFunctionPositional) n in

@@ -1,6 +1,6 @@
 use Rattle.py_answers.specs.Log.{world_of}
-use Rattle.py_interp_simple.proofs.Endings.{ending_same}
-use Rattle.py_interp_stmts.proofs.Lasts.{other_last}
+use Rattle.py_interp_simple.proofs.RunPartEndLemmas.{ending_same}
+use Rattle.py_interp_stmts.proofs.LastStatementLemmas.{other_last}
 use Rattle.py_interp_stmts.proofs.blocks.interpret_last.Goals as goal
 
 pub returns-in_default : goal.returns-in_default

@@ -2,7 +2,7 @@ use Rattle.std.proofs.Common.{◌≡◌, ◌+◌, ◌∙◌, Err, ap, drop, sym,
 use Rattle.py_tree.specs.View.{stmt_tree, stmts}
 use Rattle.py_answers.specs.Log.{world_of}
 use Rattle.py_interp.specs.Statements.{after_futures}
-use Rattle.py_interp_simple.proofs.Endings.{do_halted, ending_done}
+use Rattle.py_interp_simple.proofs.RunPartEndLemmas.{do_halted, ending_done}
 use Rattle.py_interp_stmts.proofs.FutureImportLemmas.{future_from}
 use Rattle.py_interp_stmts.specs.Opened.{opened_rest}
 use Rattle.py_interp_stmts.proofs.futures.interpret_futures.Goals as goal

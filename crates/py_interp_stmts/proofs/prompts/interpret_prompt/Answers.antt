@@ -3,7 +3,7 @@ use Rattle.py_tree.specs.View.{stmt_tree, stmts}
 use Rattle.py_tree.specs.declared.statements.Stmt.{Stmt}
 use Rattle.py_answers.specs.Log.{world_of}
 use Rattle.py_interp_simple.specs.Ends.{flow_of}
-use Rattle.py_interp_simple.proofs.Endings.{followed, halted_as, left}
+use Rattle.py_interp_simple.proofs.RunPartEndLemmas.{flow_goes_on, halted_as, flow_leaves}
 use Rattle.py_interp_stmts.specs.Prompted.{prompt_rest}
 use Rattle.py_interp_stmts.proofs.PromptLemmas.{prompt_none_left}
 use Rattle.py_interp_stmts.proofs.prompts.interpret_prompt.Goals as goal
@@ -22,7 +22,7 @@ returns-then-not-is_normal c =
     c.loop-statement.invariant
     ∙ ap (λ (xs : List Stmt). prompt_rest c.loop-statement.prompt.opening c.loop-statement.prompt.node_context (stmts stmt_tree xs) (world_of c.loop-statement.log)) c.in-Some.ensures.cases.0
     ∙ c.in_ok-flow.ensures (stmts stmt_tree c.in-Some.rest.now) (prompt_none_left c.in-Some.rest.now ∙ sym c.is_empty.ensures)
-    ∙ left c.in_ok-flow.flow (flow_of c.in_ok-flow.flow (world_of c.interpret_entered.new.log))
+    ∙ flow_leaves c.in_ok-flow.flow (flow_of c.in_ok-flow.flow (world_of c.interpret_entered.new.log))
     (prompt_rest c.interpret_entered.new.prompt.opening c.interpret_entered.new.prompt.node_context
     (stmts stmt_tree c.in-Some.rest.now)) (world_of c.interpret_entered.new.log) refl
     (sym c.is_normal.ensures ∙ c.if-not-is_normal.true)
@@ -32,7 +32,7 @@ loop-statement-preserved c =
     c.loop-statement.invariant
     ∙ ap (λ (xs : List Stmt). prompt_rest c.loop-statement.prompt.opening c.loop-statement.prompt.node_context (stmts stmt_tree xs) (world_of c.loop-statement.log)) c.in-Some.ensures.cases.0
     ∙ c.in_ok-flow.ensures (stmts stmt_tree c.in-Some.rest.now) (prompt_none_left c.in-Some.rest.now ∙ sym c.is_empty.ensures)
-    ∙ followed c.in_ok-flow.flow (flow_of c.in_ok-flow.flow (world_of c.interpret_entered.new.log))
+    ∙ flow_goes_on c.in_ok-flow.flow (flow_of c.in_ok-flow.flow (world_of c.interpret_entered.new.log))
     (prompt_rest c.interpret_entered.new.prompt.opening c.interpret_entered.new.prompt.node_context
     (stmts stmt_tree c.in-Some.rest.now)) (world_of c.interpret_entered.new.log) refl
     (sym c.is_normal.ensures ∙ c.if-not-is_normal.false)

@@ -10,7 +10,7 @@ use Rattle.py_interp.specs.Statements.{item_interpreter}
 use Rattle.py_interp.specs.Interpreters.{interpret_expr}
 use Rattle.py_interp_exprs.proofs.ContinuationLemmas.{ContinuationEnds}
 use Rattle.py_interp_stmts.specs.Leaving.{left_all}
-use Rattle.py_interp_stmts.proofs.WithItemLemmas.{entered_item, enters_halted, enters_last, left_more, managed_item, with_entered, with_got}
+use Rattle.py_interp_stmts.proofs.WithItemLemmas.{entered_item, enters_halted, enters_last, one_more_item_left, managed_item, with_entered, with_got}
 use Rattle.py_interp_stmts.proofs.withs.enter_item.Goals as goal
 
 pub returns-in_err-manager : goal.returns-in_err-manager
@@ -40,5 +40,5 @@ returns c =
     enters_last _ _ _ _ _ c.put_entered.ensures
     (λ body.
     ap (left_all c.args.exits.now.items) (with_entered item (body_of body) w _ _ _ _ e c.in_ok-answer.ensures)
-    ∙ sym (left_more c.args.exits.now.items c.in_ok-answer.answer (body_of body (Given c.in_ok-answer.answer 1) (world_of c.enter.new.log)))
+    ∙ sym (one_more_item_left c.args.exits.now.items c.in_ok-answer.answer (body_of body (Given c.in_ok-answer.answer 1) (world_of c.enter.new.log)))
     ∙ ap (λ xs. left_all xs (body_of body (Given c.in_ok-answer.answer 1) (world_of c.enter.new.log))) (sym c.in_ok-push_exit.ensures.ok))

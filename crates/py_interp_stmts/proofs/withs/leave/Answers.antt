@@ -2,7 +2,7 @@ use Rattle.std.proofs.Common.{◌≡◌, Err, subst, arith}
 use Rattle.py_bytecode.specs.Values.{Given}
 use Rattle.py_answers.specs.Log.{world_of}
 use Rattle.py_answers.specs.Told.{value_of}
-use Rattle.py_interp_simple.proofs.Endings.{got_halted}
+use Rattle.py_interp_simple.proofs.RunPartEndLemmas.{got_halted}
 use Rattle.py_interp_simple.specs.Ends.{Ends, flow_of}
 use Rattle.py_interp_stmts.proofs.FollowingLemmas.{leaves_flow}
 use Rattle.py_interp_stmts.proofs.withs.leave.Goals as goal

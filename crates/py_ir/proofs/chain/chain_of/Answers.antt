@@ -4,7 +4,7 @@ use Rattle.std.specs.List.{count_by}
 use Rattle.std.proofs.lemmas.List.{length-map, get_or_default}
 use Rattle.py_ir.specs.declared.blocks.Block.{Block}
 use Rattle.py_ir.specs.Chain.{Blk, blk, plain}
-use Rattle.py_ir.proofs.ChainOrderLemmas.{Following, blk_plain, inside_now, fewer, follow, breaks}
+use Rattle.py_ir.proofs.ChainOrderLemmas.{Following, blk_plain, inside_now, fewer_unmet_blocks, chain_goes_on, chain_breaks}
 use Rattle.py_ir.proofs.chain.chain_of.Goals as goal
 
 next_is : (blocks : List Block) (b : ℕ) (block : Block) (o : Option ℕ) (n : ℕ) → b < length blocks → block ≡ get_or blocks b block → o ≡ (plain block).next
@@ -24,21 +24,21 @@ returns-then-next-blocks-clause-refused c =
     let lt = within c.args.blocks.now c.loop-chain.chain.items c.loop-chain.block c.loop-chain.met.items c.loop-chain.invariant in
     let e = next_is c.args.blocks.now c.loop-chain.block c.index-blocks-block.result c.next_block.result c.in-Some.next lt c.index-blocks-block.is c.next_block.ensures c.in-Some.is in
     let m = length-map c.args.blocks.now plain in
-    breaks (map plain c.args.blocks.now) c.loop-chain.chain.items c.loop-chain.block c.loop-chain.met.items c.loop-chain.invariant
+    chain_breaks (map plain c.args.blocks.now) c.loop-chain.chain.items c.loop-chain.block c.loop-chain.met.items c.loop-chain.invariant
     c.in-Some.next e (inl (let t = c.if-next-blocks.true in omega (arith, m, t)))
 
 pub returns-then-index-clause-refused : goal.returns-then-index-clause-refused
 returns-then-index-clause-refused c =
     let lt = within c.args.blocks.now c.loop-chain.chain.items c.loop-chain.block c.loop-chain.met.items c.loop-chain.invariant in
     let e = next_is c.args.blocks.now c.loop-chain.block c.index-blocks-block.result c.next_block.result c.in-Some.next lt c.index-blocks-block.is c.next_block.ensures c.in-Some.is in
-    breaks (map plain c.args.blocks.now) c.loop-chain.chain.items c.loop-chain.block c.loop-chain.met.items c.loop-chain.invariant
+    chain_breaks (map plain c.args.blocks.now) c.loop-chain.chain.items c.loop-chain.block c.loop-chain.met.items c.loop-chain.invariant
     c.in-Some.next e
     (inr (read_met c.args.blocks.now c.loop-chain.chain.items c.loop-chain.block c.loop-chain.met.items c.in-Some.next
     c.index.result.now true c.loop-chain.invariant c.if-next-blocks.false c.index.ensures c.if-index.true))
 
 pub loop-chain-smaller : goal.loop-chain-smaller
 loop-chain-smaller c =
-    let f = fewer (map plain c.args.blocks.now) c.loop-chain.chain.items c.loop-chain.block c.loop-chain.met.items c.loop-chain.invariant in
+    let f = fewer_unmet_blocks (map plain c.args.blocks.now) c.loop-chain.chain.items c.loop-chain.block c.loop-chain.met.items c.loop-chain.invariant in
     let r : count_by not (set c.loop-chain.met.items c.loop-chain.block true) < count_by not c.loop-chain.met.items = omega (arith, f) in r
 
 pub loop-chain-preserved : goal.loop-chain-preserved
@@ -50,6 +50,6 @@ loop-chain-preserved c =
     let m = length-map c.args.blocks.now plain in
     let l : c.in-Some.next < length bs = (let t = c.if-next-blocks.false in omega (arith, m, t)) in
     subst (λ (cs : List ℕ). Following bs cs c.in-Some.next met1) (sym c.in-Ok-push.ensures.items)
-    (follow bs c.loop-chain.chain.items c.loop-chain.block c.loop-chain.met.items c.loop-chain.invariant c.in-Some.next e l
+    (chain_goes_on bs c.loop-chain.chain.items c.loop-chain.block c.loop-chain.met.items c.loop-chain.invariant c.in-Some.next e l
     (read_met c.args.blocks.now c.loop-chain.chain.items c.loop-chain.block c.loop-chain.met.items c.in-Some.next c.index.result.now
     false c.loop-chain.invariant c.if-next-blocks.false c.index.ensures c.if-index.false))

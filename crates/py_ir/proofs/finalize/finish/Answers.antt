@@ -1,6 +1,6 @@
 use Rattle.std.proofs.Common.{◌∙◌, refl}
 use Rattle.py_dataflow.specs.Flat.{IsCode}
-use Rattle.py_ir.proofs.Short.{chain_short}
+use Rattle.py_ir.proofs.ChainLengthLemmas.{chain_short}
 use Rattle.py_ir.proofs.FlatBlockLemmas.{if_err_then}
 use Rattle.py_ir.proofs.FinalizeLemmas.{some_tables, if_ok_five, check_answer, long_answer, code_answer, list_answer, laid_answer, clear_answer, list_within}
 use Rattle.py_ir.proofs.finalize.finish.Goals as goal

@@ -2,7 +2,7 @@ use Rattle.std.proofs.Common.{map}
 use Rattle.py_ir.specs.Chain.{plain}
 use Rattle.py_ir.specs.Flattened.{IsFlattened}
 use Rattle.py_ir.proofs.FlatBlockLemmas.{if_ok_then, if_err_then}
-use Rattle.py_ir.proofs.Taken.{same_flattened, whole_flattened}
+use Rattle.py_ir.proofs.SameChainLemmas.{same_flattened, whole_flattened}
 use Rattle.py_ir.proofs.finalize.lay_whole.Goals as goal
 
 pub returns-in-Ok-clause-laid : goal.returns-in-Ok-clause-laid

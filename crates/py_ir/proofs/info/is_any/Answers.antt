@@ -1,5 +1,5 @@
 use Rattle.std.proofs.Common.{◌∙◌, sym}
-use Rattle.py_ir.proofs.Cells.{none_step, none_all}
+use Rattle.py_ir.proofs.CellParameterLemmas.{none_step, none_all}
 use Rattle.py_ir.proofs.info.is_any.Goals as goal
 
 pub loop-cell-preserved : goal.loop-cell-preserved

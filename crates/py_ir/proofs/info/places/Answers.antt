@@ -1,5 +1,5 @@
 use Rattle.std.proofs.Common.{◌++◌, ◌∷◌, [], ◌∙◌, ap, ℤ, rules, SFits, w32, to_z-of_z}
-use Rattle.py_ir.proofs.Cells.{places_step}
+use Rattle.py_ir.proofs.CellParameterLemmas.{places_step}
 use Rattle.py_ir.proofs.info.places.Goals as goal
 
 pub loop-cell-preserved : goal.loop-cell-preserved

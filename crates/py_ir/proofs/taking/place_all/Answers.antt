@@ -2,7 +2,7 @@ use Rattle.std.proofs.Common.{◌≡◌, ◌∙◌, ◌+◌, ap, sym, subst, get
 use Rattle.std.proofs.lemmas.List.{get_or_default}
 use Rattle.py_ir.specs.declared.blocks.Block.{Block}
 use Rattle.py_ir.specs.BlockList.{empty_block, with_appended}
-use Rattle.py_ir.proofs.Chained.{ChainPlaced, none_placed, chained_out, in_given, placed_more, all_placed}
+use Rattle.py_ir.proofs.ChainPlacementLemmas.{ChainPlaced, none_placed, chained_out, in_given, placed_more, all_placed}
 use Rattle.py_ir.proofs.taking.place_all.Goals as goal
 
 pub loop-at-init : goal.loop-at-init

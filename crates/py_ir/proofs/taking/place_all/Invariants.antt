@@ -1,4 +1,4 @@
-use Rattle.py_ir.proofs.Chained.{ChainPlaced}
+use Rattle.py_ir.proofs.ChainPlacementLemmas.{ChainPlaced}
 use Rattle.py_ir.proofs.taking.place_all.Given as goal
 
 abbrev pub invariant-loop-at : goal.invariant-loop-at

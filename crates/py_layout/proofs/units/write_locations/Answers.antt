@@ -1,5 +1,5 @@
 use Rattle.std.proofs.Common.{arith}
-use Rattle.py_layout.proofs.Offsets.{offset-suc}
+use Rattle.py_layout.proofs.OffsetLemmas.{offset-suc}
 use Rattle.py_layout.proofs.UnitWriteLemmas.{locate_step}
 use Rattle.py_layout.proofs.units.write_locations.Goals as goal
 

@@ -1,7 +1,7 @@
 use Rattle.std.proofs.Common.{◌++◌, ap, ◌∙◌, get_or, arith}
 use Rattle.py_dataflow.specs.declared.info.InstructionInfo.{InstructionInfo}
 use Rattle.py_layout.specs.Written.{operand_at, units_of}
-use Rattle.py_layout.proofs.Offsets.{offset-suc}
+use Rattle.py_layout.proofs.OffsetLemmas.{offset-suc}
 use Rattle.py_layout.proofs.UnitWriteLemmas.{unit_write_long, chosen_within, write_step}
 use Rattle.py_layout.proofs.units.write_units.Goals as goal
 

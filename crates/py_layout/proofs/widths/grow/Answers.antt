@@ -2,7 +2,7 @@ use Rattle.std.proofs.Common.{◌≡◌, ◌+◌, ◌<◌, List, ℕ, length, ge
 use Rattle.std.proofs.lemmas.List.{get_or_default}
 use Rattle.py_layout.specs.declared.widths.Need.{Need}
 use Rattle.py_layout.specs.declared.widths.Need.TheVariants.{Fixed}
-use Rattle.py_layout.proofs.WidthGrowthLemmas.{width_growth_kept, widened, carry}
+use Rattle.py_layout.proofs.WidthGrowthLemmas.{width_growth_kept, growing_widened, growing_same}
 use Rattle.py_layout.proofs.widths.grow.Goals as goal
 use Rattle.py_layout.proofs.widths.grow.Goals.{then-width-widths, else-width-widths}
 
@@ -20,11 +20,11 @@ loop-k-preserved c =
     let long = c.requires.chosen.long in
     elim c.if-width-widths.branch [
       | then-width-widths w ↦
-          carry needs old (set ws k c.wanted-width.result) c.if-width-widths.widths (k + 1) true c.if-width-widths.grown w.widths-is w.grown-is
-          (widened needs old offsets c.requires.offsets long ws k c.loop-k.grown x c.wanted-width.result c.loop-k.invariant lt same is
+          growing_same needs old (set ws k c.wanted-width.result) c.if-width-widths.widths (k + 1) true c.if-width-widths.grown w.widths-is w.grown-is
+          (growing_widened needs old offsets c.requires.offsets long ws k c.loop-k.grown x c.wanted-width.result c.loop-k.invariant lt same is
           c.wanted-width.ensures.within c.wanted-width.ensures.value w.if-width-widths.true)
       | else-width-widths w ↦
-          carry needs old ws c.if-width-widths.widths (k + 1) c.loop-k.grown c.if-width-widths.grown w.widths-is w.grown-is
+          growing_same needs old ws c.if-width-widths.widths (k + 1) c.loop-k.grown c.if-width-widths.grown w.widths-is w.grown-is
           (width_growth_kept needs old offsets c.requires.offsets long ws k c.loop-k.grown x c.loop-k.invariant lt same is
           (let e = c.wanted-width.ensures.value in let f = w.if-width-widths.false in omega (arith, e, f)))
     ]

@@ -3,7 +3,7 @@ use Rattle.py_listing.specs.Listing.{head_line, constants_line, names_line, cell
 use Rattle.py_bytecode.specs.Objects.{object_of}
 use Rattle.py_bytecode.specs.View.{head_of, constants_of}
 use Rattle.py_listing.proofs.ConstantListLemmas.{then_append}
-use Rattle.py_bytecode.proofs.View.{object_is}
+use Rattle.py_bytecode.proofs.ConstantViewLemmas.{object_is}
 use Rattle.py_listing.proofs.disassembly.push_own.Goals as goal
 
 pub returns : goal.returns

@@ -4,7 +4,7 @@ use Rattle.py_bytecode.specs.Table.{row_of}
 use Rattle.py_bytecode.specs.Objects.{head}
 use Rattle.py_bytecode.specs.View.{object}
 use Rattle.py_listing.proofs.ConstantListLemmas.{then_append}
-use Rattle.py_bytecode.proofs.View.{locations_are}
+use Rattle.py_bytecode.proofs.ConstantViewLemmas.{locations_are}
 use Rattle.py_listing.proofs.lines.push_unit.Goals as goal
 
 pub returns : goal.returns

@@ -1,5 +1,5 @@
 use Rattle.std.proofs.Common.{◌≤◌, length, arith, rules}
-use Rattle.py_listing.proofs.Places.{end_utf8}
+use Rattle.py_listing.proofs.PlaceTextLemmas.{end_utf8}
 use Rattle.py_listing.proofs.numbers.push_places.Goals as goal
 
 pub unreachable-requires : goal.unreachable-requires

@@ -1,6 +1,6 @@
 use Rattle.std.proofs.Common.{◌≡◌, ◌+◌, ◌-◌, arith, length-set}
 use Rattle.std.proofs.lemmas.List.{drop-set}
-use Rattle.py_listing.proofs.Places.{place_short}
+use Rattle.py_listing.proofs.PlaceTextLemmas.{place_short}
 use Rattle.py_listing.proofs.numbers.write_marked.Goals as goal
 
 pub write_digits-requires : goal.write_digits-requires

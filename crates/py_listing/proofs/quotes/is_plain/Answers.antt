@@ -1,5 +1,5 @@
 use Rattle.std.proofs.Common.{get_or, length, ap, subst, arith}
-use Rattle.py_listing.proofs.Plain.{PlainStands, plain_quote}
+use Rattle.py_listing.proofs.PlainTextLemmas.{PlainStands, plain_quote}
 use Rattle.py_listing.proofs.quotes.is_plain.Goals as goal
 
 pub returns : goal.returns

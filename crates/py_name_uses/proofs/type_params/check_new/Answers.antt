@@ -3,7 +3,7 @@ use Rattle.py_scope.specs.declared.refusal.Refusal.TheVariants as refusal
 use Rattle.py_scope.specs.Faults.{TellsRefusal}
 use Rattle.py_name_uses.specs.Goes.{state}
 use Rattle.py_name_uses.specs.Steps.{refuse_if, written_name}
-use Rattle.py_name_uses.proofs.Written.{written_told}
+use Rattle.py_name_uses.proofs.WrittenNameLemmas.{written_told}
 use Rattle.py_name_uses.proofs.type_params.check_new.Goals as goal
 
 pub returns-then-not-branch-clause-goes : goal.returns-then-not-branch-clause-goes

@@ -4,7 +4,7 @@ use Rattle.py_base.specs.Mangle.{mangled_in}
 use Rattle.py_scope.specs.Names.{same_name}
 use Rattle.py_tree.specs.View.{type_param_tree}
 use Rattle.py_name_uses.specs.Parts.{type_name}
-use Rattle.py_name_uses.proofs.Written.{written_one_more}
+use Rattle.py_name_uses.proofs.WrittenNameLemmas.{written_one_more}
 use Rattle.py_name_uses.proofs.type_params.note_name.Goals as goal
 
 pub returns-in-Ok-clause-noted : goal.returns-in-Ok-clause-noted

@@ -2,7 +2,7 @@ use Rattle.std.proofs.Common.{refl, sym, ap, ◌∙◌, ◌++◌, length, take}
 use Rattle.std.proofs.lemmas.Option.{slice_get_read}
 use Rattle.py_names.specs.Lines.{found_text}
 use Rattle.py_names.specs.Places.{found_from, found_in}
-use Rattle.py_names.proofs.FindingLemmas.{from_next}
+use Rattle.py_names.proofs.FindingLemmas.{found_from_next}
 use Rattle.py_names.proofs.TextLemmas.{texts_join}
 use Rattle.py_names.proofs.texts.text_of_places.Goals as goal
 
@@ -14,4 +14,4 @@ loop-scope-preserved c =
     c.in_ok-push_scope_lines.ensures
     ∙ ap (λ xs. xs ++ found_text ps found) c.loop-scope.invariant
     ∙ sym (texts_join ps (found_from ps 0 (take k ps)) found)
-    ∙ sym (ap (found_text ps) (from_next ps ps k c.index-places-scope.result (slice_get_read ps (length ps) k c.index-places-scope.result refl c.loop-scope-test.true c.index-places-scope.is)))
+    ∙ sym (ap (found_text ps) (found_from_next ps ps k c.index-places-scope.result (slice_get_read ps (length ps) k c.index-places-scope.result refl c.loop-scope-test.true c.index-places-scope.is)))

@@ -1,4 +1,4 @@
-use Rattle.py_node_laws.proofs.Nodes.{bodies_add, exprs_add, statements_add, targets_add, tests_add}
+use Rattle.py_node_laws.proofs.NodeAdditionLemmas.{bodies_add, exprs_add, statements_add, targets_add, tests_add}
 use Rattle.py_node_laws.proofs.laws.nodes_add.Goals as goal
 
 pub returns : goal.returns

@@ -1,7 +1,7 @@
-use Rattle.py_emit.proofs.States.{info_holds}
-use Rattle.py_node_laws.proofs.Scopes.{classes_unrefused, dicts_unrefused, functions_unrefused, generators_unrefused}
-use Rattle.py_node_laws.proofs.Scopes.{generic_aliases_unrefused, generic_classes_unrefused, generic_functions_unrefused, lambdas_unrefused}
-use Rattle.py_node_laws.proofs.Scopes.{lists_unrefused, sets_unrefused}
+use Rattle.py_emit.proofs.EmitterStateLemmas.{info_holds}
+use Rattle.py_node_laws.proofs.NestedScopeRefusalLemmas.{classes_unrefused, dicts_unrefused, functions_unrefused, generators_unrefused}
+use Rattle.py_node_laws.proofs.NestedScopeRefusalLemmas.{generic_aliases_unrefused, generic_classes_unrefused, generic_functions_unrefused, lambdas_unrefused}
+use Rattle.py_node_laws.proofs.NestedScopeRefusalLemmas.{lists_unrefused, sets_unrefused}
 use Rattle.py_node_laws.proofs.laws.scopes_are_unrefused.Goals as goal
 
 pub returns : goal.returns

@@ -1,5 +1,5 @@
-use Rattle.py_node_laws.proofs.Faults.Missing.{bodies_find, comprehensions_find, deletions_find, expressions_find, statements_find, stores_find, tests_find}
-use Rattle.py_node_laws.proofs.PlacedCalls.{placed_find}
+use Rattle.py_node_laws.proofs.Faults.MissingCellLemmas.{bodies_find, comprehensions_find, deletions_find, expressions_find, statements_find, stores_find, tests_find}
+use Rattle.py_node_laws.proofs.FutureImportCallLemmas.{placed_find}
 use Rattle.py_node_laws.proofs.laws_of_calls.calls_find_cells.Goals as goal
 
 pub returns : goal.returns

@@ -1,5 +1,5 @@
-use Rattle.py_node_laws.proofs.Faults.CallParts.{argument_calls, comprehension_calls, entering_calls, feature_calls}
-use Rattle.py_node_laws.proofs.PlacedCalls.{taken_feature_calls}
+use Rattle.py_node_laws.proofs.Faults.PartCallAnswerLemmas.{argument_calls, comprehension_calls, entering_calls, feature_calls}
+use Rattle.py_node_laws.proofs.FutureImportCallLemmas.{taken_feature_calls}
 use Rattle.py_node_laws.proofs.laws_of_calls.calls_on_parts_refused_first.Goals as goal
 
 pub returns : goal.returns

@@ -1,5 +1,5 @@
-use Rattle.py_node_laws.proofs.Faults.Calls.{body_calls, delete_calls, deletion_calls, expression_calls, statement_calls, store_calls, test_calls}
-use Rattle.py_node_laws.proofs.PlacedCalls.{placed_calls}
+use Rattle.py_node_laws.proofs.Faults.CallAnswerLemmas.{body_calls, delete_calls, deletion_calls, expression_calls, statement_calls, store_calls, test_calls}
+use Rattle.py_node_laws.proofs.FutureImportCallLemmas.{placed_calls}
 use Rattle.py_node_laws.proofs.laws_of_calls.calls_refused_first.Goals as goal
 
 pub returns : goal.returns

@@ -1,6 +1,6 @@
-use Rattle.py_node_laws.proofs.Faults.GivenExprs.{to_given}
-use Rattle.py_node_laws.proofs.Faults.GivenParts.{deletes_given, value_given}
-use Rattle.py_node_laws.proofs.Faults.GivenStmts.{never_given, stmt_given, stmts_given}
+use Rattle.py_node_laws.proofs.Faults.ExpressionErrorLemmas.{to_given}
+use Rattle.py_node_laws.proofs.Faults.StatementPartErrorLemmas.{deletes_given, value_given}
+use Rattle.py_node_laws.proofs.Faults.StatementErrorLemmas.{never_given, stmt_given, stmts_given}
 use Rattle.py_node_laws.proofs.laws_of_faults.errors_that_never_come.Goals as goal
 
 pub returns : goal.returns

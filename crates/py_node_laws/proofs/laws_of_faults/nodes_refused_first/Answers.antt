@@ -1,4 +1,4 @@
-use Rattle.py_node_laws.proofs.Faults.Nodes.{bodies_end, deletes_end, exprs_end, statements_end, targets_end, tests_end}
+use Rattle.py_node_laws.proofs.Faults.NodeFaultLemmas.{bodies_end, deletes_end, exprs_end, statements_end, targets_end, tests_end}
 use Rattle.py_node_laws.proofs.laws_of_faults.nodes_refused_first.Goals as goal
 
 pub returns : goal.returns

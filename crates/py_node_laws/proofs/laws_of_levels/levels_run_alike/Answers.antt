@@ -1,4 +1,4 @@
-use Rattle.py_node_laws.proofs.Levels.Alike.{levels_run_alike}
+use Rattle.py_node_laws.proofs.Levels.LevelRunLemmas.{levels_run_alike}
 use Rattle.py_node_laws.proofs.laws_of_levels.levels_run_alike.Goals as goal
 
 pub returns : goal.returns

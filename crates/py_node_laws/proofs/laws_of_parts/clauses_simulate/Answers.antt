@@ -1,4 +1,4 @@
-use Rattle.py_node_laws.proofs.Parts.{gathers_simulate, yields_simulate}
+use Rattle.py_node_laws.proofs.FormPartRunLemmas.{gathers_simulate, yields_simulate}
 use Rattle.py_node_laws.proofs.laws_of_parts.clauses_simulate.Goals as goal
 
 pub returns : goal.returns

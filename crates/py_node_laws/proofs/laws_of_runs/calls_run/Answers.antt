@@ -1,5 +1,6 @@
-use Rattle.py_node_laws.proofs.Calls.{argument_calls_run, body_calls_run, comprehension_calls_run, deletion_calls_run, expression_calls_run, statement_calls_run, store_calls_run, test_calls_run}
-use Rattle.py_node_laws.proofs.PlacedCalls.{placed_calls_run}
+use Rattle.py_node_laws.proofs.EmittedCallLemmas.{argument_calls_run, body_calls_run, comprehension_calls_run, deletion_calls_run, expression_calls_run, statement_calls_run, store_calls_run}
+use Rattle.py_node_laws.proofs.EmittedCallLemmas.{test_calls_run}
+use Rattle.py_node_laws.proofs.FutureImportCallLemmas.{placed_calls_run}
 use Rattle.py_node_laws.proofs.laws_of_runs.calls_run.Goals as goal
 
 pub returns : goal.returns

@@ -1,4 +1,4 @@
-use Rattle.py_node_laws.proofs.Runs.{bodies_run, exprs_run, statements_run, targets_run, tests_run}
+use Rattle.py_node_laws.proofs.NodeRunLemmas.{bodies_run, exprs_run, statements_run, targets_run, tests_run}
 use Rattle.py_node_laws.proofs.laws_of_runs.nodes_run.Goals as goal
 
 pub returns : goal.returns

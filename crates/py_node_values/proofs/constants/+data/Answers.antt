@@ -3,8 +3,8 @@ use Rattle.std.proofs.lemmas.List.{take_all}
 use Rattle.py_bytecode.specs.Objects as object
 use Rattle.py_bytecode.specs.Objects.{consts_of}
 use Rattle.py_bytecode.specs.View.{constant}
-use Rattle.py_bytecode.proofs.View.{constant_Tuple}
-use Rattle.py_node_values.proofs.Literals.{const_of, consts_are, consts_next}
+use Rattle.py_bytecode.proofs.ConstantViewLemmas.{constant_Tuple}
+use Rattle.py_node_values.proofs.ConstantOrderLemmas.{const_of, consts_are, consts_next}
 use Rattle.py_node_values.proofs.constants.+data.Goals as goal
 
 pub tuple_data-loop-item-preserved : goal.tuple_data-loop-item-preserved

@@ -1,8 +1,8 @@
 use Rattle.std.proofs.Common.{ap, ◌∙◌, map}
 use Rattle.py_bytecode.specs.Objects.{consts_of, tuple}
 use Rattle.py_bytecode.specs.View.{constant}
-use Rattle.py_bytecode.proofs.View.{constant_Tuple}
-use Rattle.py_node_values.proofs.Segments.{all_asked}
+use Rattle.py_bytecode.proofs.ConstantViewLemmas.{constant_Tuple}
+use Rattle.py_node_values.proofs.PathSegmentLemmas.{all_asked}
 use Rattle.py_node_values.proofs.paths.asked_names.Goals as goal
 
 pub returns : goal.returns

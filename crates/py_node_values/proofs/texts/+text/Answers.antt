@@ -2,7 +2,7 @@ use Rattle.std.proofs.Common.{Bool, List, Option, Some, ap, drop, string_bytes, 
 use Rattle.py_tree.specs.View.{expr_tree, exprs}
 use Rattle.py_emission.specs.Texts.{joined_text, text_of, texts_of}
 use Rattle.py_node_values.specs.Texts.{Appended}
-use Rattle.py_node_values.proofs.JoinedTexts.{joined_next, joined_none, texts_at}
+use Rattle.py_node_values.proofs.JoinedTextLemmas.{joined_next, joined_none, texts_at}
 use Rattle.py_node_values.proofs.texts.+text.Goals as goal
 
 pub push_texts-loop-part-preserved : goal.push_texts-loop-part-preserved

@@ -2,7 +2,7 @@ use Rattle.std.proofs.Common.{ap, string_bytes, ◌∙◌}
 use Rattle.std.specs.Bool.{then_some}
 use Rattle.py_tree.specs.View.{expr_tree}
 use Rattle.py_emission.specs.Texts.{text_of}
-use Rattle.py_node_values.proofs.JoinedTexts.{joined_text_told}
+use Rattle.py_node_values.proofs.JoinedTextLemmas.{joined_text_told}
 use Rattle.py_node_values.proofs.texts.text_of.Goals as goal
 
 pub returns : goal.returns

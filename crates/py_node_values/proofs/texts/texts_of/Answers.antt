@@ -2,7 +2,7 @@ use Rattle.std.proofs.Common.{ap, string_bytes, ◌∙◌}
 use Rattle.std.specs.Bool.{then_some}
 use Rattle.py_tree.specs.View.{expr_tree, exprs}
 use Rattle.py_emission.specs.Texts.{texts_of}
-use Rattle.py_node_values.proofs.JoinedTexts.{joined_text_told}
+use Rattle.py_node_values.proofs.JoinedTextLemmas.{joined_text_told}
 use Rattle.py_node_values.proofs.texts.texts_of.Goals as goal
 
 pub returns : goal.returns

@@ -1,7 +1,7 @@
 use Rattle.std.proofs.Common.{◌≡◌, ◌<◌, ◌≤◌, ◌+◌, refl, sym, ap, ◌∙◌, subst, arith, ◌++◌, [], ◌∷◌, string_bytes, get_or, length, take, flat_map, chars, slice_range, IsCharBoundary}
 use Rattle.std.proofs.lemmas.Grind.{common_steps}
 use Rattle.std.proofs.lemmas.Str.{IsCharBoundary-start, IsCharBoundary-after_ascii}
-use Rattle.py_quote.proofs.Quoted.{quoted_byte, quoted_run_ends, run_goes_on, run_is_last}
+use Rattle.py_quote.proofs.QuotedTextLemmas.{quoted_byte, quoted_run_ends, run_goes_on, run_is_last}
 use Rattle.py_quote.specs.Quote.{quote_char}
 use Rattle.py_quote.proofs.quote.push_quote.Goals as goal
 use Rattle.py_quote.proofs.quote.push_quote.Goals.{then-is_escaped+in_ok-push_str+in_ok-push_quoted, else-is_escaped}

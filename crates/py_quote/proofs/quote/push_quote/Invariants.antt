@@ -1,5 +1,5 @@
 use Rattle.std.proofs.Common.{◌≡◌, ◌++◌, ◌≤◌, string_bytes, slice_range, take, flat_map, IsCharBoundary}
-use Rattle.py_quote.proofs.Quoted.{quoted_byte}
+use Rattle.py_quote.proofs.QuotedTextLemmas.{quoted_byte}
 use Rattle.py_quote.proofs.quote.push_quote.Given as goal
 
 abbrev pub invariant-loop-at : goal.invariant-loop-at

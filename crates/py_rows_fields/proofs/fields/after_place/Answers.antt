@@ -1,4 +1,4 @@
-use Rattle.py_rows_fields.proofs.Tables.{not_after}
+use Rattle.py_rows_fields.proofs.FieldTableLemmas.{not_after}
 use Rattle.py_rows_fields.proofs.fields.after_place.Goals as goal
 
 pub returns-then-fields-lt2 : goal.returns-then-fields-lt2

@@ -1,4 +1,4 @@
-use Rattle.py_rows_fields.proofs.Arities.{not_five, are_five}
+use Rattle.py_rows_fields.proofs.RowArityLemmas.{not_five, are_five}
 use Rattle.py_rows_fields.proofs.fields.five.Goals as goal
 
 pub returns-then-fields-ne5 : goal.returns-then-fields-ne5

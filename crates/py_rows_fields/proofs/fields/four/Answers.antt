@@ -1,4 +1,4 @@
-use Rattle.py_rows_fields.proofs.Arities.{not_four, are_four}
+use Rattle.py_rows_fields.proofs.RowArityLemmas.{not_four, are_four}
 use Rattle.py_rows_fields.proofs.fields.four.Goals as goal
 
 pub returns-then-fields-ne4 : goal.returns-then-fields-ne4

@@ -1,4 +1,4 @@
-use Rattle.py_rows_fields.proofs.Arities.{not_one}
+use Rattle.py_rows_fields.proofs.RowArityLemmas.{not_one}
 use Rattle.py_rows_fields.proofs.fields.one.Goals as goal
 
 pub returns-then-fields-ne1 : goal.returns-then-fields-ne1

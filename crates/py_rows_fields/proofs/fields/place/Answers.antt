@@ -1,4 +1,4 @@
-use Rattle.py_rows_fields.proofs.Tables.{no_place}
+use Rattle.py_rows_fields.proofs.FieldTableLemmas.{no_place}
 use Rattle.py_rows_fields.proofs.fields.place.Goals as goal
 
 pub returns-then-fields-lt2 : goal.returns-then-fields-lt2

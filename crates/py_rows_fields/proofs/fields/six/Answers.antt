@@ -1,4 +1,4 @@
-use Rattle.py_rows_fields.proofs.Arities.{not_six, are_six}
+use Rattle.py_rows_fields.proofs.RowArityLemmas.{not_six, are_six}
 use Rattle.py_rows_fields.proofs.fields.six.Goals as goal
 
 pub returns-then-fields-ne6 : goal.returns-then-fields-ne6

@@ -1,7 +1,7 @@
 use Rattle.std.proofs.Common.{◌≡◌, drop}
 use Rattle.serde_json.specs.View.{items_view}
 use Rattle.py_rows_fields.specs.Fields.{texts_in}
-use Rattle.py_rows_fields.proofs.Sofar.{with_front}
+use Rattle.py_rows_fields.proofs.ReadFrontDefinitions.{with_front}
 use Rattle.py_rows_fields.proofs.fields.texts.Given as goal
 
 abbrev pub invariant-loop-entry : goal.invariant-loop-entry

@@ -1,4 +1,4 @@
-use Rattle.py_rows_fields.proofs.Arities.{not_three}
+use Rattle.py_rows_fields.proofs.RowArityLemmas.{not_three}
 use Rattle.py_rows_fields.proofs.fields.three.Goals as goal
 
 pub returns-then-fields-ne3 : goal.returns-then-fields-ne3

@@ -1,4 +1,4 @@
-use Rattle.py_rows_fields.proofs.Arities.{not_two}
+use Rattle.py_rows_fields.proofs.RowArityLemmas.{not_two}
 use Rattle.py_rows_fields.proofs.fields.two.Goals as goal
 
 pub returns-then-fields-ne2 : goal.returns-then-fields-ne2

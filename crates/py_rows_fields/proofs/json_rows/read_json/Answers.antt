@@ -1,6 +1,6 @@
 use Rattle.std.proofs.Common.{arith, refl}
 use Rattle.std.proofs.lemmas.Str.{is_utf8-from_IsUtf8}
-use Rattle.py_rows_fields.proofs.Jsons.{no_json}
+use Rattle.py_rows_fields.proofs.JsonByteLemmas.{no_json}
 use Rattle.py_rows_fields.proofs.json_rows.read_json.Goals as goal
 
 pub returns-in-Ok : goal.returns-in-Ok

@@ -1,7 +1,7 @@
 use Rattle.std.proofs.Common.{◌≡◌, drop, map, option_map}
 use Rattle.serde_json.specs.View.{items_view}
 use Rattle.py_rows_slots.specs.Taking.{take_each}
-use Rattle.py_rows_slots.proofs.Sofar.{with_taken}
+use Rattle.py_rows_slots.proofs.TakenFrontDefinitions.{with_taken}
 use Rattle.py_rows_slots.proofs.takes.take_list.Given as goal
 
 abbrev pub invariant-loop-entry : goal.invariant-loop-entry

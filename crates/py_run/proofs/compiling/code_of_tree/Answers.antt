@@ -2,7 +2,7 @@ use Rattle.std.proofs.Common.{Ok, subst}
 use Rattle.py_tree.specs.View.{mod_tree}
 use Rattle.codegen.specs.Calls.{IsCompiled}
 use Rattle.py_run.specs.Words.{compilation_view}
-use Rattle.py_run.proofs.Made.{compiled_due}
+use Rattle.py_run.proofs.CommandResultLemmas.{compiled_due}
 use Rattle.py_run.proofs.compiling.code_of_tree.Goals as goal
 
 -- the compiler got the tree and a path that is the command's

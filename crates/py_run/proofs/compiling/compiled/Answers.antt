@@ -1,5 +1,5 @@
 use Rattle.py_run.specs.Words.{Compile, compilation_view}
-use Rattle.py_run.proofs.Made.{listed_ready}
+use Rattle.py_run.proofs.CommandResultLemmas.{listed_ready}
 use Rattle.py_run.proofs.compiling.compiled.Goals as goal
 
 pub returns-in-Ok : goal.returns-in-Ok

@@ -1,5 +1,5 @@
 use Rattle.py_run.specs.Words.{Pack, compilation_view}
-use Rattle.py_run.proofs.Made.{code_nests, filed_ready}
+use Rattle.py_run.proofs.CommandResultLemmas.{code_nests, filed_ready}
 use Rattle.py_run.proofs.compiling.packed.Goals as goal
 
 pub in_file-requires : goal.in_file-requires

@@ -4,12 +4,12 @@ use Rattle.py_run.specs.Runs.{AppendsFront, ErrGets, IsLineless, IsTextless, Out
 use Rattle.py_run.specs.Statuses.{due_of, usage_line}
 use Rattle.py_run.specs.Words.{words_form}
 use Rattle.py_run.specs.declared.report.Status.TheVariants as status
-use Rattle.py_run.proofs.Dues.{refused_lines, misread_lines, misuse_lines, refused_due, misread_due, line_is, line_side, line_incomplete}
-use Rattle.py_run.proofs.Dues.{fault_incomplete, always_complete, write_incomplete, write_due, code_due, code_text_is, told_due}
-use Rattle.py_run.proofs.Dues.{told_text_is, told_side_is}
-use Rattle.py_run.proofs.Formed.{code_formed, code_form, code_reported, code_kind, report_formed, report_form, report_reported, refusal_form, misread_form, fault_form}
-use Rattle.py_run.proofs.Rooms.{HandsAll, HasRoom, HasLineRoom, room_done, no_room, room_for, no_room_for, keeps_same, text_no_line, line_no_text, either_no_line, either_no_text}
-use Rattle.py_run.proofs.Stepped.{alike_due}
+use Rattle.py_run.proofs.DueLineLemmas.{refused_lines, misread_lines, misuse_lines, refused_due, misread_due, line_is, line_side, line_incomplete}
+use Rattle.py_run.proofs.DueLineLemmas.{fault_incomplete, always_complete, write_incomplete, write_due, code_due, code_text_is, told_due}
+use Rattle.py_run.proofs.DueLineLemmas.{told_text_is, told_side_is}
+use Rattle.py_run.proofs.ResultFormLemmas.{code_formed, code_form, code_reported, code_kind, report_formed, report_form, report_reported, refusal_form, misread_form, fault_form}
+use Rattle.py_run.proofs.SinkRoomLemmas.{HandsAll, HasRoom, HasLineRoom, room_done, no_room, room_for, no_room_for, keeps_same, text_no_line, line_no_text, either_no_line, either_no_text}
+use Rattle.py_run.proofs.StepReportLemmas.{alike_due}
 use Rattle.py_run.proofs.engine.run.Goals as goal
 
 pub returns-in-Ok-clause-form : goal.returns-in-Ok-clause-form

@@ -1,6 +1,6 @@
 use Rattle.py_run.specs.Statuses.{due}
 use Rattle.py_run.specs.Words.{Compile}
-use Rattle.py_run.proofs.Files.{file_unpacks}
+use Rattle.py_run.proofs.UnpackedFileLemmas.{file_unpacks}
 use Rattle.py_run.proofs.laws.unpack_undoes_pack.Goals as goal
 
 pub returns : goal.returns

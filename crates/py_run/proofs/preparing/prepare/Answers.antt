@@ -1,8 +1,8 @@
 use Rattle.std.proofs.Common.{◌≡◌, true, false, Err, sym, codes}
 use Rattle.py_run.specs.Statuses.{Misread, due_answer}
 use Rattle.py_run.specs.Words.{command_view, takes_input}
-use Rattle.py_run.proofs.Made.{made_tells}
-use Rattle.py_run.proofs.Verdicts.{all_read, alone_due, alone_form, alone_reads, fault_form, has_form, verdict_reads, too_long as too_long_due}
+use Rattle.py_run.proofs.CommandResultLemmas.{made_tells}
+use Rattle.py_run.proofs.DueResultLemmas.{all_read, alone_due, alone_form, alone_reads, fault_form, has_form, verdict_reads, too_long as too_long_due}
 use Rattle.py_run.proofs.preparing.prepare.Goals as goal
 
 pub returns-then-not-takes_input-clause-form : goal.returns-then-not-takes_input-clause-form

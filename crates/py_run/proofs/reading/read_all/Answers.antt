@@ -1,6 +1,6 @@
 use Rattle.std.proofs.Common.{◌+◌, ◌<◌, ◌≤◌, length, arith, rules}
 use Rattle.std.proofs.lemmas.List.{length-take}
-use Rattle.py_run.proofs.Takes.{takes_got}
+use Rattle.py_run.proofs.SourceReadLemmas.{takes_got}
 use Rattle.py_run.proofs.reading.read_all.Goals as goal
 
 pub returns-in_err-extend_from_slice-in-Got-clause-taken : goal.returns-in_err-extend_from_slice-in-Got-clause-taken

@@ -2,7 +2,7 @@ use Rattle.std.proofs.Common.{Err, subst}
 use Rattle.py_tree.specs.View.{mod_tree}
 use Rattle.py_run.specs.Prepared.{Compiles}
 use Rattle.py_run.specs.Statuses.{IsCodeOf}
-use Rattle.py_run.proofs.Summed.{sample_due, summed_ready, unsummed}
+use Rattle.py_run.proofs.SampleSummaryLemmas.{sample_due, summed_ready, summary_out_of_memory}
 use Rattle.py_run.proofs.sampling.sampled.Goals as goal
 
 pub returns-in-Ok-code : goal.returns-in-Ok-code
@@ -13,4 +13,4 @@ returns-in-Ok-code c =
 pub returns-in-Err : goal.returns-in-Err
 returns-in-Err c =
     let due = sample_due c.samples_are_faultless.ensures c.args.count c.args.level (mod_tree c.in-Ok.tree) c.requires c.in-Ok.ensures in
-    unsummed c.args.count c.args.level c.in-Err.prepared (subst (λ d. Compiles (Err c.in-Err.prepared) d) due c.in-Err.ensures)
+    summary_out_of_memory c.args.count c.args.level c.in-Err.prepared (subst (λ d. Compiles (Err c.in-Err.prepared) d) due c.in-Err.ensures)

@@ -1,7 +1,7 @@
 use Rattle.std.proofs.Common.{ap, ◌∙◌}
 use Rattle.py_tree.specs.View.{mod_tree}
 use Rattle.py_run.specs.Words.{compilation_view}
-use Rattle.py_run.proofs.Stepped.{step_text_of}
+use Rattle.py_run.proofs.StepReportLemmas.{step_text_of}
 use Rattle.py_run.proofs.stepping.run_both.Goals as goal
 
 pub returns-in-Ok-step_lines : goal.returns-in-Ok-step_lines

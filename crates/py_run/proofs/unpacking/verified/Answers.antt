@@ -1,4 +1,4 @@
-use Rattle.py_run.proofs.Made.{verified_ready}
+use Rattle.py_run.proofs.CommandResultLemmas.{verified_ready}
 use Rattle.py_run.proofs.unpacking.verified.Goals as goal
 
 pub returns-in-Ok-Yes : goal.returns-in-Ok-Yes

@@ -1,5 +1,5 @@
 use Rattle.std.proofs.Common.{◌∙◌, arith, length-take, length-drop}
-use Rattle.py_run.proofs.Pieces.{appends_on, piece_rest_is, rest_on, room_on, quiet_on}
+use Rattle.py_run.proofs.WrittenPieceLemmas.{appends_on, piece_rest_is, rest_on, room_on, quiet_on}
 use Rattle.py_run.proofs.writing.write_all.Goals as goal
 
 pub writing-preserved : goal.writing-preserved

@@ -1,6 +1,6 @@
 use Rattle.std.proofs.Common.{◌≡◌, ◌≤◌, ◌-◌, length, take, drop, Some, IfSome, IsTrue}
 use Rattle.std.specs.Io.KnownBytes.{Appends}
-use Rattle.py_run.proofs.Pieces.{KeepsRoom}
+use Rattle.py_run.proofs.WrittenPieceLemmas.{KeepsRoom}
 use Rattle.py_run.proofs.writing.write_all.Given as goal
 
 abbrev pub invariant-writing : goal.invariant-writing

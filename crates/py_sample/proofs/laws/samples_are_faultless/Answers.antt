@@ -1,4 +1,4 @@
-use Rattle.py_sample.proofs.Faultless.{samples_faultless}
+use Rattle.py_sample.proofs.FaultlessSampleLemmas.{samples_faultless}
 use Rattle.py_sample.proofs.laws.samples_are_faultless.Goals as goal
 
 pub returns : goal.returns

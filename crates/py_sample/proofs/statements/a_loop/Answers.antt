@@ -1,5 +1,5 @@
 use Rattle.std.proofs.Common.{refl}
-use Rattle.py_tree.proofs.View.{tree_While}
+use Rattle.py_tree.proofs.TreeViewLemmas.{tree_While}
 use Rattle.py_sample.proofs.statements.a_loop.Goals as goal
 
 pub returns : goal.returns

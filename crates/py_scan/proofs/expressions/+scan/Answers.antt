@@ -3,7 +3,7 @@ use Rattle.py_tree.specs.View.{arguments, expr_tree, generators}
 use Rattle.py_name_uses.specs.declared.usage.Usage.TheVariants.{Load}
 use Rattle.py_name_uses.specs.Goes.{state}
 use Rattle.py_name_uses.specs.Steps.{Step}
-use Rattle.py_scan.proofs.Pairs.{pairs_of, pairs_over}
+use Rattle.py_scan.proofs.DictPairLemmas.{pairs_of, pairs_over}
 use Rattle.py_scan.proofs.OpenScopeLemmas.{clauses_within, expr_within, parameters_within}
 use Rattle.py_scan.proofs.expressions.+scan.Goals as goal
 

@@ -4,7 +4,7 @@ use Rattle.std.specs.Prelude.{max}
 use Rattle.py_tree.proofs.expressions.Expr.TheLaws.{the_size}
 use Rattle.py_tree.specs.View.{args, expr_tree, exprs, generators, keywords}
 use Rattle.py_name_uses.specs.Goes.{state}
-use Rattle.py_scan.proofs.Pairs.{pairs_of}
+use Rattle.py_scan.proofs.DictPairLemmas.{pairs_of}
 use Rattle.py_scan.specs.Scan.{scan_annotations_in, scan_defaults_in, scan_exprs, scan_inner_clauses, scan_keywords}
 use Rattle.py_scan.proofs.expressions.+scan.Given as goal
 

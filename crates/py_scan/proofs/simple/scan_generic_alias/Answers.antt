@@ -5,8 +5,8 @@ use Rattle.py_name_uses.specs.Goes.{state}
 use Rattle.py_name_uses.specs.Parts.{alias_name, plain_name}
 use Rattle.py_name_uses.specs.Steps.{◌▸◌, Step}
 use Rattle.py_scan.specs.Scan.{scan_expr, scan_type_params}
-use Rattle.py_scan.proofs.Generic.{entered_as, generic_leaves, generic_refuses, goes_as, refuses_as}
-use Rattle.py_scan.proofs.InductionStatements.{alias_value_closed}
+use Rattle.py_scan.proofs.TypeParameterScanLemmas.{entered_as, generic_leaves, generic_refuses, goes_as, refuses_as}
+use Rattle.py_scan.proofs.StatementScanInductionLemmas.{alias_value_closed}
 use Rattle.py_scan.proofs.OpenScopeLemmas.{open_scope_stays, step_open}
 use Rattle.py_scan.proofs.simple.scan_generic_alias.Goals as goal
 

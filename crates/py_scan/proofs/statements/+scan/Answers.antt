@@ -3,8 +3,8 @@ use Rattle.py_tree.specs.View.{arguments, expr_tree, exprs, keywords, opt_box, s
 use Rattle.py_name_uses.specs.Goes.{state}
 use Rattle.py_scan.specs.Scan.{scan_class_parts, scan_handed_function, scan_stmts}
 use Rattle.py_name_uses.specs.Steps.{Step}
-use Rattle.py_scan.proofs.Generic.{entered_as, generic_leaves, generic_refuses, goes_as, refuses_as}
-use Rattle.py_scan.proofs.InductionStatements.{class_parts_closed, handed_function_closed, stmts_closed}
+use Rattle.py_scan.proofs.TypeParameterScanLemmas.{entered_as, generic_leaves, generic_refuses, goes_as, refuses_as}
+use Rattle.py_scan.proofs.StatementScanInductionLemmas.{class_parts_closed, handed_function_closed, stmts_closed}
 use Rattle.py_scan.proofs.OpenScopeLemmas.{first_names_within, parameters_within, open_scope_stays, step_open, stmts_within}
 use Rattle.py_scan.proofs.statements.+scan.Goals as goal
 

@@ -2,8 +2,8 @@ use Rattle.std.proofs.Common.{sym, subst, ◌∙◌, take}
 use Rattle.py_tree.specs.View.{type_param_tree}
 use Rattle.py_name_uses.specs.Goes.{state}
 use Rattle.py_name_uses.specs.Written.{AreWritten}
-use Rattle.py_scan.proofs.Classes.{param_class}
-use Rattle.py_scan.proofs.Names.{name_names_next, names_of, param_scanned}
+use Rattle.py_scan.proofs.ClassScanLemmas.{param_class}
+use Rattle.py_scan.proofs.TypeParameterNameLemmas.{name_names_next, names_of, param_scanned}
 use Rattle.py_scan.proofs.type_params.scan_type_params.Goals as goal
 
 pub loop-param-preserved : goal.loop-param-preserved

@@ -3,7 +3,7 @@ use Rattle.py_tree.specs.View.{type_params}
 use Rattle.py_name_uses.specs.Goes.{state}
 use Rattle.py_name_uses.specs.Written.{AreWritten}
 use Rattle.py_scan.specs.Scan.{scan_type_params}
-use Rattle.py_scan.proofs.Names.{names_of}
+use Rattle.py_scan.proofs.TypeParameterNameLemmas.{names_of}
 use Rattle.py_scan.proofs.type_params.scan_type_params.Given as goal
 
 abbrev pub invariant-loop-param : goal.invariant-loop-param

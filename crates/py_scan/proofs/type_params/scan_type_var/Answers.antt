@@ -7,7 +7,7 @@ use Rattle.py_name_uses.specs.Parts.{check_new}
 use Rattle.py_name_uses.specs.Steps.{◌▸◌, Outcome, Step, go_on, use_name}
 use Rattle.py_name_uses.specs.Written.{AreWritten}
 use Rattle.py_scan.specs.Scan.{scan_type_param}
-use Rattle.py_scan.proofs.Classes.{opt_class}
+use Rattle.py_scan.proofs.ClassScanLemmas.{opt_class}
 use Rattle.py_scan.proofs.type_params.scan_type_var.Goals as goal
 
 pub returns-in_err-check_new-clause-goes : goal.returns-in_err-check_new-clause-goes

@@ -1,6 +1,6 @@
 use Rattle.std.proofs.Common.{refl, sym, ◌∙◌, length}
 use Rattle.std.proofs.lemmas.Option.{slice_get_read}
-use Rattle.py_scope.proofs.Holders.{held_by_enclosing, held_here, not_comprehension}
+use Rattle.py_scope.proofs.HolderScopeLemmas.{held_by_enclosing, holder_is_self, not_comprehension}
 use Rattle.py_scope.proofs.builder.+holder_from.Goals as goal
 
 pub returns-in-Comprehension : goal.returns-in-Comprehension
@@ -15,4 +15,4 @@ pub returns-in_default : goal.returns-in_default
 returns-in_default t c =
     let rows = c.args.rows.now in
     let row = c.index-rows-at.result in
-    sym (held_here rows c.args.at row (slice_get_read rows (length rows) c.args.at row refl c.requires.within c.index-rows-at.is) (not_comprehension row.kind c.in_default.not-Comprehension))
+    sym (holder_is_self rows c.args.at row (slice_get_read rows (length rows) c.args.at row refl c.requires.within c.index-rows-at.is) (not_comprehension row.kind c.in_default.not-Comprehension))

@@ -3,7 +3,7 @@ use Rattle.std.specs.List.{list_any}
 use Rattle.py_scope.specs.Names.{same_name}
 use Rattle.py_scope.specs.Tables.{declares, declares_opt}
 use Rattle.py_scope.proofs.CheckListLemmas.{check_list_some_at}
-use Rattle.py_scope.proofs.Anys.{or_associates, any_next}
+use Rattle.py_scope.proofs.AnyElementLemmas.{or_associates, any_next}
 use Rattle.py_scope.proofs.globals.note_row.Goals as goal
 
 pub loop-i-preserved : goal.loop-i-preserved

@@ -1,6 +1,6 @@
 use Rattle.std.proofs.Common.{◌≡◌, refl, ◌∙◌, length, take, slice_index_or, arith}
 use Rattle.py_scope.specs.Lifts.{lifts}
-use Rattle.py_scope.proofs.LiftKeeps.{still_numbered, lift_keep_same_length, same_kind_of, still_in_comprehensions, scope_lifted, scope_allowed, lift_keep_scope_refused}
+use Rattle.py_scope.proofs.LiftInvariantLemmas.{still_numbered, lift_keep_same_length, same_kind_of, still_in_comprehensions, scope_lifted, scope_allowed, lift_keep_scope_refused}
 use Rattle.py_scope.proofs.lifts.lift_all.Goals as goal
 
 pub lift_scope-requires-clause-numbered : goal.lift_scope-requires-clause-numbered

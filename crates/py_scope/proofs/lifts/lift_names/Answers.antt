@@ -1,7 +1,7 @@
 use Rattle.std.proofs.Common.{◌≡◌, ◌∙◌, length, take, arith}
 use Rattle.py_scope.specs.declared.table_type.SymbolTableType.TheVariants.{Module, Comprehension}
 use Rattle.py_scope.specs.Marks.{from_scope}
-use Rattle.py_scope.proofs.LiftKeeps.{still_numbered, lift_keep_same_length, same_kind_of, stage_kind, name_lifted, name_allowed, name_refused}
+use Rattle.py_scope.proofs.LiftInvariantLemmas.{still_numbered, lift_keep_same_length, same_kind_of, stage_kind, name_lifted, name_allowed, name_refused}
 use Rattle.py_scope.proofs.lifts.lift_names.Goals as goal
 
 pub lift_one-requires-clause-numbered : goal.lift_one-requires-clause-numbered

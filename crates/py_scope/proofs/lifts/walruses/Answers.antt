@@ -1,6 +1,6 @@
 use Rattle.std.proofs.Common.{ap, ◌∙◌, ◌++◌}
 use Rattle.py_scope.specs.Lifts.{walruses_in}
-use Rattle.py_scope.proofs.LiftKeeps.{walruses_so_far}
+use Rattle.py_scope.proofs.LiftInvariantLemmas.{walruses_so_far}
 use Rattle.py_scope.proofs.lifts.walruses.Goals as goal
 
 pub loop-i-preserved : goal.loop-i-preserved

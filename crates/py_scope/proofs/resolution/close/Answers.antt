@@ -1,7 +1,7 @@
 use Rattle.std.proofs.Common.{◌≡◌, refl, sym, ap, ◌∙◌, subst, ◌<◌, ◌++◌, ◌∷◌, [], length, slice_index_or, append_assoc, arith}
 use Rattle.std.proofs.lemmas.Option.{slice_get_read}
 use Rattle.py_scope.specs.Outward.{enclosing_scopes, parents, parent_of}
-use Rattle.py_scope.proofs.Chains.{outward}
+use Rattle.py_scope.proofs.ScopeChainLemmas.{enclosing_scopes_step}
 use Rattle.py_scope.proofs.resolution.close.Goals as goal
 
 pub loop-at-preserved : goal.loop-at-preserved
@@ -18,6 +18,6 @@ loop-at-preserved c =
       so_far = ap (λ ls. ls ++ enclosing_scopes (parents rows) (slice_index_or rows at c.index-rows-at.result).parent) c.in_ok-push-2.ensures.items
           ∙ append_assoc c.loop-at.left.items ((slice_index_or rows at c.index-rows-at.result).parent ∷ []) (enclosing_scopes (parents rows) (slice_index_or rows at c.index-rows-at.result).parent)
           ∙ ap (λ es. c.loop-at.left.items ++ es)
-          (sym (outward (parents rows) at (slice_index_or rows at c.index-rows-at.result).parent up (subst (λ v. v < at) up below)))
+          (sym (enclosing_scopes_step (parents rows) at (slice_index_or rows at c.index-rows-at.result).parent up (subst (λ v. v < at) up below)))
           ∙ c.loop-at.invariant.so_far;
     }

@@ -5,9 +5,9 @@ use Rattle.py_scope.specs.Lifts.{lifts, IsRefusal}
 use Rattle.py_scope.specs.Checks.{first_wrong}
 use Rattle.py_scope.specs.Tables.{table_from}
 use Rattle.py_scope.specs.Resolved.{settled_rows}
-use Rattle.py_scope.proofs.LiftKeeps as lifting
+use Rattle.py_scope.proofs.LiftInvariantLemmas as lifting
 use Rattle.py_scope.proofs.MarkSumLemmas as settling
-use Rattle.py_scope.proofs.CheckListLemmas.{two_none, second_told}
+use Rattle.py_scope.proofs.CheckListLemmas.{first_of_two_both_none, second_told}
 use Rattle.py_scope.proofs.PassLemmas.{pass_lifted_is, settled_is, once_lifted, once_settled}
 use Rattle.py_scope.proofs.resolution.resolve_rows.Goals as goal
 
@@ -64,7 +64,7 @@ returns-in-Ok-table_of_rows-clause-table c =
 
 pub returns-in-Ok-table_of_rows-clause-allowed : goal.returns-in-Ok-table_of_rows-clause-allowed
 returns-in-Ok-table_of_rows-clause-allowed c =
-    two_none _ _ c.in-Ok.ensures.allowed
+    first_of_two_both_none _ _ c.in-Ok.ensures.allowed
     (ap (λ rs. first_wrong rs c.args.order.now)
     (sym (c.deref.ensures.value ∙ pass_lifted_is c.args.rows.items c.lift_all.new.rows.items c.args.order.now c.in-Ok.ensures.lifted))
     ∙ c.in-Ok-check_all.ensures.allowed)

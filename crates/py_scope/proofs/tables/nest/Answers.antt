@@ -4,16 +4,16 @@ use Rattle.std.proofs.lemmas.Bool.{eqb-true, eqb-false}
 use Rattle.py_scope.specs.Scanned.{changed_at}
 use Rattle.py_scope.specs.Tables.{table_of}
 use Rattle.py_scope.specs.Making.{symbols_with}
-use Rattle.py_scope.proofs.Told.{told_first, told_same, told_once, scope_told_done, told_parent, told_next}
+use Rattle.py_scope.proofs.NestedTableStepLemmas.{reported_first, own_kinds_counted, own_names_distinct, scope_told_done, reported_parent, reported_next}
 use Rattle.py_scope.proofs.tables.nest.Goals as goal
 
 pub loop-row-init : goal.loop-row-init
-loop-row-init c = told_first c.args.rows.items c.args.kinds.items c.in_ok-waiting.waiting.items c.requires.some c.requires.kinds
+loop-row-init c = reported_first c.args.rows.items c.args.kinds.items c.in_ok-waiting.waiting.items c.requires.some c.requires.kinds
     (c.in_ok-waiting.ensures ∙ ap (λ n. replicate n []) (c.len.ensures ∙ omega (arith, c.args.rows.ok.0)))
 
 pub table_of-requires-clause-same : goal.table_of-requires-clause-same
 table_of-requires-clause-same c =
-    told_same c.args.rows.items c.requires.numbered c.loop-row.rows.items c.loop-row.kinds.items c.loop-row.waiting.items c.loop-row.invariant
+    own_kinds_counted c.args.rows.items c.requires.numbered c.loop-row.rows.items c.loop-row.kinds.items c.loop-row.waiting.items c.loop-row.invariant
     c.pop.new.self.items c.in-Some.row c.pop-in-Some-2.new.self.items c.unwrap-in-Some.result c.pop-in-Some.new.self.items c.unwrap.result
     c.in-Some.ensures.items (c.pop-in-Some-2.ensures.items
     ∙ ap (λ o. c.pop-in-Some-2.new.self.items ++ option_to_list o) c.unwrap-in-Some.ensures)
@@ -21,7 +21,7 @@ table_of-requires-clause-same c =
 
 pub table_of-requires-clause-once : goal.table_of-requires-clause-once
 table_of-requires-clause-once c =
-    told_once c.args.rows.items c.requires.numbered c.loop-row.rows.items c.loop-row.kinds.items c.loop-row.waiting.items c.loop-row.invariant
+    own_names_distinct c.args.rows.items c.requires.numbered c.loop-row.rows.items c.loop-row.kinds.items c.loop-row.waiting.items c.loop-row.invariant
     c.pop.new.self.items c.in-Some.row c.pop-in-Some-2.new.self.items c.unwrap-in-Some.result c.pop-in-Some.new.self.items c.unwrap.result
     c.in-Some.ensures.items (c.pop-in-Some-2.ensures.items
     ∙ ap (λ o. c.pop-in-Some-2.new.self.items ++ option_to_list o) c.unwrap-in-Some.ensures)
@@ -40,7 +40,7 @@ returns-then-is_empty c =
 
 pub wait-requires : goal.wait-requires
 wait-requires c =
-    told_parent c.args.rows.items c.requires.numbered c.loop-row.rows.items c.loop-row.kinds.items c.loop-row.waiting.items c.loop-row.invariant
+    reported_parent c.args.rows.items c.requires.numbered c.loop-row.rows.items c.loop-row.kinds.items c.loop-row.waiting.items c.loop-row.invariant
     c.pop.new.self.items c.in-Some.row c.pop-in-Some-2.new.self.items c.unwrap-in-Some.result c.pop-in-Some.new.self.items c.unwrap.result
     c.in-Some.ensures.items (c.pop-in-Some-2.ensures.items
     ∙ ap (λ o. c.pop-in-Some-2.new.self.items ++ option_to_list o) c.unwrap-in-Some.ensures)
@@ -49,7 +49,7 @@ wait-requires c =
 
 pub loop-row-preserved : goal.loop-row-preserved
 loop-row-preserved c =
-    told_next c.args.rows.items c.requires.numbered c.loop-row.rows.items c.loop-row.kinds.items c.loop-row.waiting.items c.loop-row.invariant
+    reported_next c.args.rows.items c.requires.numbered c.loop-row.rows.items c.loop-row.kinds.items c.loop-row.waiting.items c.loop-row.invariant
     c.pop.new.self.items c.in-Some.row c.pop-in-Some-2.new.self.items c.unwrap-in-Some.result c.pop-in-Some.new.self.items c.unwrap.result
     c.in-Some.ensures.items (c.pop-in-Some-2.ensures.items
     ∙ ap (λ o. c.pop-in-Some-2.new.self.items ++ option_to_list o) c.unwrap-in-Some.ensures)

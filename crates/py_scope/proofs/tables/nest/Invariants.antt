@@ -1,5 +1,5 @@
 use Rattle.std.proofs.Common.{vec_len}
-use Rattle.py_scope.proofs.Told.{IsReported}
+use Rattle.py_scope.proofs.NestedTableStepLemmas.{IsReported}
 use Rattle.py_scope.proofs.tables.nest.Given as goal
 
 abbrev pub invariant-loop-row : goal.invariant-loop-row

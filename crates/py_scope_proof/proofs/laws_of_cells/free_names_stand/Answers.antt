@@ -1,4 +1,4 @@
-use Rattle.py_scope_proof.proofs.NodeScopes.FreeNames.{free_names_stand}
+use Rattle.py_scope_proof.proofs.NodeScopes.FreeNameLemmas.{free_names_stand}
 use Rattle.py_scope_proof.proofs.laws_of_cells.free_names_stand.Goals as goal
 
 pub returns : goal.returns

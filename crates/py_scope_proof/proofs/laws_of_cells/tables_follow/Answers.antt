@@ -1,4 +1,4 @@
-use Rattle.py_scope_proof.proofs.NodeScopes.Facts.{tables_follow}
+use Rattle.py_scope_proof.proofs.NodeScopes.ScanScopeLemmas.{tables_follow}
 use Rattle.py_scope_proof.proofs.laws_of_cells.tables_follow.Goals as goal
 
 pub returns : goal.returns

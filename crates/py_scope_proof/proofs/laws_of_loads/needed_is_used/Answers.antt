@@ -1,4 +1,4 @@
-use Rattle.py_scope_proof.proofs.CellLoads.Needed.{needed_is_used}
+use Rattle.py_scope_proof.proofs.CellLoads.FreeNameUseLemmas.{needed_is_used}
 use Rattle.py_scope_proof.proofs.laws_of_loads.needed_is_used.Goals as goal
 
 pub returns : goal.returns

@@ -1,4 +1,4 @@
-use Rattle.py_scope_proof.proofs.RefusedNames.Scans.{programs_refused, values_refused}
+use Rattle.py_scope_proof.proofs.RefusedNames.ScanLawLemmas.{programs_refused, values_refused}
 use Rattle.py_scope_proof.proofs.laws_of_names.refused_by_uses.Goals as goal
 
 pub returns : goal.returns

@@ -1,4 +1,4 @@
-use Rattle.py_scope_proof.proofs.RefusedNames.Scans.{programs_exactly, values_exactly}
+use Rattle.py_scope_proof.proofs.RefusedNames.ScanLawLemmas.{programs_exactly, values_exactly}
 use Rattle.py_scope_proof.proofs.laws_of_names.refused_exactly.Goals as goal
 
 pub returns : goal.returns

@@ -1,4 +1,4 @@
-use Rattle.py_scope_proof.proofs.NodeScopes.ScopeNodeTables.{table_has_groves}
+use Rattle.py_scope_proof.proofs.NodeScopes.ScopeNodeTableLemmas.{table_has_groves}
 use Rattle.py_scope_proof.proofs.laws_of_scans.table_has_groves.Goals as goal
 
 pub returns : goal.returns

@@ -1,6 +1,6 @@
 use Rattle.std.proofs.Common.{arith}
 use Rattle.std.proofs.lemmas.Grind.{common_steps}
-use Rattle.py_shapes.proofs.Steps.{args_step, generators_step}
+use Rattle.py_shapes.proofs.ListShapeLemmas.{args_step, generators_step}
 use Rattle.py_shapes.proofs.checks_exprs.+shapes.Goals as goal
 
 pub check_args-returns-in_err-check_default_arg : goal.check_args-returns-in_err-check_default_arg

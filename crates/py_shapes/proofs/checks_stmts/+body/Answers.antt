@@ -1,6 +1,6 @@
 use Rattle.std.proofs.Common.{arith}
 use Rattle.std.proofs.lemmas.Grind.{common_steps}
-use Rattle.py_shapes.proofs.Steps.{handlers_step}
+use Rattle.py_shapes.proofs.ListShapeLemmas.{handlers_step}
 use Rattle.py_shapes.proofs.checks_stmts.+body.Goals as goal
 
 pub check_handlers-loop-handler-preserved : goal.check_handlers-loop-handler-preserved

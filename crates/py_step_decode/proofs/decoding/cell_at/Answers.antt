@@ -1,6 +1,6 @@
 use Rattle.std.proofs.Common.{arith}
 use Rattle.std.proofs.lemmas.Grind.{common_steps}
-use Rattle.py_step_decode.proofs.Tables.{cells_are, first_cell, free_cell}
+use Rattle.py_step_decode.proofs.TablePlaceLemmas.{cells_are, first_cell, free_cell}
 use Rattle.py_step_decode.proofs.decoding.cell_at.Goals as goal
 
 pub returns-then-place-cells : goal.returns-then-place-cells

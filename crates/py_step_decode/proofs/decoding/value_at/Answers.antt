@@ -1,5 +1,5 @@
 use Rattle.std.proofs.Common.{refl}
-use Rattle.py_step_decode.proofs.Tables.{constant_at, code_value, plain_value}
+use Rattle.py_step_decode.proofs.TablePlaceLemmas.{constant_at, code_value, plain_value}
 use Rattle.py_step_decode.proofs.decoding.value_at.Goals as goal
 
 pub returns-in_err-constant : goal.returns-in_err-constant

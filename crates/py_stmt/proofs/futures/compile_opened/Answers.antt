@@ -8,7 +8,7 @@ use Rattle.py_emission.specs.EmissionStmts.{emission_of_stmts}
 use Rattle.py_emit.specs.States.{rest, state}
 use Rattle.py_stmt_parts.specs.Futures.{context_after, restore_postponed}
 use Rattle.py_stmt_parts.proofs.FutureImportLemmas.{flag, slice_rest}
-use Rattle.py_emit.proofs.Joined.{went}
+use Rattle.py_emit.proofs.JoinedEmissionLemmas.{on_done_goes}
 use Rattle.py_stmt.proofs.PlacedStatementLemmas.{opened_flag, opened_goes, opened_rest}
 use Rattle.py_stmt.proofs.futures.compile_opened.Goals as goal
 
@@ -25,7 +25,7 @@ returns c =
     record {
       goes =
           let done = ap (λ (xs : List Stmt). run (emission_of_stmts (stmts stmt_tree xs)) mid) (sym (slice_rest all o.count)) ∙ c.in_ok-compile_statements.ensures.goes in
-          let goes = c.in_ok-opening.ensures.opens emission_of_stmts ∙ went _ (restore_postponed o.postponed (flag (state first))) (state last) done in
+          let goes = c.in_ok-opening.ensures.opens emission_of_stmts ∙ on_done_goes _ (restore_postponed o.postponed (flag (state first))) (state last) done in
           opened_goes (run (emission_after emission_of_stmts ss) (state first)) (flag (state first)) (state last) o.postponed p goes
           (opened_flag first last ss o.postponed kept c.requires.opened c.in_ok-opening.ensures.postponed)
           ∙ ap Done (sym c.set_future_over.ensures.state);

@@ -1,8 +1,8 @@
 use Rattle.std.proofs.Common.{rules, ◌≡◌, ◌-◌, suc, length, ap, arith}
 use Rattle.py_emission_parts.specs.Running.{Action}
 use Rattle.py_emit.specs.States.{state}
-use Rattle.py_emit.proofs.Joined.{goes_as}
-use Rattle.py_stmt.proofs.Lasts.{block_parts}
+use Rattle.py_emit.proofs.JoinedEmissionLemmas.{goes_as}
+use Rattle.py_stmt.proofs.PromptBlockLemmas.{block_parts}
 use Rattle.py_stmt.proofs.interactive.compile_block.Goals as goal
 
 pub returns : goal.returns

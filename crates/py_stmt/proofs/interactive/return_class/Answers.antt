@@ -7,8 +7,8 @@ use Rattle.py_emission_parts.specs.EmissionParts.{values}
 use Rattle.py_emission.specs.Emission.{all_emissions}
 use Rattle.py_emission.specs.EmissionMods.{stored_and_returned}
 use Rattle.py_emit.specs.States.{state}
-use Rattle.py_emit.proofs.Joined.{first_refuses, goes_as, went}
-use Rattle.py_expr_parts.proofs.Steps.{move_goes}
+use Rattle.py_emit.proofs.JoinedEmissionLemmas.{first_refuses, goes_as, on_done_goes}
+use Rattle.py_expr_parts.proofs.EmissionStepLemmas.{move_goes}
 use Rattle.py_stmt.specs.Classes.{class_emission}
 use Rattle.py_stmt.proofs.interactive.return_class.Goals as goal
 

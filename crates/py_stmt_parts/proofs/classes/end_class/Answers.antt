@@ -1,7 +1,7 @@
 use Rattle.std.proofs.Common.{rules}
 use Rattle.py_emit.specs.States.{state}
-use Rattle.py_emit.proofs.Joined.{goes_as}
-use Rattle.py_stmt_parts.proofs.ClassParts.{end_as}
+use Rattle.py_emit.proofs.JoinedEmissionLemmas.{goes_as}
+use Rattle.py_stmt_parts.proofs.ClassPartLemmas.{end_as}
 use Rattle.py_stmt_parts.proofs.classes.end_class.Goals as goal
 
 pub returns : goal.returns

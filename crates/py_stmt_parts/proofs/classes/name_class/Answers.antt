@@ -3,9 +3,9 @@ use Rattle.std.specs.Prelude.{codes}
 use Rattle.py_emission_parts.specs.Running.{run}
 use Rattle.py_emission_parts.specs.NestedScopes.{doc_const}
 use Rattle.py_emit.specs.States.{state}
-use Rattle.py_emit.proofs.Joined.{first_refuses, goes_as, went}
+use Rattle.py_emit.proofs.JoinedEmissionLemmas.{first_refuses, goes_as, on_done_goes}
 use Rattle.py_stmt_parts.specs.Classes.{stored_as}
-use Rattle.py_stmt_parts.proofs.ClassParts.{module_first, titles, titles_next}
+use Rattle.py_stmt_parts.proofs.ClassPartLemmas.{module_first, titles, titles_next}
 use Rattle.py_stmt_parts.proofs.classes.name_class.Goals as goal
 
 pub returns-in_err-copy_name : goal.returns-in_err-copy_name
@@ -31,7 +31,7 @@ returns c = record {
   goes =
       goes_as _ _ _ _
       (titles_next c.args.doc c.args.path (state c.args.em.now) _ c.requires.path c.in_ok-copy_name.ensures.goes
-      ∙ went _ (run (stored_as (codes "__doc__") (doc_const c.args.doc))) _ c.in_ok-store_text.ensures.goes)
+      ∙ on_done_goes _ (run (stored_as (codes "__doc__") (doc_const c.args.doc))) _ c.in_ok-store_text.ensures.goes)
       c.store_doc.ensures.goes;
   same = search rules;
 }

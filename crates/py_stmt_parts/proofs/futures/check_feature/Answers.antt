@@ -6,7 +6,7 @@ use Rattle.py_emission_parts.specs.Running.{run}
 use Rattle.py_emission.specs.EmissionFutures.{check_features}
 use Rattle.py_emission.specs.Futures.{is_feature}
 use Rattle.py_emit.specs.States.{state}
-use Rattle.py_expr_parts.proofs.Turns.{refused_by}
+use Rattle.py_expr_parts.proofs.ValueListLemmas.{refused_by}
 use Rattle.py_stmt_parts.proofs.futures.check_feature.Goals as goal
 
 pub returns : goal.returns

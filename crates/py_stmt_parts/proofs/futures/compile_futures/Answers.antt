@@ -1,7 +1,7 @@
 use Rattle.std.proofs.Common.{◌≡◌, Err, ◌∙◌, arith}
 use Rattle.py_emit.specs.States.{rest, state}
 use Rattle.py_stmt_parts.specs.Futures.{future}
-use Rattle.py_stmt_parts.proofs.FutureImportLemmas.{flag_as, future_import_one_of, leads_entered, leads_refused, others_last, others_next, postponed_last, postponed_next}
+use Rattle.py_stmt_parts.proofs.FutureImportLemmas.{flag_as, future_import_one_of, leads_entered, leads_refused, other_statement_last, other_statement_next, postponed_last, postponed_next}
 use Rattle.py_stmt_parts.proofs.futures.compile_futures.Goals as goal
 
 pub loop-s-preserved : goal.loop-s-preserved
@@ -17,12 +17,12 @@ loop-s-preserved c =
           c.loop-s.invariant.leads (state c.enter_future.new.em)
           _ (flag_as c.loop-s.em c.args.em.now c.loop-s.postponed c.loop-s.invariant.rest_is) c.in_ok-postponed.ensures.entered;
       within = omega (arith, w);
-      others = c.loop-s.invariant.others ∙ others_next all i d f w (c.in-Some.ensures.is d);
+      others = c.loop-s.invariant.others ∙ other_statement_next all i d f w (c.in-Some.ensures.is d);
       opened = c.loop-s.invariant.opened ∙ postponed_next all i d f c.loop-s.postponed _ w (c.in-Some.ensures.is d) c.in_ok-postponed.ensures.entered.after_is;
     }
 
 pub returns-clause-others : goal.returns-clause-others
-returns-clause-others c = c.loop-s.invariant.others ∙ others_last c.args.body.now c.loop-s.count c.loop-s.invariant.within c.in_default.ensures.first
+returns-clause-others c = c.loop-s.invariant.others ∙ other_statement_last c.args.body.now c.loop-s.count c.loop-s.invariant.within c.in_default.ensures.first
 
 pub returns-clause-postponed : goal.returns-clause-postponed
 returns-clause-postponed c = c.loop-s.invariant.opened ∙ postponed_last c.loop-s.postponed _ c.in_default.ensures.first

@@ -4,7 +4,7 @@ use Rattle.py_emission_parts.specs.Children.{made_function}
 use Rattle.py_emission_parts.specs.Running.{run}
 use Rattle.py_emit.specs.States.{state}
 use Rattle.py_emit.specs.declared.emitter.Emitter.{Emitter}
-use Rattle.py_emit.proofs.Joined.{goes_as}
+use Rattle.py_emit.proofs.JoinedEmissionLemmas.{goes_as}
 use Rattle.py_stmt_parts.proofs.generics.make_type_param_scope.Goals as goal
 
 pub returns : goal.returns

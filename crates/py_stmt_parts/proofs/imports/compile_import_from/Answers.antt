@@ -8,7 +8,7 @@ use Rattle.py_emission_parts.specs.Running.{run}
 use Rattle.py_emission.specs.EmissionImports.{emission_of_from}
 use Rattle.py_emission.specs.Imports.{from_future}
 use Rattle.py_emit.specs.States.{state}
-use Rattle.py_expr_parts.proofs.Turns.{refused_as}
+use Rattle.py_expr_parts.proofs.ValueListLemmas.{refused_as}
 use Rattle.py_stmt_parts.proofs.imports.compile_import_from.Goals as goal
 
 pub returns-then-is_future : goal.returns-then-is_future

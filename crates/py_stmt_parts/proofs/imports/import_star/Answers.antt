@@ -10,7 +10,7 @@ use Rattle.py_emission_parts.specs.Running.{run}
 use Rattle.py_emission.specs.EmissionImports.{emission_of_module}
 use Rattle.py_emission.specs.Imports.{asked_all}
 use Rattle.py_emit.specs.States.{state}
-use Rattle.py_expr_parts.proofs.Turns.{refused_as}
+use Rattle.py_expr_parts.proofs.ValueListLemmas.{refused_as}
 use Rattle.py_stmt_parts.proofs.imports.import_star.Goals as goal
 
 pub returns-then-is_function : goal.returns-then-is_function

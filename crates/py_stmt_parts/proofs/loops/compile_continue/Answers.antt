@@ -7,7 +7,7 @@ use Rattle.py_base.specs.declared.errors.CodegenErrorType.{CodegenErrorType}
 use Rattle.py_base.specs.declared.errors.CodegenErrorType.TheVariants as error
 use Rattle.py_emit.specs.States.{loop_blocks, rest, state}
 use Rattle.py_emit.specs.declared.context.EmitContext.{EmitContext}
-use Rattle.py_expr_parts.proofs.Turns.{refused_as}
+use Rattle.py_expr_parts.proofs.ValueListLemmas.{refused_as}
 use Rattle.py_stmt_parts.proofs.loops.compile_continue.Goals as goal
 
 pub returns-in-None : goal.returns-in-None

@@ -5,7 +5,7 @@ use Rattle.py_base.specs.declared.errors.CodegenErrorType.TheVariants as error
 use Rattle.py_emission_parts.specs.Running.{run}
 use Rattle.py_emission.specs.EmissionDefs.{emission_of_text}
 use Rattle.py_emit.specs.States.{state}
-use Rattle.py_expr_parts.proofs.Turns.{refused_as}
+use Rattle.py_expr_parts.proofs.ValueListLemmas.{refused_as}
 use Rattle.py_stmt_parts.proofs.notes.load_annotation.Goals as goal
 
 -- an f-string has no text

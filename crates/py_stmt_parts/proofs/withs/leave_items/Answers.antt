@@ -1,6 +1,6 @@
 use Rattle.std.proofs.Common.{rules, ◌≡◌, ◌∙◌, Err, ap, subst, arith}
 use Rattle.py_emit.specs.States.{state}
-use Rattle.py_emit.proofs.Joined.{first_refuses, went}
+use Rattle.py_emit.proofs.JoinedEmissionLemmas.{first_refuses, on_done_goes}
 use Rattle.py_stmt_parts.specs.Managing.{AllOpen, left_all}
 use Rattle.py_stmt_parts.proofs.WithItemLemmas.{last_open, left_push, others_open}
 use Rattle.py_stmt_parts.proofs.withs.leave_items.Goals as goal
@@ -20,7 +20,7 @@ loop-end-preserved c =
       c.loop-end.invariant.2
           ∙ ap (λ bs. left_all at bs now) c.in-Some.ensures
           ∙ left_push at c.pop.new.self c.in-Some.end now
-          ∙ went _ _ _ c.in_ok-leave_item.ensures.goes,
+          ∙ on_done_goes _ _ _ c.in_ok-leave_item.ensures.goes,
     )
 
 pub returns-in_err-leave_item : goal.returns-in_err-leave_item

@@ -5,8 +5,8 @@ use Rattle.py_emission_parts.specs.TypeParameters.{generic_alias, type_param_sco
 use Rattle.py_emission.specs.Emission.{emission}
 use Rattle.py_emission.specs.EmissionDefs.{emission_of_params}
 use Rattle.py_emit.specs.declared.context.Naming.TheVariants as naming
-use Rattle.py_emit.proofs.NestedScopes.{nested_inner}
-use Rattle.py_expr_scopes.proofs.Scopes.{left_gives, left_keeps, refused_gives, same_path}
+use Rattle.py_emit.proofs.NestedContextLemmas.{nested_inner}
+use Rattle.py_expr_scopes.proofs.NestedScopeEmissionLemmas.{left_gives, left_keeps, refused_gives, same_path}
 use Rattle.py_stmt_simple.specs.Generics.{returned_value}
 use Rattle.py_stmt_simple.proofs.aliases.compile_alias_scope.Goals as goal
 

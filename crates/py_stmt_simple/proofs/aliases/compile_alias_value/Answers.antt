@@ -1,7 +1,7 @@
 use Rattle.std.proofs.Common.{rules, ap}
 use Rattle.py_tree.specs.View.{expr_tree}
 use Rattle.py_emit.specs.States.{state}
-use Rattle.py_emit.proofs.Joined.{goes_as}
+use Rattle.py_emit.proofs.JoinedEmissionLemmas.{goes_as}
 use Rattle.py_stmt_simple.proofs.TypeParameterLemmas.{alias_there}
 use Rattle.py_emission_parts.specs.Running.{Action}
 use Rattle.py_stmt_simple.proofs.aliases.compile_alias_value.Goals as goal

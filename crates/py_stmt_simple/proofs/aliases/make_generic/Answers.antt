@@ -1,7 +1,7 @@
 use Rattle.std.proofs.Common.{rules, ◌≡◌, Err, refl, arith}
 use Rattle.py_emission_parts.specs.Children.{made_function}
 use Rattle.py_emission_parts.specs.NestedScopes.{type_param_scope_name}
-use Rattle.py_emit.proofs.Joined.{goes_as, refuses_as}
+use Rattle.py_emit.proofs.JoinedEmissionLemmas.{goes_as, refuses_as}
 use Rattle.py_stmt_simple.proofs.aliases.make_generic.Goals as goal
 
 pub returns : goal.returns

@@ -4,7 +4,7 @@ use Rattle.py_scope_counts.specs.Counts.{scopes_in}
 use Rattle.py_emission_parts.specs.EmissionParts.{pass_scopes}
 use Rattle.py_emission.specs.EmissionStmts.{emission_of_declared}
 use Rattle.py_emit.specs.States.{state}
-use Rattle.py_emit.proofs.Joined.{goes_as}
+use Rattle.py_emit.proofs.JoinedEmissionLemmas.{goes_as}
 use Rattle.py_emission_parts.specs.Running.{run}
 use Rattle.py_stmt_simple.proofs.assignments.compile_declared.Goals as goal
 

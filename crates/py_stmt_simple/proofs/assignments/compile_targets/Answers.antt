@@ -1,8 +1,8 @@
 use Rattle.std.proofs.Common.{rules, ◌≡◌, ◌∙◌, Err, refl, ap, sym, arith}
 use Rattle.py_emission_parts.specs.Emitting.{Emission}
 use Rattle.py_emit.specs.States.{state}
-use Rattle.py_emit.proofs.Joined.{first_refuses, same_error, went}
-use Rattle.py_expr_parts.proofs.Turns.{refused_shape}
+use Rattle.py_emit.proofs.JoinedEmissionLemmas.{first_refuses, same_error, on_done_goes}
+use Rattle.py_expr_parts.proofs.ValueListLemmas.{refused_shape}
 use Rattle.py_stmt_simple.proofs.AssignmentTargetLemmas.{assign_at, assign_none, assign_some}
 use Rattle.py_emission_parts.specs.Running.{Action, run}
 use Rattle.py_stmt_simple.proofs.assignments.compile_targets.Goals as goal
@@ -23,7 +23,7 @@ loop-i-preserved c = (
   c.in_ok-compile_target.ensures.same ∙ c.loop-i.invariant.0,
   c.loop-i.invariant.1 ∙ ap (λ (v : Emission). run v (state c.loop-i.em))
       (assign_at c.args.targets.now c.loop-i.i _ c.index-targets-i.result c.index-targets-i.is c.loop-i-test.true)
-      ∙ went _ _ _ c.in_ok-compile_target.ensures.goes,
+      ∙ on_done_goes _ _ _ c.in_ok-compile_target.ensures.goes,
 )
 
 pub returns-in_err-compile_target : goal.returns-in_err-compile_target

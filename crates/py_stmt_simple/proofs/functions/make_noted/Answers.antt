@@ -11,7 +11,7 @@ use Rattle.py_emission_parts.specs.NestedScopes.{some_flag}
 use Rattle.py_emission_parts.specs.Context.{qualified_under}
 use Rattle.py_emission_parts.specs.Emitting.{Emission, by_context}
 use Rattle.py_emit.specs.States.{state}
-use Rattle.py_emit.proofs.Joined.{goes_as, went}
+use Rattle.py_emit.proofs.JoinedEmissionLemmas.{goes_as, on_done_goes}
 use Rattle.py_stmt_simple.specs.Functions.{notes_of}
 use Rattle.py_stmt_parts.specs.Generics.{given_flags}
 use Rattle.py_emission_parts.specs.Running.{on_done, run}
@@ -30,7 +30,7 @@ returns c = record {
       let k : Emission = by_context (λ x. made_function (given + some_flag 0x02 (notes_of s)) (qualified_under x s.name) o) in
       goes_as _ _ _ _
       (ap (λ (p : ArgumentsOf Expr). on_done (run (some_emitted (counted_build op.BuildMap) (notes (arguments expr_tree p) returns)) (state c.args.em.now)) (run k)) is
-      ∙ went _ (run k) _ c.in_ok-annotated.ensures.emits.goes
+      ∙ on_done_goes _ (run k) _ c.in_ok-annotated.ensures.emits.goes
       ∙ ap (λ m. run (by_context (λ x. made_function m (qualified_under x s.name) o)) (state c.compile_notes.new.em)) n
       ∙ ap (λ y. run (by_context (λ x. made_function c.made_flags-flags.result.0 (qualified_under x y) o)) (state c.compile_notes.new.em)) (sym c.as_str.ensures))
       c.make_named.ensures.goes;

@@ -1,7 +1,7 @@
 use Rattle.std.proofs.Common.{rules, ap}
 use Rattle.py_emission_parts.specs.Emitting.{Emission}
 use Rattle.py_emit.specs.States.{state}
-use Rattle.py_emit.proofs.Joined.{goes_as}
+use Rattle.py_emit.proofs.JoinedEmissionLemmas.{goes_as}
 use Rattle.py_stmt_simple.proofs.TypeParameterLemmas.{params_there}
 use Rattle.py_emission_parts.specs.Running.{run}
 use Rattle.py_stmt_simple.proofs.generics.compile_some_params.Goals as goal

@@ -8,7 +8,7 @@ use Rattle.py_emission_parts.specs.TypeParameters.{bounded_type_var}
 use Rattle.py_emission.specs.Emission.{emission}
 use Rattle.py_emission.specs.EmissionDefs.{emission_of_param}
 use Rattle.py_emit.specs.States.{state}
-use Rattle.py_emit.proofs.Joined.{goes_as}
+use Rattle.py_emit.proofs.JoinedEmissionLemmas.{goes_as}
 use Rattle.py_emission_parts.specs.Running.{run}
 use Rattle.py_stmt_simple.proofs.generics.compile_type_var.Goals as goal
 

@@ -4,7 +4,7 @@ use Rattle.py_emission_parts.specs.Emitting.{Emission, ◌▸◌}
 use Rattle.py_emission_parts.specs.EmissionParts.{in_turn}
 use Rattle.py_emission.specs.EmissionDefs.{arg_notes, opt_note}
 use Rattle.py_emit.specs.States.{state}
-use Rattle.py_emit.proofs.Joined.{first_refuses, went}
+use Rattle.py_emit.proofs.JoinedEmissionLemmas.{first_refuses, on_done_goes}
 use Rattle.py_stmt_simple.proofs.AnnotationLemmas.{note_count, note_turn}
 use Rattle.py_emission_parts.specs.Running.{Action, run}
 use Rattle.py_stmt_simple.proofs.notes.compile_arg_notes.Goals as goal
@@ -32,7 +32,7 @@ loop-item-preserved c =
     let m = c.in_ok-sum.ensures.count in
     let h = c.loop-item.invariant.2 in (
       c.in_ok-sum.ensures.emits.same ∙ c.loop-item.invariant.0,
-      c.loop-item.invariant.1 ∙ ap (λ (f : Action). f (state c.loop-item.em)) turn ∙ went _ _ _ c.in_ok-sum.ensures.emits.goes,
+      c.loop-item.invariant.1 ∙ ap (λ (f : Action). f (state c.loop-item.em)) turn ∙ on_done_goes _ _ _ c.in_ok-sum.ensures.emits.goes,
       omega (arith, n, m, h),
       (let few = c.in_ok-sum.ensures.few in let before = c.loop-item.invariant.3 in omega (arith, few, before)),
     )

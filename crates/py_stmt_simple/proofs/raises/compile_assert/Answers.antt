@@ -10,8 +10,8 @@ use Rattle.py_emission.specs.EmissionStmts.{emission_of_message}
 use Rattle.py_emission.specs.Predicates.{message_count}
 use Rattle.py_emit.specs.States.{rest, state}
 use Rattle.py_emit.specs.declared.context.CompileOpts.{CompileOpts}
-use Rattle.py_emit.proofs.Joined.{goes_as}
-use Rattle.py_expr_parts.proofs.Turns.{if_not}
+use Rattle.py_emit.proofs.JoinedEmissionLemmas.{goes_as}
+use Rattle.py_expr_parts.proofs.ValueListLemmas.{if_not}
 use Rattle.py_emission_parts.specs.Running.{run}
 use Rattle.py_stmt_simple.proofs.raises.compile_assert.Goals as goal
 

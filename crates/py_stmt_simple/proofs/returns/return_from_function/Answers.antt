@@ -1,13 +1,13 @@
 use Rattle.std.proofs.Common.{rules, ◌≡◌, Err, ◌∙◌, arith}
 use Rattle.py_base.specs.declared.errors.CodegenErrorType.TheVariants as error
 use Rattle.py_emit.specs.States.{state}
-use Rattle.py_emit.proofs.Joined.{first_refuses, goes_as, went}
-use Rattle.py_expr_parts.proofs.InFunctions.{inside_function}
+use Rattle.py_emit.proofs.JoinedEmissionLemmas.{first_refuses, goes_as, on_done_goes}
+use Rattle.py_expr_parts.proofs.FunctionContextLemmas.{inside_function}
 use Rattle.py_stmt_simple.proofs.returns.return_from_function.Goals as goal
 
 pub returns : goal.returns
 returns c = record {
-  goes = goes_as _ _ _ _ (inside_function error.InvalidReturn _ (state c.args.em.now) ∙ went _ _ _ c.in_ok-check_in_function.ensures.goes) c.compile_returned.ensures.goes;
+  goes = goes_as _ _ _ _ (inside_function error.InvalidReturn _ (state c.args.em.now) ∙ on_done_goes _ _ _ c.in_ok-check_in_function.ensures.goes) c.compile_returned.ensures.goes;
   same = search rules;
 }
 

@@ -6,7 +6,7 @@ use Rattle.py_tree.specs.View.{expr_tree, opt_box}
 use Rattle.py_emission.specs.Emission.{emission}
 use Rattle.py_emission.specs.ControlEmissions.{caught_name, typed_match}
 use Rattle.py_emit.specs.States.{state}
-use Rattle.py_emit.proofs.Joined.{goes_as}
+use Rattle.py_emit.proofs.JoinedEmissionLemmas.{goes_as}
 use Rattle.py_stmt_simple.specs.Parts.{emission_of_match}
 use Rattle.py_emission_parts.specs.Running.{run}
 use Rattle.py_stmt_simple.proofs.tries.compile_match.Goals as goal

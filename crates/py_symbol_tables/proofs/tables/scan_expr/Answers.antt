@@ -4,7 +4,7 @@ use Rattle.py_limits.specs.Nesting.{expr_nesting}
 use Rattle.py_limits.specs.Size.{expr_size}
 use Rattle.py_shapes.specs.Valid.{expr_shapes}
 use Rattle.py_symbol_tables.specs.Tables.{value_faults}
-use Rattle.py_symbol_tables.proofs.Firsts.{at_least, first_below, deep_first, large_first, malformed_first}
+use Rattle.py_symbol_tables.proofs.TreeFaultOrderLemmas.{at_least, first_below, deep_first, large_first, malformed_first}
 use Rattle.py_symbol_tables.proofs.tables.scan_expr.Goals as goal
 
 pub returns-then-is_none-clause-first : goal.returns-then-is_none-clause-first

@@ -5,7 +5,7 @@ use Rattle.py_limits.specs.Nesting.{nesting}
 use Rattle.py_limits.specs.Size.{size_of}
 use Rattle.py_shapes.specs.Valid.{stmts_shapes}
 use Rattle.py_symbol_tables.specs.Tables.{body_faults}
-use Rattle.py_symbol_tables.proofs.Firsts.{at_least, first_below, deep_first, large_first, malformed_first}
+use Rattle.py_symbol_tables.proofs.TreeFaultOrderLemmas.{at_least, first_below, deep_first, large_first, malformed_first}
 use Rattle.py_symbol_tables.proofs.tables.scan_program.Goals as goal
 
 pub returns-then-is_none-clause-first : goal.returns-then-is_none-clause-first

@@ -1,5 +1,5 @@
 use Rattle.std.proofs.Common.{sym, ◌∙◌}
-use Rattle.py_trace.proofs.Paths.{at_constant, at_nothing}
+use Rattle.py_trace.proofs.CodePathLemmas.{at_constant, at_nothing}
 use Rattle.py_trace.proofs.among.code_at.Goals as goal
 
 pub returns-in_err-get : goal.returns-in_err-get

@@ -1,6 +1,6 @@
 use Rattle.std.proofs.Common.{◌≡◌, drop}
 use Rattle.py_trace.specs.Words.{path_in}
-use Rattle.py_trace.proofs.Paths.{path_after}
+use Rattle.py_trace.proofs.CodePathLemmas.{path_after}
 use Rattle.py_trace.proofs.places.path_of.Given as goal
 
 abbrev pub invariant-loop-word : goal.invariant-loop-word

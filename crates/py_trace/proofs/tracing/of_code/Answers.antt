@@ -1,7 +1,7 @@
 use Rattle.std.proofs.Common.{Some, None}
 use Rattle.py_bytecode.specs.View.{object}
 use Rattle.py_trace.specs.Words.{asked_of}
-use Rattle.py_trace.proofs.Paths.{by_code}
+use Rattle.py_trace.proofs.CodePathLemmas.{by_code}
 use Rattle.py_trace.proofs.tracing.of_code.Goals as goal
 
 pub returns-in-Some : goal.returns-in-Some

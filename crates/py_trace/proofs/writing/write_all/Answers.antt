@@ -1,5 +1,5 @@
 use Rattle.std.proofs.Common.{◌∙◌, arith}
-use Rattle.py_trace.proofs.Pieces.{appends_on, piece_rest_is}
+use Rattle.py_trace.proofs.TracePieceLemmas.{appends_on, piece_rest_is}
 use Rattle.py_trace.proofs.writing.write_all.Goals as goal
 
 pub writing-preserved : goal.writing-preserved

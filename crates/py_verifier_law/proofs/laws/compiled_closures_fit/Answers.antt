@@ -2,7 +2,7 @@ use Rattle.std.specs.Prelude.{Ok, Err}
 use Rattle.py_bytecode.specs.View.{object}
 use Rattle.py_meaning.specs.Scanned.{scopes_of}
 use Rattle.py_scope_proof.proofs.CellLoads.CellLoadLemmas.{tree_loads_few}
-use Rattle.py_emission_outcomes.proofs.Capacity.Premises.{small_tree}
+use Rattle.py_emission_outcomes.proofs.Capacity.FaultlessTreeLemmas.{small_tree}
 use Rattle.codegen.proofs.AssembledCodeLemmas.{made_from_scope}
 use Rattle.py_verifier_law.proofs.ClosureLemmas.{closures_fit}
 use Rattle.py_verifier_law.proofs.laws.compiled_closures_fit.Goals as goal

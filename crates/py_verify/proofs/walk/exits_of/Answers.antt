@@ -4,8 +4,8 @@ use Rattle.py_bytecode.specs.View.{object}
 use Rattle.py_decode.specs.Reading.{read_of}
 use Rattle.py_verify.specs.UnitStates.{state_in}
 use Rattle.py_verify.specs.Stepping.{HaltsAt}
-use Rattle.py_verify.proofs.Objects.{depth_is}
-use Rattle.py_verify.proofs.SuccessorLemmas.{operand_outside, exits, fails, fall_is, jump_is}
+use Rattle.py_verify.proofs.CodeObjectLemmas.{depth_is}
+use Rattle.py_verify.proofs.SuccessorLemmas.{operand_outside, exits, failure_halts, fall_is, jump_is}
 use Rattle.py_verify.proofs.walk.exits_of.Goals as goal
 
 pub returns-then-not-operand_fits-clause-halts : goal.returns-then-not-operand_fits-clause-halts
@@ -30,7 +30,7 @@ pub returns-in-Err-clause-halts : goal.returns-in-Err-clause-halts
 returns-in-Err-clause-halts c =
     let low : (head (object c.args.code.now)).max_stackdepth < 2 ^ 32 = (let d = depth_is c.args.code.now in omega (arith, d)) in
     subst (HaltsAt (object c.args.code.now)) (sym c.halt_of.ensures)
-    (fails (object c.args.code.now) c.args.unit (state_in c.args.stacks.now.entries.items c.args.known) c.in-Some.read
+    (failure_halts (object c.args.code.now) c.args.unit (state_in c.args.stacks.now.entries.items c.args.known) c.in-Some.read
     c.info_of-item.result c.info_of-item.ensures.instr c.info_of-item.ensures.arg
     (sym (c.requires.reading c.args.unit) ∙ sym c.in-Some.ensures)
     (sym c.operand_fits.ensures ∙ c.if-not-operand_fits.false) low c.requires.shown c.in-Err.refused c.in-Err.ensures.refused)

@@ -10,8 +10,8 @@ use Rattle.py_dataflow.specs.Shown.{Covered}
 use Rattle.py_verify.specs.declared.walk.Progress.{Progress}
 use Rattle.py_verify.specs.UnitStates.{Arrives, Moves, coming_in, state_at, state_in}
 use Rattle.py_verify.specs.Stepping.{Comes, HaltsAt, entries_in, known_by}
-use Rattle.py_verify.proofs.Objects.{depth_is}
-use Rattle.py_verify.proofs.Comings.{leads_outside, comes_high}
+use Rattle.py_verify.proofs.CodeObjectLemmas.{depth_is}
+use Rattle.py_verify.proofs.ReachedUnitLemmas.{leads_outside, comes_high}
 use Rattle.py_verify.proofs.UnitStateLemmas.{arrival_halts, known_same_in, known_whole}
 use Rattle.py_verify.proofs.SettledUnitLemmas.{steps_to, steps_covered}
 use Rattle.py_verify.proofs.walk.reach.Goals as goal

@@ -5,7 +5,7 @@ use Rattle.py_verify.specs.UnitStates.{state_in}
 use Rattle.py_verify.specs.Stepping.{Steps, entries_in, known_by, tasks_in}
 use Rattle.py_verify.proofs.StackLemmas.{extends_self}
 use Rattle.py_verify.proofs.SuccessorLemmas.{falls_come, falls_stack, jumps_come, jumps_stack}
-use Rattle.py_verify.proofs.UnitStateLemmas.{known_there}
+use Rattle.py_verify.proofs.UnitStateLemmas.{unit_state_known}
 use Rattle.py_verify.proofs.SettledUnitLemmas.{steps_combine, settled_here}
 use Rattle.py_verify.proofs.walk.visit.Goals as goal
 
@@ -13,7 +13,7 @@ pub exits_of-requires-clause-begins : goal.exits_of-requires-clause-begins
 exits_of-requires-clause-begins c =
     let p = c.args.progress.now in
     c.requires.known.begins c.args.unit (state_in (entries_in p) c.in-Some.known)
-    (known_there (entries_in p) p.states.items c.deref.result.now c.args.unit c.in-Some.known c.deref.ensures.value
+    (unit_state_known (entries_in p) p.states.items c.deref.result.now c.args.unit c.in-Some.known c.deref.ensures.value
     c.in-Some.ensures.some)
 
 pub reach_if-requires-clause-stack : goal.reach_if-requires-clause-stack
@@ -22,7 +22,7 @@ reach_if-requires-clause-stack c =
     let p = c.args.progress.now in
     let es = entries_in p in
     let s = state_in es c.in-Some.known in
-    let there : known_by p c.args.unit ≡ Some s = known_there es p.states.items c.deref.result.now c.args.unit c.in-Some.known c.deref.ensures.value c.in-Some.ensures.some in
+    let there : known_by p c.args.unit ≡ Some s = unit_state_known es p.states.items c.deref.result.now c.args.unit c.in-Some.known c.deref.ensures.value c.in-Some.ensures.some in
     falls_stack o c.args.unit s es es c.in_ok-exits-in-Some.exits (c.requires.known.shown c.args.unit s there) (extends_self es c.requires.known.linked) c.in_ok-exits-in-Some.ensures.exits
 
 pub reach_if-requires-clause-comes : goal.reach_if-requires-clause-comes
@@ -31,7 +31,7 @@ reach_if-requires-clause-comes c =
     let p = c.args.progress.now in
     let es = entries_in p in
     let s = state_in es c.in-Some.known in
-    let there : known_by p c.args.unit ≡ Some s = known_there es p.states.items c.deref.result.now c.args.unit c.in-Some.known c.deref.ensures.value c.in-Some.ensures.some in
+    let there : known_by p c.args.unit ≡ Some s = unit_state_known es p.states.items c.deref.result.now c.args.unit c.in-Some.known c.deref.ensures.value c.in-Some.ensures.some in
     falls_come o c.args.unit s es es c.in_ok-exits-in-Some.exits (c.requires.known.shown c.args.unit s there) (extends_self es c.requires.known.linked) c.in_ok-exits-in-Some.ensures.exits
 
 pub reach_if-requires-2-clause-stack : goal.reach_if-requires-2-clause-stack
@@ -40,7 +40,7 @@ reach_if-requires-2-clause-stack c =
     let p = c.args.progress.now in
     let es = entries_in p in
     let s = state_in es c.in-Some.known in
-    let there : known_by p c.args.unit ≡ Some s = known_there es p.states.items c.deref.result.now c.args.unit c.in-Some.known c.deref.ensures.value c.in-Some.ensures.some in
+    let there : known_by p c.args.unit ≡ Some s = unit_state_known es p.states.items c.deref.result.now c.args.unit c.in-Some.known c.deref.ensures.value c.in-Some.ensures.some in
     jumps_stack o c.args.unit s es (entries_in c.reach_if.new.progress) c.in_ok-exits-in-Some.exits
     (c.requires.known.shown c.args.unit s there) c.in_ok-fell.ensures.steps.extends c.in_ok-exits-in-Some.ensures.exits
 
@@ -50,7 +50,7 @@ reach_if-requires-2-clause-comes c =
     let p = c.args.progress.now in
     let es = entries_in p in
     let s = state_in es c.in-Some.known in
-    let there : known_by p c.args.unit ≡ Some s = known_there es p.states.items c.deref.result.now c.args.unit c.in-Some.known c.deref.ensures.value c.in-Some.ensures.some in
+    let there : known_by p c.args.unit ≡ Some s = unit_state_known es p.states.items c.deref.result.now c.args.unit c.in-Some.known c.deref.ensures.value c.in-Some.ensures.some in
     jumps_come o c.args.unit s es (entries_in c.reach_if.new.progress) c.in_ok-exits-in-Some.exits
     (c.requires.known.shown c.args.unit s there) c.in_ok-fell.ensures.steps.extends c.in_ok-exits-in-Some.ensures.exits
 
@@ -67,7 +67,7 @@ returns-clause-settled c =
     let r = c.reach_if-2.new.progress in
     let es = entries_in p in
     let s = state_in es c.in-Some.known in
-    let there : known_by p c.args.unit ≡ Some s = known_there es p.states.items c.deref.result.now c.args.unit c.in-Some.known c.deref.ensures.value c.in-Some.ensures.some in
+    let there : known_by p c.args.unit ≡ Some s = unit_state_known es p.states.items c.deref.result.now c.args.unit c.in-Some.known c.deref.ensures.value c.in-Some.ensures.some in
     let both : Steps o p r (combined_change c.in_ok-fell.fell c.in_ok-jumped.jumped) =
     steps_combine o p q r c.in_ok-fell.fell c.in_ok-jumped.jumped
     (combined_change c.in_ok-fell.fell c.in_ok-jumped.jumped) c.requires.known c.in_ok-fell.ensures.steps c.in_ok-jumped.ensures.steps

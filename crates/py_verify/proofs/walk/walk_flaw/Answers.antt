@@ -1,7 +1,7 @@
 use Rattle.std.proofs.Common.{subst, arith}
 use Rattle.py_bytecode.specs.View.{object}
 use Rattle.py_verify.specs.Stepping.{HaltsAt}
-use Rattle.py_verify.proofs.Places.{flaw_low}
+use Rattle.py_verify.proofs.VerificationErrorPlaceLemmas.{flaw_low}
 use Rattle.py_verify.proofs.walk.walk_flaw.Goals as goal
 
 pub overflow_cast-result : goal.overflow_cast-result

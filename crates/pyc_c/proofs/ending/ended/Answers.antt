@@ -3,7 +3,7 @@ use Rattle.py_run.specs.declared.report.Status.TheVariants as status
 use Rattle.py_run.specs.Runs.{IsDue}
 use Rattle.py_run.specs.Statuses.{due_of}
 use Rattle.pyc_c.specs.Runs.{IsRun}
-use Rattle.pyc_c.proofs.Ended.{Ran, at_front, no_memory, no_room, ran_writes}
+use Rattle.pyc_c.proofs.RunEndLemmas.{Ran, at_front, no_memory, no_room, ran_writes}
 use Rattle.pyc_c.proofs.ending.ended.Goals as goal
 
 pub returns-in_default-clause-run : goal.returns-in_default-clause-run

@@ -1,5 +1,5 @@
 use Rattle.std.proofs.Common.{sym}
-use Rattle.pyc_c.proofs.AskedLemmas.{no_script}
+use Rattle.pyc_c.proofs.ScriptRequestLemmas.{no_script}
 use Rattle.pyc_c.proofs.tracing.asked.Goals as goal
 
 pub returns-in-Err : goal.returns-in-Err

@@ -1,6 +1,6 @@
 use Rattle.std.proofs.Common.{◌≡◌, true, Some, option_map, sym, ap, ◌∙◌}
 use Rattle.py_answers.specs.Scripts.{script_in}
-use Rattle.pyc_c.proofs.AskedLemmas.{asked_if, with_script}
+use Rattle.pyc_c.proofs.ScriptRequestLemmas.{asked_if, with_script}
 use Rattle.pyc_c.proofs.tracing.requested.Goals as goal
 
 pub returns : goal.returns

@@ -1,6 +1,6 @@
 use Rattle.std.proofs.Common.{◌≡◌, ◌<◌, ◌≤◌, ◌^◌, ap, map, sym, length, arith, rules, ◌∙◌}
 use Rattle.py_answers.specs.Scripts.{all_counted, answer_text}
-use Rattle.py_answers.proofs.Found.{spells_none, spells_them}
+use Rattle.py_answers.proofs.AnswerTextLemmas.{spells_none, spells_them}
 use Rattle.py_answers.proofs.ScriptTextLemmas.{counts_more, is_script, length_texts, not_spelled_at, some_text, texts, script_text_too_many, written_more, written_whole}
 use Rattle.py_answers.proofs.answers.Script.parse.Goals as goal
 

@@ -2,7 +2,7 @@ use Rattle.std.proofs.Common.{◌≡◌, ◌++◌, [], ◌∷◌, ap, ◌∙◌}
 use Rattle.py_bytecode.specs.Values as values
 use Rattle.py_answers.specs.Scripts.{answers_of}
 use Rattle.py_answers.specs.Told.{events_of}
-use Rattle.py_answers.proofs.Events.{events_more, told_pushed}
+use Rattle.py_answers.proofs.ReportedEventLemmas.{events_more, told_pushed}
 use Rattle.py_answers.proofs.log.Log.list.Goals as goal
 use Rattle.py_answers.proofs.log.Log.list.Goals.{in-Ok, in-Err}
 

@@ -1,4 +1,4 @@
-use Rattle.py_codefile.proofs.Texts.{bad_text, good_text}
+use Rattle.py_codefile.proofs.Utf8TextLemmas.{bad_text, good_text}
 use Rattle.py_codefile.proofs.reader.Reader.text.Goals as goal
 
 pub returns-in_ok-from_str-in-Ok : goal.returns-in_ok-from_str-in-Ok

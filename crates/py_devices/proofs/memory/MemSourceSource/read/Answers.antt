@@ -1,5 +1,5 @@
 use Rattle.std.proofs.Common.{arith}
-use Rattle.py_devices.proofs.Feeds.{feed_all_given}
+use Rattle.py_devices.proofs.ByteFeedLemmas.{feed_all_given}
 use Rattle.py_devices.proofs.memory.MemSourceSource.read.Goals as goal
 
 pub returns-clause-bytes : goal.returns-clause-bytes

@@ -1,5 +1,5 @@
-use Rattle.py_emit.proofs.States.{state_unrefused}
-use Rattle.py_emit.proofs.Sealed.{emitter_sealed}
+use Rattle.py_emit.proofs.EmitterStateLemmas.{state_unrefused}
+use Rattle.py_emit.proofs.SealedCodeLemmas.{emitter_sealed}
 use Rattle.py_emit.proofs.emitter.Emitter.finish.Goals as goal
 
 pub only_out_of_memory-requires : goal.only_out_of_memory-requires

@@ -5,8 +5,8 @@ use Rattle.py_base.specs.declared.location.LocatedError.{LocatedError}
 use Rattle.py_emission_parts.specs.Sealed.{assembled_object}
 use Rattle.py_emit.specs.States.{head_of, is_even, left_rest, rest, source_of, state_of}
 use Rattle.py_emit.specs.declared.scopes.OpenScope.{OpenScope}
-use Rattle.py_emit.proofs.Sealed.{scope_sealed}
-use Rattle.py_emit.proofs.NestedScopes.{last_alike}
+use Rattle.py_emit.proofs.SealedCodeLemmas.{scope_sealed}
+use Rattle.py_emit.proofs.NestedContextLemmas.{last_alike}
 use Rattle.py_emit.proofs.emitter.Emitter.leave_scope.Goals as goal
 
 some_length : {A : Type 0} (xs : List A) → xs ≢ [] → 0 < length xs

@@ -2,8 +2,8 @@ use Rattle.std.proofs.Common.{false, refl, ap}
 use Rattle.py_emission_parts.specs.Sealed.{Head}
 use Rattle.py_emit.specs.States.{source_of, unlooped_context}
 use Rattle.py_emit.specs.declared.scopes.OpenScope.{OpenScope}
-use Rattle.py_emit.proofs.States.{begun_state}
-use Rattle.py_emit.proofs.NestedScopes.{nested_context_is}
+use Rattle.py_emit.proofs.EmitterStateLemmas.{begun_state}
+use Rattle.py_emit.proofs.NestedContextLemmas.{nested_context_is}
 use Rattle.py_emit.proofs.emitter.Emitter.nested_scope.Goals as goal
 
 pub returns-clause-state : goal.returns-clause-state

@@ -4,13 +4,13 @@ use Rattle.py_ir.specs.Chain.{plain}
 use Rattle.py_emit.specs.States.{state}
 use Rattle.py_emit.specs.Steps.{IsOpen, steps_in}
 use Rattle.py_emit.proofs.BlockStepLemmas.{new_long, new_open, new_steps}
-use Rattle.py_emit.proofs.States.{blocked}
+use Rattle.py_emit.proofs.EmitterStateLemmas.{state_with_block}
 use Rattle.py_emit.proofs.emitter.Emitter.new_block.Goals as goal
 
 pub returns-in-Ok-clause-ok : goal.returns-in-Ok-clause-ok
 returns-in-Ok-clause-ok c =
     let v = c.args.self.now.scope.code.body in
-    blocked (state c.args.self.now) _
+    state_with_block (state c.args.self.now) _
     (ap (λ (u : BlockList). steps_in (map plain u.blocks)) c.in-Ok.ensures.ok ∙ new_steps v c.in-Ok.ensures.whole)
     (ap (λ (u : BlockList). length u.blocks) c.in-Ok.ensures.ok ∙ new_long v)
     refl refl refl refl refl refl refl

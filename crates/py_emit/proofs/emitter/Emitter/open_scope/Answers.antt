@@ -2,7 +2,7 @@ use Rattle.std.proofs.Common.{◌≡◌, suc, [], ◌∷◌, ◌++◌, ap, ◌�
 use Rattle.py_emission_parts.specs.Emitting.{initial_state}
 use Rattle.py_emit.specs.States.{nested_context, head_of, rest, shape_of, source_of, state, state_of}
 use Rattle.py_emit.specs.declared.scopes.OpenScope.{OpenScope}
-use Rattle.py_emit.proofs.NestedScopes.{nested_head}
+use Rattle.py_emit.proofs.NestedContextLemmas.{nested_head}
 use Rattle.py_emit.proofs.emitter.Emitter.open_scope.Goals as goal
 
 pub returns-clause-state : goal.returns-clause-state

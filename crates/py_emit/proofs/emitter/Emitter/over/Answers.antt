@@ -5,8 +5,8 @@ use Rattle.py_emission_parts.specs.Emitting.{initial_state}
 use Rattle.py_emission_parts.specs.Sealed.{Head}
 use Rattle.py_emit.specs.States.{Source, no_context, rest}
 use Rattle.py_emit.specs.declared.scopes.OpenScope.{OpenScope}
-use Rattle.py_emit.proofs.States.{begun_state}
-use Rattle.py_emit.proofs.NestedScopes.{context_outermost, head_outermost}
+use Rattle.py_emit.proofs.EmitterStateLemmas.{begun_state}
+use Rattle.py_emit.proofs.NestedContextLemmas.{context_outermost, head_outermost}
 use Rattle.py_emit.proofs.emitter.Emitter.over.Goals as goal
 
 pub returns-clause-state : goal.returns-clause-state

@@ -4,7 +4,7 @@ use Rattle.py_ir.specs.Chain.{plain}
 use Rattle.py_emit.specs.States.{state}
 use Rattle.py_emit.specs.Steps.{step_of, steps_in}
 use Rattle.py_emit.proofs.BlockStepLemmas.{push_long, push_steps}
-use Rattle.py_emit.proofs.States.{state_stepped}
+use Rattle.py_emit.proofs.EmitterStateLemmas.{state_stepped}
 use Rattle.py_emit.proofs.emitter.Emitter.put.Goals as goal
 
 pub returns-in-Ok-clause-ok : goal.returns-in-Ok-clause-ok

@@ -5,7 +5,7 @@ use Rattle.py_emission_parts.specs.Emitting.{Begin}
 use Rattle.py_emit.specs.States.{state}
 use Rattle.py_emit.specs.Steps.{steps_in}
 use Rattle.py_emit.proofs.BlockStepLemmas.{is_outside, not_in_chain, place_long, place_steps}
-use Rattle.py_emit.proofs.States.{state_stepped}
+use Rattle.py_emit.proofs.EmitterStateLemmas.{state_stepped}
 use Rattle.py_emit.proofs.emitter.Emitter.switch_to_block.Goals as goal
 
 pub place-requires : goal.place-requires

@@ -3,7 +3,7 @@ use Rattle.py_ir.specs.BlockList.{BlockList, IsWhole}
 use Rattle.py_ir.specs.Chain.{plain}
 use Rattle.py_emit.specs.States.{state}
 use Rattle.py_emit.specs.Steps.{step_of, steps_in}
-use Rattle.py_emit.proofs.States.{state_stepped}
+use Rattle.py_emit.proofs.EmitterStateLemmas.{state_stepped}
 use Rattle.py_emit.proofs.LastStepLemmas.{ends_at_begin, if_none, if_some, pop_long, pop_nothing, pop_steps}
 use Rattle.py_emit.proofs.emitter.Emitter.take_last.Goals as goal
 

@@ -8,7 +8,7 @@ use Rattle.py_ir.specs.Chain.{IsChain, plain}
 use Rattle.py_ir.specs.Spans.{blks_of}
 use Rattle.py_ir.proofs.SpanLemmas.{length-blks}
 use Rattle.py_ir.proofs.BlockPlacementLemmas.{block_placement_whole}
-use Rattle.py_ir.proofs.Listed.{Going, going_first, going_inside, going_fewer, span_ends, span_leads}
+use Rattle.py_ir.proofs.ListedChainLemmas.{Going, going_first, going_inside, going_fewer, span_ends, span_leads}
 use Rattle.py_ir.proofs.flat.FlatBlocks.chain.Goals as goal
 
 pub loop-chain-init : goal.loop-chain-init

@@ -1,6 +1,6 @@
 use Rattle.std.proofs.Common.{◌-◌, length}
 use Rattle.py_ir.specs.Spans.{blks_of}
-use Rattle.py_ir.proofs.Listed.{Going}
+use Rattle.py_ir.proofs.ListedChainLemmas.{Going}
 use Rattle.py_ir.proofs.flat.FlatBlocks.chain.Given as goal
 
 abbrev pub invariant-loop-chain : goal.invariant-loop-chain

@@ -1,7 +1,7 @@
 use Rattle.std.proofs.Common.{◌≡◌, ◌∙◌, List, ℕ, map, subst}
 use Rattle.py_ir.specs.BlockList.{BlockList}
 use Rattle.py_ir.specs.Chain.{IsChain, flat, plain}
-use Rattle.py_ir.proofs.Listed.{list_is}
+use Rattle.py_ir.proofs.ListedChainLemmas.{list_is}
 use Rattle.py_ir.proofs.flat.FlatBlocks.items.Goals as goal
 
 pub returns : goal.returns

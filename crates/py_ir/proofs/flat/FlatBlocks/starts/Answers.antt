@@ -3,7 +3,7 @@ use Rattle.py_ir.specs.declared.flat.Span.{Span}
 use Rattle.py_ir.specs.BlockList.{BlockList}
 use Rattle.py_ir.specs.Chain.{IsChain, StartsAt, flat, plain}
 use Rattle.py_ir.proofs.FlatBlockLemmas.{if_ok_then}
-use Rattle.py_ir.proofs.Listed.{starts_are}
+use Rattle.py_ir.proofs.ListedChainLemmas.{starts_are}
 use Rattle.py_ir.proofs.flat.FlatBlocks.starts.Goals as goal
 
 pub returns : goal.returns

@@ -1,9 +1,9 @@
 use Rattle.std.proofs.Common.{map}
 use Rattle.py_ir.specs.Chain.{plain}
 use Rattle.py_ir.specs.FlatCode.{info_of}
-use Rattle.py_ir.proofs.CodeTableLemmas.{few_varnames, finals}
-use Rattle.py_ir.proofs.Taken.{taken_itself}
-use Rattle.py_ir.proofs.TakenCode.{same_chain, taken_clear, taken_final, taken_refused}
+use Rattle.py_ir.proofs.CodeTableLemmas.{few_varnames, laid_code_is_final}
+use Rattle.py_ir.proofs.SameChainLemmas.{taken_itself}
+use Rattle.py_ir.proofs.TakenCodeLemmas.{same_chain, taken_clear, taken_final, taken_refused}
 use Rattle.py_ir.proofs.flat_code.FlatCode.finalize.Goals as goal
 
 pub returns-in-Err-clause-refused : goal.returns-in-Err-clause-refused
@@ -18,7 +18,7 @@ pub with_code-requires : goal.with_code-requires
 with_code-requires c = few_varnames c.args.optimize (info_of c.args.self) (c.in-Ok.ensures.clear (map plain c.args.self.body.blocks) (taken_itself (map plain c.args.self.body.blocks)))
 
 pub returns-in-Ok-with_code-clause-code : goal.returns-in-Ok-with_code-clause-code
-returns-in-Ok-with_code-clause-code c = finals c.args.optimize
+returns-in-Ok-with_code-clause-code c = laid_code_is_final c.args.optimize
     (info_of c.args.self) c.in-Ok-with_code.code c.in-Ok.laid.units.items c.in-Ok.laid.locations.items c.in-Ok.laid.depth
     (c.in-Ok.ensures.laid (map plain c.args.self.body.blocks) (taken_itself (map plain c.args.self.body.blocks))) c.in-Ok-with_code.ensures
 

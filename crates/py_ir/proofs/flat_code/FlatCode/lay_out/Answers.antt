@@ -1,7 +1,7 @@
 use Rattle.py_ir.specs.Final.{tables_of}
 use Rattle.py_ir.specs.FlatCode.{info_of}
 use Rattle.py_ir.proofs.FlatBlockLemmas.{if_err_then}
-use Rattle.py_ir.proofs.TakenCode.{lens_are}
+use Rattle.py_ir.proofs.TakenCodeLemmas.{lens_are}
 use Rattle.py_ir.proofs.flat_code.FlatCode.lay_out.Goals as goal
 
 pub returns-clause-refused : goal.returns-clause-refused

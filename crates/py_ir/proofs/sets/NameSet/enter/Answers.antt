@@ -1,6 +1,6 @@
 use Rattle.std.proofs.Common.{ap, ◌++◌, ◌∷◌, [], if◌then◌else◌}
 use Rattle.py_bytecode.specs.Equality.{text_eq}
-use Rattle.py_ir.proofs.Names.{found_place}
+use Rattle.py_ir.proofs.NameSetLemmas.{found_place}
 use Rattle.py_ir.proofs.sets.NameSet.enter.Goals as goal
 
 pub returns-in-Some-clause-ok : goal.returns-in-Some-clause-ok

@@ -5,7 +5,7 @@ use Rattle.std.specs.Option.{option_map}
 use Rattle.std.specs.String.{string_eq}
 use Rattle.std.proofs.lemmas.Option.{slice_get-map}
 use Rattle.py_bytecode.specs.Equality.{insert_if_new, text_eq}
-use Rattle.py_bytecode.proofs.Entered.{entered_mapped, place_mapped}
+use Rattle.py_bytecode.proofs.EnteredConstantLemmas.{entered_mapped, place_mapped}
 use Rattle.py_ir.proofs.sets.NameSet.insert_full.Goals.{in-Ok, in-Err}
 use Rattle.py_ir.proofs.sets.NameSet.insert_full.Goals as goal
 

@@ -4,7 +4,7 @@ use Rattle.std.specs.Prelude.{string_bytes}
 use Rattle.std.specs.List.{IsDistinct}
 use Rattle.std.specs.String.{string_eq}
 use Rattle.py_bytecode.specs.Equality.{text_eq}
-use Rattle.py_ir.proofs.Names.{distinct_seen}
+use Rattle.py_ir.proofs.NameSetLemmas.{distinct_seen}
 use Rattle.py_ir.proofs.sets.NameSet.len.Goals as goal
 
 pub returns : goal.returns

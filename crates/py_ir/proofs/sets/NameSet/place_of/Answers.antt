@@ -2,7 +2,7 @@ use Rattle.std.proofs.Common.{ap, ◌∙◌}
 use Rattle.std.specs.Prelude.{position, string_bytes}
 use Rattle.std.specs.List.{list_any}
 use Rattle.py_bytecode.specs.Equality.{text_eq}
-use Rattle.py_ir.proofs.Names.{any_seen, position_seen}
+use Rattle.py_ir.proofs.NameSetLemmas.{any_seen, position_seen}
 use Rattle.py_ir.proofs.sets.NameSet.place_of.Goals as goal
 
 pub returns : goal.returns

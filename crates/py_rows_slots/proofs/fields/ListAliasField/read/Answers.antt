@@ -1,9 +1,9 @@
 use Rattle.std.proofs.Common.{Ok, refl}
 use Rattle.py_rows_slots.specs.Nodes.{nodes_view}
-use Rattle.py_rows_slots.proofs.ReadingLemmas.{carried}
-use Rattle.py_rows_slots.proofs.ListsOf.{lists_of_plain_same}
+use Rattle.py_rows_slots.proofs.ReadingLemmas.{reading_gives}
+use Rattle.py_rows_slots.proofs.NodeListLemmas.{lists_of_plain_same}
 use Rattle.py_rows_slots.proofs.fields.ListAliasField.read.Goals as goal
 
 pub returns : goal.returns
 returns c =
-    carried _ _ (λ p. Ok (p.0, record (nodes_view c.args.nodes.now) { aliases = p.1 })) c.take_list.result _ (λ x. rw (lists_of_plain_same x) refl) (rw c.as_slice.ensures.value at c.take_list.ensures)
+    reading_gives _ _ (λ p. Ok (p.0, record (nodes_view c.args.nodes.now) { aliases = p.1 })) c.take_list.result _ (λ x. rw (lists_of_plain_same x) refl) (rw c.as_slice.ensures.value at c.take_list.ensures)

@@ -3,7 +3,7 @@ use Rattle.py_scope.specs.Outward.{enclosing_scopes, parents}
 use Rattle.py_scope.specs.Scanned.{Scanned, order_of}
 use Rattle.py_scope.specs.Resolved.{resolved_table, resolved_of, first_fault, first_fault_of}
 use Rattle.py_scope.specs.Laws.{TableFollows}
-use Rattle.py_scope.proofs.Follows.{table_follows}
+use Rattle.py_scope.proofs.TableUseLemmas.{table_follows}
 use Rattle.py_scope.proofs.ScanCallLemmas.{scanned_rows, order_within}
 use Rattle.py_scope.proofs.builder.ScopeBuilder.finish.Goals as goal
 

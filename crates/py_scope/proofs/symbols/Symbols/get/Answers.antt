@@ -1,7 +1,7 @@
 use Rattle.std.proofs.Common.{◌∙◌, ap}
 use Rattle.std.specs.Prelude.{find}
 use Rattle.py_scope.specs.Names.{same_name}
-use Rattle.py_scope.proofs.SymbolLists.{lookup-find}
+use Rattle.py_scope.proofs.SymbolListLemmas.{lookup-find}
 use Rattle.py_scope.proofs.symbols.Symbols.get.Goals as goal
 
 pub returns : goal.returns

@@ -1,6 +1,6 @@
 use Rattle.std.proofs.Common.{sym, ap, ◌∙◌, slice_get}
 use Rattle.std.specs.Option.{option_map}
-use Rattle.py_scope.proofs.SymbolLists.{get-values_of}
+use Rattle.py_scope.proofs.SymbolListLemmas.{get-values_of}
 use Rattle.py_scope.proofs.symbols.Symbols.get_index.Goals as goal
 
 pub returns-in-Some : goal.returns-in-Some

@@ -1,6 +1,6 @@
 use Rattle.std.proofs.Common.{sym, ap, ◌∙◌, subst, length}
 use Rattle.py_scope.specs.Symbols.{AreApart}
-use Rattle.py_scope.proofs.SymbolLists.{symbol_list_apart, length-values_of}
+use Rattle.py_scope.proofs.SymbolListLemmas.{symbol_list_apart, length-values_of}
 use Rattle.py_scope.proofs.symbols.Symbols.len.Goals as goal
 
 pub returns : goal.returns

@@ -2,7 +2,7 @@ use Rattle.std.proofs.Common.{◌≡◌, sym, ap, ◌∙◌, subst, ◌++◌, �
 use Rattle.std.specs.List.{list_any}
 use Rattle.py_scope.specs.Names.{same_name}
 use Rattle.py_scope.specs.SymbolList.{values_of, IsNamed}
-use Rattle.py_scope.proofs.SymbolLists.{values-insert, named-insert}
+use Rattle.py_scope.proofs.SymbolListLemmas.{values-insert, named-insert}
 use Rattle.py_scope.proofs.symbols.Symbols.push.Goals as goal
 
 pub invariant_of-self-2 : goal.invariant_of-self-2

@@ -1,7 +1,7 @@
 use Rattle.std.proofs.Common.{sym, ◌∙◌, ◌++◌, ◌∷◌, [], subst, ◌<◌}
 use Rattle.std.specs.List.{list_any}
 use Rattle.py_scope.specs.Names.{same_name}
-use Rattle.py_scope.proofs.SymbolLists.{not_before, take_next, none_past}
+use Rattle.py_scope.proofs.SymbolListLemmas.{not_before, take_next_symbol, none_past}
 use Rattle.py_scope.proofs.symbols.Symbols.try_clone.Goals.{in-Some+in_ok-symbol+in_ok-push, in_default}
 use Rattle.py_scope.proofs.symbols.Symbols.try_clone.Goals as goal
 
@@ -14,6 +14,6 @@ loop-i-preserved c =
     elim c.match-get_index.branch [
       | in-Some+in_ok-symbol+in_ok-push w ↦ w.copy-is ∙ w.in_ok-push.ensures.ok
           ∙ (λ j. c.loop-i.invariant j ++ w.in_ok-symbol.ensures j ∷ [])
-          ∙ sym (take_next c.args.self.now c.loop-i.i w.in-Some.symbol.now (sym w.in-Some.ensures))
+          ∙ sym (take_next_symbol c.args.self.now c.loop-i.i w.in-Some.symbol.now (sym w.in-Some.ensures))
       | in_default w ↦ absurd (none_past c.args.self.now c.loop-i.i (subst (λ k. c.loop-i.i < k) c.len-i-end.ensures.len c.loop-i-test.true) (sym w.in_default.ensures))
     ]

@@ -2,7 +2,7 @@ use Rattle.std.proofs.Common.{◌+◌, ◌≤◌, length, drop, sym, ◌∙◌, 
 use Rattle.std.proofs.lemmas.Option.{slice_get_past}
 use Rattle.py_step_machine.specs.Held.{block_of}
 use Rattle.py_step_machine.specs.State.{machine_blocks}
-use Rattle.py_step_machine.proofs.BlocksLeft.{loop_at, loop_after, loop_here, loop_past}
+use Rattle.py_step_machine.proofs.BlockExitLemmas.{loop_at, loop_after, loop_here, loop_past}
 use Rattle.py_step_machine.proofs.machine.Machine.has_loop.Goals as goal
 
 pub returns-in_default : goal.returns-in_default

@@ -4,7 +4,7 @@ use Rattle.py_answers.specs.Log.{world_of}
 use Rattle.py_step_machine.specs.Held.{reason_of, slot_of}
 use Rattle.py_step_machine.specs.State.{Run, machine_stack, state_of}
 use Rattle.py_step_machine.proofs.ProgramStopLemmas.{fails_same}
-use Rattle.py_step_machine.proofs.BlocksLeft.{block_fails, block_passes, block_takes, fewer_left, blocks_left_none_of, nothing_left, popped_left}
+use Rattle.py_step_machine.proofs.BlockExitLemmas.{block_fails, block_passes, block_takes, fewer_left, blocks_left_none_of, nothing_left, popped_left}
 use Rattle.py_step_machine.proofs.machine.Machine.unwind.Goals as goal
 
 pub returns-in_err-place : goal.returns-in_err-place
