@@ -222,9 +222,9 @@ placed_end class true ts h s = (stmts_end (setting_in s) s.location ts, bodies_e
 placed_end class false ts h s = (
   opening_end (setting_in s) s.location ts,
   ends_by s _ _ _
-      (subst (λ (b : Bool). RefusalEndsAs s.node_context (emission_after emission_of_stmts ts) s.location
+      ((subst (λ (b : Bool). RefusalEndsAs s.node_context (emission_after emission_of_stmts ts) s.location
       (opening_end (setting_in s) s.location ts) (opening_faults (setting_in s) b ts)) (held_is s)
-      (openings_end class s.node_context s.location ts h)).ends s refl refl,
+      (openings_end class s.node_context s.location ts h)).ends s refl refl),
 )
 
 pub placed_calls : PlacedCalls
@@ -250,7 +250,7 @@ taken_feature_calls answer over names x before after h =
 opening_fits : (k : ℕ) (ts : tree.Stmts) (c : NodeContext) → AccessReady c → AllOf (Here c) (kids (after_futures (λ d. stmts_form d k) (available_cell_context c) ts))
     → Somehow c k (192 * stmts_size ts) (emission_after emission_of_stmts ts)
 opening_fits k tree.no_stmts c r h = let i = few_in_stmts c.context.postponed tree.no_stmts in fits_somehow (omega arith) (omega (arith, i)) (stmts_fit tree.no_stmts c r k h)
-opening_fits k (tree.more_stmts s ss) c r h = go (future_of s) refl h
+opening_fits k (tree.more_stmts s ss) c r h = go (future_of s) refl h (λ d q z. opening_fits k ss d q z)
   where
     go : (o : Option Future) → future_of s ≡ o
         → AllOf (Here c)
@@ -258,18 +258,19 @@ opening_fits k (tree.more_stmts s ss) c r h = go (future_of s) refl h
           | None ↦ stmts_form (available_cell_context c) k (tree.more_stmts s ss)
           | Some f ↦ SThen (future_form (available_cell_context c) f) (after_futures (λ d. stmts_form d k) (after_future f (available_cell_context c)) ss)
         ]))
+        → ((d : NodeContext) → AccessReady d → AllOf (Here d) (kids (after_futures (λ e. stmts_form e k) (available_cell_context d) ss)) → Somehow d k (192 * stmts_size ss) (emission_after emission_of_stmts ss))
         → Somehow c k (192 * stmts_size (tree.more_stmts s ss))
         (elim o [
           | None ↦ emission_of_stmts (tree.more_stmts s ss)
           | Some f ↦ emission_of_future f ▸ after_future_import f (emission_after emission_of_stmts ss)
         ])
-    go None e g =
+    go None e g x =
         let i = few_in_stmts c.context.postponed (tree.more_stmts s ss) in
         fits_somehow (omega arith) (omega (arith, i)) (stmts_fit (tree.more_stmts s ss) c r k g)
-    go (Some f) e g =
+    go (Some f) e g x =
         let i = fit_future_names_small s f e in
         import_then c k (192 * stmts_size ss) (192 * stmts_size (tree.more_stmts s ss)) f (emission_after emission_of_stmts ss)
-        (λ d. after_futures (λ z. stmts_form z k) d ss) r (omega (arith, i)) g (λ d q z. opening_fits k ss d q z)
+        (λ d. after_futures (λ z. stmts_form z k) d ss) r (omega (arith, i)) g x
 
 placed_fits : (over : Bool) (k : ℕ) (ts : tree.Stmts) (c : NodeContext) → AccessReady c → AllOf (Here c) (kids (placed_form over (available_cell_context c) k ts))
     → Somehow c k (192 * stmts_size ts) (emission_placed over ts)
