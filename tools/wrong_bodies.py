@@ -19,7 +19,7 @@ HEAD = """# Wrong bodies
 
 A wrong body is an edit of the program that the proofs must refuse: `crates/*/must-fail` holds them. The name of an edit says what it turns. All %d edits are of the program; none is of a contract, a definition or a proof.
 
-`rt ci` tries those that end in `.edit`, %d of them. The first edit of a crate costs a whole check of it, and each further one up to 40 seconds. So `rt ci` tries no edit of a crate whose check takes long, and a few of a crate that has many. The others end in `.md`, and have a star below. They are tried on demand: `python3 tools/try_wrong_bodies.py NAME..`.
+`rt ci` tries those that end in `.edit`, %d of them. The first edit of a crate costs a whole check of it, and each further one a part of that. So `rt ci` tries no edit of a crate whose check takes long, and a few of a crate that has many. The others end in `.md`, and have a star below. They are tried on demand: `python3 tools/try_wrong_bodies.py NAME..`.
 
 `python3 tools/wrong_bodies.py --write` writes this page.
 """
